@@ -34,6 +34,11 @@ pub fn advice(status: Status) -> Option<&'static str> {
              space and rights, then run again. If it may have been a sync that failed, or the disk itself fails, copy the files \
              and restart the machine first.",
         ),
+        Status::BackupFault => Some(
+            "the copy of the store could not be written or synced: a file of the backup, bak_objects.rdo, bak_log_a.rdo or \
+             bak_log_b.rdo, failed. All that was answered `forced` is in the store. See to free space and rights, then run \
+             again: the next `bstart` begins the backup anew.",
+        ),
         Status::ReadFault => Some(
             "the input could not be read to its end. Some of the commands after the last `forced` may be kept: `redo dump` \
              says how many there are in all. Run again with the rest.",

@@ -1,6 +1,6 @@
-//! The program `redo`: it gives the words of the command line, the files of the store's folder, and standard input and
-//! output to `redo_shell::top`, and ends with the number of the status. The folder is the current one, or that of `-C`, and
-//! it is locked meanwhile. Standard error says why words are refused, and, where the status is one of trouble, what happened
+//! The program `redo`: it gives the words of the command line, the files of the store's folder, those of a backup beside them,
+//! and standard input and output to `redo_shell::top`, and ends with the number of the status. The folder is the current one,
+//! or that of `-C`, and it is locked meanwhile. Standard error says why words are refused, and, where the status is one of trouble, what happened
 //! and what to do next.
 #![tactic(auto)]
 
@@ -34,7 +34,8 @@ fn words<R: Env + AllocGlobal>(rt: &R) -> Result<Vec<String>, AllocError> {
 fn run(rt: HostRuntime, words: &[String]) -> Status {
     let mut input = StdSource::new(&rt);
     let mut machine = FileMachine::new(rt);
-    top(rt.alloc(), words, &mut machine, &mut input)
+    let mut backup = FileMachine::backup(rt);
+    top(rt.alloc(), words, &mut machine, &mut backup, &mut input)
 }
 
 // The same with the lock of the folder.

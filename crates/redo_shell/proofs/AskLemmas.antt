@@ -166,7 +166,7 @@ module _ {p : Params} {old now : Disk} {before after : EngineView} {commands : L
               ⊎_elim (λ (as_many : forced_in after ≡ forced_in before). inl as_many) (λ (all : (before.group ≡ None) × (length commands ≤ forced_in after)). inr (all.0, omega (arith, all.1, holds.says.accepted))) which)
               a.which;
         },
-        λ i. record { world = (here.ends.1.world_is ∙ run_nothing (meaning_in p) holds.world) i; used = here.ends.1.used_is i; identities = a.identities i },
+        λ i. record { world = (here.ends.1.world_is ∙ run_nothing (meaning_in p) holds.world) i; used = here.ends.1.used_is i; identities = a.identities i; copied = u.calls.call.copied i },
       )
 
   -- what was found is answered

@@ -1,6 +1,7 @@
 -- What holds of a call for any words, from what holds of one that was asked one thing.
 use Rattle.std.proofs.Common.{◌≡◌, ◌≢◌, ◌⊎◌, ◌^◌, ⊎_elim, List, ℕ, inl, inr, refl, subst}
 use Rattle.disk_model.specs.Disk.{Disk, IsDisk, Passes, Rises}
+use Rattle.disk_model.specs.Moments.{passes_none}
 use Rattle.formats.specs.declared.params.Params.{Params}
 use Rattle.script_lines.specs.Grammar.{lines_of}
 use Rattle.script_lines.specs.Reading.{ReadsOn}
@@ -12,15 +13,19 @@ use Rattle.redo_shell.specs.Causes.{CountsFaults, IsCutUpgrade, IsUnread, Judges
 use Rattle.redo_shell.specs.Demo.{IsOfDemo}
 use Rattle.redo_shell.specs.Exactly.{IsFaultless, IsUpgradeEnd, ComesExactly}
 use Rattle.redo_shell.specs.Keeps.{KeepsFiles}
+use Rattle.redo_shell.specs.Saving.{IsBackupCall, IsBackupFor, IsBesideRun}
 use Rattle.redo_shell.specs.Sessions.{run, init, dump, upgrade}
 use Rattle.redo_shell.specs.Status.{IsOfRun, IsOfDump, IsOfInit, IsOfUpgrade}
 use Rattle.redo_shell.specs.Store.{Command, IsWellFormed, Opens}
 use Rattle.redo_shell.specs.declared.status.Status.{Status}
-use Rattle.redo_shell.specs.declared.status.Status.TheVariants.{Done, DoneWithRefusals, Usage, NotAStore, AlreadyStore, Damaged, DiskFault, ReadFault, SayFault, Memory, TooLong, AlreadyTwo, Smaller}
+use Rattle.redo_shell.specs.declared.status.Status.TheVariants.{Done, DoneWithRefusals, Usage, NotAStore, AlreadyStore, Damaged, DiskFault, ReadFault, SayFault, Memory, TooLong, AlreadyTwo, Smaller, BackupFault}
 use Rattle.restart.specs.Starts.{at_start}
 use Rattle.redo_shell.proofs.KeepLemmas.{keeps_once}
 use Rattle.redo_shell.proofs.DamageLemmas.{HasOneDamage}
 use Rattle.redo_shell.proofs.ExactLemmas.{calm_run, calm_told, calm_dump, opens_exactly, runs_exactly, makes_exactly}
+use Rattle.redo_shell.proofs.OpenLemmas.{none_backed}
+use Rattle.redo_shell.proofs.RunLemmas.{AreFew}
+use Rattle.redo_shell.proofs.SavedLemmas.{printed_backed}
 use Rattle.redo_shell.proofs.RestartLemmas.{image_begins}
 
 module _ (told : Type 0) (left rest : List ℕ) (old new : Disk) (status : Status) where
@@ -61,7 +66,7 @@ module _ (told : Type 0) (left rest : List ℕ) (old new : Disk) (status : Statu
   store_said (Upgrade q) call files is = absurd (subst IsOfUpgrade is call.ends)
 
 -- a demo that finds memory, in which no count of faults rises
-calm_demo : {old new : Disk} {before now : ℕ} (status : Status) → IsFaultless old new before now → status ≢ Memory → IsOfDemo status → CountsFaults old new status → status ≡ Done
+calm_demo : {old new : Disk} {before now : ℕ} {backup backed : Disk} (status : Status) → IsFaultless old new before now backup backed → status ≢ Memory → IsOfDemo status → CountsFaults old new status → status ≡ Done
 calm_demo Done calm memory of faults = refl
 calm_demo SayFault calm memory of faults = absurd (calm.output (faults.output refl))
 calm_demo Memory calm memory of faults = absurd (memory refl)
@@ -75,9 +80,10 @@ calm_demo ReadFault calm memory of faults = absurd of
 calm_demo TooLong calm memory of faults = absurd of
 calm_demo AlreadyTwo calm memory of faults = absurd of
 calm_demo Smaller calm memory of faults = absurd of
+calm_demo BackupFault calm memory of faults = absurd of
 
 -- an upgrade of a store, with memory, in which no count of faults rises
-calm_upgrade : {old new : Disk} {before now : ℕ} (status : Status) → IsFaultless old new before now → status ≢ Memory → IsOfUpgrade status → CountsFaults old new status → status ≢ NotAStore → IsUpgradeEnd status
+calm_upgrade : {old new : Disk} {before now : ℕ} {backup backed : Disk} (status : Status) → IsFaultless old new before now backup backed → status ≢ Memory → IsOfUpgrade status → CountsFaults old new status → status ≢ NotAStore → IsUpgradeEnd status
 calm_upgrade Done calm memory of faults store = inl refl
 calm_upgrade AlreadyTwo calm memory of faults store = inr (inl refl)
 calm_upgrade Smaller calm memory of faults store = inr (inr (inl refl))
@@ -91,12 +97,14 @@ calm_upgrade Usage calm memory of faults store = absurd of
 calm_upgrade AlreadyStore calm memory of faults store = absurd of
 calm_upgrade ReadFault calm memory of faults store = absurd of
 calm_upgrade TooLong calm memory of faults store = absurd of
+calm_upgrade BackupFault calm memory of faults store = absurd of
 
-module _ {words : List (List ℕ)} {told : Type 0} {left rest : List ℕ} {before now : ℕ} {old new : Disk} {status : Status} (asked : Asked) (call : IsCallFor asked told left rest old new status)
-    (faults : CountsFaults old new status) (read_fault : status ≡ ReadFault → Rises before now) (too_long : told → status ≡ TooLong → ReadsOn left rest 0 (2 ^ 40)) where
+module _ {words : List (List ℕ)} {told : Type 0} {left rest : List ℕ} {before now : ℕ} {old new backup backed : Disk} {status : Status} (asked : Asked) (call : IsCallFor asked told left rest old new status)
+    (faults : CountsFaults old new status) (read_fault : status ≡ ReadFault → Rises before now) (beside : IsBesideRun backup backed status) (too_long : told → status ≡ TooLong → ReadsOn left rest 0 (2 ^ 40)) where
   -- each status of trouble comes only with its cause
-  pub call_caused : Asks words asked → ComesByCause words told left rest before now old new status
+  pub call_caused : Asks words asked → ComesByCause words told left rest before now backup backed old new status
   call_caused asks = record {
+    nothing = λ none. absurd (none asked asks);
     usage = λ is. absurd (not_usage told left rest old new status asked call is);
     usage_said = λ files is. absurd (not_usage told left rest old new status asked call is);
     no_store = no_store_said told left rest old new status asked call;
@@ -104,20 +112,21 @@ module _ {words : List (List ℕ)} {told : Type 0} {left rest : List ℕ} {befor
     already = store_said told left rest old new status asked call;
     faults = faults;
     read_fault = read_fault;
+    backup_fault = beside.fault;
     too_long = too_long;
   }
 
   -- and where no count of faults rises, exactly there
-  pub call_exactly : Asks words asked → ((other : Asked) → Asks words other → asked ≡ other) → HasOneDamage old.reads → ((p : Params) (commands : List Command) → Opens p old commands → IsWellFormed old.reads) → IsFaultless old new before now
+  pub call_exactly : Asks words asked → ((other : Asked) → Asks words other → asked ≡ other) → HasOneDamage old.reads → ((p : Params) (commands : List Command) → Opens p old commands → IsWellFormed old.reads) → IsFaultless old new before now backup backed
       → ComesExactly words told left old new status
   call_exactly asks one damage format faultless = record {
     usage = λ memory. (λ is. absurd (not_usage told left rest old new status asked call is), λ none. absurd (none asked asks));
     run = λ is files.
         let it = call_for told left rest old new status (one Run is) call in
-        inl (opens_exactly status (calm_run status faultless it.ends faults read_fault) damage (it.judged files));
+        inl (opens_exactly status (calm_run status faultless it.ends faults read_fault beside.fault) damage (it.judged files));
     runs = λ is memory.
         let it = call_for told left rest old new status (one Run is) call in
-        runs_exactly status (calm_run status faultless it.ends faults read_fault) memory it too_long format;
+        runs_exactly status (calm_run status faultless it.ends faults read_fault beside.fault) memory it too_long format;
     dump = λ is files.
         let it = call_for told left rest old new status (one Dump is) call in
         inl (opens_exactly status (calm_told status faultless it.ends faults) damage (it.judged files));
@@ -173,3 +182,39 @@ unread_goes_on disk {words} {script} old new unread = record {
   upgrade = λ q first next sizes runs said asks before follows.
       upgrade old new next q said before (λ none telling. keeps_once (disk old) (disk new) unread.stays) (λ p commands opens telling. at_start (disk old) (disk new) _ unread.stays telling) follows;
 }
+
+-- Of the backup, by what was asked.
+module _ {T : Type 0} (disk : T → Disk) (told : Type 0) (script : List (List ℕ)) (old new : Disk) (before after : T) where
+  pub backup_for : {asked other : Asked} → asked ≡ other → IsBackupFor disk asked told script old new before after → IsBackupFor disk other told script old new before after
+  backup_for is here = subst (λ (a : Asked). IsBackupFor disk a told script old new before after) is here
+
+  unless_run : {words : List (List ℕ)} (asked : Asked) → Asks words asked → IsBackupFor disk asked told script old new before after → (Asks words Run → ⊥) → after ≡ before
+  unless_run Run asks here other = absurd (other asks)
+  unless_run Dump asks here other = here
+  unless_run (Init p) asks here other = here
+  unless_run (Demo seed steps) asks here other = here
+  unless_run (Upgrade q) asks here other = here
+
+  pub backup_called : {words : List (List ℕ)} {status : Status} (asked : Asked) → Asks words asked → ((other : Asked) → Asks words other → asked ≡ other) → IsBesideRun (disk before) (disk after) status → IsBackupFor disk asked told script old new before after
+      → IsBackupCall disk words told script old new before after
+  backup_called asked asks one beside here = record {
+    time = beside.time;
+    run = λ is. backup_for (one Run is) here;
+    other = unless_run asked asks here;
+  }
+
+-- nothing is done with it
+pub backup_idle : {T : Type 0} (disk : T → Disk) {words script : List (List ℕ)} {told : Type 0} {old new : Disk} (backup : T) → (Asks words Run → ⊥) → IsBackupCall disk words told script old new backup backup
+backup_idle disk backup none = record { time = passes_none (disk backup); run = λ is. absurd (none is); other = λ none. refl }
+
+-- where there was no memory to read the words, nothing at all is done
+pub backup_unread : AreFew → {T : Type 0} (disk : T → Disk) {words script : List (List ℕ)} {told : Type 0} (old : Disk) (backup : T) → IsBackupCall disk words told script old old backup backup
+backup_unread few disk old backup = record {
+  time = passes_none (disk backup);
+  run = λ asks. record { opened = λ p commands opens tells first is. printed_backed few disk (none_backed disk first (passes_none old) refl); unopened = λ tells broken. refl };
+  other = λ none. refl;
+}
+
+-- a call that does nothing with it ends with no fault of its disk
+pub beside_none : (backup : Disk) (status : Status) → (status ≡ BackupFault → ⊥) → IsBesideRun backup backup status
+beside_none backup status none = record { time = passes_none backup; fault = λ is. absurd (none is) }

@@ -16,23 +16,25 @@ use Rattle.running_store.specs.Courses.Stop.{Through, Full, At_end, Worn}
 use Rattle.store_engine.specs.Lists.{commands_course}
 use Rattle.running_store.specs.Commands.{command_length}
 use Rattle.execution.specs.Courses.{append_course, needed}
-use Rattle.store_engine.specs.Engine.{needed_in}
+use Rattle.store_engine.specs.Engine.{needed_in, so_far}
 use Rattle.script_lines.specs.declared.answer.StatLine.{StatLine}
 use Rattle.script_lines.specs.Grammar.{Request, AsksFor, IsBad}
-use Rattle.script_lines.specs.declared.line.Line.TheVariants.{Run as run, AppRun as arun, ProgramRun as prun, TreeInsert as tinsert, TreeGet as tget, TreeDelete as tdelete, TreeRange as trange, HashPut as hset, HashGet as hget, HashDelete as hdel, Get as get, Force as force, Install as install, Drain as drain, Checkpoint as checkpoint, Trim as trim, Begin as begin_group, End as end_group, Stat as asks_stat, Skip as skip}
-use Rattle.script_lines.specs.Replies.{Reply, ok, ran, value, pairs, forced, bad, refused, bad_tree, tree_full, denied, in_group, no_group, full, end, object_value, command_count, stat, summary, silence}
+use Rattle.script_lines.specs.declared.line.Line.TheVariants.{Run as run, AppRun as arun, ProgramRun as prun, TreeInsert as tinsert, TreeGet as tget, TreeDelete as tdelete, TreeRange as trange, HashPut as hset, HashGet as hget, HashDelete as hdel, Get as get, Force as force, Install as install, Drain as drain, Checkpoint as checkpoint, Trim as trim, Begin as begin_group, End as end_group, BackupStart as bstart, BackupCopy as bcopy, BackupFinish as bfinish, Stat as asks_stat, Skip as skip}
+use Rattle.script_lines.specs.Replies.{Reply, ok, ran, value, pairs, forced, bad, refused, bad_tree, tree_full, denied, in_group, no_group, full, end, object_value, command_count, stat, copied, saved, backup_denied, summary, silence}
 use Rattle.script_lines.specs.declared.denial.Denial.{Denial}
 use Rattle.script_lines.specs.declared.denial.Denial.TheVariants.{BadHash}
+use Rattle.script_lines.specs.declared.backup_denial.BackupDenial.{BackupDenial}
+use Rattle.script_lines.specs.declared.backup_denial.BackupDenial.TheVariants.{InBackup, NoBackup, AlreadyStore, NotCopied}
 use Rattle.redo_shell.specs.Groups.{open_in, size_of}
 use Rattle.redo_shell.specs.Made.{Made, AsksMade, AsksBehind, AsksTree, made, made_by, one_made, one_unless, tree_answer}
-use Rattle.redo_shell.specs.Replies.{AsksCommand, Replies, IsBarred, IsFull, IsGranted, IsNumbered, IsOver, IsUpkeep}
-use Rattle.redo_shell.specs.Stages.{Stage, Ends, GoesBy, IsQuestion, upkeep_course}
+use Rattle.redo_shell.specs.Replies.{AsksCommand, Replies, IsBarred, IsDenied, IsFull, IsGranted, IsLogged, IsNumbered, IsOver}
+use Rattle.redo_shell.specs.Stages.{Stage, Ends, GoesBy, IsBackupFull, IsBesideBackup, IsQuestion, StartsBackup, forced_stage, upkeep_course}
 use Rattle.redo_shell.specs.Store.{Command, meaning_in, refusal_after, state_of, record_length}
 use Rattle.redo_shell.proofs.MadeLemmas.{command_made, one_course}
 
--- the classes of requests: for pairs of a tree or a hash file, for a value, for commands, the end of a group, upkeep, the beginning of a
--- group, and three by themselves
-abbrev class : Request → ℕ
+-- the classes of requests: for pairs of a tree or a hash file, for a value, for commands, the end of a group, upkeep and the end of a
+-- backup, the beginning of a group or of a backup, and four by themselves
+abbrev pub class : Request → ℕ
 class (tget lo hi key) = 0
 class (trange lo hi from to) = 0
 class (hget lo hi key) = 0
@@ -42,19 +44,22 @@ class install = 4
 class drain = 4
 class checkpoint = 4
 class trim = 4
+class bfinish = 4
 class begin_group = 5
-class force = 6
-class asks_stat = 7
-class skip = 8
+class bstart = 5
+class (bcopy count) = 6
+class force = 7
+class asks_stat = 8
+class skip = 9
 class request = 2
 
 -- an answer may answer those from the first to the last of these
-abbrev first_of : Reply → ℕ
+abbrev pub first_of : Reply → ℕ
 first_of ok = 2
 first_of (ran k) = 2
 first_of (value bytes) = 0
 first_of (pairs pair others) = 0
-first_of (forced k) = 6
+first_of (forced k) = 7
 first_of (refused why) = 0
 first_of bad_tree = 0
 first_of tree_full = 2
@@ -63,28 +68,34 @@ first_of in_group = 4
 first_of no_group = 3
 first_of (full used need limit) = 2
 first_of (end number) = 2
-first_of (stat counts) = 7
-first_of silence = 8
+first_of (stat counts) = 8
+first_of (copied n) = 6
+first_of (saved n) = 4
+first_of (backup_denied why) = 4
+first_of silence = 9
 first_of reply = 1
 
-abbrev last_of : Reply → ℕ
+abbrev pub last_of : Reply → ℕ
 last_of ok = 5
 last_of (ran k) = 2
 last_of (value bytes) = 1
-last_of (forced k) = 6
+last_of (forced k) = 7
 last_of (refused why) = 2
 last_of bad_tree = 2
 last_of tree_full = 2
 last_of (denied why) = 2
-last_of in_group = 6
+last_of in_group = 7
 last_of no_group = 3
 last_of (full used need limit) = 4
 last_of (end number) = 4
-last_of (stat counts) = 7
-last_of silence = 8
+last_of (stat counts) = 8
+last_of (copied n) = 6
+last_of (saved n) = 4
+last_of (backup_denied why) = 6
+last_of silence = 9
 last_of reply = 0
 
-abbrev Allows : Reply → ℕ → Type 0
+abbrev pub Allows : Reply → ℕ → Type 0
 Allows reply n = (first_of reply ≤ n) × (n ≤ last_of reply)
 
 made_class : (p : Params) (commands : List Command) (it : Made) (request : Request) → made_by p commands request ≡ Some it → class request ≡ 2
@@ -97,12 +108,22 @@ made_class p commands it (hset lo hi key bytes) is = refl
 made_class p commands it (hdel lo hi key) is = refl
 made_class p commands it request is = cc
 
-upkeep_class : (request : Request) → IsUpkeep request → class request ≡ 4
-upkeep_class install is = refl
-upkeep_class drain is = refl
-upkeep_class checkpoint is = refl
-upkeep_class trim is = refl
-upkeep_class request is = absurd is
+logged_class : (request : Request) → IsLogged request → class request ≡ 4
+logged_class install is = refl
+logged_class drain is = refl
+logged_class checkpoint is = refl
+logged_class trim is = refl
+logged_class bfinish is = refl
+logged_class request is = absurd is
+
+pub denied_class : (why : BackupDenial) (request : Request) → IsDenied why request → (4 ≤ class request) × (class request ≤ 6)
+denied_class InBackup bstart is = (omega arith, omega arith)
+denied_class InBackup trim is = (omega arith, omega arith)
+denied_class NoBackup (bcopy count) is = (omega arith, omega arith)
+denied_class NoBackup bfinish is = (omega arith, omega arith)
+denied_class AlreadyStore bstart is = (omega arith, omega arith)
+denied_class NotCopied bfinish is = (omega arith, omega arith)
+denied_class why request is = absurd is
 
 numbered_class : (request : Request) → IsNumbered request → class request ≡ 4
 numbered_class install is = refl
@@ -113,15 +134,19 @@ numbered_class request is = absurd is
 granted_class : (group : Option ℕ) (request : Request) → IsGranted group request → (3 ≤ class request) × (class request ≤ 5)
 granted_class group begin_group is = (omega arith, omega arith)
 granted_class group end_group is = (omega arith, omega arith)
+granted_class group bstart is = (omega arith, omega arith)
 granted_class group install is = (omega arith, omega arith)
 granted_class group drain is = (omega arith, omega arith)
 granted_class group checkpoint is = (omega arith, omega arith)
 granted_class group trim is = (omega arith, omega arith)
 granted_class group request is = absurd is.0
 
-barred_class : (request : Request) → IsBarred request → (4 ≤ class request) × (class request ≤ 6)
+barred_class : (request : Request) → IsBarred request → (4 ≤ class request) × (class request ≤ 7)
 barred_class begin_group is = (omega arith, omega arith)
 barred_class force is = (omega arith, omega arith)
+barred_class bstart is = (omega arith, omega arith)
+barred_class (bcopy count) is = (omega arith, omega arith)
+barred_class bfinish is = (omega arith, omega arith)
 barred_class install is = (omega arith, omega arith)
 barred_class drain is = (omega arith, omega arith)
 barred_class checkpoint is = (omega arith, omega arith)
@@ -134,7 +159,7 @@ tree_class p s reply (trange lo hi from to) is = refl
 tree_class p s reply (hget lo hi key) is = refl
 tree_class p s reply request is = cc
 
-question_class : (request : Request) → IsQuestion request → class request ≤ 1
+pub question_class : (request : Request) → IsQuestion request → class request ≤ 1
 question_class (get x) is = omega arith
 question_class (tget lo hi key) is = omega arith
 question_class (trange lo hi from to) is = omega arith
@@ -142,7 +167,7 @@ question_class (hget lo hi key) is = omega arith
 question_class request is = absurd is
 
 -- no group is open, and one is
-not_both : (group : Option ℕ) → IsTrue (is_some group) → group ≡ None → ⊥
+pub not_both : (group : Option ℕ) → IsTrue (is_some group) → group ≡ None → ⊥
 not_both None some none = cc some
 not_both (Some n) some none = cc none
 
@@ -154,6 +179,9 @@ not_granted group drain barred may some = not_both group some may.1
 not_granted group checkpoint barred may some = not_both group some may.1
 not_granted group trim barred may some = not_both group some may.1
 not_granted group force barred may some = may.0
+not_granted group bstart barred may some = not_both group some may
+not_granted group (bcopy count) barred may some = may.0
+not_granted group bfinish barred may some = may.0
 not_granted group request barred may some = barred
 
 -- how a command is answered
@@ -228,14 +256,17 @@ module _ (p : Params) (group : Option ℕ) (commands : List Command) (line : Lis
   asked (full used need limit) added is other = ⊎_elim
       (λ (b : (op : Command) × AsksBehind p commands line added op × (need ≡ needed_in (size_of group (commands ++ added)) (record_length p op)) × (limit ≡ p.limit) × (limit < used + need)).
       of_made (full used need limit) (λ n e. (omega (arith, e), omega (arith, e))) b.1.asks)
-      (λ (u : (request : Request) × IsUpkeep request × AsksFor line request × (group ≡ None) × (limit ≡ 2 ^ 48) × IsOver request used need limit × (added ≡ [])).
-      of_class (full used need limit) 4 (omega arith, omega arith) u.0 (upkeep_class u.0 u.1) u.2)
+      (λ (u : (request : Request) × IsLogged request × AsksFor line request × (group ≡ None) × (limit ≡ 2 ^ 48) × IsOver request used need limit × (added ≡ [])).
+      of_class (full used need limit) 4 (omega arith, omega arith) u.0 (logged_class u.0 u.1) u.2)
       is
   asked (end number) added is other = ⊎_elim
       (λ (b : (op : Command) × AsksBehind p commands line added op). of_made (end number) (λ n e. (omega (arith, e), omega (arith, e))) b.1.asks)
       (λ (u : (request : Request) × IsNumbered request × AsksFor line request × (group ≡ None) × (added ≡ [])). of_class (end number) 4 (omega arith, omega arith) u.0 (numbered_class u.0 u.1) u.2)
       is.0
   asked (stat counts) added is other = (asks_stat, is.0, (omega arith, omega arith))
+  asked (copied n) added is other = (bcopy is.0, is.1, (omega arith, omega arith))
+  asked (saved n) added is other = (bfinish, is.0, (omega arith, omega arith))
+  asked (backup_denied why) added is other = (is.0, is.2, denied_class why is.0 is.1)
   asked silence added is other = (skip, is.0, (omega arith, omega arith))
   asked (object_value x bytes) added is other = absurd is
   asked (command_count n) added is other = absurd is
@@ -247,10 +278,10 @@ module _ (p : Params) (group : Option ℕ) (commands : List Command) (line : Lis
 
   module _ (one : (a b : Request) → AsksFor line a → AsksFor line b → a ≡ b) where
     -- an answer to a line that asks for this may answer it
-    fits : (r : Request) → AsksFor line r → (reply : Reply) (added : List Command) → Replies p group commands line reply added → (reply ≡ bad → ⊥) → Allows reply (class r)
+    pub fits : (r : Request) → AsksFor line r → (reply : Reply) (added : List Command) → Replies p group commands line reply added → (reply ≡ bad → ⊥) → Allows reply (class r)
     fits r asks reply added is other = let a = asked reply added is other in subst (λ (x : Request). Allows reply (class x)) (one a.0 r a.1 asks) a.2
 
-    made_clash : {it : Made} (r : Request) → AsksFor line r → (class r ≡ 2 → ⊥) → AsksMade p commands line it → ⊥
+    pub made_clash : {it : Made} (r : Request) → AsksFor line r → (class r ≡ 2 → ⊥) → AsksMade p commands line it → ⊥
     made_clash {it} r asks other a = other (ap class (one r a.request asks a.asks) ∙ made_class p commands it a.request a.makes)
 
     tree_clash : {answer : Reply} (r : Request) → AsksFor line r → (class r ≡ 0 → ⊥) → AsksTree p commands line answer → ⊥
@@ -286,7 +317,11 @@ module _ (p : Params) (group : Option ℕ) (commands : List Command) (line : Lis
             no_front [] first rest e = cc
             no_front (x ∷ front) first rest e = cc
 
-    -- the line of a command asks for no upkeep
+    -- the line of a command asks for nothing else
+    command_clash : (op : Command) (request : Request) → (class request ≡ 2 → ⊥) → AsksCommand line op → AsksFor line request → ⊥
+    command_clash op request other asks its = made_clash request its other (command_made p commands line op asks)
+
+    -- so for no upkeep
     granted_clash : (op : Command) → AsksCommand line op → (other : Option ℕ) (request : Request) → IsGranted other request → AsksFor line request → ⊥
     granted_clash op asks other request may its = made_clash request its (λ e. let here = granted_class other request may in omega (arith, e, here.0)) (command_made p commands line op asks)
 
@@ -337,8 +372,8 @@ module _ (p : Params) (group : Option ℕ) (commands : List Command) (line : Lis
     refused_exactly (full used need limit) added op why is asks = ⊎_elim
         (λ (b : (first : Command) × AsksBehind p commands line added first × (need ≡ needed_in (size_of group (commands ++ added)) (record_length p first)) × (limit ≡ p.limit) × (limit < used + need)).
         let none = nothing_refuses op b.0 added asks b.1 in (λ e. cc, λ some. cc (some, none)))
-        (λ (u : (request : Request) × IsUpkeep request × AsksFor line request × (group ≡ None) × (limit ≡ 2 ^ 48) × IsOver request used need limit × (added ≡ [])).
-        absurd (made_clash u.0 u.2 (λ e. let same = upkeep_class u.0 u.1 in omega (arith, e, same)) (command_made p commands line op asks)))
+        (λ (u : (request : Request) × IsLogged request × AsksFor line request × (group ≡ None) × (limit ≡ 2 ^ 48) × IsOver request used need limit × (added ≡ [])).
+        absurd (made_clash u.0 u.2 (λ e. let same = logged_class u.0 u.1 in omega (arith, e, same)) (command_made p commands line op asks)))
         is
     refused_exactly (end number) added op why is asks = ⊎_elim
         (λ (b : (first : Command) × AsksBehind p commands line added first). let none = nothing_refuses op b.0 added asks b.1 in (λ e. cc, λ some. cc (some, none)))
@@ -424,6 +459,9 @@ module _ (p : Params) (group : Option ℕ) (commands : List Command) (line : Lis
           is),
     )
     in_group_exactly (forced n) added is = (λ e. cc, λ here. absurd (not_both group here.3 is.1))
+    in_group_exactly (copied n) added is = (λ e. cc, λ here. absurd (not_both group here.3 is.2))
+    in_group_exactly (saved n) added is = (λ e. cc, λ here. absurd (not_both group here.3 is.1))
+    in_group_exactly (backup_denied why) added is = (λ e. cc, λ here. absurd (not_both group here.3 is.3))
     in_group_exactly bad added is = (λ e. cc, λ here. absurd (is.0 here.0 here.2))
     in_group_exactly no_group added is = (λ e. cc, λ here. absurd (not_both group here.3 is.1))
     in_group_exactly (full used need limit) added is = (
@@ -431,7 +469,7 @@ module _ (p : Params) (group : Option ℕ) (commands : List Command) (line : Lis
       λ here. absurd (⊎_elim
           (λ (b : (op : Command) × AsksBehind p commands line added op × (need ≡ needed_in (size_of group (commands ++ added)) (record_length p op)) × (limit ≡ p.limit) × (limit < used + need)).
           made_clash here.0 here.2 (λ e. let c = barred_class here.0 here.1 in omega (arith, e, c.0)) b.1.asks)
-          (λ (u : (request : Request) × IsUpkeep request × AsksFor line request × (group ≡ None) × (limit ≡ 2 ^ 48) × IsOver request used need limit × (added ≡ [])). not_both group here.3 u.3)
+          (λ (u : (request : Request) × IsLogged request × AsksFor line request × (group ≡ None) × (limit ≡ 2 ^ 48) × IsOver request used need limit × (added ≡ [])). not_both group here.3 u.3)
           is),
     )
     in_group_exactly (end number) added is = (
@@ -463,8 +501,8 @@ module _ (p : Params) (group : Option ℕ) (commands : List Command) (line : Lis
       λ here. absurd (⊎_elim
           (λ (b : (op : Command) × AsksBehind p commands line added op × (need ≡ needed_in (size_of group (commands ++ added)) (record_length p op)) × (limit ≡ p.limit) × (limit < used + need)).
           made_clash end_group here.0 (λ e. omega (arith, e)) b.1.asks)
-          (λ (u : (request : Request) × IsUpkeep request × AsksFor line request × (group ≡ None) × (limit ≡ 2 ^ 48) × IsOver request used need limit × (added ≡ [])).
-          omega (arith, upkeep_class u.0 u.1, ap class (one u.0 end_group u.2 here.0)))
+          (λ (u : (request : Request) × IsLogged request × AsksFor line request × (group ≡ None) × (limit ≡ 2 ^ 48) × IsOver request used need limit × (added ≡ [])).
+          omega (arith, logged_class u.0 u.1, ap class (one u.0 end_group u.2 here.0)))
           is),
     )
     no_group_exactly (end number) added is = (
@@ -485,10 +523,10 @@ module _ (p : Params) (group : Option ℕ) (commands : List Command) (line : Lis
         let it : mine.0 ≡ made (op ∷ []) ok = made_is op asks mine.1 ∙ ap (λ (r : Option Refusal). one_unless op r) refusal in
         ap (λ (x : Course Command). x.stop) (sym (one_course (meaning_in p) p.limit op before.world before.used))
         ∙ ap (λ (x : Made). (commands_course (meaning_in p) p.limit x.ops before.world before.used).stop) (sym it) ∙ sym (ap (λ (x : Course Command). x.stop) mine.2) ∙ is)
-        (λ (rest : ((request : Request) × (epoch : ℕ) × IsGranted (open_in before.world) request × AsksFor line request × (c ≡ upkeep_course epoch request (meaning_in p) before.world before.used))
+        (λ (rest : ((request : Request) × (epoch : ℕ) × IsGranted (open_in before.world) request × IsBesideBackup before.copied request × AsksFor line request × (c ≡ upkeep_course epoch (so_far before.copied) request (meaning_in p) before.world before.used))
         ⊎ ((request : Request) × IsQuestion request × AsksFor line request × (c ≡ course [] before.used Through))). absurd (⊎_elim
-        (λ (u : (request : Request) × (epoch : ℕ) × IsGranted (open_in before.world) request × AsksFor line request × (c ≡ upkeep_course epoch request (meaning_in p) before.world before.used)).
-        granted_clash op asks (open_in before.world) u.0 u.2 u.3)
+        (λ (u : (request : Request) × (epoch : ℕ) × IsGranted (open_in before.world) request × IsBesideBackup before.copied request × AsksFor line request × (c ≡ upkeep_course epoch (so_far before.copied) request (meaning_in p) before.world before.used)).
+        granted_clash op asks (open_in before.world) u.0 u.2 u.4)
         (λ (q : (request : Request) × IsQuestion request × AsksFor line request × (c ≡ course [] before.used Through)).
         made_clash q.0 q.2 (λ e. let low = question_class q.0 q.1 in omega (arith, e, low)) (command_made p commands line op asks))
         rest))
@@ -502,7 +540,13 @@ module _ (p : Params) (group : Option ℕ) (commands : List Command) (line : Lis
 
     pub full_exactly : (reply : Reply) (added : List Command) (op : Command) (before after : Stage) → Replies p group commands line reply added → GoesBy p before line reply after → commands_of before.world.history ≡ commands → AsksCommand line op
         → refusal_after p commands op ≡ None → IsFull reply ↔ (p.limit < grown (meaning_in p) before.world before.used (record_length p op))
-    full_exactly ok added op before after is goes same asks none = (λ f. absurd f, λ over. absurd (room_else op before after Through (λ a b c e. cc) same none asks goes over))
+    full_exactly ok added op before after is goes same asks none = (
+      λ f. absurd f,
+      λ over. absurd (⊎_elim
+          (λ (ends : Ends p before line Through after). room_else op before after Through (λ a b c e. cc) same none asks ends over)
+          (λ (starts : StartsBackup before line (forced_stage p before) after). command_clash op bstart (λ e. omega (arith, e)) asks starts.0)
+          goes),
+    )
     full_exactly (ran k) added op before after is goes same asks none = absurd (⊎_elim
         (λ (none : (refusal_after p commands op ≡ None) × (ran k ≡ ok)). let e = none.1 in cc e)
         (λ (other : (why : Refusal) × (refusal_after p commands op ≡ Some why) × (ran k ≡ refused why)). let e = other.2 in cc e)
@@ -530,7 +574,10 @@ module _ (p : Params) (group : Option ℕ) (commands : List Command) (line : Lis
         tree_clash mine.request mine.asks (λ e. let same = made_class p commands (one_made p commands op) mine.request mine.makes in omega (arith, e, same)) t.1)
         is)
     full_exactly (full used need limit) added op before after is goes same asks none = (
-      λ f. full_over (meaning_in p) (is_some before.world.group) p.limit op before.world before.used used need limit (own_course op before after (Full used need limit) same none asks goes),
+      λ f. ⊎_elim
+          (λ (ends : Ends p before line (Full used need limit) after). full_over (meaning_in p) (is_some before.world.group) p.limit op before.world before.used used need limit (own_course op before after (Full used need limit) same none asks ends))
+          (λ (saves : IsBackupFull p.objects before line used (forced_stage p before) after). absurd (command_clash op bfinish (λ e. omega (arith, e)) asks saves.0))
+          goes,
       λ over. tt,
     )
     full_exactly (end number) added op before after is goes same asks none = (

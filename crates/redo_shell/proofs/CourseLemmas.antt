@@ -58,20 +58,20 @@ module _ (m : Meaning Command) where
     stop_identities [] w used = tt
     stop_identities (x ∷ objects) w used = stop_then r w (identity_course m x w used) (λ v used. identities m objects v used) (stop_identity x w used) (λ v used. stop_identities objects v used)
 
-    stop_rounds : (n : ℕ) (w : World Command) (used : ℕ) → MayStop r (rounds m 0 n w used).stop
-    stop_rounds zero w used = tt
-    stop_rounds (suc n) w used =
-        stop_either r (must_log m 0 w) (and_then m w (identities m (others m 0 w) w used) (λ v used. rounds m 0 n v used)) (course (finish_steps m w) used Through)
-        (stop_then r w (identities m (others m 0 w) w used) (λ v used. rounds m 0 n v used) (stop_identities (others m 0 w) w used) (λ v used. stop_rounds n v used)) tt
+    stop_rounds : (copies n : ℕ) (w : World Command) (used : ℕ) → MayStop r (rounds m copies n w used).stop
+    stop_rounds copies zero w used = tt
+    stop_rounds copies (suc n) w used =
+        stop_either r (must_log m copies w) (and_then m w (identities m (others m copies w) w used) (λ v used. rounds m copies n v used)) (course (finish_steps m w) used Through)
+        (stop_then r w (identities m (others m copies w) w used) (λ v used. rounds m copies n v used) (stop_identities (others m copies w) w used) (λ v used. stop_rounds copies n v used)) tt
 
-    stop_install : (w : World Command) (used : ℕ) → MayStop r (install_course m 0 w used).stop
-    stop_install w used = stop_either r (has_members m w) (rounds m 0 m.objects w used) (course [] used Through) (stop_rounds m.objects w used) tt
+    stop_install : (copies : ℕ) (w : World Command) (used : ℕ) → MayStop r (install_course m copies w used).stop
+    stop_install copies w used = stop_either r (has_members m w) (rounds m copies m.objects w used) (course [] used Through) (stop_rounds copies m.objects w used) tt
 
-    stop_drains : (n : ℕ) (w : World Command) (used : ℕ) → MayStop r (drains m 0 n w used).stop
-    stop_drains zero w used = tt
-    stop_drains (suc n) w used =
-        stop_either r (has_members m w) (and_then m w (rounds m 0 m.objects w used) (λ v used. drains m 0 n v used)) (course [] used Through)
-        (stop_then r w (rounds m 0 m.objects w used) (λ v used. drains m 0 n v used) (stop_rounds m.objects w used) (λ v used. stop_drains n v used)) tt
+    stop_drains : (copies n : ℕ) (w : World Command) (used : ℕ) → MayStop r (drains m copies n w used).stop
+    stop_drains copies zero w used = tt
+    stop_drains copies (suc n) w used =
+        stop_either r (has_members m w) (and_then m w (rounds m copies m.objects w used) (λ v used. drains m copies n v used)) (course [] used Through)
+        (stop_then r w (rounds m copies m.objects w used) (λ v used. drains m copies n v used) (stop_rounds copies m.objects w used) (λ v used. stop_drains copies n v used)) tt
 
   stop_check : (w : World Command) (used : ℕ) → MayStop checkpoint (check_course m w used).stop
   stop_check w used =
@@ -94,12 +94,12 @@ module _ (m : Meaning Command) where
       (λ over. let high : 2 ^ 48 < trimmed_file m v = grind (arith, nat_tests, over) in (refl, λ more. high)) (λ fits. tt)))
 
   -- what may stop a request's course
-  pub may_stop : (epoch : ℕ) (r : Request) → IsUpkeep r → (w : World Command) (used : ℕ) → MayStop r (upkeep_course epoch r m w used).stop
-  may_stop epoch install is w used = stop_install install (λ n. tt) (λ a b c more. more) w used
-  may_stop epoch drain is w used = stop_drains drain (λ n. tt) (λ a b c more. more) (count_below (end_of w) w.graph + dirty_in m w) w used
-  may_stop epoch checkpoint is w used = stop_checkpoint w used
-  may_stop epoch trim is w used = stop_trim epoch w used
-  may_stop epoch r is w used = absurd is
+  pub may_stop : (epoch copies : ℕ) (r : Request) → IsUpkeep r → (w : World Command) (used : ℕ) → MayStop r (upkeep_course epoch copies r m w used).stop
+  may_stop epoch copies install is w used = stop_install install (λ n. tt) (λ a b c more. more) copies w used
+  may_stop epoch copies drain is w used = stop_drains drain (λ n. tt) (λ a b c more. more) copies (count_below (end_of w) w.graph + dirty_in m w) w used
+  may_stop epoch copies checkpoint is w used = stop_checkpoint w used
+  may_stop epoch copies trim is w used = stop_trim epoch w used
+  may_stop epoch copies r is w used = absurd is
 
   upkeep_check : (w : World Command) (used : ℕ) → AreUpkeep (check_course m w used).steps
   upkeep_check w used =
@@ -122,12 +122,12 @@ module _ (m : Meaning Command) where
       (λ v used. upkeep_either m (nat_lt (2 ^ 48) (trimmed_file m v)) (course [] used (Full used (trimmed_file m v) (2 ^ 48))) (course (Header_gate (new_base m v) ∷ []) (trimmed m v) Through) tt (tt, tt)))
 
   -- it adds no command
-  pub are_upkeep : (epoch : ℕ) (r : Request) → IsUpkeep r → (w : World Command) (used : ℕ) → AreUpkeep (upkeep_course epoch r m w used).steps
-  are_upkeep epoch install is w used = upkeep_install m 0 w used
-  are_upkeep epoch drain is w used = upkeep_drain m 0 w used
-  are_upkeep epoch checkpoint is w used = upkeep_checkpoint w used
-  are_upkeep epoch trim is w used = upkeep_trim epoch w used
-  are_upkeep epoch r is w used = absurd is
+  pub are_upkeep : (epoch copies : ℕ) (r : Request) → IsUpkeep r → (w : World Command) (used : ℕ) → AreUpkeep (upkeep_course epoch copies r m w used).steps
+  are_upkeep epoch copies install is w used = upkeep_install m copies w used
+  are_upkeep epoch copies drain is w used = upkeep_drain m copies w used
+  are_upkeep epoch copies checkpoint is w used = upkeep_checkpoint w used
+  are_upkeep epoch copies trim is w used = upkeep_trim epoch w used
+  are_upkeep epoch copies r is w used = absurd is
 
   -- steps that log no identity write
   logged_append : (xs ys : List (Step Command)) → logged_in xs ≡ [] → logged_in ys ≡ [] → logged_in (xs ++ ys) ≡ []

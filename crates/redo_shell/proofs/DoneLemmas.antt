@@ -42,9 +42,11 @@ use Rattle.execution.specs.declared.exec_err.ExecErr.{ExecErr}
 use Rattle.execution.specs.declared.exec_err.ExecErr.TheVariants.{Refused, LogFull, LsnEnd, DiskFault, Damaged}
 use Rattle.execution.specs.Failures.{IsExecFailure}
 use Rattle.script_lines.specs.Grammar.{Request, AsksFor}
-use Rattle.script_lines.specs.declared.line.Line.TheVariants.{Begin as begin_group, End as end_group, Force as force, Trim as trim}
-use Rattle.script_lines.specs.Replies.{Reply, ok, ran, value, pairs, forced, bad, refused, bad_tree, tree_full, denied, in_group, no_group, full, end, object_value, command_count, stat, summary, silence, reply_of}
+use Rattle.script_lines.specs.declared.line.Line.TheVariants.{Begin as begin_group, End as end_group, Force as force, Trim as trim, BackupStart as bstart, BackupCopy as bcopy, BackupFinish as bfinish}
+use Rattle.script_lines.specs.Replies.{Reply, ok, ran, value, pairs, forced, bad, refused, bad_tree, tree_full, denied, in_group, no_group, full, end, object_value, command_count, stat, copied, saved, backup_denied, summary, silence, reply_of}
 use Rattle.script_lines.specs.declared.answer.Answer.{Answer}
+use Rattle.script_lines.specs.declared.answer.Answer.TheVariants as answers
+use Rattle.script_lines.specs.declared.backup_denial.BackupDenial.TheVariants.{InBackup}
 use Rattle.store_engine.specs.Calls.{IsForcing}
 use Rattle.store_engine.specs.Engine.{EngineView, FollowsIn, InEachImage, IsAfterIn, IsOutcome, KeepsCommands, SaysStop, SaysStopWithin, EpochIs, accepted_in, params_of, used_in, forced_in, group_bytes, group_size, logged_since, needed_in}
 use Rattle.store_engine.specs.FailureLaws.{still_none_damaged}
@@ -52,12 +54,12 @@ use Rattle.store_engine.specs.Grouping.{ungrouped}
 use Rattle.store_engine.specs.Engine as of_engine
 use Rattle.redo_shell.specs.Store.{IsAttached, IsEngineCall}
 use Rattle.redo_shell.specs.Groups.{Regroups, begun_after, group_after, open_in, size_of, waiting}
-use Rattle.redo_shell.specs.Found.{EndsAtLast, IsStopped, IsOfEngine, IsBarredIn, IsDone, IsAnswerOf, MayStop, IsUpkept}
-use Rattle.redo_shell.specs.Replies.{AsksCommand, Replies, IsBarred, IsGranted, IsUpkeep, IsLast, IsTrueIn}
+use Rattle.redo_shell.specs.Found.{EndsAtLast, EndsForced, IsStopped, IsOfEngine, IsUndone, IsBarredIn, IsDeniedIn, IsDone, IsAnswerOf, MayStop, IsUpkept}
+use Rattle.redo_shell.specs.Replies.{AsksCommand, Replies, IsBarred, IsDenied, IsGranted, IsLogged, IsUpkeep, IsLast, IsTrueIn}
 use Rattle.redo_shell.specs.Made.{Made, made, AsksMade, AsksBehind}
 use Rattle.redo_shell.specs.Run.{IsAnswerFound}
 use Rattle.redo_shell.specs.Courses.{IsCourseDue}
-use Rattle.redo_shell.specs.Stages.{Stage, Ends, GoesBy, stage_of, stage_after, upkeep_course}
+use Rattle.redo_shell.specs.Stages.{IsBesideBackup, Ends, GoesBy, stage_of, stage_after, upkeep_course}
 use Rattle.redo_shell.specs.Store.{Command, meaning_in, record_length, refusal_after, HasCause, Stands, ShowsIn, Says, Holds, Between}
 use Rattle.redo_shell.specs.declared.stop.Stop.{Stop as Early}
 use Rattle.redo_shell.proofs.GroupLemmas.{none_open}
@@ -120,6 +122,10 @@ stops_said {p} {d} {engine} {w} {commands} alone within shows are stop is =
         subst (λ (l : List Command). InEachImage d (λ f. IsSaid p l f stop)) (sym (waiting_are shows.sound w.group refl inside))
         (map_each d (λ f. SaysStopWithin all_meaning p ops f stop) (λ f. IsSaid p ops f stop) (λ f here. some_wait p is.0 engine.parts.log ops f stop at here) (within p w is.0 stop shows inside at))
 
+-- where a log was forced, an engine that has been stopped for lack of room ends so
+as_stopped : {engine : EngineView} {used : ℕ} → EndsForced engine used → IsStopped engine (Full used 1 0)
+as_stopped {engine} {used} ends = (0, subst (λ (o : Option ℕ). StopsCommand (is_some o) 0 engine.parts.log (Full used 1 0)) (sym ends.alone) (ends.used_is, ends.none_waits, omega arith, refl))
+
 -- what an answer to a line says of the engine is true of each image
 tied_by : {p : Params} {d : Disk} {engine : EngineView} {commands : List Command} (ops : List Command) (line : List ℕ) (reply : Reply) → IsOfEngine engine line reply → Says p d engine commands → SaysStops p d engine ops → InEachImage d (λ f. IsTrueIn p f ops line reply)
 tied_by ops line ok is says stops = (tt, λ told f s left. tt)
@@ -134,7 +140,10 @@ tied_by ops line tree_full is says stops = (tt, λ told f s left. tt)
 tied_by ops line (denied why) is says stops = (tt, λ told f s left. tt)
 tied_by ops line in_group is says stops = (tt, λ told f s left. tt)
 tied_by ops line no_group is says stops = (tt, λ told f s left. tt)
-tied_by ops line (full used need limit) is says stops = stops (Full used need limit) is
+tied_by ops line (full used need limit) is says stops = ⊎_elim (λ stopped. stops (Full used need limit) stopped) (λ ends. stops (Full used 1 0) (as_stopped ends)) is
+tied_by ops line (copied now) is says stops = (tt, λ told f s left. tt)
+tied_by ops line (saved n) is says stops = (tt, λ told f s left. tt)
+tied_by ops line (backup_denied why) is says stops = (tt, λ told f s left. tt)
 tied_by {p} {d} {engine} ops line (end number) is says stops = end_tied is.0 is.1 is.2
   where
     of_number : (request : Request) → AsksFor line request → ((f : Files) (next : ℕ) → NextIs (meaning_in p) f next → IsLast p f request next) → IsStopped engine (At_end number) → InEachImage d (λ f. IsTrueIn p f ops line (end number))
@@ -202,8 +211,8 @@ found_of {p} {old} {now} {before} {after} {commands} {line} {reply} holds d says
 
 -- a course leads from stage to stage
 pub stage_on : (p : Params) (before after : EngineView) (w : World Command) (c : Course Command) → used_in after ≡ c.used
-    → after.identities ≡ before.identities + length (logged_in c.steps) → stage_of after (run (meaning_in p) w c.steps) ≡ stage_after p (stage_of before w) c
-stage_on p before after w c used logged = λ i. record { world = run (meaning_in p) w c.steps; used = used i; identities = logged i }
+    → after.identities ≡ before.identities + length (logged_in c.steps) → after.copied ≡ before.copied → stage_of after (run (meaning_in p) w c.steps) ≡ stage_after p (stage_of before w) c
+stage_on p before after w c used logged same = λ i. record { world = run (meaning_in p) w c.steps; used = used i; identities = logged i; copied = same i }
 
 -- in a sound live world the cache is the state after its commands
 abbrev pub IsLiveMap : Meaning Command → Type 0
@@ -329,10 +338,10 @@ module _ (p : Params) (old now : Disk) (before after : EngineView) (commands : L
   asked none = made_unless p commands line op None none asks
 
   -- so it ends
-  ends_so : (stop : Stop) → refusal_after p commands op ≡ None → its.stop ≡ stop → IsAfterIn all_meaning p now after w its → after.identities ≡ before.identities + 0
+  ends_so : {most : ℕ} {ending : Ending} (stop : Stop) → refusal_after p commands op ≡ None → its.stop ≡ stop → IsAfterIn all_meaning p now after w its → IsEngineCall most old now before after 0 ending
       → Ends p (stage_of before w) line stop (stage_of after (run m w its.steps))
-  ends_so stop none is there same =
-      (its, inl (made (op ∷ []) ok, asks_in holds (asked none), sym (one_course m p.limit op w (used_in before))), is, stage_on p before after w its there.used (none_logged same))
+  ends_so stop none is there call =
+      (its, inl (made (op ∷ []) ok, asks_in holds (asked none), sym (one_course m p.limit op w (used_in before))), is, stage_on p before after w its there.used (none_logged call.identities) call.copied)
 
   -- nothing is after it
   last_one : refusal_after p commands op ≡ None → AsksBehind p commands line [] op
@@ -358,7 +367,7 @@ module _ (p : Params) (old now : Disk) (before after : EngineView) (commands : L
         regroups = (its_request.request, its_request.asks, still_open e.call there.1 ∙ sym (made_alike p commands commands (made (op ∷ []) ok) (open_in w) its_request.request its_request.makes));
         rising = risen.rising;
         which = risen.which;
-        goes = ends_so Through e.exactly.0 there.0 there.1 e.call.identities;
+        goes = inl (ends_so Through e.exactly.0 there.0 there.1 e.call);
         is_of = tt;
       }
 
@@ -383,7 +392,7 @@ module _ (p : Params) (old now : Disk) (before after : EngineView) (commands : L
           course [] (used_in before) Through,
           inl (made [] (refused why), asks_in holds refused_one, refl),
           refl,
-          λ i. record { world = sym here i; used = there.1.used i; identities = e.call.identities i },
+          λ i. record { world = sym here i; used = there.1.used i; identities = e.call.identities i; copied = e.call.copied i },
         );
         is_of = tt;
       }
@@ -417,8 +426,8 @@ module _ (p : Params) (old now : Disk) (before after : EngineView) (commands : L
         regroups = still_open e.call there.1;
         rising = risen.rising;
         which = risen.which;
-        goes = ends_so (Full used need limit) e.exactly.0 there.0 there.1 e.call.identities;
-        is_of = left_stopped (Full used need limit) e.call;
+        goes = inl (ends_so (Full used need limit) e.exactly.0 there.0 there.1 e.call);
+        is_of = inl (left_stopped (Full used need limit) e.call);
       }
 
   pub exec_end : (number : ℕ) → IsExec p old now before after w commands op (Err (LsnEnd number)) → IsDone p old now before after w commands line (end number)
@@ -435,7 +444,7 @@ module _ (p : Params) (old now : Disk) (before after : EngineView) (commands : L
         regroups = still_open e.call there.1;
         rising = risen.rising;
         which = risen.which;
-        goes = inl (ends_so (At_end number) e.exactly there.0 there.1 e.call.identities);
+        goes = inl (ends_so (At_end number) e.exactly there.0 there.1 e.call);
         is_of = let its_request = asked e.exactly in (its_request.request, its_request.asks, made_ends p commands (made (op ∷ []) ok) after number its_request.request its_request.makes (left_stopped (At_end number) e.call));
       }
 
@@ -456,7 +465,7 @@ module _ (p : Params) (old now : Disk) (before after : EngineView) (commands : L
       by_refusal (Some why) is = by_course (course [] (used_in before) Through) (inr (inr refl)) (refused_course p before w op why params is)
 
 -- what is answered where nothing is done
-pub unmoved : {p : Params} {d : Disk} {engine : EngineView} {commands : List Command} {line : List ℕ} (reply : Reply) → (holds : Holds p d engine commands) → Replies p (open_in holds.world) commands line reply [] → ((s : Stage) → GoesBy p s line reply s)
+abbrev pub unmoved : {p : Params} {d : Disk} {engine : EngineView} {commands : List Command} {line : List ℕ} (reply : Reply) → (holds : Holds p d engine commands) → Replies p (open_in holds.world) commands line reply [] → GoesBy p (stage_of engine holds.world) line reply (stage_of engine holds.world)
     → Regroups line reply commands (open_in holds.world) (open_in holds.world) → IsOfEngine engine line reply → IsDone p d d engine engine holds.world commands line reply
 unmoved {engine = engine} {commands} reply holds replies goes regroups is_of = record {
   added = [];
@@ -468,19 +477,37 @@ unmoved {engine = engine} {commands} reply holds replies goes regroups is_of = r
   regroups = regroups;
   rising = omega arith;
   which = inl refl;
-  goes = goes (stage_of engine holds.world);
+  goes = goes;
   is_of = is_of;
 }
 
--- a call that no group allows does nothing within one
+-- a call that did nothing is answered so
+undone_done : {M : Type 0} (disk : M → Disk) {p : Params} {old now : M} {before after : EngineView} {commands : List Command} {line : List ℕ} {result : Result Answer Early} (answer : Answer) → (holds : Holds p (disk old) before commands)
+    → IsDone p (disk old) (disk old) before before holds.world commands line (reply_of answer) → IsUndone answer old now before after result → IfOk result (λ a. IsDone p (disk old) (disk now) before after holds.world commands line (reply_of a))
+undone_done {M} disk {p} {old} {now} {before} {after} {commands} {line} answer holds here it =
+    let there : IsDone p (disk old) (disk now) before after holds.world commands line (reply_of answer) =
+    subst (λ (x : M). IsDone p (disk old) (disk x) before after holds.world commands line (reply_of answer)) (sym it.machine)
+    (subst (λ (e : EngineView). IsDone p (disk old) (disk old) before e holds.world commands line (reply_of answer)) (sym it.engine) here) in
+    subst (λ (r : Result Answer Early). IfOk r (λ a. IsDone p (disk old) (disk now) before after holds.world commands line (reply_of a))) (sym it.answered) there
+
+-- one that no group allows does nothing within one
 pub barred_done : {M : Type 0} (disk : M → Disk) {p : Params} {old now : M} {before after : EngineView} {commands : List Command} {line : List ℕ} {result : Result Answer Early} (request : Request) → (holds : Holds p (disk old) before commands)
     → IsBarred request → AsksFor line request → IsTrue (is_some before.group) → IsBarredIn old now before after result → IfOk result (λ answer. IsDone p (disk old) (disk now) before after holds.world commands line (reply_of answer))
-barred_done {M} disk {p} {old} {now} {before} {after} {commands} {line} request holds barred asks inside it =
-    let here : IsDone p (disk old) (disk old) before before holds.world commands line in_group = unmoved in_group holds (request, barred, asks, some_open holds.shows inside, refl) (λ s. refl) refl tt in
-    let there : IsDone p (disk old) (disk now) before after holds.world commands line in_group =
-    subst (λ (x : M). IsDone p (disk old) (disk x) before after holds.world commands line in_group) (sym it.machine)
-    (subst (λ (e : EngineView). IsDone p (disk old) (disk old) before e holds.world commands line in_group) (sym it.engine) here) in
-    subst (λ (r : Result Answer Early). IfOk r (λ answer. IsDone p (disk old) (disk now) before after holds.world commands line (reply_of answer))) (sym it.answer) there
+barred_done disk request holds barred asks inside it = undone_done disk answers.InGroup holds (unmoved in_group holds (request, barred, asks, some_open holds.shows inside, refl) refl refl tt) it
+
+-- and a trim that no backup allows does nothing beside one
+pub denied_done : {M : Type 0} (disk : M → Disk) {p : Params} {old now : M} {before after : EngineView} {commands : List Command} {line : List ℕ} {result : Result Answer Early} (request : Request) → (holds : Holds p (disk old) before commands)
+    → IsUpkeep request → (IsBesideBackup before.copied request → ⊥) → AsksFor line request → before.group ≡ None → IsDeniedIn old now before after result
+    → IfOk result (λ answer. IsDone p (disk old) (disk now) before after holds.world commands line (reply_of answer))
+denied_done disk {before = before} request holds of_kind beside asks alone it =
+    let here = denied_here before.copied request of_kind beside in
+    undone_done disk (answers.BackupDenied InBackup) holds (unmoved (backup_denied InBackup) holds (request, here.0, asks, none_open holds.shows alone, refl) (here.1, refl) refl tt) it
+  where
+    denied_here : (copies : Option ℕ) (request : Request) → IsUpkeep request → (IsBesideBackup copies request → ⊥) → IsDenied InBackup request × IsTrue (is_some copies)
+    denied_here None trim of_kind beside = absurd (beside refl)
+    denied_here (Some n) trim of_kind beside = (tt, refl)
+    denied_here copies bstart of_kind beside = absurd of_kind
+    denied_here copies request of_kind beside = absurd (beside tt)
 
 -- nor is anything done at a moment of it
 pub still_works : {p : Params} {old now : Disk} {engine : EngineView} {commands : List Command} (line : List ℕ) → IsDisk old → (holds : Holds p old engine commands) → now ≡ old → Works p old now (stage_of engine holds.world) line
@@ -495,12 +522,19 @@ pub by_group : {P : Type 0} (group : Option ℕ) → (IsTrue (is_some group) →
 by_group None inside alone = alone refl
 by_group (Some begun) inside alone = inside refl
 
+-- beside a backup, or where none is in the way of the request
+pub by_backup : {P : Type 0} (copies : Option ℕ) (request : Request) → ((IsBesideBackup copies request → ⊥) → P) → (IsBesideBackup copies request → P) → P
+by_backup None trim against beside = beside refl
+by_backup (Some n) trim against beside = against (λ none. cc none)
+by_backup copies bstart against beside = against (λ it. it)
+by_backup copies request against beside = beside tt
+
 pub force_works : {p : Params} {old now : Disk} {before : EngineView} {commands : List Command} {line : List ℕ} → IsDisk old → (holds : Holds p old before commands) → AsksFor line force → (IsTrue (is_some before.group) → now ≡ old)
     → (old.tells_moments → holds.world.group ≡ None → TakesSome (meaning_in p) p old now holds.world (force_course (meaning_in p) holds.world (used_in before)).steps) → Works p old now (stage_of before holds.world) line
 force_works {p} {old} {now} {before} {commands} {line} lawful holds asks inside takes = by_group before.group (λ some. still_works line lawful holds (inside some))
     (λ none.
     let alone = holds.shows.group ∙ none in
-    works_by p old now (stage_of before holds.world) line (force_course (meaning_in p) holds.world (used_in before)) (inr (inl (asks, alone, refl))) (λ told. takes told alone))
+    works_by p old now (stage_of before holds.world) line (force_course (meaning_in p) holds.world (used_in before)) (inr (inl (force, tt, asks, alone, refl))) (λ told. takes told alone))
 
 -- a force that is done
 pub force_done : {p : Params} {old now : Disk} {before after : EngineView} {commands : List Command} {line : List ℕ} (n : ℕ) → (holds : Holds p old before commands) → AsksFor line force → before.group ≡ None
@@ -521,7 +555,7 @@ force_done {p} {old} {now} {before} {after} {commands} {line} n holds asks alone
       regroups = none_open there.1.shows (it.call.group ∙ alone) ∙ sym (none_open holds.shows alone);
       rising = rose.rising;
       which = rose.which;
-      goes = stage_on p before after w (force_course m w (used_in before)) there.1.used (it.call.identities ∙ ap (λ (l : List ℕ). before.identities + length l) (sym (logged_force m w)));
+      goes = stage_on p before after w (force_course m w (used_in before)) there.1.used (it.call.identities ∙ ap (λ (l : List ℕ). before.identities + length l) (sym (logged_force m w))) it.call.copied;
       is_of = it.count;
     }
 
@@ -533,6 +567,7 @@ AreCounted = (p : Params) (w : World Command) (steps : List (Step Command)) → 
 granted_alone : (group : Option ℕ) (request : Request) → IsUpkeep request → group ≡ None → IsGranted group request
 granted_alone group begin_group of_kind none = absurd of_kind
 granted_alone group end_group of_kind none = absurd of_kind
+granted_alone group bstart of_kind none = absurd of_kind
 granted_alone group request of_kind none = (of_kind, none)
 
 upkeep_alike : (request : Request) (group : Option ℕ) (commands : List Command) → IsUpkeep request → group_after request group commands ≡ group
@@ -543,7 +578,14 @@ upkeep_alike request group commands of_kind = refl
 pub upkeep_barred : (request : Request) → IsUpkeep request → IsBarred request
 upkeep_barred begin_group of_kind = tt
 upkeep_barred force of_kind = tt
+upkeep_barred bstart of_kind = tt
+upkeep_barred (bcopy count) of_kind = tt
+upkeep_barred bfinish of_kind = tt
 upkeep_barred request of_kind = of_kind
+
+upkeep_logged : (request : Request) → IsUpkeep request → IsLogged request
+upkeep_logged bfinish of_kind = tt
+upkeep_logged request of_kind = of_kind
 
 module _ (p : Params) (old now : Disk) (before after : EngineView) (commands : List Command) (line : List ℕ) (request : Request) (result : Result Answer Early) (counts : AreCounted)
     (holds : Holds p old before commands) (of_kind : IsUpkeep request) (asks : AsksFor line request) (alone : before.group ≡ None) (u : IsUpkept old now before after request result) where
@@ -553,11 +595,14 @@ module _ (p : Params) (old now : Disk) (before after : EngineView) (commands : L
   abbrev mean : Meaning Command
   mean = meaning_in p
 
+  abbrev copies : ℕ
+  copies = of_engine.so_far before.copied
+
   abbrev way : Course Command
-  way = upkeep_course u.epoch request mean start (used_in before)
+  way = upkeep_course u.epoch copies request mean start (used_in before)
 
   plain : AreUpkeep way.steps
-  plain = are_upkeep mean u.epoch request of_kind start (used_in before)
+  plain = are_upkeep mean u.epoch copies request of_kind start (used_in before)
 
   -- no group is open, before it and after it
   none_before : open_in start ≡ None
@@ -580,7 +625,7 @@ module _ (p : Params) (old now : Disk) (before after : EngineView) (commands : L
 
   ends_as : (stop : Stop) → way.stop ≡ stop → IsAfterIn all_meaning p now after start way → Ends p (stage_of before start) line stop (stage_of after (run mean start way.steps))
   ends_as stop is there =
-      (way, inr (inl (request, u.epoch, granted, asks, refl)), is, stage_on p before after start way there.used (u.call.identities ∙ ap (λ (n : ℕ). before.identities + n) (count_is there)))
+      (way, inr (inl (request, u.epoch, granted, u.beside, asks, refl)), is, stage_on p before after start way there.used (u.call.identities ∙ ap (λ (n : ℕ). before.identities + n) (count_is there)) u.call.copied)
 
   rose : (ending : Ending) → (IsFailed ending → ⊥) → KeepsCommands all_meaning old now before after ending → HasRisen before after commands
   rose ending working keeps = ⊎_elim (λ failed. absurd (working failed)) (λ (k : of_engine.Kept all_meaning p before now after commands). risen holds k) (keeps.holds p commands (in_engine holds))
@@ -604,7 +649,7 @@ module _ (p : Params) (old now : Disk) (before after : EngineView) (commands : L
   }
 
   may : (stop : Stop) → way.stop ≡ stop → MayStop request stop
-  may stop is = subst (λ (s : Stop). MayStop request s) is (may_stop mean u.epoch request of_kind start (used_in before))
+  may stop is = subst (λ (s : Stop). MayStop request s) is (may_stop mean u.epoch copies request of_kind start (used_in before))
 
   -- the answer by how the call ended
   abbrev Answered : Result Answer Early → Type 0
@@ -617,13 +662,13 @@ module _ (p : Params) (old now : Disk) (before after : EngineView) (commands : L
   by_ending : (ending : Ending) (r : Result Answer Early) → IsAnswerOf ending r → IsEngineCall log_limit old now before after u.logged ending → FollowsIn all_meaning p now after start way ending → KeepsCommands all_meaning old now before after ending → Answered r
   by_ending Done r is call there keeps =
       subst (λ (x : Result Answer Early). Answered x) (sym is)
-      (replies_so ok Done (λ f. f) call keeps there.1 (inr (request, granted, asks, refl)) (request, asks, none_still there.1 ∙ sym (upkeep_alike request (open_in start) commands of_kind)) (ends_as Through there.0 there.1) tt)
+      (replies_so ok Done (λ f. f) call keeps there.1 (inr (request, granted, asks, refl)) (request, asks, none_still there.1 ∙ sym (upkeep_alike request (open_in start) commands of_kind)) (inl (ends_as Through there.0 there.1)) tt)
   by_ending (Stopped Through) r is call there keeps = absurd is
   by_ending (Stopped (Full used need limit)) r is call there keeps =
       let over = over_limit (is_some before.group) _ _ used need limit (call.stopped (Full used need limit) refl) in
       let bound = may (Full used need limit) there.0 in
       subst (λ (x : Result Answer Early). Answered x) (sym is)
-      (replies_so (full used need limit) (Stopped (Full used need limit)) (λ f. f) call keeps there.1 (inr (request, of_kind, asks, none_before, bound.0, bound.1 over, refl)) (none_still there.1) (ends_as (Full used need limit) there.0 there.1) (left_stopped (Full used need limit) call))
+      (replies_so (full used need limit) (Stopped (Full used need limit)) (λ f. f) call keeps there.1 (inr (request, upkeep_logged request of_kind, asks, none_before, bound.0, bound.1 over, refl)) (none_still there.1) (inl (ends_as (Full used need limit) there.0 there.1)) (inl (left_stopped (Full used need limit) call)))
   by_ending (Stopped (At_end number)) r is call there keeps =
       let number_is = last_number (is_some before.group) _ _ number (call.stopped (At_end number) refl) in
       subst (λ (x : Result Answer Early). Answered x) (sym is)
@@ -641,7 +686,7 @@ module _ (p : Params) (old now : Disk) (before after : EngineView) (commands : L
   upkeep_done = by_ending u.ending result u.answered u.call (u.takes.follows p holds.world holds.shows) u.commands
 
   pub upkeep_works : Works p old now (stage_of before start) line
-  upkeep_works = works_by p old now (stage_of before start) line way (inl (inr (inl (request, u.epoch, granted, asks, refl)))) (λ told. u.takes.steps told p start holds.shows)
+  upkeep_works = works_by p old now (stage_of before start) line way (inl (inr (inl (request, u.epoch, granted, u.beside, asks, refl)))) (λ told. u.takes.steps told p start holds.shows)
 
 -- what holds of a call that did not fail with the disk
 pub still_attached : {old new : Disk} {before after : EngineView} {most n : ℕ} {ending : Ending} → IsEngineCall most old new before after n ending → (IsFailed ending → ⊥) → IsAttached old before → IsAttached new after

@@ -29,7 +29,7 @@ use Rattle.redo_shell.proofs.HoldLemmas.{holds_stays, stays_between, told_by}
 use Rattle.redo_shell.proofs.OpenLemmas.{OpensSo, opening_failed}
 use Rattle.redo_shell.proofs.KeepLemmas.{settled_each}
 use Rattle.redo_shell.specs.declared.stop.Stop.{Stop}
-use Rattle.redo_shell.specs.declared.stop.Stop.TheVariants.{DiskFault, Damaged, ReadFault, SayFault, Memory, TooLong}
+use Rattle.redo_shell.specs.declared.stop.Stop.TheVariants.{DiskFault, Damaged, ReadFault, SayFault, BackupFault, Memory, TooLong}
 
 -- an object that is empty has no row, and any other one
 pub no_row : (x : ℕ) (value text : List ℕ) → length value ≡ 0 → text ≡ text ++ flat_map said_line (row_of x value)
@@ -191,5 +191,6 @@ never_done DiskFault is = cc is
 never_done (Damaged file place) is = cc is
 never_done ReadFault is = cc is
 never_done SayFault is = cc is
+never_done BackupFault is = cc is
 never_done Memory is = cc is
 never_done TooLong is = cc is

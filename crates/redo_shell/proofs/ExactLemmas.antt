@@ -10,7 +10,7 @@ use Rattle.redo_shell.specs.Calls.{IsRunCall, IsMaking}
 use Rattle.redo_shell.specs.Causes.{CountsFaults, JudgesFiles}
 use Rattle.redo_shell.specs.Store.{Command, IsWellFormed, Opens}
 use Rattle.redo_shell.specs.declared.status.Status.{Status}
-use Rattle.redo_shell.specs.declared.status.Status.TheVariants.{Done, DoneWithRefusals, Usage, NotAStore, AlreadyStore, Damaged, DiskFault, ReadFault, SayFault, Memory, TooLong, AlreadyTwo, Smaller}
+use Rattle.redo_shell.specs.declared.status.Status.TheVariants.{Done, DoneWithRefusals, Usage, NotAStore, AlreadyStore, Damaged, DiskFault, ReadFault, SayFault, Memory, TooLong, AlreadyTwo, Smaller, BackupFault}
 use Rattle.redo_shell.specs.Exactly.{IsFaultless, OpensExactly, MakesExactly, RunsExactly}
 use Rattle.redo_shell.proofs.DamageLemmas.{HasOneDamage, first_said}
 use Rattle.redo_shell.proofs.ScriptLemmas.{enough_taken, not_so_few}
@@ -24,6 +24,7 @@ unopened_reads_none ReadFault of is = of
 unopened_reads_none TooLong of is = of
 unopened_reads_none AlreadyTwo of is = of
 unopened_reads_none Smaller of is = of
+unopened_reads_none BackupFault of is = of
 unopened_reads_none status of is = is
 
 pub unopened_run : (status : Status) → IsOfUnopened status → IsOfRun status
@@ -51,20 +52,21 @@ IsCalm Memory = ⊤
 IsCalm TooLong = ⊤
 IsCalm status = ⊥
 
-pub calm_run : {old new : Disk} {before now : ℕ} (status : Status) → IsFaultless old new before now → IsOfRun status → CountsFaults old new status → (status ≡ ReadFault → Rises before now) → IsCalm status
-calm_run Done calm of faults input = tt
-calm_run DoneWithRefusals calm of faults input = tt
-calm_run Usage calm of faults input = absurd of
-calm_run NotAStore calm of faults input = tt
-calm_run AlreadyStore calm of faults input = absurd of
-calm_run Damaged calm of faults input = tt
-calm_run DiskFault calm of faults input = absurd (calm.disk (faults.disk refl))
-calm_run ReadFault calm of faults input = absurd (calm.input (input refl))
-calm_run SayFault calm of faults input = absurd (calm.output (faults.output refl))
-calm_run Memory calm of faults input = tt
-calm_run TooLong calm of faults input = tt
-calm_run AlreadyTwo calm of faults input = absurd of
-calm_run Smaller calm of faults input = absurd of
+pub calm_run : {old new : Disk} {before now : ℕ} {backup backed : Disk} (status : Status) → IsFaultless old new before now backup backed → IsOfRun status → CountsFaults old new status → (status ≡ ReadFault → Rises before now) → (status ≡ BackupFault → Rises backup.disk_faults backed.disk_faults) → IsCalm status
+calm_run Done calm of faults input beside = tt
+calm_run DoneWithRefusals calm of faults input beside = tt
+calm_run Usage calm of faults input beside = absurd of
+calm_run NotAStore calm of faults input beside = tt
+calm_run AlreadyStore calm of faults input beside = absurd of
+calm_run Damaged calm of faults input beside = tt
+calm_run DiskFault calm of faults input beside = absurd (calm.disk (faults.disk refl))
+calm_run ReadFault calm of faults input beside = absurd (calm.input (input refl))
+calm_run SayFault calm of faults input beside = absurd (calm.output (faults.output refl))
+calm_run Memory calm of faults input beside = tt
+calm_run TooLong calm of faults input beside = tt
+calm_run AlreadyTwo calm of faults input beside = absurd of
+calm_run Smaller calm of faults input beside = absurd of
+calm_run BackupFault calm of faults input beside = absurd (calm.backup (beside refl))
 
 pub no_store_exactly : {gate image : Type 0} (status : Status) → IsCalm status → (status ≡ NotAStore → gate → ⊥) → (status ≡ Damaged → gate) → (status ≡ Memory → gate) → (IsOfStore status → image) → (image → gate)
     → (status ≡ NotAStore) ↔ (gate → ⊥)
@@ -81,6 +83,7 @@ no_store_exactly SayFault calm closed broken refused opened open_gate = absurd c
 no_store_exactly Memory calm closed broken refused opened open_gate = (λ e. cc, λ closed. absurd (closed (refused refl)))
 no_store_exactly AlreadyTwo calm closed broken refused opened open_gate = absurd calm
 no_store_exactly Smaller calm closed broken refused opened open_gate = absurd calm
+no_store_exactly BackupFault calm closed broken refused opened open_gate = absurd calm
 
 pub damaged_exactly : {gate image : Type 0} (status : Status) → IsCalm status → status ≢ Memory → (status ≡ NotAStore → gate → ⊥) → (status ≡ Damaged → gate) → (IsOfStore status → image) → (image → status ≢ Damaged)
     → (status ≡ Damaged) ↔ (gate × (image → ⊥))
@@ -97,6 +100,7 @@ damaged_exactly SayFault calm memory closed broken opened whole = absurd calm
 damaged_exactly Memory calm memory closed broken opened whole = absurd (memory refl)
 damaged_exactly AlreadyTwo calm memory closed broken opened whole = absurd calm
 damaged_exactly Smaller calm memory closed broken opened whole = absurd calm
+damaged_exactly BackupFault calm memory closed broken opened whole = absurd calm
 
 -- on a store that is whole
 pub whole_run : (status : Status) → IsCalm status → status ≢ Memory → (status ≢ NotAStore) × (status ≢ Damaged) → (status ≡ TooLong) ⊎ ((status ≡ Done) ⊎ (status ≡ DoneWithRefusals))
@@ -113,9 +117,10 @@ whole_run SayFault calm memory store = absurd calm
 whole_run Memory calm memory store = absurd (memory refl)
 whole_run AlreadyTwo calm memory store = absurd calm
 whole_run Smaller calm memory store = absurd calm
+whole_run BackupFault calm memory store = absurd calm
 
 -- so does a dump
-pub calm_told : {old new : Disk} {before now : ℕ} (status : Status) → IsFaultless old new before now → IsOfDump status → CountsFaults old new status → IsCalm status
+pub calm_told : {old new : Disk} {before now : ℕ} {backup backed : Disk} (status : Status) → IsFaultless old new before now backup backed → IsOfDump status → CountsFaults old new status → IsCalm status
 calm_told Done calm of faults = tt
 calm_told NotAStore calm of faults = tt
 calm_told Damaged calm of faults = tt
@@ -129,9 +134,10 @@ calm_told ReadFault calm of faults = absurd of
 calm_told TooLong calm of faults = absurd of
 calm_told AlreadyTwo calm of faults = absurd of
 calm_told Smaller calm of faults = absurd of
+calm_told BackupFault calm of faults = absurd of
 
 -- a dump of a store that is whole, which nothing disturbs
-pub calm_dump : {old new : Disk} {before now : ℕ} (status : Status) → IsFaultless old new before now → status ≢ Memory → IsOfDump status → CountsFaults old new status → (status ≢ NotAStore) × (status ≢ Damaged) → status ≡ Done
+pub calm_dump : {old new : Disk} {before now : ℕ} {backup backed : Disk} (status : Status) → IsFaultless old new before now backup backed → status ≢ Memory → IsOfDump status → CountsFaults old new status → (status ≢ NotAStore) × (status ≢ Damaged) → status ≡ Done
 calm_dump Done calm memory of faults store = refl
 calm_dump NotAStore calm memory of faults store = absurd (store.0 refl)
 calm_dump Damaged calm memory of faults store = absurd (store.1 refl)
@@ -145,9 +151,10 @@ calm_dump ReadFault calm memory of faults store = absurd of
 calm_dump TooLong calm memory of faults store = absurd of
 calm_dump AlreadyTwo calm memory of faults store = absurd of
 calm_dump Smaller calm memory of faults store = absurd of
+calm_dump BackupFault calm memory of faults store = absurd of
 
 -- the making of a store in which no count of faults rises
-pub calm_init : {old new : Disk} {before now : ℕ} (status : Status) → IsFaultless old new before now → IsOfInit status → CountsFaults old new status → (status ≡ Done) ⊎ (status ≡ AlreadyStore)
+pub calm_init : {old new : Disk} {before now : ℕ} {backup backed : Disk} (status : Status) → IsFaultless old new before now backup backed → IsOfInit status → CountsFaults old new status → (status ≡ Done) ⊎ (status ≡ AlreadyStore)
 calm_init Done calm of faults = inl refl
 calm_init AlreadyStore calm of faults = inr refl
 calm_init DiskFault calm of faults = absurd (calm.disk (faults.disk refl))
@@ -161,6 +168,7 @@ calm_init Memory calm of faults = absurd of
 calm_init TooLong calm of faults = absurd of
 calm_init AlreadyTwo calm of faults = absurd of
 calm_init Smaller calm of faults = absurd of
+calm_init BackupFault calm of faults = absurd of
 
 -- where a store is there already, or the output fails to say so
 pub in_made : (status : Status) → (status ≡ AlreadyStore) ⊎ (status ≡ SayFault) → IsOfInit status
@@ -189,7 +197,7 @@ runs_exactly status calm memory call taken image = record {
   );
 }
 
-pub makes_exactly : {p : Params} {old new : Disk} {before now : ℕ} (status : Status) → IsFaultless old new before now → IsMaking p old new status → CountsFaults old new status → old.tells_files → MakesExactly old status
+pub makes_exactly : {p : Params} {old new : Disk} {before now : ℕ} {backup backed : Disk} (status : Status) → IsFaultless old new before now backup backed → IsMaking p old new status → CountsFaults old new status → old.tells_files → MakesExactly old status
 makes_exactly status calm making faults told =
     let ends = calm_init status calm making.ends faults in
     record {

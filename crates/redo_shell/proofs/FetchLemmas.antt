@@ -26,9 +26,9 @@ not_a_fault broken none = false_from_ne_true broken none
 
 -- the world is still shown, and the log is as it was
 pub fetched_kept : {p : Params} {old new : Disk} {before after : EngineView} {commands : List Command} → (holds : Holds p old before commands) → ShowsIn p new after holds.world
-    → after.parts.log ≡ before.parts.log → after.identities ≡ before.identities → (of_engine.Holds all_meaning p new after commands → Says p new after commands)
+    → after.parts.log ≡ before.parts.log → after.identities ≡ before.identities → after.copied ≡ before.copied → (of_engine.Holds all_meaning p new after commands → Says p new after commands)
     → (kept : Kept p before new after commands) × (stage_of after kept.holds.world ≡ stage_of before holds.world)
-fetched_kept {p} {old} {new} {before} {after} {commands} holds shows log identities says = (
+fetched_kept {p} {old} {new} {before} {after} {commands} holds shows log identities copies says = (
   record {
     holds = record {
       world = holds.world;
@@ -39,7 +39,7 @@ fetched_kept {p} {old} {new} {before} {after} {commands} holds shows log identit
     rising = let same = ap (λ (l : RecordLogView). l.forced) log in omega (arith, same);
     which = inl (ap (λ (l : RecordLogView). l.forced) log);
   },
-  λ i. record { world = holds.world; used = used_of (log i).log; identities = identities i },
+  λ i. record { world = holds.world; used = used_of (log i).log; identities = identities i; copied = copies i },
 )
 
 -- there is an object exactly where its number is below how many there are

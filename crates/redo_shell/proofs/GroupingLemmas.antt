@@ -27,7 +27,7 @@ use Rattle.script_lines.specs.Replies.{no_group, ok, reply_of}
 use Rattle.script_lines.specs.declared.answer.Answer.{Answer}
 use Rattle.script_lines.specs.declared.answer.Answer.TheVariants as answers
 use Rattle.store_engine.specs.Calls.{IsBeginning, begin_course, end_course, work_of_force}
-use Rattle.store_engine.specs.Engine.{EngineView, forced_in, group_size, used_in}
+use Rattle.store_engine.specs.Engine.{EngineView, forced_in, group_size, so_far, used_in}
 use Rattle.store_engine.specs.Engine as of_engine
 use Rattle.store_engine.specs.declared.grouping.NoGroup.{NoGroup}
 use Rattle.store_engine.specs.declared.work_err.WorkErr.{WorkErr}
@@ -36,7 +36,7 @@ use Rattle.redo_shell.specs.Groups.{open_in}
 use Rattle.redo_shell.specs.Found.{IsBarredIn, IsDone, answer_of_work}
 use Rattle.redo_shell.specs.Replies.{IsGranted}
 use Rattle.redo_shell.specs.Run.{IsCaused, IsUndamaged}
-use Rattle.redo_shell.specs.Stages.{stage_of, upkeep_course}
+use Rattle.redo_shell.specs.Stages.{IsBesideBackup, stage_of, upkeep_course}
 use Rattle.redo_shell.specs.Work.{group_request}
 use Rattle.redo_shell.specs.declared.work.Grouping.{Grouping}
 use Rattle.redo_shell.specs.declared.work.Grouping.TheVariants as of_grouping
@@ -118,11 +118,11 @@ module _ (p : Params) (old now : Disk) (before after : EngineView) (commands : L
         regroups = (begin_group, asks, ap (λ (u : World Command). open_in u) begun_world ∙ begun_open);
         rising = rose.rising;
         which = rose.which;
-        goes = (
+        goes = inl (
           c,
-          inr (inl (begin_group, 0, none, asks, refl)),
+          inr (inl (begin_group, 0, none, tt, asks, refl)),
           refl,
-          stage_on p before after w c there.1.used (it.call.identities ∙ ap (λ (l : List ℕ). before.identities + length l) (sym (logged_begin m w (used_in before)))),
+          stage_on p before after w c there.1.used (it.call.identities ∙ ap (λ (l : List ℕ). before.identities + length l) (sym (logged_begin m w (used_in before)))) it.call.copied,
         );
         is_of = tt;
       }
@@ -174,7 +174,7 @@ module _ {M : Type 0} (disk : M → Disk) {old now : M} {before after : EngineVi
       (λ none. let it = alone none in subst (λ (r : Result Answer Stop). OnOk r (after.broken ≡ false)) (sym it.1) (begin_fine it.0 it.2))
 
   module _ {p : Params} {w : World Command} (shows : ShowsIn p (disk old) before w) where
-    pub begin_steps : IsGranted (open_in w) begin_group → (disk old).tells_moments → TakesSome (meaning_in p) p (disk old) (disk now) w (upkeep_course 0 begin_group (meaning_in p) w (used_in before)).steps
+    pub begin_steps : IsGranted (open_in w) begin_group → (disk old).tells_moments → TakesSome (meaning_in p) p (disk old) (disk now) w (upkeep_course 0 0 begin_group (meaning_in p) w (used_in before)).steps
     begin_steps granted told = (alone (none_in shows granted)).2.takes.steps told p w shows
 
     pub begin_still : (IsGranted (open_in w) begin_group → ⊥) → now ≡ old
@@ -244,11 +244,11 @@ module _ {p : Params} {d : Disk} {engine : EngineView} {commands : List Command}
         regroups = (end_group, asks, none_open there refl);
         rising = omega arith;
         which = inl refl;
-        goes = (
+        goes = inl (
           end_course mean start (used_in engine),
-          inr (inl (end_group, 0, inside, asks, refl)),
+          inr (inl (end_group, 0, inside, tt, asks, refl)),
           refl,
-          λ i. record { world = sym ended_run i; used = used_in engine; identities = none_more engine.identities i },
+          λ i. record { world = sym ended_run i; used = used_in engine; identities = none_more engine.identities i; copied = engine.copied },
         );
         is_of = tt;
       } in
@@ -256,7 +256,7 @@ module _ {p : Params} {d : Disk} {engine : EngineView} {commands : List Command}
 
   pub end_refused : (after : EngineView) → engine.group ≡ None → after ≡ engine → IsDone p d d engine after start commands line no_group
   end_refused after alone is =
-      let here : IsDone p d d engine engine start commands line no_group = unmoved no_group holds (asks, none_open holds.shows alone, refl) (λ s. refl) refl tt in
+      let here : IsDone p d d engine engine start commands line no_group = unmoved no_group holds (asks, none_open holds.shows alone, refl) refl refl tt in
       subst (λ (e : EngineView). IsDone p d d engine e start commands line no_group) (sym is) here
 
 -- where no call is made no step is taken
@@ -273,12 +273,22 @@ by_granted (Some n) of_grouping.Begin granted barred = barred (λ is. cc is)
 by_granted None of_grouping.End granted barred = barred (λ is. cc is)
 by_granted (Some n) of_grouping.End granted barred = granted refl
 
+-- no backup is in the way of either, and it takes the same course beside one
+group_beside : (copies : Option ℕ) (grouping : Grouping) → IsBesideBackup copies (group_request grouping)
+group_beside copies of_grouping.Begin = tt
+group_beside copies of_grouping.End = tt
+
+group_course : (copies : ℕ) (grouping : Grouping) (m : Meaning Command) (w : World Command) (used : ℕ) → upkeep_course 0 0 (group_request grouping) m w used ≡ upkeep_course 0 copies (group_request grouping) m w used
+group_course copies of_grouping.Begin m w used = refl
+group_course copies of_grouping.End m w used = refl
+
 pub group_works : {p : Params} {old now : Disk} {before : EngineView} {commands : List Command} {line : List ℕ} (grouping : Grouping) → IsDisk old → (holds : Holds p old before commands) → AsksFor line (group_request grouping)
-    → (old.tells_moments → IsGranted (open_in holds.world) (group_request grouping) → TakesSome (meaning_in p) p old now holds.world (upkeep_course 0 (group_request grouping) (meaning_in p) holds.world (used_in before)).steps)
+    → (old.tells_moments → IsGranted (open_in holds.world) (group_request grouping) → TakesSome (meaning_in p) p old now holds.world (upkeep_course 0 0 (group_request grouping) (meaning_in p) holds.world (used_in before)).steps)
     → ((IsGranted (open_in holds.world) (group_request grouping) → ⊥) → now ≡ old) → Works p old now (stage_of before holds.world) line
 group_works {p} {old} {now} {before} {commands} {line} grouping lawful holds asks steps still =
     let request = group_request grouping in
     by_granted (open_in holds.world) grouping
     (λ granted.
-    works_by p old now (stage_of before holds.world) line (upkeep_course 0 request (meaning_in p) holds.world (used_in before)) (inl (inr (inl (request, 0, granted, asks, refl)))) (λ told. steps told granted))
+    works_by p old now (stage_of before holds.world) line (upkeep_course 0 0 request (meaning_in p) holds.world (used_in before))
+    (inl (inr (inl (request, 0, granted, group_beside before.copied grouping, asks, group_course (so_far before.copied) grouping (meaning_in p) holds.world (used_in before))))) (λ told. steps told granted))
     (λ barred. still_works line lawful holds (still barred))

@@ -1,6 +1,6 @@
 -- The plans of a hash file, and how its calls are answered.
-use Rattle.std.proofs.Common.{◌≡◌, ◌∙◌, ap, sym, subst, refl, ℕ, suc, ◌-◌, Bool, true, false, List, [], ◌∷◌, Option, Some, None, Result, Ok, Err}
-use Rattle.std.specs.Prelude.{◌&&◌, ◌||◌, ◌==◌, nat_le, nat_lt, if◌then◌else◌, map}
+use Rattle.std.proofs.Common.{◌≡◌, ◌∙◌, ap, sym, refl, ℕ, ◌-◌, Bool, true, false, List, [], ◌∷◌, Option, Some, None, Result, Ok, Err}
+use Rattle.std.specs.Prelude.{◌&&◌, nat_le, nat_lt, if◌then◌else◌, map}
 use Rattle.std.proofs.lemmas.Bool.{cond_both}
 use Rattle.oper_core.specs.Meaning.{after}
 use Rattle.oper_core.specs.State.{State}
@@ -9,7 +9,7 @@ use Rattle.oper_core.specs.declared.refusal.Refusal.TheVariants as refusals
 use Rattle.formats.specs.declared.params.Params.{Params}
 use Rattle.op_codec.specs.AllOps.{hash}
 use Rattle.key_entries.specs.Pairs.{has}
-use Rattle.call_plans.specs.Plan.{Next, goes_on, ends, refuses, Plan, one_command, plan_from, plan_next, refused_by}
+use Rattle.call_plans.specs.Plan.{goes_on, ends, refuses, one_command, plan_from, plan_next, refused_by}
 use Rattle.hash_ops.specs.Operation.{hash_meaning}
 use Rattle.hash_ops.specs.declared.hash_op.HashOp.{HashOp}
 use Rattle.hash_ops.specs.declared.hash_op.HashOp.TheVariants.{Delete}
@@ -18,7 +18,7 @@ use Rattle.hash_file.specs.Plan.{HashNext, HashPlan, delete_on, delete_plan, is_
 use Rattle.hash_file.specs.declared.refusal.HashRefusal.{HashRefusal}
 use Rattle.hash_file.specs.declared.refusal.HashRefusal.TheVariants.{NoObject, BadHash, HashFull, NoRoom, NoKey}
 use Rattle.range_calls.specs.Answers.{made_of, told}
-use Rattle.script_lines.specs.Replies.{Reply, ok, refused, reply_of}
+use Rattle.script_lines.specs.Replies.{ok, refused, reply_of}
 use Rattle.redo_shell.specs.Found.{hash_answer}
 use Rattle.redo_shell.specs.Made.{call_end, hash_found, hash_made, hash_reply, plan_reply}
 use Rattle.redo_shell.specs.Store.{Command}

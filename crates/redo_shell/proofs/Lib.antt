@@ -3,6 +3,11 @@ pub mod StoryLemmas
 pub mod TrueLemmas
 pub mod MomentLemmas
 pub mod RunLemmas
+pub mod SavingLemmas
+pub mod BackupLemmas
+pub mod SavingCalls
+pub mod SavingDone
+pub mod SavingSaid
 pub mod LineLemmas
 pub mod ScriptLemmas
 pub mod OpenLemmas
@@ -12,9 +17,11 @@ pub mod DumpLemmas
 pub mod UpgradeLemmas
 pub mod KeepLemmas
 pub mod CauseLemmas
+pub mod DenialLemmas
 pub mod SayLemmas
 pub mod SessionLemmas
 pub mod PrintedLemmas
+pub mod SavedLemmas
 pub mod FuseLemmas
 pub mod DamageLemmas
 pub mod CourseLemmas

@@ -283,8 +283,8 @@ module _ (p : Params) (old now : Disk) (before after : EngineView) (commands : L
   way = commands_course m p.limit it.ops w (used_in before)
 
   -- the stage that the course leads to
-  ends_so : (stop : Stop) (world : World Command) → way.stop ≡ stop → IsBehind m w way world (used_in after) → after.identities ≡ before.identities → Ends p (stage_of before w) line stop (stage_of after world)
-  ends_so stop world is behind same = (
+  ends_so : (stop : Stop) (world : World Command) → way.stop ≡ stop → IsBehind m w way world (used_in after) → after.identities ≡ before.identities → after.copied ≡ before.copied → Ends p (stage_of before w) line stop (stage_of after world)
+  ends_so stop world is behind same copies = (
     way,
     inl (it, asks_in holds asks, refl),
     is,
@@ -292,6 +292,7 @@ module _ (p : Params) (old now : Disk) (before after : EngineView) (commands : L
       world = behind.world_is i;
       used = behind.used_is i;
       identities = (same ∙ none_more before.identities ∙ ap (λ (l : List ℕ). before.identities + length l) (sym (none (bounds_of p) p.limit it.ops w (used_in before)))) i;
+      copied = copies i;
     },
   )
 
@@ -337,7 +338,7 @@ module _ (p : Params) (old now : Disk) (before after : EngineView) (commands : L
         regroups = regroups_so reply (open_in here.world) (same_group Done (λ f. f) a);
         rising = rises Done (λ f. f) a;
         which = which_of Done (λ f. f) a;
-        goes = goes here.world (ends_so Through here.world here.ends.0 here.ends.1 a.identities);
+        goes = goes here.world (ends_so Through here.world here.ends.0 here.ends.1 a.identities call.copied);
         is_of = is_of;
       }
 
@@ -353,7 +354,7 @@ module _ (p : Params) (old now : Disk) (before after : EngineView) (commands : L
       omega (arith, low, ap length here.commands_are, ap (λ (l : List Command). length (commands ++ l)) whole)
 
   pub made_done : (reply : Reply) → it.reply ≡ reply → IsEnd reply → IsEngineCall p.limit old now before after 0 Done → Adds Done → IsDone p old now before after w commands line reply
-  made_done ok is fin call a = all_done ok is (inl (asks_so ok is, few is a)) (λ world goes. goes) tt call a
+  made_done ok is fin call a = all_done ok is (inl (asks_so ok is, few is a)) (λ world goes. inl goes) tt call a
   made_done (ran k) is fin call a = all_done (ran k) is (asks_so (ran k) is) (λ world goes. goes) tt call a
   made_done (refused why) is fin call a = all_done (refused why) is (inl (asks_so (refused why) is)) (λ world goes. goes) tt call a
   made_done bad_tree is fin call a = all_done bad_tree is (inl (asks_so bad_tree is)) (λ world goes. goes) tt call a
@@ -380,7 +381,7 @@ module _ (p : Params) (old now : Disk) (before after : EngineView) (commands : L
         regroups = regroups_so reply (open_in here.world) (same_group (Stopped stop) (λ f. f) a);
         rising = rises (Stopped stop) (λ f. f) a;
         which = which_of (Stopped stop) (λ f. f) a;
-        goes = goes here.world (ends_so stop here.world here.ends.0 here.ends.1 a.identities);
+        goes = goes here.world (ends_so stop here.world here.ends.0 here.ends.1 a.identities call.copied);
         is_of = is_of;
       }
 
@@ -395,7 +396,7 @@ module _ (p : Params) (old now : Disk) (before after : EngineView) (commands : L
       let stop = Full used need limit in
       let at = a.stopped stop refl in
       let need_is = at.need.0 ∙ ap (λ (size : Option ℕ). needed_in size (record_length p at.op)) (size_so stop a) in
-      stopped_so stop (full used need limit) a (inl (at.op, stopped_at stop a at, need_is, at.need.1, over_limit (is_some before.group) p.limit after.parts.log used need limit (call.stopped stop refl))) (λ world goes. goes) (left_stopped stop call) call
+      stopped_so stop (full used need limit) a (inl (at.op, stopped_at stop a at, need_is, at.need.1, over_limit (is_some before.group) p.limit after.parts.log used need limit (call.stopped stop refl))) (λ world goes. inl goes) (inl (left_stopped stop call)) call
 
   pub made_end_at : (number : ℕ) → IsEngineCall p.limit old now before after 0 (Stopped (At_end number)) → Adds (Stopped (At_end number)) → IsDone p old now before after w commands line (end number)
   made_end_at number call a =

@@ -23,8 +23,10 @@ use Rattle.redo_shell.specs.Status.{status_of, status_after, IsCut, IsOfUnopened
 use Rattle.redo_shell.specs.declared.status.Status.{Status}
 use Rattle.redo_shell.specs.declared.status.Status.TheVariants.{Done, DoneWithRefusals, NotAStore, Damaged, DiskFault as DiskFailed, SayFault as OutputFailed, Memory as OutOfMemory}
 use Rattle.redo_shell.specs.declared.stop.Stop.{Stop}
-use Rattle.redo_shell.specs.declared.stop.Stop.TheVariants.{DiskFault, Damaged as SlotDamaged, ReadFault, SayFault, Memory, TooLong}
+use Rattle.redo_shell.specs.declared.stop.Stop.TheVariants.{DiskFault, Damaged as SlotDamaged, ReadFault, SayFault, BackupFault, Memory, TooLong}
 use Rattle.redo_shell.specs.Run.{IsRun, IsComplete, MomentSoFar}
+use Rattle.redo_shell.specs.Saving.{IsBackedUp}
+use Rattle.redo_shell.proofs.BackupLemmas.{same_passes, says_none}
 use Rattle.redo_shell.proofs.StoryLemmas.{AreEven, answers_even, story_start, told_whole, told_goes, told_truly}
 use Rattle.redo_shell.proofs.TrueLemmas.{none_begun}
 use Rattle.redo_shell.proofs.RunLemmas.{AreFew, first_moment}
@@ -66,7 +68,7 @@ start_so_far few {p} start {commands} script stands =
 pub start_moment : AreFew → {p : Params} (start : Disk) {commands : List Command} (script : List (List ℕ)) → Stands p start.reads commands → Moment p commands script start.said start.reads start.said
 start_moment few start script stands = (start_so_far few start script stands).is
 
-pub says_nothing : {p : Params} {first : Stage} {commands : List Command} (script : List (List ℕ)) {old new : Disk} → Passes old new → new.said ≡ old.said → SaysTruly p first commands script old new
+abbrev pub says_nothing : {p : Params} {first : Stage} {commands : List Command} (script : List (List ℕ)) {old new : Disk} → Passes old new → new.said ≡ old.said → SaysTruly p first commands script old new
 says_nothing {p} {first} {commands} script {old} {new} time quiet =
     let none = told_whole (λ ops line reply. ⊤) (story_start p commands script) in
     record {
@@ -103,25 +105,29 @@ even_begun {account = account} {added = added} lines replies waits (inr begun) e
       omega (arith, even.1, more, length-append waits (waiting account.group (account.commands ++ added) ∷ [])),
     )
 
-pub run_says : {p : Params} {first : Stage} {start mid new : Disk} {commands : List Command} {script : List (List ℕ)} {status : Status} → IsDisk start → OpensSo p start mid commands → Passes start mid → mid.said ≡ start.said
-    → IsRun p first mid new commands script status
-    → SaysTruly p first commands script start new
-run_says {p} {first} {start} {mid} {new} {commands} {script} lawful opening time quiet run =
-    let truth = run.says in
+-- what was said is true of each moment also from before the store was opened
+pub says_truly : {p : Params} {first : Stage} {start mid new : Disk} {commands : List Command} {script : List (List ℕ)} → IsDisk start → OpensSo p start mid commands → Passes start mid → mid.said ≡ start.said
+    → (truth : SaysTruly p first commands script mid new) → start.tells_moments
+    → LeavesOnly start new (TrueWithin p start.said (with_line truth.says.story.lines truth.says.story.work) (with_begun truth.says.story.replies truth.says.story.work) (with_waits truth.says.story.waits truth.says.story.work))
+says_truly {p} {first} {start} {mid} {new} {commands} lawful opening time quiet truth told =
     let story = truth.says.story in
     let replies = with_begun story.replies story.work in
     let lines = with_line story.lines story.work in
     let waits = with_waits story.waits story.work in
     let even = even_begun story.lines story.replies story.waits story.work (answers_even p (account_of commands) story.lines story.replies story.waits story.account story.answers) in
-    record {
-      says = record { bytes = truth.says.bytes; since = truth.says.since ∙ ap (λ (l : List ℕ). l ++ truth.says.bytes) quiet; story = story };
-      truly = λ told. runs_on start mid new (TrueWithin p start.said lines replies waits)
-          (weaker start mid (OrAtStart start (Between p start None (length commands) (length commands) commands)) (TrueWithin p start.said lines replies waits) (opening told)
-          (λ f s here. none_begun p start.said lines replies waits f s even (omega (arith, ap length (opening_says p start commands lawful told f s here)))))
-          (subst (λ (s : List ℕ). LeavesOnly mid new (TrueWithin p s lines replies waits)) quiet (truth.truly (time.moments_told.0 told)));
-      last = truth.last;
-      goes = truth.goes;
-    }
+    runs_on start mid new (TrueWithin p start.said lines replies waits)
+    (weaker start mid (OrAtStart start (Between p start None (length commands) (length commands) commands)) (TrueWithin p start.said lines replies waits) (opening told)
+    (λ f s here. none_begun p start.said lines replies waits f s even (omega (arith, ap length (opening_says p start commands lawful told f s here)))))
+    (subst (λ (s : List ℕ). LeavesOnly mid new (TrueWithin p s lines replies waits)) quiet (truth.truly (time.moments_told.0 told)))
+
+abbrev pub says_from : {p : Params} {first : Stage} {start mid new : Disk} {commands : List Command} {script : List (List ℕ)} → IsDisk start → OpensSo p start mid commands → Passes start mid → mid.said ≡ start.said
+    → SaysTruly p first commands script mid new → SaysTruly p first commands script start new
+says_from lawful opening time quiet truth = record {
+  says = record { bytes = truth.says.bytes; since = truth.says.since ∙ ap (λ (l : List ℕ). l ++ truth.says.bytes) quiet; story = truth.says.story };
+  truly = says_truly lawful opening time quiet truth;
+  last = truth.last;
+  goes = truth.goes;
+}
 
 pub complete_from : {p : Params} {first : Stage} {start mid new : Disk} {commands : List Command} {script : List (List ℕ)} {status : Status} → mid.said ≡ start.said → IsComplete p first mid new commands script status → IsComplete p first start new commands script status
 complete_from quiet all = record {
@@ -145,6 +151,7 @@ not_early DiskFault is = ⊎_elim (λ (e : status_of DiskFault ≡ Done). cc) (�
 not_early (SlotDamaged file place) is = ⊎_elim (λ (e : status_of (SlotDamaged file place) ≡ Done). cc) (λ (e : status_of (SlotDamaged file place) ≡ DoneWithRefusals). cc) is
 not_early ReadFault is = ⊎_elim (λ (e : status_of ReadFault ≡ Done). cc) (λ (e : status_of ReadFault ≡ DoneWithRefusals). cc) is
 not_early SayFault is = ⊎_elim (λ (e : status_of SayFault ≡ Done). cc) (λ (e : status_of SayFault ≡ DoneWithRefusals). cc) is
+not_early BackupFault is = ⊎_elim (λ (e : status_of BackupFault ≡ Done). cc) (λ (e : status_of BackupFault ≡ DoneWithRefusals). cc) is
 not_early Memory is = ⊎_elim (λ (e : status_of Memory ≡ Done). cc) (λ (e : status_of Memory ≡ DoneWithRefusals). cc) is
 not_early TooLong is = ⊎_elim (λ (e : status_of TooLong ≡ Done). cc) (λ (e : status_of TooLong ≡ DoneWithRefusals). cc) is
 
@@ -204,7 +211,7 @@ run_on few {p} old mid new {commands} script status lawful ends opens files befo
       unclosed_from_settled = λ told settled cut. from_settled old new (MomentSoFar p commands script old.said) lawful told settled (start_so_far few old script opens.stands) (unclosed told cut);
       unclosed_now = λ told cut memory. ends_behind (MomentSoFar p commands script) old mid new ends time files.quiet (before.moments_told.0 told) (begun.unclosed cut (before.moments_told.0 told));
       first = files.first;
-      answers = λ first is. run_says lawful files.images before files.quiet (runs first is).0;
+      answers = λ first is. says_from lawful files.images before files.quiet (runs first is).0.says;
       steps = λ told first is. run_steps script files before (runs first is).0 told is;
       complete = λ first is done. complete_from files.quiet ((runs first is).1 done);
       store = store;
@@ -255,4 +262,24 @@ judged_open status image store = record {
   keeps = λ broken. absurd (broken image);
   memory = λ is. opens_gate all_meaning image;
   silent = λ broken is. absurd (broken image);
+}
+
+-- What was made of the backup, from before the store was opened.
+module _ {T : Type 0} (disk : T → Disk) {before after : T} {p : Params} {commands : List Command} {script : List (List ℕ)} {old mid : Disk} where
+  pub backed_from : {first : Stage} {new : Disk} → IsDisk old → OpensFiles p commands old mid → Passes old mid → IsBackedUp disk p first commands script mid new before after → IsBackedUp disk p first commands script old new before after
+  backed_from lawful files time b = record { truly = says_from lawful files.images time files.quiet b.truly; passes = b.passes; says = b.says }
+
+  -- from each stage that the opening has
+  pub backed_each : {new : Disk} {engine : EngineView} → IsOpen p commands old mid engine → ((holds : Holds p mid engine commands) → IsBackedUp disk p (stage_of engine holds.world) commands script mid new before after)
+      → (first : Stage) → IsFirst p commands old first → IsBackedUp disk p first commands script mid new before after
+  backed_each {new} opened runs first is =
+      let shown = opened.shows first is in
+      subst (λ (s : Stage). IsBackedUp disk p s commands script mid new before after) (sym shown.1) (runs shown.0)
+
+-- where no store was opened, or nothing was done
+pub none_backed : {T : Type 0} (disk : T → Disk) {backup : T} {p : Params} (first : Stage) {commands : List Command} {script : List (List ℕ)} {old new : Disk} → Passes old new → new.said ≡ old.said → IsBackedUp disk p first commands script old new backup backup
+none_backed disk {backup} {p} first {commands} {script} time quiet = record {
+  truly = says_nothing {first = first} script time quiet;
+  passes = same_passes _ backup;
+  says = λ tells. says_none p (commands ++ []) (disk backup);
 }

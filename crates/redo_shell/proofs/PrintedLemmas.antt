@@ -9,11 +9,12 @@ use Rattle.oper_core.specs.declared.refusal.Refusal.{Refusal}
 use Rattle.oper_core.specs.declared.refusal.Refusal.TheVariants.{NoObject, Same, BadPlace, BadWidth, NotApp, NotCode, Halted, NoInput, NotNode, NoKey, NodeFull, TooLarge}
 use Rattle.formats.specs.declared.params.Params.{Params}
 use Rattle.script_lines.specs.Reading.{IsPlain}
+use Rattle.script_lines.specs.declared.backup_denial.BackupDenial.TheVariants.{InBackup, NoBackup, AlreadyStore, NotCopied}
 use Rattle.script_lines.specs.declared.denial.Denial.TheVariants.{BadHash, HashFull, NoRoom}
-use Rattle.script_lines.specs.Replies.{Pair, Reply, ok, ran, value, pairs, forced, bad, refused, bad_tree, tree_full, denied, in_group, no_group, full, end, object_value, command_count, stat, summary, silence, pair_text, spaced_pair, spaced, numbers_of, hex_glyph, hex_pair, hex_text, name_of, text_of, said_line}
+use Rattle.script_lines.specs.Replies.{Pair, Reply, ok, ran, value, pairs, forced, bad, refused, bad_tree, tree_full, denied, in_group, no_group, full, end, object_value, command_count, stat, copied, saved, backup_denied, summary, silence, pair_text, spaced_pair, spaced, numbers_of, hex_glyph, hex_pair, hex_text, name_of, text_of, said_line}
 use Rattle.redo_shell.specs.Store.{Command}
 use Rattle.redo_shell.specs.Answers.{Said, Begun}
-use Rattle.redo_shell.specs.Printed.{before_line, whole_lines, texts_of, SaysForced}
+use Rattle.redo_shell.specs.Printed.{before_line, whole_lines, texts_of, SaysForced, SaysNumber, SaysSaved}
 
 -- bytes without a newline
 
@@ -134,6 +135,12 @@ plain_text (denied HashFull) = plain_when (codes "refused HashFull") refl
 plain_text (denied NoRoom) = plain_when (codes "refused NoRoom") refl
 plain_text in_group = plain_when (codes "refused InGroup") refl
 plain_text no_group = plain_when (codes "refused NoGroup") refl
+plain_text (copied n) = plain_count (codes "copied ") n (plain_when (codes "copied ") refl)
+plain_text (saved n) = plain_count (codes "saved ") n (plain_when (codes "saved ") refl)
+plain_text (backup_denied InBackup) = plain_when (codes "refused InBackup") refl
+plain_text (backup_denied NoBackup) = plain_when (codes "refused NoBackup") refl
+plain_text (backup_denied AlreadyStore) = plain_when (codes "refused AlreadyStore") refl
+plain_text (backup_denied NotCopied) = plain_when (codes "refused NotCopied") refl
 plain_text (summary t) =
     let seed = codes "demo" ++ codes " seed " ++ decimal t.seed in
     let steps = seed ++ codes " steps " ++ decimal t.steps in
@@ -194,6 +201,9 @@ line_more tree_full replies bytes rest = whole_line tree_full replies bytes rest
 line_more (denied why) replies bytes rest = whole_line (denied why) replies bytes rest
 line_more in_group replies bytes rest = whole_line in_group replies bytes rest
 line_more no_group replies bytes rest = whole_line no_group replies bytes rest
+line_more (copied n) replies bytes rest = whole_line (copied n) replies bytes rest
+line_more (saved n) replies bytes rest = whole_line (saved n) replies bytes rest
+line_more (backup_denied why) replies bytes rest = whole_line (backup_denied why) replies bytes rest
 line_more (summary totals) replies bytes rest = whole_line (summary totals) replies bytes rest
 line_more silence replies bytes rest = rest
 
@@ -204,7 +214,7 @@ lines_said (reply ∷ replies) part plain =
     ap (λ (l : List ℕ). whole_lines l) (append_assoc (said_line reply) (flat_map said_line replies) part)
     ∙ line_more reply replies (flat_map said_line replies ++ part) (lines_said replies part plain)
 
--- which answers have the text of one that says so many are forced
+-- which answers have the text of one that says so many are forced, or saved
 
 low_decimal : (n : ℕ) (rest : List ℕ) → get_or (decimal n ++ 32 ∷ rest) 0 0 ≤ 57
 low_decimal n rest = decimal_has (λ bytes. get_or (bytes ++ 32 ∷ rest) 0 0 ≤ 57) (λ d bytes small low. omega arith) n (omega arith)
@@ -221,13 +231,13 @@ low_pair : (key v others : List ℕ) (n : ℕ) → (flat_map hex_pair key ++ 58 
 low_pair [] v others n same = omega (arith, ap (λ (l : List ℕ). get_or l 0 0) same)
 low_pair (byte ∷ key) v others n same = let small : byte % 16 < 16 = omega arith in omega (arith, low_glyph (byte % 16) small, ap (λ (l : List ℕ). get_or l 1 0) same)
 
--- the text says so many, and the reply is one that does
-pub record Forces (reply : Reply) (n : ℕ) : Type 0 where
+-- the text says so many, and the reply is such an answer
+pub record Tells (answer : ℕ → Reply) (reply : Reply) (n : ℕ) : Type 0 where
   pub count : ℕ
-  pub reply_is : reply ≡ forced count
+  pub reply_is : reply ≡ answer count
   pub same : decimal count ≡ decimal n
 
-forced_text : (reply : Reply) (n : ℕ) → text_of reply ≡ text_of (forced n) → Forces reply n
+forced_text : (reply : Reply) (n : ℕ) → text_of reply ≡ text_of (forced n) → Tells forced reply n
 unfolding text_of
 forced_text ok n same = absurd (omega (arith, ap (λ (l : List ℕ). get_or l 1 0) same))
 forced_text (value bytes) n same = absurd (omega (arith, low_hex bytes, ap (λ (l : List ℕ). get_or l 1 0) same))
@@ -246,20 +256,49 @@ forced_text tree_full n same = absurd (omega (arith, ap (λ (l : List ℕ). get_
 forced_text (denied why) n same = absurd (omega (arith, ap (λ (l : List ℕ). get_or l 1 0) same))
 forced_text in_group n same = absurd (omega (arith, ap (λ (l : List ℕ). get_or l 1 0) same))
 forced_text no_group n same = absurd (omega (arith, ap (λ (l : List ℕ). get_or l 1 0) same))
+forced_text (copied m) n same = absurd (omega (arith, ap (λ (l : List ℕ). get_or l 0 0) same))
+forced_text (saved m) n same = absurd (omega (arith, ap (λ (l : List ℕ). get_or l 0 0) same))
+forced_text (backup_denied why) n same = absurd (omega (arith, ap (λ (l : List ℕ). get_or l 1 0) same))
 forced_text (summary totals) n same = absurd (omega (arith, ap (λ (l : List ℕ). get_or l 0 0) same))
 forced_text silence n same = absurd (omega (arith, ap (λ (l : List ℕ). get_or l 1 0) same))
 
--- one of the replies says so many
-record OneForces (replies : List Reply) (n : ℕ) : Type 0 where
-  pub count : ℕ
-  pub has : Contains replies (forced count)
-  pub same : decimal count ≡ decimal n
+-- no text in hexadecimal has its first space there
+no_space : (bytes : List ℕ) → get_or (hex_text bytes) 5 0 ≡ 32 → ⊥
+no_space [] is = omega (arith, is)
+no_space (a ∷ []) is = omega (arith, is)
+no_space (a ∷ b ∷ []) is = omega (arith, is)
+no_space (a ∷ b ∷ c ∷ rest) is = let high : 48 ≤ hex_glyph (c % 16) = grind (arith, nat_tests) in omega (arith, high, is)
 
-first_forces : (reply : Reply) (replies : List Reply) (n : ℕ) → text_of reply ≡ text_of (forced n) → OneForces (reply ∷ replies) n
-first_forces reply replies n is = let f = forced_text reply n is in record { count = f.count; has = (zero, omega arith, f.reply_is); same = f.same }
+no_space_pair : (key v others : List ℕ) (n : ℕ) → (flat_map hex_pair key ++ 58 ∷ flat_map hex_pair v) ++ others ≡ codes "saved " ++ decimal n → ⊥
+no_space_pair [] v others n same = omega (arith, ap (λ (l : List ℕ). get_or l 0 0) same)
+no_space_pair (a ∷ []) v others n same = omega (arith, ap (λ (l : List ℕ). get_or l 2 0) same)
+no_space_pair (a ∷ b ∷ []) v others n same = omega (arith, ap (λ (l : List ℕ). get_or l 4 0) same)
+no_space_pair (a ∷ b ∷ c ∷ key) v others n same = let high : 48 ≤ hex_glyph (c % 16) = grind (arith, nat_tests) in omega (arith, high, ap (λ (l : List ℕ). get_or l 5 0) same)
 
-later_forces : (reply : Reply) (replies : List Reply) (n : ℕ) → OneForces replies n → OneForces (reply ∷ replies) n
-later_forces reply replies n one = let (k, small, is) = one.has in record { count = one.count; has = (suc k, omega (arith, small), is); same = one.same }
+saved_text : (reply : Reply) (n : ℕ) → text_of reply ≡ text_of (saved n) → Tells saved reply n
+unfolding text_of
+saved_text (value bytes) n same = absurd (no_space bytes (ap (λ (l : List ℕ). get_or l 5 0) same))
+saved_text (object_value object bytes) n same = absurd (omega (arith, low_decimal object (hex_text bytes), ap (λ (l : List ℕ). get_or l 0 0) same))
+saved_text (stat counts) n same = absurd (omega (arith, ap (λ (l : List ℕ). get_or l 1 0) same))
+saved_text (pairs pair others) n same = absurd (no_space_pair pair.0 pair.1 (flat_map spaced_pair others) n same)
+saved_text (saved m) n same = record { count = m; reply_is = refl; same = cc }
+saved_text ok n same = absurd (omega (arith, ap (λ (l : List ℕ). get_or l 0 0) same))
+saved_text (forced m) n same = absurd (omega (arith, ap (λ (l : List ℕ). get_or l 0 0) same))
+saved_text bad n same = absurd (omega (arith, ap (λ (l : List ℕ). get_or l 0 0) same))
+saved_text (refused refusal) n same = absurd (omega (arith, ap (λ (l : List ℕ). get_or l 0 0) same))
+saved_text (full used need limit) n same = absurd (omega (arith, ap (λ (l : List ℕ). get_or l 0 0) same))
+saved_text (end number) n same = absurd (omega (arith, ap (λ (l : List ℕ). get_or l 0 0) same))
+saved_text (command_count m) n same = absurd (omega (arith, ap (λ (l : List ℕ). get_or l 0 0) same))
+saved_text (ran m) n same = absurd (omega (arith, ap (λ (l : List ℕ). get_or l 0 0) same))
+saved_text bad_tree n same = absurd (omega (arith, ap (λ (l : List ℕ). get_or l 0 0) same))
+saved_text tree_full n same = absurd (omega (arith, ap (λ (l : List ℕ). get_or l 0 0) same))
+saved_text (denied why) n same = absurd (omega (arith, ap (λ (l : List ℕ). get_or l 0 0) same))
+saved_text in_group n same = absurd (omega (arith, ap (λ (l : List ℕ). get_or l 0 0) same))
+saved_text no_group n same = absurd (omega (arith, ap (λ (l : List ℕ). get_or l 0 0) same))
+saved_text (copied m) n same = absurd (omega (arith, ap (λ (l : List ℕ). get_or l 0 0) same))
+saved_text (backup_denied why) n same = absurd (omega (arith, ap (λ (l : List ℕ). get_or l 0 0) same))
+saved_text (summary totals) n same = absurd (omega (arith, ap (λ (l : List ℕ). get_or l 0 0) same))
+saved_text silence n same = absurd (omega (arith, ap (λ (l : List ℕ). get_or l 0 0) same))
 
 -- a list of texts that has this one, in front or after
 texts_cases : (first text : List ℕ) (texts : List (List ℕ)) → Contains (first ∷ texts) text → (first ≡ text) ⊎ Contains texts text
@@ -269,10 +308,24 @@ texts_cases first text texts (suc k, small, is) = inr (k, omega (arith, small), 
 none_forces : (text : List ℕ) → Contains {X = List ℕ} [] text → ⊥
 none_forces text (k, small, is) = omega (arith, small)
 
-text_forces : (replies : List Reply) (n : ℕ) → Contains (texts_of replies) (text_of (forced n)) → OneForces replies n
-text_forces [] n has = absurd (none_forces (text_of (forced n)) has)
-text_forces (silence ∷ replies) n has = later_forces silence replies n (text_forces replies n has)
-text_forces (reply ∷ replies) n has = ⊎_elim (λ is. first_forces reply replies n is) (λ behind. later_forces reply replies n (text_forces replies n behind)) (texts_cases (text_of reply) (text_of (forced n)) (texts_of replies) has)
+-- the answer that tells so is one of the replies
+module _ (answer : ℕ → Reply) (text : (reply : Reply) (n : ℕ) → text_of reply ≡ text_of (answer n) → Tells answer reply n) where
+  record OneTells (replies : List Reply) (n : ℕ) : Type 0 where
+    pub count : ℕ
+    pub has : Contains replies (answer count)
+    pub same : decimal count ≡ decimal n
+
+  first_tells : (reply : Reply) (replies : List Reply) (n : ℕ) → text_of reply ≡ text_of (answer n) → OneTells (reply ∷ replies) n
+  first_tells reply replies n is = let f = text reply n is in record { count = f.count; has = (zero, omega arith, f.reply_is); same = f.same }
+
+  later_tells : (reply : Reply) (replies : List Reply) (n : ℕ) → OneTells replies n → OneTells (reply ∷ replies) n
+  later_tells reply replies n one = let (k, small, is) = one.has in record { count = one.count; has = (suc k, omega (arith, small), is); same = one.same }
+
+  text_tells : (replies : List Reply) (n : ℕ) → Contains (texts_of replies) (text_of (answer n)) → OneTells replies n
+  text_tells [] n has = absurd (none_forces (text_of (answer n)) has)
+  text_tells (silence ∷ replies) n has = later_tells silence replies n (text_tells replies n has)
+  text_tells (reply ∷ replies) n has =
+      ⊎_elim (λ is. first_tells reply replies n is) (λ behind. later_tells reply replies n (text_tells replies n behind)) (texts_cases (text_of reply) (text_of (answer n)) (texts_of replies) has)
 
 -- the beginning of the next answer is no whole line
 plain_part : {p : Params} {tie : List Command → List ℕ → Reply → Type 0} {commands : List Command} {script : List (List ℕ)} {said : List ℕ} → (s : Said p tie commands script said) → IsPlain s.part
@@ -281,15 +334,24 @@ plain_part {p} {tie} {commands} s = ⊎_elim
     (λ (b : Begun p tie s.account s.todo s.part s.added). subst (λ (l : List ℕ). IsPlain l) (sym b.begun) (plain_front b.count (text_of b.reply) (plain_text b.reply)))
     s.work
 
--- What was printed says no more to be forced than the answers do.
+-- What was printed says so by such an answer, where these have numbers of 64 bits.
+printed_told : (answer : ℕ → Reply) → ((reply : Reply) (n : ℕ) → text_of reply ≡ text_of (answer n) → Tells answer reply n) → {p : Params} {tie : List Command → List ℕ → Reply → Type 0} {commands : List Command} {script : List (List ℕ)} {said : List ℕ}
+    → (s : Said p tie commands script said) → ((n : ℕ) → Contains s.replies (answer n) → n < 2 ^ 64) → (n : ℕ) → SaysNumber answer said n → Contains s.replies (answer n)
+printed_told answer text s small n says =
+    let texts = ap (λ (l : List ℕ). whole_lines l) s.said_is ∙ lines_said s.replies s.part (plain_part s) in
+    let one = text_tells answer text s.replies n (subst (λ (l : List (List ℕ)). Contains l (text_of (answer n))) texts says.1) in
+    let same : one.count ≡ n = decimal_injective one.count n (small one.count one.has) says.0 one.same in
+    subst (λ (k : ℕ). Contains s.replies (answer k)) same one.has
+
+-- It says no more to be forced than the answers do.
 pub printed_acked : {p : Params} {tie : List Command → List ℕ → Reply → Type 0} {commands : List Command} {script : List (List ℕ)} {said : List ℕ} (kept : ℕ) → (s : Said p tie commands script said) → kept < 2 ^ 64
     → ((n : ℕ) → Contains s.replies (forced n) → n ≤ kept) → (n : ℕ) → SaysForced said n → n ≤ kept
-printed_acked {p} {tie} {commands} {script} {said} kept s small acked n says =
-    let texts = ap (λ (l : List ℕ). whole_lines l) s.said_is ∙ lines_said s.replies s.part (plain_part s) in
-    let one = text_forces s.replies n (subst (λ (l : List (List ℕ)). Contains l (text_of (forced n))) texts says.1) in
-    let enough = acked one.count one.has in
-    let same = decimal_injective one.count n (omega (arith, enough, small)) says.0 one.same in
-    omega (arith, enough, same)
+printed_acked kept s small acked n says = acked n (printed_told forced forced_text s (λ m has. omega (arith, acked m has, small)) n says)
+
+-- It says to be saved what the answers do.
+pub printed_saved : {p : Params} {tie : List Command → List ℕ → Reply → Type 0} {commands : List Command} {script : List (List ℕ)} {said : List ℕ} (s : Said p tie commands script said)
+    → ((n : ℕ) → Contains s.replies (saved n) → n < 2 ^ 64) → (n : ℕ) → SaysSaved said n → Contains s.replies (saved n)
+printed_saved s small n says = printed_told saved saved_text s small n says
 
 -- nothing was printed
 pub nothing_printed : (n : ℕ) → SaysForced [] n → ⊥

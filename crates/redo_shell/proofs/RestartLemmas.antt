@@ -36,10 +36,10 @@ Starts p old commands = (used : ℕ) × (w : World Command) × IsFound (meaning_
 -- the stage that a restart makes of it
 pub first_of : {p : Params} {old : Disk} {commands : List Command} → Opens p old commands → Starts p old commands → (first : Stage) × IsFirst p commands old first
 first_of {p} {old} {commands} opens starts =
-    let course = restart_course (meaning_in p) redo_dirty starts.1 starts.0 in
+    let course = restart_course (meaning_in p) (redo_dirty p) starts.1 starts.0 in
     let found : OpensOn (meaning_in p) p old starts.0 starts.1 = record { told = opens.told; sound = starts.2.sound; shows = starts.2.shows; ends = starts.3 } in (
-      record { world = run (meaning_in p) starts.1 course.steps; used = course.used; identities = 0 },
-      record { used = starts.0; world = starts.1; found = found; commands_are = starts.2.commands_are; world_is = refl; used_is = refl; none_logged = refl },
+      record { world = run (meaning_in p) starts.1 course.steps; used = course.used; identities = 0; copied = None },
+      record { used = starts.0; world = starts.1; found = found; commands_are = starts.2.commands_are; world_is = refl; used_is = refl; none_logged = refl; none_copied = refl },
     )
 
 -- a front that is as long as the whole is the whole
@@ -58,7 +58,7 @@ all_in_front n h commands is same =
 
 -- the world that a restart makes of files that stand for commands
 abbrev pub restarted : {p : Params} {commands : List Command} {old : Disk} {first : Stage} → IsFirst p commands old first → World Command
-restarted {p} is = run (meaning_in p) is.world (restart_course (meaning_in p) redo_dirty is.world is.used).steps
+restarted {p} is = run (meaning_in p) is.world (restart_course (meaning_in p) (redo_dirty p) is.world is.used).steps
 
 -- where no group is open an engine shows what its parts show
 shown_alone : {p : Params} {d : Disk} {engine : EngineView} {w : World Command} → engine.broken ≡ false → engine.group ≡ None → Shows (meaning_in p) p d engine.parts w → ShowsIn p d engine w
@@ -72,18 +72,18 @@ shown_alone {p} {d} {engine} {w} unbroken alone shows = record {
 
 -- The engine that was opened shows each first stage: of the commands of that world no fewer are stable than the engine has
 -- accepted, so all of them are.
-pub shows_first : {p : Params} {old new : Disk} {engine : EngineView} {commands : List Command} (first : Stage) (is : IsFirst p commands old first) → engine.broken ≡ false → engine.group ≡ None → engine.identities ≡ 0
-    → IsAfter (meaning_in p) p new engine.parts is.world (restart_course (meaning_in p) redo_dirty is.world is.used)
+pub shows_first : {p : Params} {old new : Disk} {engine : EngineView} {commands : List Command} (first : Stage) (is : IsFirst p commands old first) → engine.broken ≡ false → engine.group ≡ None → engine.copied ≡ None → engine.identities ≡ 0
+    → IsAfter (meaning_in p) p new engine.parts is.world (restart_course (meaning_in p) (redo_dirty p) is.world is.used)
     → IsReopened (meaning_in p) is.world (restarted is) → of_engine.Holds all_meaning p new engine commands
     → ((others : List Command) → of_engine.Holds all_meaning p new engine others → Says p new engine others)
     → (holds : Holds p new engine commands) × (first ≡ stage_of engine holds.world)
-shows_first {p} {old} {new} {engine} {commands} first is unbroken alone none after reopened holds says =
+shows_first {p} {old} {new} {engine} {commands} first is unbroken alone uncopied none after reopened holds says =
     let shown = shown_alone unbroken alone after.shows in
     let mine : of_engine.Holds all_meaning p new engine (commands_of (restarted is).history) = record { world = restarted is; shows = shown; commands_are = refl } in
     let many : length (commands_of (restarted is).history) ≡ length commands = sym (says (commands_of (restarted is).history) mine).accepted ∙ (says commands holds).accepted in
     let front = all_in_front is.world.forced is.world.history commands is.commands_are (ap length (sym reopened.commands) ∙ many) in (
       holds_of (record { world = restarted is; shows = shown; commands_are = reopened.commands ∙ front }) (says commands),
-      λ i. record { world = is.world_is i; used = (is.used_is ∙ sym after.used) i; identities = (is.none_logged ∙ sym none) i },
+      λ i. record { world = is.world_is i; used = (is.used_is ∙ sym after.used) i; identities = (is.none_logged ∙ sym none) i; copied = (is.none_copied ∙ sym uncopied) i },
     )
 
 -- files that do not meet their format are left as they are

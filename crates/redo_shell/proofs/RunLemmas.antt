@@ -29,7 +29,7 @@ use Rattle.redo_shell.specs.Groups.{Account, AreWhole, Regroups, account_before,
 use Rattle.redo_shell.specs.Made.{IsFront}
 use Rattle.redo_shell.specs.Replies.{Replies, IsTrueIn, is_refusing}
 use Rattle.redo_shell.specs.Stages.{Stage, IsQuestion, Ends, GoesBy, Leads, AllGoBy, finish_course, stage_of}
-use Rattle.redo_shell.specs.Answers.{IsSilent, Moment, Said, TrueWithin, SaysTruly}
+use Rattle.redo_shell.specs.Answers.{IsSilent, Moment, Said, TrueWithin, SaysTruly, with_begun, with_line}
 use Rattle.redo_shell.specs.Courses.{IsAtWork, StageMoment}
 use Rattle.redo_shell.specs.Status.{IsCut, status_after}
 use Rattle.redo_shell.specs.declared.status.Status.{Status}
@@ -201,7 +201,7 @@ stage_finish {p} {first} {start} {now} {engine} {commands} {script} g f s b = re
 }
 
 -- at the start nothing is done
-stage_start : {p : Params} {start : Disk} {engine : EngineView} {commands : List Command} (script : List (List ℕ)) → IsDisk start → (holds : Holds p start engine commands) → start.tells_moments → (f : Files) (s : List ℕ) → start.left_since start.clock f s
+abbrev pub stage_start : {p : Params} {start : Disk} {engine : EngineView} {commands : List Command} (script : List (List ℕ)) → IsDisk start → (holds : Holds p start engine commands) → start.tells_moments → (f : Files) (s : List ℕ) → start.left_since start.clock f s
     → StageSoFar p (stage_of engine holds.world) script start.said f s
 stage_start {p} {start} {engine} {commands} script lawful holds told f s left =
     let shows : FilesShow (meaning_in p) p f holds.world = images_show holds.shows told f s left in
@@ -276,13 +276,20 @@ abbrev truly_in : {p : Params} {first : Stage} {start now : Disk} {engine : Engi
     → LeavesOnly old new (IsTrueSaying p old.said (waiting (open_in g.holds.world) (g.account.commands ++ added)) line reply) → LeavesOnly old new (IsTrueSaying p old.said (waiting g.account.group (g.account.commands ++ added)) line reply)
 truly_in {p} g old new line reply added truly = subst (λ (o : Option ℕ). LeavesOnly old new (IsTrueSaying p old.said (waiting o (g.account.commands ++ added)) line reply)) (sym g.group) truly
 
--- a line was answered: the run is one line further
-pub goes_on : AreFew → AsksOnce → {p : Params} {first : Stage} {start now new : Disk} {engine after : EngineView} {commands : List Command} {script todo : List (List ℕ)} {refusing kind : Bool} {result : Result Bool Stop} (line : List ℕ)
-    (g : Going p first start now engine commands script (line ∷ todo) refusing) → Passes start now → result ≡ Ok kind → Answering p now new engine after g.holds.world g.account.commands line result
-    → Going p first start new after commands script todo (refusing || kind)
-goes_on few once {p} {first} {start} {now} {new} {engine} {after} {commands} {script} {todo} {refusing} {kind} {result} line g time is a =
+-- The run is one line further, which was answered.
+pub record GoneOn {p : Params} {first : Stage} {start now new : Disk} {engine after : EngineView} {commands : List Command} {script todo : List (List ℕ)} {refusing kind : Bool} (line : List ℕ) (g : Going p first start now engine commands script (line ∷ todo) refusing)
+    (whole : IsAnswered p now new engine after g.holds.world g.account.commands line kind) : Type 0 where
+  pub later : Going p first start new after commands script todo (refusing || kind)
+  pub lines_are : later.lines ≡ g.lines ++ line ∷ []
+  pub replies_are : later.replies ≡ g.replies ++ whole.reply ∷ []
+  pub commands_are : later.account.commands ≡ g.account.commands ++ whole.added
+  pub world_is : later.holds.world ≡ whole.kept.holds.world
+
+pub gone_on : AreFew → AsksOnce → {p : Params} {first : Stage} {start now new : Disk} {engine after : EngineView} {commands : List Command} {script todo : List (List ℕ)} {refusing kind : Bool} {result : Result Bool Stop} (line : List ℕ)
+    (g : Going p first start now engine commands script (line ∷ todo) refusing) → Passes start now → Answering p now new engine after g.holds.world g.account.commands line result
+    → (whole : IsAnswered p now new engine after g.holds.world g.account.commands line kind) → GoneOn line g whole
+gone_on few once {p} {first} {start} {now} {new} {engine} {after} {commands} {script} {todo} {refusing} {kind} {result} line g time a whole =
     let a0 = g.account in
-    let whole = subst (λ (r : Result Bool Stop). IfOk r (IsAnswered p now new engine after g.holds.world a0.commands line)) is a.whole in
     let reply = whole.reply in
     let added = whole.added in
     let replies = replies_in g line reply added whole.replies in
@@ -294,27 +301,39 @@ goes_on few once {p} {first} {start} {now} {new} {engine} {after} {commands} {sc
     let which : (forced_in after ≡ forced_in engine) ⊎ ((engine.group ≡ None) × (length a0.commands ≤ forced_in after)) = ⊎_elim (λ (same : forced_in after ≡ forced_in engine). inl same)
     (λ (later : (engine.group ≡ None) × (accepted_in engine ≤ forced_in after)). inr (later.0, omega (arith, later.1, g.holds.says.accepted))) whole.kept.which in
     record {
-      lines = story.lines;
-      replies = g.replies ++ reply ∷ [];
-      waits = g.waits ++ ops ∷ [];
-      account = b;
-      script_is = story.script_is;
-      said_is = whole.said ∙ ap (λ (l : List ℕ). l ++ said_line reply) g.said_is ∙ append_assoc start.said (flat_map said_line g.replies) (said_line reply)
-          ∙ ap (λ (l : List ℕ). start.said ++ l) (sym (said_more g.replies reply));
-      answers = story.answers;
-      holds = holds_as (sym commands_are) whole.kept.holds;
-      group = next.group_is;
-      whole = after_whole once p (forced_in after) a0 line reply added b replies next.after (whole_at g (forced_in after) which) whole.kept.holds.says.forced;
-      ends_within = after_within a0 line reply added b next.after g.ends_within;
-      all_before = omega (arith, g.all_before, whole.kept.rising);
-      acked = acked_more g.replies reply (forced_in engine) (forced_in after) g.acked whole.kept.rising whole.acked;
-      kind = kind_more refusing kind g.replies reply g.kind whole.kind;
-      images = moments_more few line g time a;
-      truly = λ told. subst (λ (l : List ℕ). LeavesOnly start new (IsTrueSoFar p start.said story.lines (g.replies ++ reply ∷ []) (g.waits ++ ops ∷ []) l)) (sym whole.said)
-          (truly_on ops line reply (even_of g) (g.truly told) g.said_is (truly_in g now new line reply added (whole.truly (time.moments_told.0 told))));
-      goes = goes_by_more p first (stage_of engine g.holds.world) (stage_of after whole.kept.holds.world) g.lines g.replies line reply g.goes whole.leads;
-      steps = courses_more line g time a;
+      later = record {
+        lines = story.lines;
+        replies = g.replies ++ reply ∷ [];
+        waits = g.waits ++ ops ∷ [];
+        account = b;
+        script_is = story.script_is;
+        said_is = whole.said ∙ ap (λ (l : List ℕ). l ++ said_line reply) g.said_is ∙ append_assoc start.said (flat_map said_line g.replies) (said_line reply)
+            ∙ ap (λ (l : List ℕ). start.said ++ l) (sym (said_more g.replies reply));
+        answers = story.answers;
+        holds = holds_as (sym commands_are) whole.kept.holds;
+        group = next.group_is;
+        whole = after_whole once p (forced_in after) a0 line reply added b replies next.after (whole_at g (forced_in after) which) whole.kept.holds.says.forced;
+        ends_within = after_within a0 line reply added b next.after g.ends_within;
+        all_before = omega (arith, g.all_before, whole.kept.rising);
+        acked = acked_more g.replies reply (forced_in engine) (forced_in after) g.acked whole.kept.rising whole.acked;
+        kind = kind_more refusing kind g.replies reply g.kind whole.kind;
+        images = moments_more few line g time a;
+        truly = λ told. subst (λ (l : List ℕ). LeavesOnly start new (IsTrueSoFar p start.said story.lines (g.replies ++ reply ∷ []) (g.waits ++ ops ∷ []) l)) (sym whole.said)
+            (truly_on ops line reply (even_of g) (g.truly told) g.said_is (truly_in g now new line reply added (whole.truly (time.moments_told.0 told))));
+        goes = goes_by_more p first (stage_of engine g.holds.world) (stage_of after whole.kept.holds.world) g.lines g.replies line reply g.goes whole.leads;
+        steps = courses_more line g time a;
+      };
+      lines_are = refl;
+      replies_are = refl;
+      commands_are = commands_are;
+      world_is = refl;
     }
+
+pub goes_on : AreFew → AsksOnce → {p : Params} {first : Stage} {start now new : Disk} {engine after : EngineView} {commands : List Command} {script todo : List (List ℕ)} {refusing kind : Bool} {result : Result Bool Stop} (line : List ℕ)
+    (g : Going p first start now engine commands script (line ∷ todo) refusing) → Passes start now → result ≡ Ok kind → Answering p now new engine after g.holds.world g.account.commands line result
+    → Going p first start new after commands script todo (refusing || kind)
+goes_on few once {p} {first} {start} {now} {new} {engine} {after} line g time is a =
+    (gone_on few once line g time a (subst (λ (r : Result Bool Stop). IfOk r (IsAnswered p now new engine after g.holds.world g.account.commands line)) is a.whole)).later
 
 -- the start of a run, of which nothing is said yet
 pub first_moment : AreFew → {p : Params} {start : Disk} {commands : List Command} {group : Option ℕ} (script : List (List ℕ)) → (f : Files) (s : List ℕ) → Between p start group (length commands) (length commands) commands f s
@@ -324,7 +343,7 @@ first_moment few {p} {start} {commands} script f s b =
     (λ n has. absurd (omega (arith, has.1)))
 
 -- a store is open: nothing is said, and the whole script is still to be answered
-pub opened : AreFew → {p : Params} {start : Disk} {engine : EngineView} {commands : List Command} (script : List (List ℕ)) → IsDisk start → (holds : Holds p start engine commands)
+abbrev pub opened : AreFew → {p : Params} {start : Disk} {engine : EngineView} {commands : List Command} (script : List (List ℕ)) → IsDisk start → (holds : Holds p start engine commands)
     → forced_in engine ≡ length commands → engine.group ≡ None → Going p (stage_of engine holds.world) start start engine commands script script false
 opened few {p} {start} {engine} {commands} script lawful holds all alone = record {
   lines = [];
@@ -349,45 +368,62 @@ opened few {p} {start} {engine} {commands} script lawful holds all alone = recor
   steps = λ told. started start (StageSoFar p (stage_of engine holds.world) script start.said) (stage_start script lawful holds told);
 }
 
+-- What a run said is the answers to these lines, the last one begun or whole, with these commands after them all; the lines that
+-- were taken begin with these and the next ones.
+pub record IsTold (p : Params) (first : Stage) (commands : List Command) (script : List (List ℕ)) (start new : Disk) (lines : List (List ℕ)) (replies : List Reply) (every : List Command) (next : List (List ℕ)) : Type 0 where
+  pub truly : SaysTruly p first commands script start new
+  pub lines_are : with_line truly.says.story.lines truly.says.story.work ≡ lines
+  pub replies_are : with_begun truly.says.story.replies truly.says.story.work ≡ replies
+  pub all : truly.says.story.account.commands ++ truly.says.story.added ≡ every
+  pub rest : List (List ℕ)
+  pub taken_are : with_line truly.says.story.lines truly.says.story.work ++ take 1 truly.says.story.todo ≡ (lines ++ next) ++ rest
+
 -- what a run says that ends between two lines
-says_so_far : {p : Params} {first : Stage} {start now : Disk} {engine : EngineView} {commands : List Command} {script todo : List (List ℕ)} {refusing : Bool} {new : Disk}
-    → (g : Going p first start now engine commands script todo refusing) → new.said ≡ now.said → (start.tells_moments → LeavesOnly start new (TrueWithin p start.said g.lines g.replies g.waits)) → SaysTruly p first commands script start new
-says_so_far {p} {first} {start} {now} {engine} {new = new} g quiet truly = let all = told_whole (λ ops line reply. ⊤) (story_of g) in record {
-  says = record { bytes = flat_map said_line g.replies; since = quiet ∙ g.said_is; story = all.story };
-  truly = λ told. told_truly start new start.said all (truly told);
-  last = stage_of engine g.holds.world;
-  goes = told_goes first (stage_of engine g.holds.world) all g.goes;
+told_so_far_by : {p : Params} {first : Stage} {start now : Disk} {engine : EngineView} {commands : List Command} {script todo : List (List ℕ)} {refusing : Bool} {new : Disk} (next rest : List (List ℕ)) → take 1 todo ≡ next ++ rest
+    → (g : Going p first start now engine commands script todo refusing) → new.said ≡ now.said → (start.tells_moments → LeavesOnly start new (TrueWithin p start.said g.lines g.replies g.waits))
+    → IsTold p first commands script start new g.lines g.replies g.account.commands next
+told_so_far_by {p} {first} {start} {now} {engine} {new = new} next rest is g quiet truly = let all = told_whole (λ ops line reply. ⊤) (story_of g) in record {
+  truly = record {
+    says = record { bytes = flat_map said_line g.replies; since = quiet ∙ g.said_is; story = all.story };
+    truly = λ told. told_truly start new start.said all (truly told);
+    last = stage_of engine g.holds.world;
+    goes = told_goes first (stage_of engine g.holds.world) all g.goes;
+  };
+  lines_are = all.lines_are;
+  replies_are = all.with_last;
+  all = all.all;
+  rest = rest;
+  taken_are = ap (λ (l : List (List ℕ)). g.lines ++ l) is ∙ sym (append_assoc g.lines next rest);
 }
+
+pub told_here : {p : Params} {first : Stage} {start now : Disk} {engine : EngineView} {commands : List Command} {script todo : List (List ℕ)} {refusing : Bool}
+    → (g : Going p first start now engine commands script todo refusing) → IsTold p first commands script start now g.lines g.replies g.account.commands []
+told_here {p} {start = start} {now = now} {todo = todo} g =
+    told_so_far_by [] (take 1 todo) refl g refl (λ told. weaker start now (IsTrueSoFar p start.said g.lines g.replies g.waits now.said) (TrueWithin p start.said g.lines g.replies g.waits) (g.truly told) (λ files said t. t.true_within))
 
 -- a run that ends between two lines
 pub ends_here : {p : Params} {first : Stage} {start now : Disk} {engine : EngineView} {commands : List Command} {script todo : List (List ℕ)} {refusing : Bool} {status : Status}
     → Going p first start now engine commands script todo refusing → IsRun p first start now commands script status
-ends_here {p} {first} {start} {now} {engine} g = record {
-  says = says_so_far g refl (λ told. weaker start now (IsTrueSoFar p start.said g.lines g.replies g.waits now.said) (TrueWithin p start.said g.lines g.replies g.waits) (g.truly told) (λ files said t. t.true_within));
+ends_here g = record {
+  says = (told_here g).truly;
   images = λ told. moments_so_far (g.images told);
   steps = λ told. told_so_far (g.steps told);
   unclosed = λ cut told. g.images told;
 }
 
--- a run that ends while a line is answered
-pub ends_in_line : AreFew → {p : Params} {first : Stage} {start now new : Disk} {engine after : EngineView} {commands : List Command} {script todo : List (List ℕ)} {refusing : Bool} {result : Result Bool Stop} {stop : Stop} {status : Status} (line : List ℕ)
-    (g : Going p first start now engine commands script (line ∷ todo) refusing) → Passes start now → result ≡ Err stop → Answering p now new engine after g.holds.world g.account.commands line result → IsRun p first start new commands script status
-ends_in_line few {p} {first} {start} {now} {new} {engine} {after} {commands} {script} {todo} {refusing} {result} {stop} line g time is a = record {
-  says = ⊎_elim
-      (λ (quiet : new.said ≡ now.said). says_so_far g quiet (λ told. truly_quiet (even_of g) (g.truly told) g.said_is (a.images (time.moments_told.0 told)) line_behind))
-      begun
-      (subst (λ (r : Result Bool Stop). OnErr r ((new.said ≡ now.said) ⊎ IsPartly p now new (stage_of engine g.holds.world) g.account.commands line)) is a.partly);
-  images = λ told. moments_so_far (moments_more few line g time a told);
-  steps = λ told. told_so_far (courses_more line g time a told);
-  unclosed = λ cut told. moments_more few line g time a told;
-}
-  where
-    begun : IsPartly p now new (stage_of engine g.holds.world) g.account.commands line → SaysTruly p first commands script start new
-    begun part =
-        let a0 = g.account in
-        let ops = waiting a0.group (a0.commands ++ part.added) in
-        let told_part = told_partly (λ ops line reply. ⊤) line part.reply part.added part.count (story_of g) (replies_in g line part.reply part.added part.replies) tt in
-        record {
+-- one that ends while a line is answered, of which nothing is said, or a beginning of its answer
+module _ {p : Params} {first : Stage} {start now new : Disk} {engine after : EngineView} {commands : List Command} {script todo : List (List ℕ)} {refusing : Bool} {result : Result Bool Stop} (line : List ℕ)
+    (g : Going p first start now engine commands script (line ∷ todo) refusing) (time : Passes start now) (a : Answering p now new engine after g.holds.world g.account.commands line result) where
+  pub told_quiet : new.said ≡ now.said → IsTold p first commands script start new g.lines g.replies g.account.commands (line ∷ [])
+  told_quiet quiet = told_so_far_by (line ∷ []) [] refl g quiet (λ told. truly_quiet (even_of g) (g.truly told) g.said_is (a.images (time.moments_told.0 told)) line_behind)
+
+  pub told_begun : (part : IsPartly p now new (stage_of engine g.holds.world) g.account.commands line) → IsTold p first commands script start new (g.lines ++ line ∷ []) (g.replies ++ part.reply ∷ []) (g.account.commands ++ part.added) []
+  told_begun part =
+      let a0 = g.account in
+      let ops = waiting a0.group (a0.commands ++ part.added) in
+      let told_part = told_partly (λ ops line reply. ⊤) line part.reply part.added part.count (story_of g) (replies_in g line part.reply part.added part.replies) tt in
+      record {
+        truly = record {
           says = record {
             bytes = flat_map said_line g.replies ++ take part.count (said_line part.reply);
             since = part.said_is ∙ ap (λ (l : List ℕ). l ++ take part.count (said_line part.reply)) g.said_is ∙ append_assoc start.said (flat_map said_line g.replies) _;
@@ -399,15 +435,37 @@ ends_in_line few {p} {first} {start} {now} {new} {engine} {after} {commands} {sc
               (truly_on ops line part.reply (even_of g) (g.truly told) g.said_is (truly_in g now new line part.reply part.added (part.truly (time.moments_told.0 told)))) (λ files said t. t.true_within));
           last = part.after;
           goes = told_goes first part.after told_part (goes_by_more p first (stage_of engine g.holds.world) part.after g.lines g.replies line part.reply g.goes part.leads);
-        }
+        };
+        lines_are = told_part.lines_are;
+        replies_are = told_part.with_last;
+        all = told_part.all;
+        rest = take 1 told_part.story.todo;
+        taken_are = ap (λ (l : List (List ℕ)). l ++ take 1 told_part.story.todo) (told_part.lines_are ∙ sym (append-nil (g.lines ++ line ∷ [])));
+      }
 
--- a run that ends in the last force, or after it
+pub ends_in_line : AreFew → {p : Params} {first : Stage} {start now new : Disk} {engine after : EngineView} {commands : List Command} {script todo : List (List ℕ)} {refusing : Bool} {result : Result Bool Stop} {stop : Stop} {status : Status} (line : List ℕ)
+    (g : Going p first start now engine commands script (line ∷ todo) refusing) → Passes start now → result ≡ Err stop → Answering p now new engine after g.holds.world g.account.commands line result → IsRun p first start new commands script status
+ends_in_line few {p} {first} {start} {now} {new} {engine} {after} {commands} {script} {todo} {refusing} {result} {stop} line g time is a = record {
+  says = ⊎_elim
+      (λ (quiet : new.said ≡ now.said). (told_quiet line g time a quiet).truly)
+      (λ (part : IsPartly p now new (stage_of engine g.holds.world) g.account.commands line). (told_begun line g time a part).truly)
+      (subst (λ (r : Result Bool Stop). OnErr r ((new.said ≡ now.said) ⊎ IsPartly p now new (stage_of engine g.holds.world) g.account.commands line)) is a.partly);
+  images = λ told. moments_so_far (moments_more few line g time a told);
+  steps = λ told. told_so_far (courses_more line g time a told);
+  unclosed = λ cut told. moments_more few line g time a told;
+}
+
+-- one that ends in the last force, or after it
+pub told_finish : {p : Params} {first : Stage} {start now new : Disk} {engine : EngineView} {commands : List Command} {script : List (List ℕ)} {refusing : Bool} (g : Going p first start now engine commands script [] refusing) → Passes start now → new.said ≡ now.said
+    → (now.tells_moments → LeavesOnly now new (Between p now None (forced_in engine) (length g.account.commands) g.account.commands)) → IsTold p first commands script start new g.lines g.replies g.account.commands []
+told_finish g time quiet images = told_so_far_by [] [] refl g quiet (λ told. truly_quiet (even_of g) (g.truly told) g.said_is (images (time.moments_told.0 told)) (λ files said b. omega (arith, ap length b.quiet)))
+
 pub ends_in_finish : AreFew → {p : Params} {first : Stage} {start now new : Disk} {engine : EngineView} {commands : List Command} {script : List (List ℕ)} {refusing : Bool} {status : Status} → (IsCut status → ⊥)
     → (g : Going p first start now engine commands script [] refusing) → Passes start now → new.said ≡ now.said
     → (now.tells_moments → LeavesOnly now new (Between p now None (forced_in engine) (length g.account.commands) g.account.commands))
     → (now.tells_moments → TakesSome (meaning_in p) p now new g.holds.world (finish_course (meaning_in p) g.holds.world (used_in engine)).steps) → IsRun p first start new commands script status
 ends_in_finish few {p} {first} {start} {now} {new} {engine} {commands} {script} uncut g time quiet images takes = record {
-  says = says_so_far g quiet (λ told. truly_quiet (even_of g) (g.truly told) g.said_is (images (time.moments_told.0 told)) (λ files said b. omega (arith, ap length b.quiet)));
+  says = (told_finish g time quiet images).truly;
   images = λ told. runs_on start now new (Moment p commands script start.said) (moments_so_far (g.images told))
       (weaker now new (Between p now None (forced_in engine) (length g.account.commands) g.account.commands) (Moment p commands script start.said) (images (time.moments_told.0 told)) (finish_moment few g));
   steps = λ told. runs_on start now new (StageMoment p first script start.said) (told_so_far (g.steps told))
@@ -466,7 +524,7 @@ works_none {p} {old} {mid} {before} {commands} {line} images told =
     weaker old mid (Between p old before.group (forced_in before) (length commands) commands) (Working p old before commands line) (images told) (λ f s b. works_quietly b)
 
 -- the moments while the answer is found and said
-found_images : {p : Params} {old mid new : Disk} {before after : EngineView} {w : World Command} {commands : List Command} {line : List ℕ} {reply : Reply} → accepted_in before ≡ length commands
+pub found_images : {p : Params} {old mid new : Disk} {before after : EngineView} {w : World Command} {commands : List Command} {line : List ℕ} {reply : Reply} → accepted_in before ≡ length commands
     → (old.tells_moments → LeavesOnly old mid (Working p old before commands line)) → Passes old mid → IsAnswerFound p old mid before after w commands line reply
     → Runs Same (SaysFront (said_line reply)) mid new → old.tells_moments → LeavesOnly old new (LineMoment p old before (open_in w) commands line)
 found_images {p} {old} {mid} {new} {before} {after} {w} {commands} {line} {reply} was images time found say told =
@@ -496,7 +554,21 @@ found_images {p} {old} {mid} {new} {before} {after} {w} {commands} {line} {reply
         })
 
 -- the answer that was found has been said, or a beginning of it
-pub found_said : {p : Params} {old mid new : Disk} {before after : EngineView} {w : World Command} {commands : List Command} {line : List ℕ} {reply : Reply} (result : Result Bool Stop) → accepted_in before ≡ length commands
+abbrev pub found_partly : {p : Params} {old mid new : Disk} {before after : EngineView} {w : World Command} {commands : List Command} {line : List ℕ} {reply : Reply}
+    → (old.tells_moments → LeavesOnly old mid (Working p old before commands line)) → Passes old mid → IsAnswerFound p old mid before after w commands line reply
+    → Runs Same (SaysFront (said_line reply)) mid new → IsPartly p old new (stage_of before w) commands line
+found_partly {after = after} {reply = reply} images time found say = let front = say.said (told_by found.kept.holds) in record {
+  reply = reply;
+  added = found.added;
+  replies = found.replies;
+  count = front.0;
+  said_is = front.2 ∙ ap (λ (l : List ℕ). l ++ take front.0 (said_line reply)) found.quiet;
+  truly = found_truly images time found say;
+  after = stage_of after found.kept.holds.world;
+  leads = found.leads;
+}
+
+abbrev pub found_said : {p : Params} {old mid new : Disk} {before after : EngineView} {w : World Command} {commands : List Command} {line : List ℕ} {reply : Reply} (result : Result Bool Stop) → accepted_in before ≡ length commands
     → (old.tells_moments → LeavesOnly old mid (Working p old before commands line)) → Works p old mid (stage_of before w) line → Passes old mid → IsAnswerFound p old mid before after w commands line reply
     → Runs Same (SaysFront (said_line reply)) mid new → (mid.tells_files → OnOk result (new.said ≡ mid.said ++ said_line reply)) → IfOk result (λ kind. kind ≡ is_refusing reply)
     → Answering p old new before after w commands line result
@@ -517,19 +589,9 @@ found_said {reply = reply} (Ok kind) was images works time found say all is = re
   images = found_images was images time found say;
   steps = found_steps works time found say;
 }
-found_said {after = after} {reply = reply} (Err stop) was images works time found say all is = record {
+found_said (Err stop) was images works time found say all is = record {
   whole = tt;
-  partly = let front = say.said (told_by found.kept.holds) in
-      inr (record {
-        reply = reply;
-        added = found.added;
-        replies = found.replies;
-        count = front.0;
-        said_is = front.2 ∙ ap (λ (l : List ℕ). l ++ take front.0 (said_line reply)) found.quiet;
-        truly = found_truly images time found say;
-        after = stage_of after found.kept.holds.world;
-        leads = found.leads;
-      });
+  partly = inr (found_partly images time found say);
   images = found_images was images time found say;
   steps = found_steps works time found say;
 }
@@ -597,7 +659,7 @@ asks_values p s line request question asks = (
   course [] s.used Through,
   inr (inr (request, question, asks, refl)),
   refl,
-  λ i. record { world = sym (run_nothing (meaning_in p) s.world) i; used = s.used; identities = none_more s.identities i },
+  λ i. record { world = sym (run_nothing (meaning_in p) s.world) i; used = s.used; identities = none_more s.identities i; copied = s.copied },
 )
 
 -- the value that was fetched

@@ -10,9 +10,13 @@ use Rattle.script_lines.specs.declared.next.Next.TheVariants.{Line, Long, End}
 use Rattle.script_lines.specs.declared.read_error.ReadError.{ReadError}
 use Rattle.script_lines.specs.declared.read_error.ReadError.TheVariants.{ReadFault as ReadFailed, TooLong as ReadTooMuch, Memory as NoMemoryToRead}
 use Rattle.redo_shell.specs.declared.stop.Stop.{Stop}
-use Rattle.redo_shell.specs.declared.stop.Stop.TheVariants.{DiskFault, Damaged, ReadFault, SayFault, Memory, TooLong}
+use Rattle.redo_shell.specs.declared.stop.Stop.TheVariants.{DiskFault, Damaged, ReadFault, SayFault, BackupFault, Memory, TooLong}
 use Rattle.redo_shell.specs.Status.{IsCut, status_after, status_of, stop_of_input}
-use Rattle.redo_shell.specs.Run.{IsCaused, StopsWith, IsUndamaged}
+use Rattle.redo_shell.specs.Run.{IsCausedBeside, StopsWith, IsUndamaged}
+use Rattle.redo_shell.specs.Causes.{CountsFaults}
+use Rattle.redo_shell.specs.Saving.{IsBesideRun}
+use Rattle.redo_shell.specs.declared.status.Status.{Status}
+use Rattle.redo_shell.specs.declared.status.Status.TheVariants.{BackupFault as BackupFailed}
 use Rattle.redo_shell.proofs.HoldLemmas.{rises_within}
 
 -- two takings in a row are one
@@ -42,21 +46,23 @@ too_much (Err stop) ReadFailed is long = cc
 too_much (Err stop) ReadTooMuch is long = refl
 too_much (Err stop) NoMemoryToRead is long = cc
 
-stopped_line : (stop : Stop) (old mid new : Disk) (before now : ℕ) → Passes old mid → IsCaused stop mid new → StopsWith stop old new before now
-stopped_line DiskFault old mid new before now time cause = rises_within old.disk_faults mid.disk_faults new.disk_faults new.disk_faults time.disk_faults (omega arith) cause
-stopped_line (Damaged file place) old mid new before now time cause = tt
-stopped_line ReadFault old mid new before now time cause = absurd cause
-stopped_line SayFault old mid new before now time cause = rises_within old.say_faults mid.say_faults new.say_faults new.say_faults time.say_faults (omega arith) cause
-stopped_line Memory old mid new before now time cause = tt
-stopped_line TooLong old mid new before now time cause = absurd cause
+-- a line could not be answered, after others, on the store's machine and on the backup's
+module _ {old mid backup copy : Disk} (new backed : Disk) (before now : ℕ) (time : Passes old mid) (backup_time : Passes backup copy) where
+  stopped_line : (stop : Stop) → IsCausedBeside stop mid new copy backed → StopsWith stop old new before now backup backed
+  stopped_line DiskFault cause = rises_within old.disk_faults mid.disk_faults new.disk_faults new.disk_faults time.disk_faults (omega arith) cause
+  stopped_line (Damaged file place) cause = tt
+  stopped_line ReadFault cause = absurd cause
+  stopped_line SayFault cause = rises_within old.say_faults mid.say_faults new.say_faults new.say_faults time.say_faults (omega arith) cause
+  stopped_line BackupFault cause = rises_within backup.disk_faults copy.disk_faults backed.disk_faults backed.disk_faults backup_time.disk_faults (omega arith) cause
+  stopped_line Memory cause = tt
+  stopped_line TooLong cause = absurd cause
 
--- a line could not be answered
-pub line_stops : (result answered : Result Bool Stop) (why : Stop) (old mid new : Disk) (before now : ℕ) → IsErrAnd result (λ stop. stop ≡ why) → answered ≡ Err why → Passes old mid
-    → IfErr answered (λ stop. IsCaused stop mid new) → IfErr result (λ stop. StopsWith stop old new before now)
-line_stops (Ok refusing) answered why old mid new before now is was time cause = tt
-line_stops (Err stop) answered why old mid new before now is was time cause =
-    let here = subst (λ (r : Result Bool Stop). IfErr r (λ s. IsCaused s mid new)) was cause in
-    subst (λ (s : Stop). StopsWith s old new before now) (sym is) (stopped_line why old mid new before now time here)
+  pub line_stops : (result answered : Result Bool Stop) (why : Stop) → IsErrAnd result (λ stop. stop ≡ why) → answered ≡ Err why
+      → IfErr answered (λ stop. IsCausedBeside stop mid new copy backed) → IfErr result (λ stop. StopsWith stop old new before now backup backed)
+  line_stops (Ok refusing) answered why is was cause = tt
+  line_stops (Err stop) answered why is was cause =
+      let here = subst (λ (r : Result Bool Stop). IfErr r (λ s. IsCausedBeside s mid new copy backed)) was cause in
+      subst (λ (s : Stop). StopsWith s old new before now backup backed) (sym is) (stopped_line why here)
 
 -- a whole run was not cut short
 pub whole_uncut : (refusing : Bool) → IsCut (status_after (Ok refusing)) → ⊥
@@ -64,11 +70,11 @@ whole_uncut true cut = cut
 whole_uncut false cut = cut
 
 -- or the last force failed
-pub finish_stops : (result : Result Bool Stop) (why : Stop) (old mid new : Disk) (before now : ℕ) → IsErrAnd result (λ stop. stop ≡ why) → why ≡ DiskFault → Passes old mid → Rises mid.disk_faults new.disk_faults
-    → IfErr result (λ stop. StopsWith stop old new before now)
-finish_stops (Ok refusing) why old mid new before now is same time fault = tt
-finish_stops (Err stop) why old mid new before now is same time fault =
-    subst (λ (s : Stop). StopsWith s old new before now) (sym (is ∙ same)) (rises_within old.disk_faults mid.disk_faults new.disk_faults new.disk_faults time.disk_faults (omega arith) fault)
+pub finish_stops : (result : Result Bool Stop) (why : Stop) (old mid new : Disk) (before now : ℕ) (backup backed : Disk) → IsErrAnd result (λ stop. stop ≡ why) → why ≡ DiskFault → Passes old mid → Rises mid.disk_faults new.disk_faults
+    → IfErr result (λ stop. StopsWith stop old new before now backup backed)
+finish_stops (Ok refusing) why old mid new before now backup backed is same time fault = tt
+finish_stops (Err stop) why old mid new before now backup backed is same time fault =
+    subst (λ (s : Stop). StopsWith s old new before now backup backed) (sym (is ∙ same)) (rises_within old.disk_faults mid.disk_faults new.disk_faults new.disk_faults time.disk_faults (omega arith) fault)
 
 -- and the run was not cut short
 pub finish_uncut : (result : Result Bool Stop) (why : Stop) → IsErrAnd result (λ stop. stop ≡ why) → why ≡ DiskFault → IsCut (status_after result) → ⊥
@@ -76,12 +82,12 @@ finish_uncut (Ok refusing) why is same cut = whole_uncut refusing cut
 finish_uncut (Err stop) why is same cut = subst (λ (s : Stop). IsCut (status_of s)) (is ∙ same) cut
 
 -- and not for too much input
-pub line_not_long : (result answered : Result Bool Stop) (why : Stop) (mid new : Disk) → IsErrAnd result (λ stop. stop ≡ why) → answered ≡ Err why → IfErr answered (λ stop. IsCaused stop mid new) → IsErrOf result TooLong → ⊥
-line_not_long (Ok refusing) answered why mid new is was cause long = cc
-line_not_long (Err stop) answered why mid new is was cause long =
-    let here = subst (λ (r : Result Bool Stop). IfErr r (λ s. IsCaused s mid new)) was cause in
+pub line_not_long : (result answered : Result Bool Stop) (why : Stop) (mid new copy backed : Disk) → IsErrAnd result (λ stop. stop ≡ why) → answered ≡ Err why → IfErr answered (λ stop. IsCausedBeside stop mid new copy backed) → IsErrOf result TooLong → ⊥
+line_not_long (Ok refusing) answered why mid new copy backed is was cause long = cc
+line_not_long (Err stop) answered why mid new copy backed is was cause long =
+    let here = subst (λ (r : Result Bool Stop). IfErr r (λ s. IsCausedBeside s mid new copy backed)) was cause in
     let same : why ≡ TooLong = cc (sym is, long) in
-    subst (λ (s : Stop). IsCaused s mid new) same here
+    subst (λ (s : Stop). IsCausedBeside s mid new copy backed) same here
 
 -- nor for a damaged slot
 pub line_undamaged : (result answered : Result Bool Stop) (why : Stop) → IsErrAnd result (λ stop. stop ≡ why) → answered ≡ Err why → IfErr answered IsUndamaged → IfErr result IsUndamaged
@@ -124,3 +130,33 @@ enough_taken {old} {new} {n} takes = omega (arith, takes.count, ap (λ (l : List
 
 pub not_so_few : {n most : ℕ} → n < most → most ≤ n → ⊥
 not_so_few few enough = omega (arith, few, enough)
+
+-- which faults a run that ends early reports
+module _ (old new : Disk) (reads_before reads_now : ℕ) (backup backed : Disk) where
+  stop_faults : (stop : Stop) → StopsWith stop old new reads_before reads_now backup backed → CountsFaults old new (status_of stop)
+  stop_faults DiskFault cause = record { disk = λ is. cause; output = λ is. cc }
+  stop_faults (Damaged file place) cause = record { disk = λ is. cc; output = λ is. cc }
+  stop_faults ReadFault cause = record { disk = λ is. cc; output = λ is. cc }
+  stop_faults SayFault cause = record { disk = λ is. cc; output = λ is. cause }
+  stop_faults BackupFault cause = record { disk = λ is. cc; output = λ is. cc }
+  stop_faults Memory cause = record { disk = λ is. cc; output = λ is. cc }
+  stop_faults TooLong cause = record { disk = λ is. cc; output = λ is. cc }
+
+  stop_beside : (stop : Stop) → StopsWith stop old new reads_before reads_now backup backed → status_of stop ≡ BackupFailed → Rises backup.disk_faults backed.disk_faults
+  stop_beside DiskFault cause is = cc
+  stop_beside (Damaged file place) cause is = cc
+  stop_beside ReadFault cause is = cc
+  stop_beside SayFault cause is = cc
+  stop_beside BackupFault cause is = cause
+  stop_beside Memory cause is = cc
+  stop_beside TooLong cause is = cc
+
+  pub run_faults : (outcome : Result Bool Stop) (status : Status) → status ≡ status_after outcome → IfErr outcome (λ stop. StopsWith stop old new reads_before reads_now backup backed) → CountsFaults old new status
+  run_faults (Ok true) status is cause = record { disk = λ same. cc; output = λ same. cc }
+  run_faults (Ok false) status is cause = record { disk = λ same. cc; output = λ same. cc }
+  run_faults (Err stop) status is cause = subst (λ (s : Status). CountsFaults old new s) (sym is) (stop_faults stop cause)
+
+  pub run_beside : (outcome : Result Bool Stop) (status : Status) → status ≡ status_after outcome → IfErr outcome (λ stop. StopsWith stop old new reads_before reads_now backup backed) → Passes backup backed → IsBesideRun backup backed status
+  run_beside (Ok true) status is cause time = record { time = time; fault = λ same. cc }
+  run_beside (Ok false) status is cause time = record { time = time; fault = λ same. cc }
+  run_beside (Err stop) status is cause time = record { time = time; fault = λ same. stop_beside stop cause (sym is ∙ same) }

@@ -8,8 +8,8 @@ use Rattle.std.specs.List.{AllByRecursion, flat_map}
 use Rattle.disk_model.specs.Disk.{Disk, LeavesOnly}
 use Rattle.formats.specs.declared.params.Params.{Params}
 use Rattle.script_lines.specs.Grammar.{Request, AsksFor}
-use Rattle.script_lines.specs.declared.line.Line.TheVariants.{Install as install, Drain as drain, Checkpoint as checkpoint, Trim as trim, Begin as begin_group, End as end_group}
-use Rattle.script_lines.specs.Replies.{Reply, ok, ran, pairs, bad_tree, tree_full, denied, in_group, no_group, value, forced, bad, refused, full, end, object_value, command_count, stat, summary, silence, text_of, said_line}
+use Rattle.script_lines.specs.declared.line.Line.TheVariants.{Install as install, Drain as drain, Checkpoint as checkpoint, Trim as trim, Begin as begin_group, End as end_group, BackupStart as bstart}
+use Rattle.script_lines.specs.Replies.{Reply, ok, ran, pairs, bad_tree, tree_full, denied, in_group, no_group, value, forced, bad, refused, full, end, object_value, command_count, stat, copied, saved, backup_denied, summary, silence, text_of, said_line}
 use Rattle.redo_shell.specs.Store.{Command}
 use Rattle.redo_shell.specs.Groups.{Account, AreWhole, IsAfter, IsWhole, Regroups, Span, account_before, account_of, closed_after, closed_with, group_after, waiting}
 use Rattle.redo_shell.specs.Made.{Made, AsksMade, IsFront, made, made_by}
@@ -119,6 +119,7 @@ next_granted a line added install may asks none = same_next a line ok added (ins
 next_granted a line added drain may asks none = same_next a line ok added (drain, asks, refl)
 next_granted a line added checkpoint may asks none = same_next a line ok added (checkpoint, asks, refl)
 next_granted a line added trim may asks none = same_next a line ok added (trim, asks, refl)
+next_granted a line added bstart may asks none = same_next a line ok added (bstart, asks, refl)
 next_granted a line added request may asks none = absurd may.0
 
 pub next_of : (p : Params) (a : Account) (line : List ℕ) (reply : Reply) (added : List Command) → Replies p a.group a.commands line reply added → Next a line reply added
@@ -203,11 +204,15 @@ story_end {p} {commands} {script} {todo} {replies} {waits} {account} s none =
 pub said_more : (replies : List Reply) (reply : Reply) → flat_map said_line (replies ++ reply ∷ []) ≡ flat_map said_line replies ++ said_line reply
 said_more replies reply = flat_map-append said_line replies (reply ∷ []) ∙ ap (λ (l : List ℕ). flat_map said_line replies ++ l) (append-nil (said_line reply))
 
+-- an answer is among the earlier ones, or it is the last
+pub answer_cases : (replies : List Reply) (reply one : Reply) → Contains (replies ++ reply ∷ []) one → Contains replies one ⊎ (reply ≡ one)
+answer_cases replies reply one has = ⊎_elim (λ (h : Contains replies one). inl h) (λ (h : Contains (reply ∷ []) one). inr (only_one reply one h)) (Contains-append_cases replies (reply ∷ []) one has)
+
 pub spoken_more : (replies : List Reply) (reply : Reply) (n : ℕ) → Contains (replies ++ reply ∷ []) (forced n) → Contains replies (forced n) ⊎ (reply ≡ forced n)
-spoken_more replies reply n has = ⊎_elim (λ (h : Contains replies (forced n)). inl h) (λ (h : Contains (reply ∷ []) (forced n)). inr (only_one reply (forced n) h)) (Contains-append_cases replies (reply ∷ []) (forced n) has)
+spoken_more replies reply n has = answer_cases replies reply (forced n) has
 
 -- whole answers were said, and nothing of the next
-pub told_whole : {p : Params} (tie : List Command → List ℕ → Reply → Type 0) {commands : List Command} {script todo : List (List ℕ)} {replies : List Reply} {waits : List (List Command)} {account : Account}
+abbrev pub told_whole : {p : Params} (tie : List Command → List ℕ → Reply → Type 0) {commands : List Command} {script todo : List (List ℕ)} {replies : List Reply} {waits : List (List Command)} {account : Account}
     → (s : Story p commands script todo replies waits account) → Told p tie commands script s.lines replies waits account account.commands (flat_map said_line replies)
 told_whole {p} tie {commands} {script} {todo} {replies} {waits} {account} s = record {
   story = record {
@@ -283,6 +288,9 @@ beginning tree_full count less = within_text (text_of tree_full) count less
 beginning (denied why) count less = within_text (text_of (denied why)) count less
 beginning in_group count less = within_text (text_of in_group) count less
 beginning no_group count less = within_text (text_of no_group) count less
+beginning (copied n) count less = within_text (text_of (copied n)) count less
+beginning (saved n) count less = within_text (text_of (saved n)) count less
+beginning (backup_denied why) count less = within_text (text_of (backup_denied why)) count less
 beginning (summary totals) count less = within_text (text_of (summary totals)) count less
 beginning silence count less = absurd (omega arith)
 

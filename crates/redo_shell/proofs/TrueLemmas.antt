@@ -1,33 +1,17 @@
 -- What the answers of a run say of each moment's images.
-use Rattle.std.proofs.Common.{◌≡◌, ◌⊎◌, inl, inr, ⊎_elim, ◌∙◌, ◌≤◌, ◌<◌, ◌+◌, ◌-◌, ◌++◌, List, ℕ, [], ◌∷◌, length, take, drop, length-append, length-take, length-take-le, append_assoc, ap, sym, subst, arith, refl, Option, None, Some}
-use Rattle.std.specs.Prelude.{IfSome, IsTrue}
-use Rattle.std.specs.Option.{is_some}
-use Rattle.std.proofs.Math.Seq.{drop-append_seam}
-use Rattle.std.proofs.lemmas.List.{append-nil, take-append-drop}
+use Rattle.std.proofs.Common.{◌≡◌, ⊎_elim, ◌≤◌, ◌<◌, ◌++◌, List, ℕ, [], ◌∷◌, length, take, length-append, length-take, append_assoc, ap, sym, subst, arith, refl, Option}
+use Rattle.std.proofs.lemmas.List.{append-nil}
 use Rattle.std.specs.List.{flat_map}
-use Rattle.oper_core.specs.Meaning.{Meaning}
 use Rattle.disk_model.specs.Disk.{Files, Disk, Passes, Runs, Same, SaysFront, LeavesOnly}
 use Rattle.disk_model.specs.Moments.{first_call, runs_on, weaker}
-use Rattle.formats.specs.Image.{NextIs}
 use Rattle.formats.specs.declared.params.Params.{Params}
-use Rattle.op_codec.specs.AllOps.{all_meaning}
-use Rattle.script_lines.specs.Grammar.{Request, AsksFor}
-use Rattle.script_lines.specs.declared.line.Line.TheVariants.{Trim as trim}
-use Rattle.script_lines.specs.Replies.{Reply, ok, ran, pairs, bad_tree, tree_full, denied, in_group, no_group, value, forced, bad, refused, full, end, object_value, command_count, stat, summary, silence, text_of, said_line}
-use Rattle.explain_core.specs.History.{Member, commands_of}
-use Rattle.explain_core.specs.Sound.{IsGroup, IsSound}
-use Rattle.explain_core.specs.StableLaws.{commands_of-append}
+use Rattle.script_lines.specs.Replies.{Reply, ok, ran, pairs, bad_tree, tree_full, denied, in_group, no_group, value, forced, bad, refused, full, end, object_value, command_count, stat, copied, saved, backup_denied, summary, silence, text_of, said_line}
 use Rattle.explain_core.specs.World.{World}
-use Rattle.running_store.specs.Courses.{Stop}
-use Rattle.running_store.specs.Courses.Stop.{Full, At_end, Worn}
-use Rattle.running_store.specs.Kept.{StopsAt}
-use Rattle.execution.specs.Stops.{StopsCommand, StopsWithin}
-use Rattle.store_engine.specs.Engine.{EngineView, InEachImage, SaysStop, SaysStopWithin, forced_in}
-use Rattle.redo_shell.specs.Store.{Command, Says, ShowsIn, Stands, meaning_in}
-use Rattle.redo_shell.specs.Groups.{Regroups, begun_after, open_in, waiting}
-use Rattle.redo_shell.specs.Replies.{IsLast, IsTrueIn}
+use Rattle.store_engine.specs.Engine.{EngineView}
+use Rattle.redo_shell.specs.Store.{Command}
+use Rattle.redo_shell.specs.Groups.{open_in, waiting}
+use Rattle.redo_shell.specs.Replies.{IsTrueIn}
 use Rattle.redo_shell.specs.Answers.{EndsInside, TrueWithin}
-use Rattle.redo_shell.specs.Found.{EndsAtLast, IsDone, IsOfEngine, IsStopped}
 use Rattle.redo_shell.specs.Run.{IsTrueSaying, IsTrueSoFar, IsAnswerFound, Working, During, LineMoment}
 use Rattle.redo_shell.proofs.StoryLemmas.{AreEven}
 
@@ -57,6 +41,9 @@ within_line tree_full count some within = newline_behind (text_of tree_full) cou
 within_line (denied why) count some within = newline_behind (text_of (denied why)) count within
 within_line in_group count some within = newline_behind (text_of in_group) count within
 within_line no_group count some within = newline_behind (text_of no_group) count within
+within_line (copied n) count some within = newline_behind (text_of (copied n)) count within
+within_line (saved n) count some within = newline_behind (text_of (saved n)) count within
+within_line (backup_denied why) count some within = newline_behind (text_of (backup_denied why)) count within
 within_line (summary totals) count some within = newline_behind (text_of (summary totals)) count within
 within_line silence count some within = absurd (omega (arith, some, within, none_of_silence))
 
@@ -164,107 +151,3 @@ found_truly {p} {old} {mid} {new} {before} {after} {w} {commands} {line} {reply}
           no_shorter = omega (arith, ap length from.1.2, long, ap length found.quiet);
           no_longer = omega (arith, ap length from.1.2, long, ap length found.quiet, length-append old.said (said_line reply), length-take from.1.0 (said_line reply));
         }
-
--- what an answer says of the engine is true of each image
-
--- why a call was stopped is what each image says; within a group it is less by the commands that wait
-pub record SaysStops (p : Params) (d : Disk) (engine : EngineView) (w : World Command) : Type 0 where
-  pub alone : (most : ℕ) (stop : Stop) → StopsAt most engine.parts.log stop → InEachImage d (λ files. SaysStop all_meaning p files stop)
-  pub within : (most : ℕ) (stop : Stop) → IsTrue (is_some w.group) → StopsWithin most engine.parts.log stop → InEachImage d (λ files. SaysStopWithin all_meaning p (commands_of (drop w.forced w.history)) files stop)
-
--- the commands after the first members are the last commands
-drop_commands : (n : ℕ) (h : List (Member Command)) → drop (length (commands_of (take n h))) (commands_of h) ≡ commands_of (drop n h)
-drop_commands n h =
-    let front = commands_of (take n h) in
-    ap (λ (l : List Command). drop (length front) l) (ap (λ (l : List (Member Command)). commands_of l) (sym (take-append-drop n h)) ∙ commands_of-append (take n h) (drop n h))
-    ∙ drop-append_seam front (commands_of (drop n h))
-
--- the commands of the open group are those that are not forced
-pub group_waiting : {m : Meaning Command} (w : World Command) → IsSound m w → IsTrue (is_some w.group) → commands_of (drop w.forced w.history) ≡ waiting (open_in w) (commands_of w.history)
-group_waiting {m} w sound some = by_group w.group refl some
-  where
-    by_group : (group : Option ℕ) → w.group ≡ group → IsTrue (is_some group) → commands_of (drop w.forced w.history) ≡ waiting (open_in w) (commands_of w.history)
-    by_group None is some = cc some
-    by_group (Some begun) is some =
-        let in_group = subst (λ (o : Option ℕ). IfSome o (IsGroup w.history w.forced)) is sound.group in
-        let first : begun - 1 ≡ w.forced = omega (arith, in_group.stable) in
-        sym (ap (λ (o : Option ℕ). waiting (begun_after w o) (commands_of w.history)) is
-        ∙ ap (λ (n : ℕ). drop (length (commands_of (take n w.history))) (commands_of w.history)) first
-        ∙ drop_commands w.forced w.history)
-
-pub map_each : (d : Disk) (P Q : Files → Type 0) → ((f : Files) → P f → Q f) → InEachImage d P → InEachImage d Q
-map_each d P Q so here = (so d.reads here.0, λ told f s left. so f (here.1 told f s left))
-
-module _ {p : Params} {d : Disk} {engine : EngineView} {w : World Command} {commands : List Command} (shows : ShowsIn p d engine w) (commands_are : commands_of w.history ≡ commands) (stops : SaysStops p d engine w) where
-  -- the commands of the open group
-  abbrev ops : List Command
-  ops = waiting (open_in w) commands
-
-  none_wait : w.group ≡ None → ops ≡ []
-  none_wait none = ap (λ (o : Option ℕ). waiting (begun_after w o) commands) none
-
-  some_wait : IsTrue (is_some w.group) → commands_of (drop w.forced w.history) ≡ ops
-  some_wait some = group_waiting w shows.sound some ∙ ap (λ (l : List Command). waiting (open_in w) l) commands_are
-
-  -- outside groups and within one
-  stop_tied : (stop : Stop) → IsStopped engine stop → InEachImage d (λ f. SaysStopWithin all_meaning p ops f stop) ⊎ ((ops ≡ []) × InEachImage d (λ f. SaysStop all_meaning p f stop))
-  stop_tied stop (most, is) = by_group engine.group shows.group is
-    where
-      by_group : (group : Option ℕ) → w.group ≡ group → StopsCommand (is_some group) most engine.parts.log stop → InEachImage d (λ f. SaysStopWithin all_meaning p ops f stop) ⊎ ((ops ≡ []) × InEachImage d (λ f. SaysStop all_meaning p f stop))
-      by_group None same at = inr (none_wait same, stops.alone most stop at)
-      by_group (Some begun) same at =
-          let some : IsTrue (is_some w.group) = subst (λ (o : Option ℕ). IsTrue (is_some o)) (sym same) refl in
-          inl (subst (λ (l : List Command). InEachImage d (λ f. SaysStopWithin all_meaning p l f stop)) (some_wait some) (stops.within most stop some at))
-
-  full_tied : (line : List ℕ) (used need limit : ℕ) → IsStopped engine (Full used need limit) → InEachImage d (λ f. IsTrueIn p f ops line (full used need limit))
-  full_tied line used need limit is = ⊎_elim
-      (λ (here : InEachImage d (λ f. SaysStopWithin all_meaning p ops f (Full used need limit))). here)
-      (λ (here : (ops ≡ []) × InEachImage d (λ f. SaysStop all_meaning p f (Full used need limit))).
-      subst (λ (l : List Command). InEachImage d (λ f. IsTrueIn p f l line (full used need limit))) (sym here.0)
-      (map_each d (λ f. SaysStop all_meaning p f (Full used need limit)) (λ f. IsTrueIn p f [] line (full used need limit)) (λ f ends. (used, ends, omega arith)) here.1))
-      (stop_tied (Full used need limit) is)
-
-  at_end_tied : (line : List ℕ) (number : ℕ) (request : Request) → AsksFor line request → ((f : Files) (next : ℕ) → NextIs (meaning_in p) f next → IsLast p f request next) → IsStopped engine (At_end number)
-      → InEachImage d (λ f. IsTrueIn p f ops line (end number))
-  at_end_tied line number request asks so is = ⊎_elim
-      (λ (here : InEachImage d (λ f. SaysStopWithin all_meaning p ops f (At_end number))).
-      map_each d (λ f. SaysStopWithin all_meaning p ops f (At_end number)) (λ f. IsTrueIn p f ops line (end number)) (λ f next. (request, asks, (next.0, so f next.0 next.1, next.2))) here)
-      (λ (here : (ops ≡ []) × InEachImage d (λ f. SaysStop all_meaning p f (At_end number))).
-      subst (λ (l : List Command). InEachImage d (λ f. IsTrueIn p f l line (end number))) (sym here.0)
-      (map_each d (λ f. SaysStop all_meaning p f (At_end number)) (λ f. IsTrueIn p f [] line (end number)) (λ f next. (request, asks, (number, so f number next, omega arith))) here.1))
-      (stop_tied (At_end number) is)
-
-  -- a trim is none of a group
-  worn_tied : (line : List ℕ) (number : ℕ) → AsksFor line trim → IsStopped engine (Worn number) → InEachImage d (λ f. IsTrueIn p f ops line (end number))
-  worn_tied line number asks (most, is) = by_group engine.group shows.group is
-    where
-      by_group : (group : Option ℕ) → w.group ≡ group → StopsCommand (is_some group) most engine.parts.log (Worn number) → InEachImage d (λ f. IsTrueIn p f ops line (end number))
-      by_group None same at =
-          subst (λ (l : List Command). InEachImage d (λ f. IsTrueIn p f l line (end number))) (sym (none_wait same))
-          (map_each d (λ f. SaysStop all_meaning p f (Worn number)) (λ f. IsTrueIn p f [] line (end number)) (λ f epoch. (trim, asks, (number, epoch, omega arith))) (stops.alone most (Worn number) at))
-      by_group (Some begun) same at = absurd at
-
-  end_tied : (line : List ℕ) (number : ℕ) (request : Request) → AsksFor line request → EndsAtLast engine request number → InEachImage d (λ f. IsTrueIn p f ops line (end number))
-  end_tied line number trim asks worn = worn_tied line number asks worn
-  end_tied line number request asks last = at_end_tied line number request asks (λ f next here. here) last
-
-  pub tied_by : (line : List ℕ) (reply : Reply) → IsOfEngine engine line reply → Says p d engine commands → InEachImage d (λ f. IsTrueIn p f ops line reply)
-  tied_by line (full used need limit) is says = full_tied line used need limit is
-  tied_by line (end number) is says = end_tied line number is.0 is.1 is.2
-  tied_by line (stat counts) is says =
-      map_each d (λ f. Stands p f (take (forced_in engine) commands)) (λ f. IsTrueIn p f ops line (stat counts))
-      (λ f here. (take (forced_in engine) commands, here, length-take-le (forced_in engine) commands says.forced ∙ sym is)) says.images
-  tied_by line reply is says = (tt, λ told f s left. tt)
-
--- no answer that tells of the files changes the group
-regrouped : (p : Params) (d : Disk) (commands before_line : List Command) (line : List ℕ) (reply : Reply) (before after : Option ℕ) → Regroups line reply before_line before after
-    → InEachImage d (λ f. IsTrueIn p f (waiting after commands) line reply) → InEachImage d (λ f. IsTrueIn p f (waiting before commands) line reply)
-regrouped p d commands before_line line ok before after is here = (tt, λ told f s left. tt)
-regrouped p d commands before_line line reply before after is here = subst (λ (o : Option ℕ). InEachImage d (λ f. IsTrueIn p f (waiting o commands) line reply)) is here
-
--- the answer to what is done is true of each image, with the group that was open before
-pub done_tied : {p : Params} {old now : Disk} {before after : EngineView} {w : World Command} {commands : List Command} {line : List ℕ} {reply : Reply}
-    → (done : IsDone p old now before after w commands line reply) → Says p now after (commands ++ done.added) → SaysStops p now after done.world
-    → InEachImage now (λ f. IsTrueIn p f (waiting (open_in w) (commands ++ done.added)) line reply)
-done_tied {p} {now = now} {w = w} {commands = commands} {line = line} {reply = reply} done says stops =
-    regrouped p now (commands ++ done.added) commands line reply (open_in w) (open_in done.world) done.regroups (tied_by done.shows done.commands_are stops line reply done.is_of says)

@@ -5,22 +5,21 @@ use Rattle.std.proofs.lemmas.List.{take_all}
 use Rattle.disk_model.specs.Disk.{Files, Disk, IsDisk, Passes, LeavesOnly, IsSettled}
 use Rattle.disk_model.specs.Moments.{runs_on, weaker}
 use Rattle.disk_model.specs.Silent.{IsSilent}
-use Rattle.disk_model.specs.declared.machine.FileNo.TheVariants.{Objects}
 use Rattle.formats.specs.declared.params.Params.{Params}
 use Rattle.restart.specs.Starts.{OrAtStart, or_weaker, from_settled}
 use Rattle.restart.specs.WellFormed.{opens_gate}
 use Rattle.op_codec.specs.AllOps.{all_meaning}
 use Rattle.stable_objects.specs.Larger.{IsLarger}
-use Rattle.store_engine.specs.Engine.{EngineView, InEachImage, forced_in, params_of}
+use Rattle.store_engine.specs.Engine.{EngineView, InEachImage, params_of}
 use Rattle.store_engine.specs.Upgrading.{IsUncut}
 use Rattle.redo_shell.specs.Calls.{IsUpgradeOn}
 use Rattle.redo_shell.specs.Causes.{Sometime, IsCutStore, JudgesFiles, SaysCut}
 use Rattle.redo_shell.specs.Keeps.{KeepsFiles}
 use Rattle.redo_shell.specs.Open.{OpensFiles}
-use Rattle.redo_shell.specs.Status.{IsOfUnopened, IsOfUpgrade}
+use Rattle.redo_shell.specs.Status.{IsOfSecond, IsOfUnopened, IsOfUpgrade}
 use Rattle.redo_shell.specs.Store.{Command, Between, Holds, IsAttached, IsUpgraded, IsWellFormed, Opens, Stands, StandsInEither}
 use Rattle.redo_shell.specs.declared.status.Status.{Status}
-use Rattle.redo_shell.specs.declared.status.Status.TheVariants.{Done, NotAStore, Damaged, DiskFault, SayFault, Memory, AlreadyTwo, Smaller}
+use Rattle.redo_shell.specs.declared.status.Status.TheVariants.{NotAStore, Damaged, DiskFault, SayFault, Memory, AlreadyTwo, Smaller}
 use Rattle.redo_shell.proofs.OpenLemmas.{opening_failed}
 
 module _ (P : Files → Type 0) where
@@ -88,6 +87,11 @@ IsOfTwo status = ⊥
 pub two_ends : (status : Status) → (status ≡ AlreadyTwo) ⊎ (status ≡ SayFault) → IsOfTwo status
 two_ends status ends = ⊎_elim (λ (is : status ≡ AlreadyTwo). subst IsOfTwo (sym is) tt) (λ (is : status ≡ SayFault). subst IsOfTwo (sym is) tt) ends
 
+pub two_second : (status : Status) → IsOfTwo status → IsOfSecond status
+two_second AlreadyTwo of = tt
+two_second SayFault of = tt
+two_second status of = absurd of
+
 pub two_upgrade : (status : Status) → IsOfTwo status → IsOfUpgrade status × (status ≢ NotAStore)
 two_upgrade AlreadyTwo of = (tt, λ e. cc e)
 two_upgrade SayFault of = (tt, λ e. cc e)
@@ -133,6 +137,14 @@ unopened_upgrade SayFault of = tt
 unopened_upgrade Memory of = tt
 unopened_upgrade status of = absurd of
 
+unopened_second : (status : Status) → IsOfUnopened status → (status ≢ NotAStore) × (status ≢ Damaged) → IsOfSecond status
+unopened_second NotAStore of store = absurd (store.0 refl)
+unopened_second Damaged of store = absurd (store.1 refl)
+unopened_second DiskFault of store = tt
+unopened_second SayFault of store = tt
+unopened_second Memory of store = tt
+unopened_second status of store = absurd of
+
 -- a call on a store that was opened judges its files so, where it does not call them damaged
 pub judged_whole : {old new : Disk} (status : Status) → IsWellFormed old.reads → status ≢ NotAStore → (status ≡ Damaged → SaysCut old new) → JudgesFiles old new status ⊎ ((status ≡ Damaged) × SaysCut old new)
 judged_whole Damaged image store cut = inr (refl, cut refl)
@@ -166,7 +178,7 @@ module _ (p q : Params) (commands : List Command) (old : Disk) where
     larger = λ is. absurd (subst IsOfUnopened is of);
     smaller = λ is. absurd (subst IsOfUnopened is of);
     already = λ is. absurd (subst IsOfUnopened is of);
-    first = λ is. absurd (subst IsOfUnopened is of);
+    second = λ is. unopened_second status of store;
     idle = λ is. absurd (⊎_elim (λ (e : status ≡ AlreadyTwo). subst IsOfUnopened e of) (λ (e : status ≡ Smaller). subst IsOfUnopened e of) is);
     store = store.0;
   }

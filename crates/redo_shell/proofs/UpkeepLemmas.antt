@@ -1,5 +1,5 @@
 -- How the calls are answered that no group allows, and what holds of them by their answers.
-use Rattle.std.proofs.Common.{◌≡◌, ◌∙◌, ap, refl, sym, subst, inl, inr, ℕ, List, None, Result, Ok, Err, IfErr, IfOk, OnOk, false}
+use Rattle.std.proofs.Common.{◌≡◌, ◌∙◌, ap, refl, sym, subst, inl, inr, ℕ, List, Option, None, Some, Result, Ok, Err, IfErr, IfOk, OnOk, false}
 use Rattle.std.specs.Prelude.{⊤, IfSome, IsTrue, length}
 use Rattle.std.specs.Option.{is_some}
 use Rattle.std.specs.Result.{IsErrAnd}
@@ -28,18 +28,20 @@ use Rattle.script_lines.specs.Grammar.{AsksFor, Request}
 use Rattle.script_lines.specs.declared.line.Line.TheVariants.{Install as install, Drain as drain, Checkpoint as checkpoint, Trim as trim}
 use Rattle.script_lines.specs.Replies.{reply_of}
 use Rattle.script_lines.specs.declared.answer.Answer.{Answer}
-use Rattle.store_engine.specs.Calls.{IsChecking, IsDraining, IsForcing, IsInstalling, IsRefused, IsTrimming, work_of_check, work_of_force, work_of_install, work_of_trim}
+use Rattle.script_lines.specs.declared.answer.Answer.TheVariants as answers
+use Rattle.script_lines.specs.declared.backup_denial.BackupDenial.TheVariants.{InBackup}
+use Rattle.store_engine.specs.Calls.{IsChecking, IsDraining, IsForcing, IsInstalling, IsRefused, IsRefusedBeside, IsTrimming, work_of_check, work_of_force, work_of_install, work_of_trim}
 use Rattle.store_engine.specs.Engine.{EngineView, forced_in, group_size, logged_since}
 use Rattle.store_engine.specs.declared.work_err.WorkErr.{WorkErr}
 use Rattle.redo_shell.specs.Store.{Between, Command, Holds, IsAttached}
-use Rattle.redo_shell.specs.Found.{IsAnswerOf, IsBarredIn, IsDone, IsShort, IsUpkept, answer_of_work, answer_of_work_error}
+use Rattle.redo_shell.specs.Found.{IsAnswerOf, IsBarredIn, IsDeniedIn, IsDone, IsShort, IsUndone, IsUpkept, answer_of_work, answer_of_work_error}
 use Rattle.redo_shell.specs.Replies.{IsUpkeep}
-use Rattle.redo_shell.specs.Stages.{stage_of}
+use Rattle.redo_shell.specs.Stages.{IsBesideBackup, stage_of}
 use Rattle.redo_shell.specs.Run.{IsCaused, IsUndamaged}
 use Rattle.redo_shell.specs.declared.stop.Stop.{Stop}
-use Rattle.redo_shell.specs.declared.stop.Stop.TheVariants.{DiskFault, Damaged, ReadFault, SayFault, Memory, TooLong}
+use Rattle.redo_shell.specs.declared.stop.Stop.TheVariants.{DiskFault, Damaged, ReadFault, SayFault, BackupFault, Memory, TooLong}
 use Rattle.redo_shell.proofs.CourseLemmas.{logged_checkpoint, logged_trim}
-use Rattle.redo_shell.proofs.DoneLemmas.{AreCounted, barred_done, by_group, images_of, still_attached, still_images, still_whole, still_works, upkeep_barred, upkeep_done, upkeep_works}
+use Rattle.redo_shell.proofs.DoneLemmas.{AreCounted, barred_done, by_backup, by_group, denied_done, images_of, still_attached, still_images, still_whole, still_works, upkeep_barred, upkeep_done, upkeep_works}
 use Rattle.redo_shell.proofs.HoldLemmas.{always, in_engine}
 use Rattle.redo_shell.proofs.MomentLemmas.{Works}
 use Rattle.redo_shell.proofs.OpenGroups.{in_open}
@@ -56,7 +58,16 @@ pub barred_in : {T M : Type 0} {old new : M} {before after : EngineView} (call :
     → IsBarredIn old new before after result
 barred_in call result refused is inside =
     let it = refused_in call refused inside in
-    record { machine = it.1.machine; engine = it.1.engine; answer = is ∙ ap (λ r. answer_of_work r) it.1.answer }
+    record { machine = it.1.machine; engine = it.1.engine; answered = is ∙ ap (λ r. answer_of_work r) it.1.answer }
+
+-- a trim is denied beside a backup
+pub denied_in : {T M : Type 0} {old new : M} {before after : EngineView} (call : Result T WorkErr) (result : Result Answer Stop) → IfSome before.copied (λ n. IsRefusedBeside n old new before after call) → result ≡ answer_of_work call
+    → IsTrue (is_some before.copied) → IsDeniedIn old new before after result
+denied_in {T} {M} {old} {new} {before} {after} call result refused is beside = by_count before.copied refused beside
+  where
+    by_count : (copies : Option ℕ) → IfSome copies (λ n. IsRefusedBeside n old new before after call) → IsTrue (is_some copies) → IsDeniedIn old new before after result
+    by_count None it some = cc some
+    by_count (Some n) it some = record { machine = it.machine; engine = it.engine; answered = is ∙ ap (λ r. answer_of_work r) it.answer }
 
 -- one that is done is not
 pub never_barred : {T M : Type 0} (old new : M) (before after : EngineView) (value : T) → RefusedWithin old new before after (Ok value) → IsTrue (is_some before.group) → ⊥
@@ -152,6 +163,7 @@ module _ {old new : Disk} {before after : EngineView} {result : Result Answer St
         logged = logged_since before after;
         ending = ending_of alone.0;
         call = alone.2.call;
+        beside = tt;
         takes = alone.2.takes;
         commands = alone.2.commands;
         counted = inl refl;
@@ -168,6 +180,7 @@ module _ {old new : Disk} {before after : EngineView} {result : Result Answer St
         logged = logged_since before after;
         ending = ending_of alone.0;
         call = alone.2.call;
+        beside = tt;
         takes = alone.2.takes;
         commands = alone.2.commands;
         counted = inl refl;
@@ -184,6 +197,7 @@ module _ {old new : Disk} {before after : EngineView} {result : Result Answer St
         logged = 0;
         ending = ending_of_check alone.0;
         call = alone.2.call;
+        beside = tt;
         takes = alone.2.takes;
         commands = alone.2.commands;
         counted = inr (refl, λ m w used. logged_checkpoint m w used);
@@ -191,9 +205,9 @@ module _ {old new : Disk} {before after : EngineView} {result : Result Answer St
         undamaged = λ told attached file place damaged. check_whole alone.0 file place (sym same ∙ damaged);
       }
 
-  pub trimmed_upkept : {T : Type 0} (call : Result T WorkErr) → (answer : Result T RewriteErr) × (call ≡ work_of_trim answer) × IsTrimming all_meaning old new before after answer → result ≡ answer_of_work call
+  pub trimmed_upkept : {T : Type 0} (call : Result T WorkErr) → before.copied ≡ None → (answer : Result T RewriteErr) × (call ≡ work_of_trim answer) × IsTrimming all_meaning old new before after answer → result ≡ answer_of_work call
       → IsUpkept old new before after trim result
-  trimmed_upkept call alone is =
+  trimmed_upkept call none alone is =
       let same = is ∙ ap (λ r. answer_of_work r) alone.1 in
       let epoch = before.parts.log.log.header.epoch in
       record {
@@ -201,6 +215,7 @@ module _ {old new : Disk} {before after : EngineView} {result : Result Answer St
         logged = 0;
         ending = ending_of_rewrite alone.0;
         call = alone.2.call;
+        beside = none;
         takes = alone.2.takes;
         commands = alone.2.commands;
         counted = inr (refl, λ m w used. logged_trim m epoch w used);
@@ -213,6 +228,7 @@ short_cause old now DiskFault is = absurd is
 short_cause old now (Damaged file place) is = tt
 short_cause old now ReadFault is = absurd is
 short_cause old now SayFault is = absurd is
+short_cause old now BackupFault is = absurd is
 short_cause old now Memory is = tt
 short_cause old now TooLong is = absurd is
 
@@ -236,6 +252,7 @@ module _ {old now : Disk} {before after : EngineView} {request : Request} {resul
   short_whole (Err (Damaged file place)) none = none file place refl
   short_whole (Err ReadFault) none = tt
   short_whole (Err SayFault) none = tt
+  short_whole (Err BackupFault) none = tt
   short_whole (Err Memory) none = tt
   short_whole (Err TooLong) none = tt
 
@@ -255,16 +272,16 @@ module _ {old now : Disk} {before after : EngineView} {request : Request} {resul
   upkept_whole : OnOk result (after.broken ≡ false)
   upkept_whole = on_ok_weaker result (λ well. still_whole u.call well) (working u.ending result u.answered)
 
--- what holds of it within one: nothing was done
-module _ {M : Type 0} (disk : M → Disk) {old now : M} {before after : EngineView} {result : Result Answer Stop} (it : IsBarredIn old now before after result) where
+-- what holds of it where nothing was done
+module _ {M : Type 0} (disk : M → Disk) {old now : M} {before after : EngineView} {result : Result Answer Stop} {answer : Answer} (it : IsUndone answer old now before after result) where
   pub still_time : Passes (disk old) (disk now)
   still_time = subst (λ (x : M). Passes (disk old) (disk x)) (sym it.machine) (passes_none (disk old))
 
   pub still_cause : IfErr result (λ stop. IsCaused stop (disk old) (disk now))
-  still_cause = subst (λ (r : Result Answer Stop). IfErr r (λ stop. IsCaused stop (disk old) (disk now))) (sym it.answer) tt
+  still_cause = subst (λ (r : Result Answer Stop). IfErr r (λ stop. IsCaused stop (disk old) (disk now))) (sym it.answered) tt
 
   pub still_undamaged : IfErr result IsUndamaged
-  still_undamaged = subst (λ (r : Result Answer Stop). IfErr r IsUndamaged) (sym it.answer) tt
+  still_undamaged = subst (λ (r : Result Answer Stop). IfErr r IsUndamaged) (sym it.answered) tt
 
   pub still_on : IsAttached (disk old) before → IsAttached (disk now) after
   still_on attached = subst (λ (x : M). IsAttached (disk x) after) (sym it.machine) (subst (λ (e : EngineView). IsAttached (disk old) e) (sym it.engine) attached)
@@ -272,39 +289,46 @@ module _ {M : Type 0} (disk : M → Disk) {old now : M} {before after : EngineVi
   pub still_unbroken : before.broken ≡ false → after.broken ≡ false
   still_unbroken fine = ap (λ (e : EngineView). e.broken) it.engine ∙ fine
 
--- So it is in both cases.
-module _ {M : Type 0} (disk : M → Disk) {old now : M} {before after : EngineView} {request : Request} {result : Result Answer Stop} (inside : IsTrue (is_some before.group) → IsBarredIn old now before after result)
-    (alone : before.group ≡ None → IsUpkept (disk old) (disk now) before after request result) where
+-- So it is in all cases: within a group, beside a backup that is in the way, and else.
+module _ {M : Type 0} (disk : M → Disk) {old now : M} {before after : EngineView} (request : Request) {result : Result Answer Stop} (inside : IsTrue (is_some before.group) → IsBarredIn old now before after result)
+    (denied : before.group ≡ None → (IsBesideBackup before.copied request → ⊥) → IsDeniedIn old now before after result)
+    (alone : before.group ≡ None → IsBesideBackup before.copied request → IsUpkept (disk old) (disk now) before after request result) where
+  either : {P : Type 0} → ((answer : Answer) → IsUndone answer old now before after result → P) → (IsUpkept (disk old) (disk now) before after request result → P) → P
+  either undone upkept = by_group before.group (λ some. undone answers.InGroup (inside some))
+      (λ none. by_backup before.copied request (λ beside. undone (answers.BackupDenied InBackup) (denied none beside)) (λ beside. upkept (alone none beside)))
+
   pub either_time : Passes (disk old) (disk now)
-  either_time = by_group before.group (λ some. still_time disk (inside some)) (λ none. (alone none).call.time)
+  either_time = either (λ answer it. still_time disk it) (λ u. u.call.time)
 
   pub either_cause : IfErr result (λ stop. IsCaused stop (disk old) (disk now))
-  either_cause = by_group before.group (λ some. still_cause disk (inside some)) (λ none. upkept_cause (alone none))
+  either_cause = either (λ answer it. still_cause disk it) (λ u. upkept_cause u)
 
   pub either_undamaged : (disk old).tells_files → IsAttached (disk old) before → IfErr result IsUndamaged
-  either_undamaged told attached = by_group before.group (λ some. still_undamaged disk (inside some)) (λ none. upkept_undamaged (alone none) told attached)
+  either_undamaged told attached = either (λ answer it. still_undamaged disk it) (λ u. upkept_undamaged u told attached)
 
   pub either_attached : IsAttached (disk old) before → OnOk result (IsAttached (disk now) after)
-  either_attached attached = by_group before.group (λ some. always result (still_on disk (inside some) attached)) (λ none. upkept_attached (alone none) attached)
+  either_attached attached = either (λ answer it. always result (still_on disk it attached)) (λ u. upkept_attached u attached)
 
   pub either_whole : before.broken ≡ false → OnOk result (after.broken ≡ false)
-  either_whole fine = by_group before.group (λ some. always result (still_unbroken disk (inside some) fine)) (λ none. upkept_whole (alone none))
+  either_whole fine = either (λ answer it. always result (still_unbroken disk it fine)) (λ u. upkept_whole u)
 
   module _ {p : Params} {commands : List Command} (lawful : IsDisk (disk old)) (holds : Holds p (disk old) before commands) where
     pub either_quiet : (disk now).said ≡ (disk old).said
-    either_quiet = by_group before.group (λ some. ap (λ (x : M). (disk x).said) (inside some).machine) (λ none. (alone none).call.quiet holds.shows.shows.told)
+    either_quiet = either (λ answer it. ap (λ (x : M). (disk x).said) it.machine) (λ u. u.call.quiet holds.shows.shows.told)
 
     pub either_images : (disk old).tells_moments → LeavesOnly (disk old) (disk now) (Between p (disk old) before.group (forced_in before) (length commands) commands)
-    either_images told = by_group before.group (λ some. still_images lawful holds (ap disk (inside some).machine) told) (λ none. images_of holds ((alone none).commands.images told p commands (in_engine holds)))
+    either_images told = either (λ answer it. still_images lawful holds (ap disk it.machine) told) (λ u. images_of holds (u.commands.images told p commands (in_engine holds)))
 
     module _ {line : List ℕ} (counts : AreCounted) (of_kind : IsUpkeep request) (asks : AsksFor line request) where
       pub either_done : IfOk result (λ answer. IsDone p (disk old) (disk now) before after holds.world commands line (reply_of answer))
       either_done = by_group before.group (λ some. barred_done disk request holds (upkeep_barred request of_kind) asks some (inside some))
-          (λ none. upkeep_done p (disk old) (disk now) before after commands line request result counts holds of_kind asks none (alone none))
+          (λ none. by_backup before.copied request (λ beside. denied_done disk request holds of_kind beside asks none (denied none beside))
+          (λ beside. upkeep_done p (disk old) (disk now) before after commands line request result counts holds of_kind asks none (alone none beside)))
 
       pub either_works : Works p (disk old) (disk now) (stage_of before holds.world) line
       either_works = by_group before.group (λ some. still_works line lawful holds (ap disk (inside some).machine))
-          (λ none. upkeep_works p (disk old) (disk now) before after commands line request result counts holds of_kind asks none (alone none))
+          (λ none. by_backup before.copied request (λ beside. still_works line lawful holds (ap disk (denied none beside).machine))
+          (λ beside. upkeep_works p (disk old) (disk now) before after commands line request result counts holds of_kind asks none (alone none beside)))
 
 -- what ended it is handed on
 pub passed_cause : {S T : Type 0} (result : Result T Stop) (answered : Result S Stop) (why : Stop) (old now : Disk) → IsErrAnd result (λ stop. stop ≡ why) → answered ≡ Err why → IfErr answered (λ stop. IsCaused stop old now) → IfErr result (λ stop. IsCaused stop old now)

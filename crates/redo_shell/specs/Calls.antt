@@ -15,7 +15,7 @@ use Rattle.stable_objects.specs.Larger.{IsLarger}
 use Rattle.restart.specs.Starts.{OrAtStart}
 use Rattle.redo_shell.specs.Store.{Command, meaning_in, Stands, StandsInEither, Opens, IsNew, IsNewStore, IsUpgraded}
 use Rattle.redo_shell.specs.Answers.{Moment, SaysTruly}
-use Rattle.redo_shell.specs.Causes.{JudgesFiles, JudgesUpgrade, SaysStore, Sometime}
+use Rattle.redo_shell.specs.Causes.{JudgesFiles, JudgesUpgrade, SaysStore}
 use Rattle.redo_shell.specs.Demo.{IsDemo}
 use Rattle.redo_shell.specs.Dump.{dump_of, DumpMoment}
 use Rattle.redo_shell.specs.Keeps.{KeepsFiles}
@@ -24,7 +24,7 @@ use Rattle.redo_shell.specs.Run.{IsComplete, MomentSoFar}
 use Rattle.redo_shell.specs.Stages.{Stage, IsFirst}
 use Rattle.redo_shell.specs.Courses.{RunMoment, TableMoment}
 use Rattle.redo_shell.specs.Sessions.{Ran, Sizing, by_init, by_upgrade, Follows, Sessions}
-use Rattle.redo_shell.specs.Status.{IsCut, IsOfRun, IsOfDump, IsOfInit, IsOfUpgrade}
+use Rattle.redo_shell.specs.Status.{IsCut, IsOfRun, IsOfSecond, IsOfDump, IsOfInit, IsOfUpgrade}
 use Rattle.redo_shell.specs.declared.status.Status.{Status}
 use Rattle.redo_shell.specs.declared.status.Status.TheVariants.{Done, DoneWithRefusals, NotAStore, AlreadyStore, Damaged, DiskFault, Memory, AlreadyTwo, Smaller}
 
@@ -121,12 +121,12 @@ pub record IsUpgradeOn (p q : Params) (commands : List Command) (old new : Disk)
   -- with status 0 they are those of the larger store, and nothing is said
   pub done : status ≡ Done → InEachImage new (IsUpgraded q commands)
   pub quiet : status ≡ Done → new.said ≡ old.said
-  -- the store was of version 1 as it was opened, and no number of it is greater then; where one is, that is said
-  pub first : status ≡ Done → old.tells_moments → Sometime old new (λ files. IsSecond files → ⊥)
+  -- a store of version 2 is not made larger, and that is said
+  pub second : IsSecond old.reads → IsOfSecond status
+  pub already : status ≡ AlreadyTwo → IsSecond old.reads × (new.said ≡ old.said ++ notices.already_version_two)
+  -- no number of the store is greater than it was to get; where one is, that is said
   pub larger : status ≡ Done → IsLarger p q
   pub smaller : status ≡ Smaller → (IsLarger p q → ⊥) × (new.said ≡ old.said ++ notices.smaller p.objects p.cap)
-  -- it was of version 2 as it was opened, and that is said
-  pub already : status ≡ AlreadyTwo → (old.tells_moments → Sometime old new IsSecond) × (new.said ≡ old.said ++ notices.already_version_two)
   -- with each of these two it is left as it was
   pub idle : (status ≡ AlreadyTwo) ⊎ (status ≡ Smaller) → InEachImage new (λ files. Stands p files commands)
   pub store : status ≢ NotAStore

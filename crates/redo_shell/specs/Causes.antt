@@ -1,11 +1,11 @@
 -- Why a call of the program ends with its status, and what it leaves and says then.
-use Rattle.std.specs.Prelude.{◌≡◌, ◌≢◌, ◌⊎◌, ◌++◌, ◌^◌, ℕ, List}
+use Rattle.std.specs.Prelude.{◌≡◌, ◌≢◌, ◌⊎◌, ◌+◌, ◌++◌, ◌^◌, ℕ, List}
 use Rattle.disk_model.specs.Disk.{Files, Disk, Rises, Stays}
 use Rattle.disk_model.specs.declared.machine.FileNo.{FileNo}
 use Rattle.disk_model.specs.declared.machine.FileNo.TheVariants.{Objects}
 use Rattle.formats.specs.Bytes.{IsOpenAt, IsClosedAt}
 use Rattle.formats.specs.FirstFault.{IsDamaged}
-use Rattle.formats.specs.Objects.{BeginsStore}
+use Rattle.formats.specs.Objects.{BeginsStore, last_slot, layout_in}
 use Rattle.formats.specs.declared.params.Params.{Params}
 use Rattle.op_codec.specs.AllOps.{all_meaning}
 use Rattle.script_lines.specs.Reading.{ReadsOn}
@@ -20,7 +20,7 @@ use Rattle.redo_shell.specs.Notices as notices
 use Rattle.redo_shell.specs.Status.{IsOfStore}
 use Rattle.redo_shell.specs.Store.{IsWellFormed}
 use Rattle.redo_shell.specs.declared.status.Status.{Status}
-use Rattle.redo_shell.specs.declared.status.Status.TheVariants.{Usage, NotAStore, AlreadyStore, Damaged, DiskFault, ReadFault, SayFault, Memory, TooLong}
+use Rattle.redo_shell.specs.declared.status.Status.TheVariants.{Usage, NotAStore, AlreadyStore, Damaged, DiskFault, ReadFault, SayFault, BackupFault, Memory, TooLong}
 
 -- the words ask for nothing that the program does
 abbrev pub AsksNothing : List (List ℕ) → Type 0
@@ -49,13 +49,15 @@ Sometime old new P = (files : Files) × (said : List ℕ) × new.left_since old.
 abbrev pub IsCutStore : Files → Type 0
 IsCutStore files = (slots : SlotsView) × AreOf slots (files Objects) × (HasLastHead slots (files Objects) → ⊥)
 
--- The store was opened, but it can't be made larger, since it is cut. That is said as damage.
+-- where the length stands in the last slot of an objects file
+abbrev pub last_length : List ℕ → ℕ
+last_length bytes = last_slot (layout_in bytes) + 9
+
+-- The store was opened, but it can't be made larger, since it is cut. That is said as damage there.
 pub record SaysCut (old new : Disk) : Type 0 where
   pub whole : IsWellFormed old.reads
   pub cut : old.tells_moments → Sometime old new IsCutStore
-  pub file : FileNo
-  pub place : ℕ
-  pub said : new.said ≡ old.said ++ notices.damaged file place
+  pub said : new.said ≡ old.said ++ notices.damaged Objects (last_length (old.reads Objects))
 
 -- and the words ask for that
 abbrev pub IsCutUpgrade : List (List ℕ) → Disk → Disk → Type 0
@@ -99,8 +101,11 @@ pub record IsUsage (old new : Disk) (status : Status) : Type 0 where
   pub ends : (status ≡ Usage) ⊎ (status ≡ SayFault)
 
 -- Each status of trouble comes only with its cause, whatever the words ask. The input had `left` at the call's start and has
--- `rest` at its end, where the source reports that (`told`), and so many of its reads have failed before and now.
-pub record ComesByCause (words : List (List ℕ)) (told : Type 0) (left rest : List ℕ) (reads_before reads_now : ℕ) (old new : Disk) (status : Status) : Type 0 where
+-- `rest` at its end, where the source reports that (`told`), and so many of its reads have failed before and now. The machine of
+-- the backup was in the one state before, and is in the other now.
+pub record ComesByCause (words : List (List ℕ)) (told : Type 0) (left rest : List ℕ) (reads_before reads_now : ℕ) (backup backed old new : Disk) (status : Status) : Type 0 where
+  -- where the words ask nothing, the usage line is said, unless there is no memory to read them
+  pub nothing : AsksNothing words → OrUnread (IsUsage old new status) old new status
   pub usage : status ≡ Usage → AsksNothing words
   pub usage_said : old.tells_files → status ≡ Usage → new.said ≡ old.said ++ notices.usage
   pub no_store : old.tells_files → status ≡ NotAStore → SaysNoStore old new
@@ -108,5 +113,6 @@ pub record ComesByCause (words : List (List ℕ)) (told : Type 0) (left rest : L
   pub already : old.tells_files → status ≡ AlreadyStore → SaysStore old new
   pub faults : CountsFaults old new status
   pub read_fault : status ≡ ReadFault → Rises reads_before reads_now
+  pub backup_fault : status ≡ BackupFault → Rises backup.disk_faults backed.disk_faults
   -- so many bytes were taken, and the end was not yet read
   pub too_long : told → status ≡ TooLong → ReadsOn left rest 0 (2 ^ 40)

@@ -1,5 +1,5 @@
 -- What is done at each moment of a call, by the courses of the restart and of the lines.
-use Rattle.std.specs.Prelude.{◌≡◌, ◌⊎◌, ◌++◌, ℕ, List, [], ◌∷◌, take, None}
+use Rattle.std.specs.Prelude.{◌≡◌, ◌⊎◌, ◌++◌, ⊤, ℕ, List, [], ◌∷◌, take, None}
 use Rattle.std.specs.List.{flat_map}
 use Rattle.disk_model.specs.Disk.{Files, Disk}
 use Rattle.disk_model.specs.Silent.{IsSilent}
@@ -9,18 +9,25 @@ use Rattle.standing.specs.Standing.{FilesShow}
 use Rattle.running_store.specs.Courses.{Course, course, force_course}
 use Rattle.running_store.specs.Courses.Stop.{Through}
 use Rattle.restart.specs.Courses.{restart_course}
-use Rattle.script_lines.specs.Grammar.{AsksFor}
-use Rattle.script_lines.specs.declared.line.Line.TheVariants.{Force as force}
+use Rattle.script_lines.specs.Grammar.{Request, AsksFor}
+use Rattle.script_lines.specs.declared.line.Line.TheVariants.{Force as force, BackupStart as bstart, BackupFinish as bfinish}
 use Rattle.script_lines.specs.Replies.{Reply, said_line}
 use Rattle.redo_shell.specs.Store.{Command, meaning_in}
 use Rattle.redo_shell.specs.Stages.{Stage, HasCourse, Leads, AllGoBy, IsFirst, finish_course, redo_dirty}
 
+-- the log is forced for such a request
+abbrev pub IsForcing : Request → Type 0
+IsForcing force = ⊤
+IsForcing bstart = ⊤
+IsForcing bfinish = ⊤
+IsForcing request = ⊥
+
 -- What may be done for the next of these lines before anything is said of it: the course that the line has the engine take,
--- a force for `force` where no group is open, and after the last line the end of an open group and a force; nothing may be
--- done for any line.
+-- a force for `force`, and as a backup starts and ends, where no group is open, and after the last line the end of an open
+-- group and a force; nothing may be done for any line.
 abbrev pub IsCourseDue : Params → Stage → List (List ℕ) → Course Command → Type 0
 IsCourseDue p s [] c = c ≡ finish_course (meaning_in p) s.world s.used
-IsCourseDue p s (line ∷ lines) c = HasCourse p s line c ⊎ ((AsksFor line force × (s.world.group ≡ None) × (c ≡ force_course (meaning_in p) s.world s.used)) ⊎ (c ≡ course [] s.used Through))
+IsCourseDue p s (line ∷ lines) c = HasCourse p s line c ⊎ (((request : Request) × IsForcing request × AsksFor line request × (s.world.group ≡ None) × (c ≡ force_course (meaning_in p) s.world s.used)) ⊎ (c ≡ course [] s.used Through))
 
 -- the image shows the world after some first steps of what is due, none or all among them
 pub record IsWorkedOn (p : Params) (s : Stage) (todo : List (List ℕ)) (files : Files) : Type 0 where
@@ -58,7 +65,7 @@ pub record StageMoment (p : Params) (first : Stage) (script : List (List ℕ)) (
 module _ (p : Params) (commands : List Command) (old : Disk) (first : Stage) (is : IsFirst p commands old first) where
   -- while the store is opened nothing is said, and the image shows the world after some first steps of the restart's course
   abbrev pub OpeningMoment : Files → List ℕ → Type 0
-  OpeningMoment files said = IsSilent (ShowsSome (meaning_in p) p is.world (restart_course (meaning_in p) redo_dirty is.world is.used).steps) old.said files said
+  OpeningMoment files said = IsSilent (ShowsSome (meaning_in p) p is.world (restart_course (meaning_in p) (redo_dirty p) is.world is.used).steps) old.said files said
 
   -- a moment of a run of a script
   abbrev pub RunMoment : List (List ℕ) → Files → List ℕ → Type 0

@@ -16,11 +16,12 @@ use Rattle.redo_shell.specs.Store.{Command, IsWellFormed, Opens}
 use Rattle.redo_shell.specs.declared.status.Status.{Status}
 use Rattle.redo_shell.specs.declared.status.Status.TheVariants.{Done, DoneWithRefusals, Usage, NotAStore, AlreadyStore, Damaged, Memory, TooLong, AlreadyTwo, Smaller}
 
--- no count of faults rose, that of the disk, of the output or of the input
-pub record IsFaultless (old new : Disk) (reads_before reads_now : ℕ) : Type 0 where
+-- no count of faults rose, that of the disk, of the output, of the input or of the backup's disk
+pub record IsFaultless (old new : Disk) (reads_before reads_now : ℕ) (before now : Disk) : Type 0 where
   pub disk : Rises old.disk_faults new.disk_faults → ⊥
   pub output : Rises old.say_faults new.say_faults → ⊥
   pub input : Rises reads_before reads_now → ⊥
+  pub backup : Rises before.disk_faults now.disk_faults → ⊥
 
 -- the files are refused exactly where they are no store, whether there is memory or not, or break their format, and then
 -- it is the first check that fails that is said

@@ -19,6 +19,7 @@ use Rattle.hash_file.specs.declared.refusal.HashRefusal.TheVariants as hash_refu
 use Rattle.range_calls.specs.declared.call_err.CallErr.{CallErr}
 use Rattle.range_calls.specs.declared.call_err.CallErr.TheVariants as call_errors
 use Rattle.script_lines.specs.declared.denial.Denial.TheVariants as denials
+use Rattle.script_lines.specs.declared.backup_denial.BackupDenial.TheVariants.{InBackup}
 use Rattle.tree_client.specs.Answers.{TreeErr}
 use Rattle.logical_btree.specs.declared.refusal.TreeRefusal.TheVariants as tree_refusals
 use Rattle.op_codec.specs.AllOps.{all_meaning}
@@ -31,7 +32,7 @@ use Rattle.execution.specs.declared.exec_err.ExecErr.TheVariants as exec_errors
 use Rattle.script_lines.specs.Replies.{Reply, forced, full, end, pairs_reply, refused, stat, value, reply_of}
 use Rattle.script_lines.specs.declared.answer.Answer.{Answer}
 use Rattle.script_lines.specs.declared.answer.Answer.TheVariants as answers
-use Rattle.store_engine.specs.Engine.{EngineView, KeepsCommands, TakesIn, forced_in, logged_since}
+use Rattle.store_engine.specs.Engine.{EngineView, KeepsCommands, TakesIn, forced_in, logged_since, so_far, used_in}
 use Rattle.store_engine.specs.declared.work_err.WorkErr.{WorkErr}
 use Rattle.store_engine.specs.declared.work_err.WorkErr.TheVariants as work_errors
 use Rattle.redo_shell.specs.Store.{IsAttached, IsEngineCall}
@@ -39,7 +40,7 @@ use Rattle.redo_shell.specs.Groups.{Regroups, open_in}
 use Rattle.redo_shell.specs.Made.{Made, made_by, tree_answer}
 use Rattle.redo_shell.specs.Store.{Command, Holds, ShowsIn, state_of}
 use Rattle.redo_shell.specs.Replies.{Replies, IsNumbered, IsOver}
-use Rattle.redo_shell.specs.Stages.{GoesBy, stage_of, upkeep_course}
+use Rattle.redo_shell.specs.Stages.{GoesBy, IsBesideBackup, stage_of, upkeep_course}
 use Rattle.redo_shell.specs.declared.asking.Found.{Found}
 use Rattle.redo_shell.specs.declared.asking.Found.TheVariants as founds
 use Rattle.redo_shell.specs.declared.stop.Stop.{Stop}
@@ -54,9 +55,16 @@ abbrev pub EndsAtLast : EngineView → Request → ℕ → Type 0
 EndsAtLast engine trim number = IsStopped engine (Worn number)
 EndsAtLast engine request number = IsStopped engine (At_end number)
 
--- what an answer to a line says of the engine that it leaves: why it was stopped, and how many commands are forced
+-- nothing waits, no group is open, and the log has this length
+pub record EndsForced (engine : EngineView) (used : ℕ) : Type 0 where
+  pub none_waits : engine.parts.log.log.pending ≡ []
+  pub alone : engine.group ≡ None
+  pub used_is : used ≡ used_in engine
+
+-- what an answer to a line says of the engine that it leaves: why it was stopped, or how long its log is where that of a backup is
+-- too long, and how many commands are forced
 abbrev pub IsOfEngine : EngineView → List ℕ → Reply → Type 0
-IsOfEngine engine line (full used need limit) = IsStopped engine (Full used need limit)
+IsOfEngine engine line (full used need limit) = IsStopped engine (Full used need limit) ⊎ EndsForced engine used
 IsOfEngine engine line (end number) = (request : Request) × AsksFor line request × EndsAtLast engine request number
 IsOfEngine engine line (forced n) = n ≡ forced_in engine
 IsOfEngine engine line (stat counts) = counts.forced ≡ forced_in engine
@@ -82,9 +90,10 @@ IsShort Memory = ⊤
 IsShort (Damaged file place) = ⊤
 IsShort stop = ⊥
 
--- how the error of a call that no group allows is answered
+-- how the error of a call that no group allows, or a trim that no backup allows, is answered
 abbrev pub answer_of_work_error : WorkErr → Result Answer Stop
 answer_of_work_error (work_errors.InGroup commands) = Ok answers.InGroup
+answer_of_work_error (work_errors.InBackup copied) = Ok (answers.BackupDenied InBackup)
 answer_of_work_error (work_errors.LogFull used need limit) = Ok (answers.Full used need limit)
 answer_of_work_error (work_errors.LsnEnd number) = Ok (answers.End number)
 answer_of_work_error (work_errors.Exhausted epoch) = Ok (answers.End epoch)
@@ -122,19 +131,27 @@ pub record IsUpkept (old now : Disk) (before after : EngineView) (request : Requ
   pub logged : ℕ
   pub ending : Ending
   pub call : IsEngineCall log_limit old now before after logged ending
-  pub takes : TakesIn all_meaning old now before after (upkeep_course epoch request) ending
+  pub beside : IsBesideBackup before.copied request
+  pub takes : TakesIn all_meaning old now before after (upkeep_course epoch (so_far before.copied) request) ending
   pub commands : KeepsCommands all_meaning old now before after ending
   pub counted : (logged ≡ logged_since before after)
-      ⊎ ((logged ≡ 0) × ((m : Meaning Command) (w : World Command) (used : ℕ) → logged_in (upkeep_course epoch request m w used).steps ≡ []))
+      ⊎ ((logged ≡ 0) × ((m : Meaning Command) (w : World Command) (used : ℕ) → logged_in (upkeep_course epoch (so_far before.copied) request m w used).steps ≡ []))
   pub answered : IsAnswerOf ending result
   -- no file that was opened is damaged
   pub undamaged : old.tells_files → IsAttached old before → (file : FileNo) (place : ℕ) → result ≡ Err (Damaged file place) → ⊥
 
--- within a group nothing was done, and that is answered
-pub record IsBarredIn {M : Type 0} (old new : M) (before after : EngineView) (result : Result Answer Stop) : Type 0 where
+-- nothing was done, and that is answered
+pub record IsUndone {M : Type 0} (answer : Answer) (old new : M) (before after : EngineView) (result : Result Answer Stop) : Type 0 where
   pub machine : new ≡ old
   pub engine : after ≡ before
-  pub answer : result ≡ Ok answers.InGroup
+  pub answered : result ≡ Ok answer
+
+-- so it is within a group, and with a trim beside a backup
+abbrev pub IsBarredIn : {M : Type 0} → M → M → EngineView → EngineView → Result Answer Stop → Type 0
+IsBarredIn = IsUndone answers.InGroup
+
+abbrev pub IsDeniedIn : {M : Type 0} → M → M → EngineView → EngineView → Result Answer Stop → Type 0
+IsDeniedIn = IsUndone (answers.BackupDenied InBackup)
 
 -- how the error of a command is answered
 abbrev pub answer_of_error : ExecErr → Result Answer Stop

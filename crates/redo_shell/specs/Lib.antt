@@ -12,6 +12,7 @@ pub mod Found
 pub mod Status
 pub mod Notices
 pub mod Run
+pub mod Saving
 pub mod Causes
 pub mod Exactly
 pub mod Dump

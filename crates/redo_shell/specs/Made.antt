@@ -6,7 +6,6 @@ use Rattle.oper_core.specs.declared.refusal.Refusal.TheVariants as refusals
 use Rattle.formats.specs.Objects.{bounds_of}
 use Rattle.formats.specs.declared.params.Params.{Params}
 use Rattle.app_steps.specs.Steps.{program_step, step_of, steps, steps_accepted}
-use Rattle.btree_ops.specs.declared.node_op.NodeOp.{NodeOp}
 use Rattle.logical_btree.specs.Walk.{Pair}
 use Rattle.logical_btree.specs.Plan.{TreePlan, delete_plan, get_answer, insert_plan, range_answer}
 use Rattle.tree_client.specs.Answers.{made_of}

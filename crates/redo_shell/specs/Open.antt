@@ -20,11 +20,12 @@ pub record OpensFiles (p : Params) (commands : List Command) (old new : Disk) : 
   pub first : (first : Stage) × IsFirst p commands old first
   pub steps : old.tells_moments → (first : Stage) → (is : IsFirst p commands old first) → LeavesOnly old new (OrAtStart old (OpeningMoment p commands old first is))
 
--- An engine on files that stand for commands, all of them forced, with no group open. Each stage that a restart may make of the files is the
--- engine's, by a world that it shows.
+-- An engine on files that stand for commands, all of them forced, with no group open and no backup made. Each stage that a
+-- restart may make of the files is the engine's, by a world that it shows.
 pub record IsOpen (p : Params) (commands : List Command) (old new : Disk) (engine : EngineView) : Type 0 where
   pub all : forced_in engine ≡ length commands
   pub alone : engine.group ≡ None
+  pub uncopied : engine.copied ≡ None
   pub shows : (first : Stage) → IsFirst p commands old first → (holds : Holds p new engine commands) × (first ≡ stage_of engine holds.world)
 
 -- Why the store was not opened, by the status that the program ends with. On files that meet their format it says nothing.

@@ -1,6 +1,6 @@
 -- What the bytes said report, as whoever reads the output has them.
 use Rattle.std.specs.Prelude.{◌<◌, ◌^◌, ◌==◌, ℕ, List, [], ◌∷◌, Contains, if◌then◌else◌}
-use Rattle.script_lines.specs.Replies.{Reply, forced, silence, text_of}
+use Rattle.script_lines.specs.Replies.{Reply, forced, saved, silence, text_of}
 
 -- one byte more in front of the first line, where there is one
 abbrev pub before_line : ℕ → List (List ℕ) → List (List ℕ)
@@ -18,6 +18,14 @@ texts_of [] = []
 texts_of (silence ∷ replies) = texts_of replies
 texts_of (reply ∷ replies) = text_of reply ∷ texts_of replies
 
--- a whole line says that so many commands are forced, a number of 64 bits
+-- a whole line says so by this answer of a number of 64 bits
+abbrev pub SaysNumber : (ℕ → Reply) → List ℕ → ℕ → Type 0
+SaysNumber answer bytes n = (n < 2 ^ 64) × Contains (whole_lines bytes) (text_of (answer n))
+
+-- that so many commands are forced
 abbrev pub SaysForced : List ℕ → ℕ → Type 0
-SaysForced bytes n = (n < 2 ^ 64) × Contains (whole_lines bytes) (text_of (forced n))
+SaysForced bytes n = SaysNumber forced bytes n
+
+-- that a backup has so many commands
+abbrev pub SaysSaved : List ℕ → ℕ → Type 0
+SaysSaved bytes n = SaysNumber saved bytes n

@@ -8,9 +8,11 @@ use Rattle.store_engine.specs.Engine.{EpochIs, group_bytes, needed_in}
 use Rattle.formats.specs.declared.params.Params.{Params}
 use Rattle.op_codec.specs.AllOps.{all_meaning}
 use Rattle.script_lines.specs.Grammar.{Request, AsksFor, IsBad}
-use Rattle.script_lines.specs.declared.line.Line.TheVariants.{Run as run, Get as get, Force as force, Install as install, Drain as drain, Checkpoint as checkpoint, Trim as trim, Begin as begin_group, End as end_group, Stat as asks_stat, Skip as skip}
-use Rattle.script_lines.specs.Replies.{Reply, ok, ran, value, pairs, forced, bad, refused, bad_tree, tree_full, denied, in_group, no_group, full, end, object_value, command_count, stat, summary, silence}
+use Rattle.script_lines.specs.declared.line.Line.TheVariants.{Run as run, Get as get, Force as force, Install as install, Drain as drain, Checkpoint as checkpoint, Trim as trim, Begin as begin_group, End as end_group, BackupStart as bstart, BackupCopy as bcopy, BackupFinish as bfinish, Stat as asks_stat, Skip as skip}
+use Rattle.script_lines.specs.Replies.{Reply, ok, ran, value, pairs, forced, bad, refused, bad_tree, tree_full, denied, in_group, no_group, full, end, object_value, command_count, stat, copied, saved, backup_denied, summary, silence}
 use Rattle.script_lines.specs.declared.denial.Denial.TheVariants.{BadHash}
+use Rattle.script_lines.specs.declared.backup_denial.BackupDenial.{BackupDenial}
+use Rattle.script_lines.specs.declared.backup_denial.BackupDenial.TheVariants.{InBackup, NoBackup, AlreadyStore, NotCopied}
 use Rattle.redo_shell.specs.Store.{Command, meaning_in, state_of, record_length, Stands}
 use Rattle.redo_shell.specs.Groups.{size_of}
 use Rattle.redo_shell.specs.Made.{made, AsksMade, AsksBehind, AsksTree}
@@ -34,22 +36,49 @@ IsNumbered drain = ⊤
 IsNumbered trim = ⊤
 IsNumbered request = ⊥
 
--- the log has no room for a command, or for what a request adds that adds no command: a log that is rewritten is longer than
--- it may be, any other record does not fit after those that are there
+-- one for which the log, or that of a backup, may have no room
+abbrev pub IsLogged : Request → Type 0
+IsLogged bfinish = ⊤
+IsLogged request = IsUpkeep request
+
+-- the log has no room for a command, or for what a request adds that adds no command: a log that is rewritten, or that of a
+-- backup, is longer than it may be, any other record does not fit after those that are there
 abbrev pub IsOver : Request → ℕ → ℕ → ℕ → Type 0
 IsOver trim used need limit = limit < need
+IsOver bfinish used need limit = limit < need
 IsOver request used need limit = limit < used + need
 
--- one that no group allows: it may force
+-- one that makes a backup
+abbrev pub IsOfBackup : Request → Type 0
+IsOfBackup bstart = ⊤
+IsOfBackup (bcopy count) = ⊤
+IsOfBackup bfinish = ⊤
+IsOfBackup request = ⊥
+
+-- one that no group allows: it may force, or makes a backup
 abbrev pub IsBarred : Request → Type 0
 IsBarred begin_group = ⊤
 IsBarred force = ⊤
+IsBarred bstart = ⊤
+IsBarred (bcopy count) = ⊤
+IsBarred bfinish = ⊤
 IsBarred request = IsUpkeep request
+
+-- one that is refused so by how far a backup is
+abbrev pub IsDenied : BackupDenial → Request → Type 0
+IsDenied InBackup bstart = ⊤
+IsDenied InBackup trim = ⊤
+IsDenied NoBackup (bcopy count) = ⊤
+IsDenied NoBackup bfinish = ⊤
+IsDenied AlreadyStore bstart = ⊤
+IsDenied NotCopied bfinish = ⊤
+IsDenied why request = ⊥
 
 -- one that adds no command and is done, where the open group began after so many commands, or none is open (`group`)
 abbrev pub IsGranted : Option ℕ → Request → Type 0
 IsGranted group begin_group = group ≡ None
 IsGranted group end_group = IsTrue (is_some group)
+IsGranted group bstart = group ≡ None
 IsGranted group request = IsUpkeep request × (group ≡ None)
 
 -- The line gets this answer after the commands, where the open group began after so many of them, or none is open (`group`), and
@@ -75,12 +104,15 @@ Replies p group commands line in_group added = (request : Request) × IsBarred r
 Replies p group commands line no_group added = AsksFor line end_group × (group ≡ None) × (added ≡ [])
 Replies p group commands line (full used need limit) added =
     ((op : Command) × AsksBehind p commands line added op × (need ≡ needed_in (size_of group (commands ++ added)) (record_length p op)) × (limit ≡ p.limit) × (limit < used + need))
-    ⊎ ((request : Request) × IsUpkeep request × AsksFor line request × (group ≡ None) × (limit ≡ 2 ^ 48) × IsOver request used need limit × (added ≡ []))
+    ⊎ ((request : Request) × IsLogged request × AsksFor line request × (group ≡ None) × (limit ≡ 2 ^ 48) × IsOver request used need limit × (added ≡ []))
 Replies p group commands line (end number) added =
     (((op : Command) × AsksBehind p commands line added op)
     ⊎ ((request : Request) × IsNumbered request × AsksFor line request × (group ≡ None) × (added ≡ []))) × (number ≡ 2 ^ 62)
 Replies p group commands line (stat counts) added =
     AsksFor line asks_stat × (counts.accepted ≡ length commands) × (counts.forced ≤ length commands) × (added ≡ [])
+Replies p group commands line (copied now) added = (count : ℕ) × AsksFor line (bcopy count) × (group ≡ None) × (added ≡ [])
+Replies p group commands line (saved n) added = AsksFor line bfinish × (group ≡ None) × (n ≡ length commands) × (added ≡ [])
+Replies p group commands line (backup_denied why) added = (request : Request) × IsDenied why request × AsksFor line request × (group ≡ None) × (added ≡ [])
 Replies p group commands line silence added = AsksFor line skip × (added ≡ [])
 Replies p group commands line (object_value object bytes) added = ⊥
 Replies p group commands line (command_count n) added = ⊥
@@ -110,6 +142,8 @@ is_refusing (object_value object bytes) = false
 is_refusing (command_count n) = false
 is_refusing (summary totals) = false
 is_refusing (stat counts) = false
+is_refusing (copied now) = false
+is_refusing (saved n) = false
 is_refusing silence = false
 is_refusing reply = true
 

@@ -20,7 +20,7 @@ use Rattle.redo_shell.specs.Status.{IsCut}
 use Rattle.redo_shell.specs.declared.status.Status.{Status}
 use Rattle.redo_shell.specs.declared.status.Status.TheVariants.{DoneWithRefusals}
 use Rattle.redo_shell.specs.declared.stop.Stop.{Stop}
-use Rattle.redo_shell.specs.declared.stop.Stop.TheVariants.{DiskFault, Damaged, ReadFault, SayFault, Memory, TooLong}
+use Rattle.redo_shell.specs.declared.stop.Stop.TheVariants.{DiskFault, Damaged, ReadFault, SayFault, BackupFault, Memory, TooLong}
 
 -- a moment while this answer to a line is found and said after these bytes: it is true where the bytes said end inside it,
 -- with these commands of the open group waiting
@@ -154,23 +154,30 @@ abbrev pub IsUndamaged : Stop → Type 0
 IsUndamaged (Damaged file place) = ⊥
 IsUndamaged stop = ⊤
 
--- what ends a run while a line is answered has its cause
+-- what ends a run while a line is answered that is of no backup has its cause
 abbrev pub IsCaused : Stop → Disk → Disk → Type 0
 IsCaused DiskFault old new = Rises old.disk_faults new.disk_faults
 IsCaused (Damaged file place) old new = ⊤
 IsCaused SayFault old new = Rises old.say_faults new.say_faults
 IsCaused ReadFault old new = ⊥
+IsCaused BackupFault old new = ⊥
 IsCaused Memory old new = ⊤
 IsCaused TooLong old new = ⊥
 
+-- what ends a run while a line is answered has its cause: the disk of the backup may have failed too
+abbrev pub IsCausedBeside : Stop → Disk → Disk → Disk → Disk → Type 0
+IsCausedBeside BackupFault old new backup backed = Rises backup.disk_faults backed.disk_faults
+IsCausedBeside stop old new backup backed = IsCaused stop old new
+
 -- what ends a run early has its cause
-abbrev pub StopsWith : Stop → Disk → Disk → ℕ → ℕ → Type 0
-StopsWith DiskFault old new reads_before reads_now = Rises old.disk_faults new.disk_faults
-StopsWith (Damaged file place) old new reads_before reads_now = ⊤
-StopsWith ReadFault old new reads_before reads_now = Rises reads_before reads_now
-StopsWith SayFault old new reads_before reads_now = Rises old.say_faults new.say_faults
-StopsWith Memory old new reads_before reads_now = ⊤
-StopsWith TooLong old new reads_before reads_now = ⊤
+abbrev pub StopsWith : Stop → Disk → Disk → ℕ → ℕ → Disk → Disk → Type 0
+StopsWith DiskFault old new reads_before reads_now backup backed = Rises old.disk_faults new.disk_faults
+StopsWith (Damaged file place) old new reads_before reads_now backup backed = ⊤
+StopsWith ReadFault old new reads_before reads_now backup backed = Rises reads_before reads_now
+StopsWith SayFault old new reads_before reads_now backup backed = Rises old.say_faults new.say_faults
+StopsWith BackupFault old new reads_before reads_now backup backed = Rises backup.disk_faults backed.disk_faults
+StopsWith Memory old new reads_before reads_now backup backed = ⊤
+StopsWith TooLong old new reads_before reads_now backup backed = ⊤
 
 -- a line was answered, or a beginning of its answer was said, or nothing
 pub record Answering (p : Params) (old new : Disk) (before after : EngineView) (w : World Command) (commands : List Command) (line : List ℕ) (result : Result Bool Stop) : Type 0 where

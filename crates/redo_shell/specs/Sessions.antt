@@ -95,7 +95,7 @@ pub data Sessions {T : Type 0} (disk : T → Disk) (first : T) : List Sizing →
   upgrade : {sizes : List Sizing} {runs : List Ran} → (old new next : T) (q : Params) (said : List ℕ) → Sessions disk first sizes runs old → ((BeginsStore ((disk old).reads Objects) → ⊥) → (disk old).tells_moments → KeepsFiles (disk old) (disk new))
       → ((p : Params) (commands : List Command) → Opens p (disk old) commands → (disk old).tells_moments → LeavesOnly (disk old) (disk new) (OrAtStart (disk old) (λ files bytes. StandsInEither p q commands files)))
       → Follows (disk old) (disk new) (disk next) said → Sessions disk first (by_upgrade q ∷ sizes) runs next
-  -- any other call, by `keeps`, a part of `usage`, of `demo`, of `init`, and of `judged` in `run`
+  -- any other call, by `keeps`, a part of `demo`, of `init`, of `nothing` in `cause`, and of `judged` in `run`
   other : {sizes : List Sizing} {runs : List Ran} → (old new next : T) (said : List ℕ) → Sessions disk first sizes runs old → KeepsFiles (disk old) (disk new)
       → Follows (disk old) (disk new) (disk next) said → Sessions disk first sizes runs next
 

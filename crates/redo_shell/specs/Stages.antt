@@ -1,5 +1,6 @@
--- What the answers of a run go by: the world that engine and files show, and the length of the log.
-use Rattle.std.specs.Prelude.{◌≡◌, ◌⊎◌, ◌+◌, ◌++◌, ⊤, ℕ, List, [], ◌∷◌, length, take, Option, None, Some}
+-- What the answers of a run go by: the world that engine and files show, the length of the log, and how far a backup is.
+use Rattle.std.specs.Prelude.{◌≡◌, ◌⊎◌, ◌+◌, ◌/◌, ◌^◌, ◌++◌, ◌<◌, ⊤, ℕ, IsTrue, List, [], ◌∷◌, length, max, min, take, Option, None, Some}
+use Rattle.std.specs.Option.{is_some}
 use Rattle.disk_model.specs.Disk.{Disk}
 use Rattle.oper_core.specs.Meaning.{Meaning}
 use Rattle.formats.specs.declared.params.Params.{Params}
@@ -12,44 +13,58 @@ use Rattle.cache_manager.specs.InstallCourses.{logged_in, install_course, drain_
 use Rattle.running_store.specs.Courses.Stop.{Through, Full, At_end, Worn}
 use Rattle.op_codec.specs.AllOps.{all_meaning}
 use Rattle.script_lines.specs.Grammar.{Request, AsksFor}
-use Rattle.script_lines.specs.declared.line.Line.TheVariants.{Get as get, TreeGet as tget, TreeRange as trange, HashGet as hget, Install as install, Drain as drain, Checkpoint as checkpoint, Trim as trim, Begin as begin_group, End as end_group}
-use Rattle.script_lines.specs.Replies.{Reply, ok, ran, forced, refused, bad_tree, tree_full, denied, full, end, stat}
+use Rattle.script_lines.specs.declared.line.Line.TheVariants.{Get as get, TreeGet as tget, TreeRange as trange, HashGet as hget, Install as install, Drain as drain, Checkpoint as checkpoint, Trim as trim, Begin as begin_group, End as end_group, BackupStart as bstart, BackupCopy as bcopy, BackupFinish as bfinish}
+use Rattle.script_lines.specs.Replies.{Reply, ok, ran, forced, refused, bad_tree, tree_full, denied, full, end, stat, copied, saved, backup_denied}
+use Rattle.script_lines.specs.declared.backup_denial.BackupDenial.{BackupDenial}
+use Rattle.script_lines.specs.declared.backup_denial.BackupDenial.TheVariants.{InBackup, NoBackup, AlreadyStore, NotCopied}
 use Rattle.script_lines.specs.declared.answer.StatLine.{StatLine}
 use Rattle.checkpointing.specs.Courses.{checkpoint_course, trim_course}
 use Rattle.restart.specs.Courses.{restart_course}
 use Rattle.restart.specs.Opening.{OpensOn}
 use Rattle.store_engine.specs.Calls.{begin_course, end_course}
-use Rattle.store_engine.specs.Engine.{EngineView, is_name, used_in}
+use Rattle.store_engine.specs.Engine.{EngineView, is_name, so_far, used_in}
 use Rattle.redo_shell.specs.Store.{Command, meaning_in}
 use Rattle.store_engine.specs.Lists.{commands_course}
 use Rattle.redo_shell.specs.Made.{Made, AsksMade}
 use Rattle.redo_shell.specs.Groups.{open_in}
 use Rattle.redo_shell.specs.Replies.{Replies, IsGranted}
 
--- a world that engine and files show, the length of the log, what waits for a force counted, and how many identity writes
--- were logged since the restart
+-- a world that engine and files show, the length of the log, what waits for a force counted, how many identity writes were
+-- logged since the restart, and how many objects are copied, while a backup is made
 pub record Stage : Type 0 where
   pub world : World Command
   pub used : ℕ
   pub identities : ℕ
+  pub copied : Option ℕ
 
 -- that of an engine which shows the world
 abbrev pub stage_of : EngineView → World Command → Stage
-stage_of engine w = record { world = w; used = used_in engine; identities = engine.identities }
+stage_of engine w = record { world = w; used = used_in engine; identities = engine.identities; copied = engine.copied }
 
 -- the stage after a course
 abbrev pub stage_after : Params → Stage → Course Command → Stage
-stage_after p s c = record { world = run (meaning_in p) s.world c.steps; used = c.used; identities = s.identities + length (logged_in c.steps) }
+stage_after p s c = record { world = run (meaning_in p) s.world c.steps; used = c.used; identities = s.identities + length (logged_in c.steps); copied = s.copied }
 
--- What is done for a request that adds no command, in a world with a log of a length; this is the epoch of the log in force.
-abbrev pub upkeep_course : ℕ → Request → Meaning Command → World Command → ℕ → Course Command
-upkeep_course epoch install m w used = install_course m 0 w used
-upkeep_course epoch drain m w used = drain_course m 0 w used
-upkeep_course epoch checkpoint m w used = checkpoint_course m w used
-upkeep_course epoch trim m w used = trim_course m epoch w used
-upkeep_course epoch begin_group m w used = begin_course m w used
-upkeep_course epoch end_group m w used = end_course m w used
-upkeep_course epoch request m w used = course [] used Through
+-- the stage with so many objects copied, or none while no backup is made
+abbrev pub with_copied : Option ℕ → Stage → Stage
+with_copied copies s = record { world = s.world; used = s.used; identities = s.identities; copied = copies }
+
+-- What is done for a request that adds no command, in a world with a log of a length; this is the epoch of the log in force,
+-- and so many objects are copied.
+abbrev pub upkeep_course : ℕ → ℕ → Request → Meaning Command → World Command → ℕ → Course Command
+upkeep_course epoch copies install m w used = install_course m copies w used
+upkeep_course epoch copies drain m w used = drain_course m copies w used
+upkeep_course epoch copies checkpoint m w used = checkpoint_course m w used
+upkeep_course epoch copies trim m w used = trim_course m epoch w used
+upkeep_course epoch copies begin_group m w used = begin_course m w used
+upkeep_course epoch copies end_group m w used = end_course m w used
+upkeep_course epoch copies request m w used = course [] used Through
+
+-- such a request may be done beside a backup: a trim may not, and the start of one takes its own course
+abbrev pub IsBesideBackup : Option ℕ → Request → Type 0
+IsBesideBackup copies trim = copies ≡ None
+IsBesideBackup copies bstart = ⊥
+IsBesideBackup copies request = ⊤
 
 -- a request for values changes nothing
 abbrev pub IsQuestion : Request → Type 0
@@ -68,11 +83,11 @@ abbrev pub finish_course : Meaning Command → World Command → ℕ → Course 
 finish_course m w used = course (closing_steps w.group ++ force_steps m w) used Through
 
 -- The line has the engine take this course: that of the commands that it asks for, one after the other, that of an install, a
--- drain, a checkpoint or a trim, or of the beginning or the end of a group, where the open group allows it; or none, where it
--- asks for values.
+-- drain, a checkpoint or a trim, or of the beginning or the end of a group, where the open group and a backup allow it; or none,
+-- where it asks for values.
 abbrev pub HasCourse : Params → Stage → List ℕ → Course Command → Type 0
 HasCourse p s line c = ((it : Made) × AsksMade p (commands_of s.world.history) line it × (c ≡ commands_course (meaning_in p) p.limit it.ops s.world s.used))
-    ⊎ (((request : Request) × (epoch : ℕ) × IsGranted (open_in s.world) request × AsksFor line request × (c ≡ upkeep_course epoch request (meaning_in p) s.world s.used))
+    ⊎ (((request : Request) × (epoch : ℕ) × IsGranted (open_in s.world) request × IsBesideBackup s.copied request × AsksFor line request × (c ≡ upkeep_course epoch (so_far s.copied) request (meaning_in p) s.world s.used))
     ⊎ ((request : Request) × IsQuestion request × AsksFor line request × (c ≡ course [] s.used Through)))
 
 -- the course ends so, and leads from the old stage to the new one
@@ -89,20 +104,47 @@ pub record IsCounted (p : Params) (s : Stage) (counts : StatLine) : Type 0 where
   pub used : counts.used ≡ s.used
   pub identities : counts.identities ≡ s.identities
 
+-- the stage after a force
+abbrev pub forced_stage : Params → Stage → Stage
+forced_stage p s = stage_after p s (force_course (meaning_in p) s.world s.used)
+
+-- a backup starts after a force, where none is made: nothing is copied yet
+abbrev pub StartsBackup : Stage → List ℕ → Stage → Stage → Type 0
+StartsBackup old line mid new = AsksFor line bstart × (old.copied ≡ None) × (new ≡ with_copied (Some 0) mid)
+
+-- of so many objects so many more are copied, or all that are left
+abbrev pub CopiesMore : ℕ → Stage → List ℕ → ℕ → Stage → Type 0
+CopiesMore objects old line now new = (before count : ℕ) × AsksFor line (bcopy count) × (old.copied ≡ Some before) × (now ≡ min (before + count) objects) × (new ≡ with_copied (Some now) old)
+
+-- a backup of so many objects, all of which are copied, has a log that is too long, after a force: it goes on
+abbrev pub IsBackupFull : ℕ → Stage → List ℕ → ℕ → Stage → Stage → Type 0
+IsBackupFull objects old line used mid new = AsksFor line bfinish × (old.copied ≡ Some objects) × (used ≡ mid.used) × (new ≡ mid)
+
+-- a line is refused so where so many objects are copied, of so many, or where no backup is made
+abbrev pub IsDeniedAt : ℕ → Option ℕ → BackupDenial → Type 0
+IsDeniedAt objects copies InBackup = IsTrue (is_some copies)
+IsDeniedAt objects copies NoBackup = copies ≡ None
+IsDeniedAt objects copies AlreadyStore = copies ≡ None
+IsDeniedAt objects copies NotCopied = (n : ℕ) × (copies ≡ Some n) × (n < objects)
+
 -- What an answer says of the old stage, and the new one: where nothing stops the course it is `ok`, `ran` or a refusal, `full`
 -- comes where its next record or log has no room, with these numbers, and `end` where no number is left for a record, or no
--- epoch for a log; `forced` comes after a force; `stat` counts. No other answer changes anything.
+-- epoch for a log; `forced` comes after a force; `stat` counts. A backup starts with an `ok` too, `copied` says how far it is,
+-- it ends with `saved`, after a force, and its lines are denied by how far it is. No other answer changes anything.
 abbrev pub GoesBy : Params → Stage → List ℕ → Reply → Stage → Type 0
-GoesBy p old line ok new = Ends p old line Through new
+GoesBy p old line ok new = Ends p old line Through new ⊎ StartsBackup old line (forced_stage p old) new
 GoesBy p old line (ran k) new = Ends p old line Through new
 GoesBy p old line (refused why) new = Ends p old line Through new
 GoesBy p old line bad_tree new = Ends p old line Through new
 GoesBy p old line tree_full new = Ends p old line Through new
 GoesBy p old line (denied why) new = Ends p old line Through new
-GoesBy p old line (full used need limit) new = Ends p old line (Full used need limit) new
+GoesBy p old line (full used need limit) new = Ends p old line (Full used need limit) new ⊎ IsBackupFull p.objects old line used (forced_stage p old) new
 GoesBy p old line (end number) new = Ends p old line (At_end number) new ⊎ Ends p old line (Worn number) new
-GoesBy p old line (forced n) new = new ≡ stage_after p old (force_course (meaning_in p) old.world old.used)
+GoesBy p old line (forced n) new = new ≡ forced_stage p old
 GoesBy p old line (stat counts) new = IsCounted p old counts × (new ≡ old)
+GoesBy p old line (copied now) new = CopiesMore p.objects old line now new
+GoesBy p old line (saved n) new = (old.copied ≡ Some p.objects) × (new ≡ with_copied None (forced_stage p old))
+GoesBy p old line (backup_denied why) new = IsDeniedAt p.objects old.copied why × (new ≡ old)
 GoesBy p old line reply new = new ≡ old
 
 -- A line asked in the old stage gets this answer, goes by it to the new stage, and adds commands to those of the world.
@@ -119,9 +161,10 @@ AllGoBy p first (line ∷ lines) (reply ∷ replies) last = (mid : Stage) × Lea
 AllGoBy p first [] (reply ∷ replies) last = ⊥
 AllGoBy p first (line ∷ lines) [] last = ⊥
 
--- how many objects may be dirty in a redo before it installs: as many as a store of version 1 can have, which installs nothing
-abbrev pub redo_dirty : ℕ
-redo_dirty = 4096
+-- How many objects may be dirty in a redo before it installs: as many as have at most 64 MiB together, and at least 64. A
+-- store of version 1 has no more, so its redo installs nothing.
+abbrev pub redo_dirty : Params → ℕ
+redo_dirty p = max 64 (2 ^ 26 / p.cap)
 
 -- The first stage of a run: that of a restart, from a world that the files show, with these commands.
 pub record IsFirst (p : Params) (commands : List Command) (old : Disk) (first : Stage) : Type 0 where
@@ -129,6 +172,7 @@ pub record IsFirst (p : Params) (commands : List Command) (old : Disk) (first : 
   pub world : World Command
   pub found : OpensOn (meaning_in p) p old used world
   pub commands_are : commands_of world.history ≡ commands
-  pub world_is : first.world ≡ run (meaning_in p) world (restart_course (meaning_in p) redo_dirty world used).steps
-  pub used_is : first.used ≡ (restart_course (meaning_in p) redo_dirty world used).used
+  pub world_is : first.world ≡ run (meaning_in p) world (restart_course (meaning_in p) (redo_dirty p) world used).steps
+  pub used_is : first.used ≡ (restart_course (meaning_in p) (redo_dirty p) world used).used
   pub none_logged : first.identities ≡ 0
+  pub none_copied : first.copied ≡ None

@@ -5,9 +5,9 @@ use Rattle.formats.specs.declared.read_err.ReadErr.TheVariants as of_files
 use Rattle.script_lines.specs.declared.read_error.ReadError.{ReadError}
 use Rattle.script_lines.specs.declared.read_error.ReadError.TheVariants.{ReadFault as ReadFailed, TooLong as ReadTooMuch, Memory as NoMemoryToRead}
 use Rattle.redo_shell.specs.declared.stop.Stop.{Stop}
-use Rattle.redo_shell.specs.declared.stop.Stop.TheVariants.{DiskFault, Damaged as SlotDamaged, ReadFault, SayFault, Memory, TooLong}
+use Rattle.redo_shell.specs.declared.stop.Stop.TheVariants.{DiskFault, Damaged as SlotDamaged, ReadFault, SayFault, BackupFault, Memory, TooLong}
 use Rattle.redo_shell.specs.declared.status.Status.{Status}
-use Rattle.redo_shell.specs.declared.status.Status.TheVariants.{Done, DoneWithRefusals, Usage, NotAStore, AlreadyStore, Damaged, DiskFault as DiskFailed, ReadFault as InputFailed, SayFault as OutputFailed, Memory as OutOfMemory, TooLong as InputTooLong, AlreadyTwo, Smaller}
+use Rattle.redo_shell.specs.declared.status.Status.TheVariants.{Done, DoneWithRefusals, Usage, NotAStore, AlreadyStore, Damaged, DiskFault as DiskFailed, ReadFault as InputFailed, SayFault as OutputFailed, Memory as OutOfMemory, TooLong as InputTooLong, AlreadyTwo, Smaller, BackupFault as BackupFailed}
 
 -- the number that the process ends with
 abbrev pub number_of : Status → ℕ
@@ -24,6 +24,7 @@ number_of OutOfMemory = 8
 number_of InputTooLong = 9
 number_of AlreadyTwo = 3
 number_of Smaller = 10
+number_of BackupFailed = 11
 
 -- why a run ends where no line could be read
 abbrev pub stop_of_input : ReadError → Stop
@@ -43,6 +44,7 @@ status_of DiskFault = DiskFailed
 status_of (SlotDamaged file place) = Damaged
 status_of ReadFault = InputFailed
 status_of SayFault = OutputFailed
+status_of BackupFault = BackupFailed
 status_of Memory = OutOfMemory
 status_of TooLong = InputTooLong
 
@@ -52,13 +54,14 @@ status_after (Ok true) = DoneWithRefusals
 status_after (Ok false) = Done
 status_after (Err stop) = status_of stop
 
--- a run ended with this status before its script did, and the disk did not fail: the input or the output failed, the input was
--- too long, or memory ran out
+-- a run ended with this status before its script did, and the disk did not fail: the input, the output or the disk of a backup
+-- failed, the input was too long, or memory ran out
 abbrev pub IsCut : Status → Type 0
 IsCut InputFailed = ⊤
 IsCut OutputFailed = ⊤
 IsCut OutOfMemory = ⊤
 IsCut InputTooLong = ⊤
+IsCut BackupFailed = ⊤
 IsCut status = ⊥
 
 -- a run may end with this status
@@ -78,6 +81,7 @@ IsOfDump InputFailed = ⊥
 IsOfDump InputTooLong = ⊥
 IsOfDump AlreadyTwo = ⊥
 IsOfDump Smaller = ⊥
+IsOfDump BackupFailed = ⊥
 IsOfDump status = ⊤
 
 -- a layout may end with this status
@@ -100,6 +104,14 @@ IsOfUpgrade AlreadyTwo = ⊤
 IsOfUpgrade Smaller = ⊤
 IsOfUpgrade status = ⊥
 
+-- of a store of version 2 it may end with this status
+abbrev pub IsOfSecond : Status → Type 0
+IsOfSecond AlreadyTwo = ⊤
+IsOfSecond DiskFailed = ⊤
+IsOfSecond OutputFailed = ⊤
+IsOfSecond OutOfMemory = ⊤
+IsOfSecond status = ⊥
+
 -- a run, or an upgrade, ends with this status only where it has opened the store
 abbrev pub IsOfStore : Status → Type 0
 IsOfStore Done = ⊤
@@ -108,6 +120,7 @@ IsOfStore InputFailed = ⊤
 IsOfStore InputTooLong = ⊤
 IsOfStore AlreadyTwo = ⊤
 IsOfStore Smaller = ⊤
+IsOfStore BackupFailed = ⊤
 IsOfStore status = ⊥
 
 -- where a store is not opened, the program ends with this status

@@ -1,18 +1,20 @@
 -- What a line has the program do.
 use Rattle.std.specs.Prelude.{ℕ, List}
 use Rattle.script_lines.specs.Grammar.{Request, AsksFor, IsBad}
-use Rattle.script_lines.specs.declared.line.Line.TheVariants.{AppRun as arun, ProgramRun as prun, TreeInsert as tinsert, TreeGet as tget, TreeDelete as tdelete, TreeRange as trange, HashPut as hset, HashGet as hget, HashDelete as hdel, Get as get, Force as force, Install as install, Drain as drain, Checkpoint as checkpoint, Trim as trim, Begin as begin_group, End as end_group, Stat as stat, Skip as skip}
+use Rattle.script_lines.specs.declared.line.Line.TheVariants.{AppRun as arun, ProgramRun as prun, TreeInsert as tinsert, TreeGet as tget, TreeDelete as tdelete, TreeRange as trange, HashPut as hset, HashGet as hget, HashDelete as hdel, Get as get, Force as force, Install as install, Drain as drain, Checkpoint as checkpoint, Trim as trim, Begin as begin_group, End as end_group, BackupStart as bstart, BackupCopy as bcopy, BackupFinish as bfinish, Stat as stat, Skip as skip}
 use Rattle.redo_shell.specs.Replies.{AsksCommand}
 use Rattle.redo_shell.specs.declared.work.Upkeep.{Upkeep}
 use Rattle.redo_shell.specs.declared.work.Upkeep.TheVariants.{Install, Drain, Checkpoint, Trim}
 use Rattle.redo_shell.specs.declared.work.Grouping.{Grouping}
 use Rattle.redo_shell.specs.declared.work.Grouping.TheVariants.{Begin, End}
+use Rattle.redo_shell.specs.declared.work.Saving.{Saving}
+use Rattle.redo_shell.specs.declared.work.Saving.TheVariants.{Start, Copy, Finish}
 use Rattle.redo_shell.specs.declared.work.Making.{Making}
 use Rattle.redo_shell.specs.declared.work.Making.TheVariants.{Steps, ProgramSteps, Insert, Delete, HashPut, HashDelete}
 use Rattle.redo_shell.specs.declared.work.Question.{Question}
 use Rattle.redo_shell.specs.declared.work.Question.TheVariants.{Find, Range, HashFind}
 use Rattle.redo_shell.specs.declared.work.Work.{Work}
-use Rattle.redo_shell.specs.declared.work.Work.TheVariants.{Run, Make, Ask, Tell, Force, Keep, Group, Count, Nothing, Bad}
+use Rattle.redo_shell.specs.declared.work.Work.TheVariants.{Run, Make, Ask, Tell, Force, Keep, Group, Save, Count, Nothing, Bad}
 
 -- what a line asks for that has the program do this
 abbrev pub request_for : Upkeep → Request
@@ -25,6 +27,12 @@ request_for Trim = trim
 abbrev pub group_request : Grouping → Request
 group_request Begin = begin_group
 group_request End = end_group
+
+-- what a line asks for that makes a backup
+abbrev pub saving_request : Saving → Request
+saving_request Start = bstart
+saving_request (Copy count) = bcopy count
+saving_request Finish = bfinish
 
 -- what a line asks for that may add several commands
 abbrev pub made_request : Making → Request
@@ -50,6 +58,7 @@ AsksWork line (Tell object) = AsksFor line (get object)
 AsksWork line Force = AsksFor line force
 AsksWork line (Keep upkeep) = AsksFor line (request_for upkeep)
 AsksWork line (Group grouping) = AsksFor line (group_request grouping)
+AsksWork line (Save saving) = AsksFor line (saving_request saving)
 AsksWork line Count = AsksFor line stat
 AsksWork line Nothing = AsksFor line skip
 AsksWork line Bad = IsBad line

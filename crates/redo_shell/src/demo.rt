@@ -58,8 +58,9 @@ fn play(alloc: Global, script: Vec<u8>) -> Result<(GrowMem, u64), Memory>
     ensures { IfOk result (λ it. IsPlayed (lines_of script.items) (disk_of it.0).said it.1) }
 {
     let mut machine = new_store(alloc)?;
+    let mut backup = GrowMem::new(alloc)?;
     let mut input = MemSource::new(script, Vec::new(alloc))?;
-    match run(alloc, &mut machine, &mut input) {
+    match run(alloc, &mut machine, &mut backup, &mut input) {
         Status::Done | Status::DoneWithRefusals => {
             let accepted = accepted_count(alloc, &mut machine)?;
             Ok((machine, accepted))

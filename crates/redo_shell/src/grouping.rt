@@ -38,7 +38,7 @@ fn begin_answer<M: Machine>(
         LeavesOnly (M.disk machine.old) (M.disk machine.new) (Between p (M.disk machine.old) engine.old.group (forced_in engine.old) (length commands) commands) }
     ensures steps { (M.disk machine.old).tells_moments → (p : Params) (w : World Command) → ShowsIn p (M.disk machine.old) engine.old w →
         IsGranted (open_in w) begin_group →
-        TakesSome (meaning_in p) p (M.disk machine.old) (M.disk machine.new) w (upkeep_course 0 begin_group (meaning_in p) w (used_in engine.old)).steps }
+        TakesSome (meaning_in p) p (M.disk machine.old) (M.disk machine.new) w (upkeep_course 0 0 begin_group (meaning_in p) w (used_in engine.old)).steps }
     ensures still { (p : Params) (w : World Command) → ShowsIn p (M.disk machine.old) engine.old w → (IsGranted (open_in w) begin_group → ⊥) → machine.new ≡ machine.old }
     ensures cause { IfErr result (λ stop. IsCaused stop (M.disk machine.old) (M.disk machine.new)) }
     ensures undamaged { IfErr result IsUndamaged }
@@ -62,7 +62,7 @@ fn end_answer<M: Machine>(
         LeavesOnly (M.disk machine.old) (M.disk machine.new) (Between p (M.disk machine.old) engine.old.group (forced_in engine.old) (length commands) commands) }
     ensures steps { (M.disk machine.old).tells_moments → (p : Params) (w : World Command) → ShowsIn p (M.disk machine.old) engine.old w →
         IsGranted (open_in w) end_group →
-        TakesSome (meaning_in p) p (M.disk machine.old) (M.disk machine.new) w (upkeep_course 0 end_group (meaning_in p) w (used_in engine.old)).steps }
+        TakesSome (meaning_in p) p (M.disk machine.old) (M.disk machine.new) w (upkeep_course 0 0 end_group (meaning_in p) w (used_in engine.old)).steps }
     ensures still { (p : Params) (w : World Command) → ShowsIn p (M.disk machine.old) engine.old w → (IsGranted (open_in w) end_group → ⊥) → machine.new ≡ machine.old }
     ensures cause { IfErr result (λ stop. IsCaused stop (M.disk machine.old) (M.disk machine.new)) }
     ensures undamaged { IfErr result IsUndamaged }
@@ -91,7 +91,7 @@ pub fn group_answer<M: Machine>(
         LeavesOnly (M.disk machine.old) (M.disk machine.new) (Between p (M.disk machine.old) engine.old.group (forced_in engine.old) (length commands) commands) }
     ensures steps { (M.disk machine.old).tells_moments → (p : Params) (w : World Command) → ShowsIn p (M.disk machine.old) engine.old w →
         IsGranted (open_in w) (group_request grouping) →
-        TakesSome (meaning_in p) p (M.disk machine.old) (M.disk machine.new) w (upkeep_course 0 (group_request grouping) (meaning_in p) w (used_in engine.old)).steps }
+        TakesSome (meaning_in p) p (M.disk machine.old) (M.disk machine.new) w (upkeep_course 0 0 (group_request grouping) (meaning_in p) w (used_in engine.old)).steps }
     ensures still { (p : Params) (w : World Command) → ShowsIn p (M.disk machine.old) engine.old w → (IsGranted (open_in w) (group_request grouping) → ⊥) → machine.new ≡ machine.old }
     ensures cause { IfErr result (λ stop. IsCaused stop (M.disk machine.old) (M.disk machine.new)) }
     ensures undamaged { IfErr result IsUndamaged }

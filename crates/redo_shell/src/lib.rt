@@ -9,6 +9,11 @@
 //! stays where the log, memory or the disk ends them. Of the commands of a group a crash leaves all or none; a group
 //! that is open at the end of a script is closed, and where the input or the output fails nothing of it stays. A demo
 //! answers a generated script on a store in memory, and says what the plain map's answers to it count to.
+//!
+//! A run may make a backup on a second machine, beside its lines: it stands for the first commands that the answer `saved`
+//! counts. Until that answer a crash leaves no store there or a whole one, only the lines of a backup do anything with the
+//! second machine, and a store that was there as the run began stays as it is. What is said of the first machine holds
+//! whatever the second one does.
 #![tactic(auto)]
 
 mod answers;
@@ -25,6 +30,7 @@ mod making;
 mod opening;
 mod program;
 mod run;
+mod saving;
 mod say;
 mod script;
 mod status;
@@ -35,8 +41,9 @@ mod upkeep;
 mod work;
 
 pub use laws::{
-    a_call_is_followed, a_fuse_is_its_machine, a_line_gets_the_answer_of_its_cause,
-    sessions_keep_what_was_forced, the_lines_said_are_the_answers,
+    a_backup_line_gets_the_answer_of_its_cause, a_call_is_followed, a_fuse_is_its_machine,
+    a_line_gets_the_answer_of_its_cause, sessions_keep_what_was_forced,
+    the_lines_said_are_the_answers,
 };
 pub use program::top;
 pub use status::Status;

@@ -8,7 +8,8 @@ ghost use Rattle.script_lines.specs.Reading.{IsLine};
 ghost use Rattle.redo_shell.specs.Store.{IsAttached};
 ghost use Rattle.redo_shell.specs.Store.{Command, Holds};
 ghost use Rattle.redo_shell.specs.Replies.{AsksCommand};
-ghost use Rattle.redo_shell.specs.Run.{Answering, IsCaused, IsUndamaged};
+ghost use Rattle.redo_shell.specs.Run.{Answering, IsCaused, IsCausedBeside, IsUndamaged};
+ghost use Rattle.redo_shell.specs.Saving.{AnsweringBeside, AsksBackup};
 ghost use Rattle.redo_shell.specs.Work.{group_request, made_request, request_for};
 
 use crate::answers::{command_answer, force_answer};
@@ -16,6 +17,7 @@ use crate::asking::say_found;
 use crate::fetching::fetched;
 use crate::grouping::group_answer;
 use crate::making::made_answer;
+use crate::saving::run_saving;
 use crate::say::say_answer;
 use crate::stop::Stop;
 use crate::upkeep::{counts_answer, upkeep_answer};
@@ -23,10 +25,11 @@ use crate::work::{Grouping, Making, Upkeep, Work};
 use disk_model::Machine;
 use op_codec::AllOps;
 use oper_core::Refusal;
-use script_lines::{Answer, Next};
+use script_lines::{Answer, Next, a_line_asks_one_thing};
 use std::alloc::Global;
 use store_engine::{
-    Engine, commands_log_no_identity, engine_stands, identities_are_counted, stop_is_said,
+    Engine, a_copy_goes_on, calls_go_beside_a_copy, commands_log_no_identity, engine_stands,
+    identities_are_counted, stop_is_said,
 };
 
 /// Runs the command that a line asks for, and says its answer. It reports whether the answer is a refusal.
@@ -186,21 +189,27 @@ fn say_value<M: Machine>(
 
 /// Answers a line. It reports whether the answer is a refusal. Fails where the disk or the output does, and by lack of
 /// memory.
-fn answer_request<M: Machine>(
+fn answer_request<M: Machine, T: Machine>(
     alloc: Global,
     engine: &mut Engine<AllOps>,
     machine: &mut M,
+    backup: &mut T,
     line: &[u8],
 ) -> Result<bool, Stop>
     requires { engine.old.broken ≡ false }
     ensures time { Passes (M.disk machine.old) (M.disk machine.new) }
-    ensures answers { (p : Params) (commands : List Command) → (holds : Holds p (M.disk machine.old) engine.old commands) →
-        Answering p (M.disk machine.old) (M.disk machine.new) engine.old engine.new holds.world commands line.now result }
-    ensures cause { IfErr result (λ stop. IsCaused stop (M.disk machine.old) (M.disk machine.new)) }
+    ensures backup_time { Passes (T.disk backup.old) (T.disk backup.new) }
+    ensures answers { (start : T) (p : Params) (commands : List Command) → (holds : Holds p (M.disk machine.old) engine.old commands) →
+        AnsweringBeside p (T.disk start) (M.disk machine.old) (M.disk machine.new) engine.old engine.new holds.world commands line.now (T.disk backup.old) (T.disk backup.new) result }
+    ensures idle { (AsksBackup line.now → ⊥) → backup.new ≡ backup.old }
+    ensures cause { IfErr result (λ stop. IsCausedBeside stop (M.disk machine.old) (M.disk machine.new) (T.disk backup.old) (T.disk backup.new)) }
     ensures undamaged { (M.disk machine.old).tells_files → IsAttached (M.disk machine.old) engine.old → IfErr result IsUndamaged }
     ensures attached { IsAttached (M.disk machine.old) engine.old → OnOk result (IsAttached (M.disk machine.new) engine.new) }
     ensures unbroken { OnOk result (engine.new.broken ≡ false) }
 {
+    a_line_asks_one_thing();
+    calls_go_beside_a_copy::<AllOps>();
+    a_copy_goes_on::<AllOps, M>();
     let work = Work::of_line(alloc, line)?;
     match work {
         Work::Run(op) => run_command(alloc, engine, machine, op),
@@ -210,6 +219,7 @@ fn answer_request<M: Machine>(
         Work::Force => run_force(alloc, engine, machine),
         Work::Keep(upkeep) => run_upkeep(alloc, engine, machine, upkeep),
         Work::Group(grouping) => run_group(alloc, engine, machine, grouping),
+        Work::Save(saving) => run_saving(alloc, engine, machine, backup, saving),
         Work::Count => say_counts(alloc, engine, machine),
         Work::Nothing => Ok(false),
         Work::Bad => say_answer(alloc, machine, &Answer::Bad),
@@ -217,27 +227,32 @@ fn answer_request<M: Machine>(
 }
 
 /// Answers the line that a reader has found, whose bytes are these where it is not too long.
-pub fn answer_next<M: Machine>(
+pub fn answer_next<M: Machine, T: Machine>(
     alloc: Global,
     engine: &mut Engine<AllOps>,
     machine: &mut M,
+    backup: &mut T,
     next: Next,
     bytes: &[u8],
 ) -> Result<bool, Stop>
     requires { engine.old.broken ≡ false }
     ensures time { Passes (M.disk machine.old) (M.disk machine.new) }
-    ensures answers { (p : Params) (commands : List Command) (line : List ℕ) → IsLine next bytes.now line → (holds : Holds p (M.disk machine.old) engine.old commands) →
-        Answering p (M.disk machine.old) (M.disk machine.new) engine.old engine.new holds.world commands line result }
+    ensures backup_time { Passes (T.disk backup.old) (T.disk backup.new) }
+    ensures answers { (start : T) (p : Params) (commands : List Command) (line : List ℕ) → IsLine next bytes.now line → (holds : Holds p (M.disk machine.old) engine.old commands) →
+        AnsweringBeside p (T.disk start) (M.disk machine.old) (M.disk machine.new) engine.old engine.new holds.world commands line (T.disk backup.old) (T.disk backup.new) result }
+    ensures idle { (line : List ℕ) → IsLine next bytes.now line → (AsksBackup line → ⊥) → backup.new ≡ backup.old }
     // Whatever a source that reports nothing gave, it is the answer to some line.
     ensures some { next ≢ Next.End → (line : List ℕ) × ((p : Params) (commands : List Command) → (holds : Holds p (M.disk machine.old) engine.old commands) →
         Answering p (M.disk machine.old) (M.disk machine.new) engine.old engine.new holds.world commands line result) }
-    ensures cause { IfErr result (λ stop. IsCaused stop (M.disk machine.old) (M.disk machine.new)) }
+    ensures cause { IfErr result (λ stop. IsCausedBeside stop (M.disk machine.old) (M.disk machine.new) (T.disk backup.old) (T.disk backup.new)) }
     ensures undamaged { (M.disk machine.old).tells_files → IsAttached (M.disk machine.old) engine.old → IfErr result IsUndamaged }
     ensures attached { IsAttached (M.disk machine.old) engine.old → OnOk result (IsAttached (M.disk machine.new) engine.new) }
     ensures unbroken { OnOk result (engine.new.broken ≡ false) }
 {
+    calls_go_beside_a_copy::<AllOps>();
+    a_copy_goes_on::<AllOps, M>();
     match next {
-        Next::Line => answer_request(alloc, engine, machine, bytes),
+        Next::Line => answer_request(alloc, engine, machine, backup, bytes),
         Next::Long => say_answer(alloc, machine, &Answer::Bad),
         Next::End => Ok(false),
     }

@@ -2,6 +2,8 @@
 ghost use Rattle.std.specs.Prelude.{◌≡◌, ◌≢◌, ◌⊎◌, ◌++◌, false, List, ℕ, OnOk, IfOk, IfErr};
 ghost use Rattle.disk_model.specs.Disk.{Rises, Passes, IsSettled};
 ghost use Rattle.disk_model.specs.declared.machine.FileNo.{FileNo};
+ghost use Rattle.disk_model.specs.declared.machine.FileNo.TheVariants.{Objects};
+ghost use Rattle.restart.specs.Opening.{KeepsLayout};
 ghost use Rattle.formats.specs.declared.params.Params.{Params};
 ghost use Rattle.stable_objects.specs.Reading.{IsNoDamage};
 ghost use Rattle.redo_shell.specs.Store.{IsAttached};
@@ -22,12 +24,14 @@ use store_engine::{
     Engine, OpenErr, Tuning, engine_stands, opens_on_a_world, standing_files_meet_their_format,
 };
 
-// How much of a store the program keeps in memory. A redo installs while more objects than `redo_dirty` are dirty, and each
-// install waits for three syncs. A store of version 1 has at most 4,096 objects of at most 16,384 bytes, 64 MiB in all, which
-// a restart may hold: so its redo installs nothing. That of a larger store installs where more objects wait.
+// How much of a store the program keeps in memory: 16 MiB of clean values, and in a redo 64 MiB of dirty ones, but 64 values
+// of each, however long they are. While more are dirty a redo installs, and each install waits for three syncs. A store of
+// version 1 has at most 4,096 objects of at most 16,384 bytes, 64 MiB in all: so its redo installs nothing.
 const TUNING: Tuning = Tuning {
     clean: 64,
-    redo_dirty: 4_096,
+    clean_bytes: 1 << 24,
+    redo_dirty: 64,
+    redo_bytes: 1 << 26,
 };
 
 /// Says why a store was not opened, where there is a line for that, and ends with the status that reports it. Without memory
@@ -61,6 +65,7 @@ pub fn open_store<M: Machine>(alloc: Global, machine: &mut M) -> Result<Engine<A
     ensures opens { (p : Params) (commands : List Command) → Opens p (M.disk machine.old) commands → OpensFiles p commands (M.disk machine.old) (M.disk machine.new) }
     ensures ok { (p : Params) (commands : List Command) → Opens p (M.disk machine.old) commands → IfOk result (IsOpen p commands (M.disk machine.old) (M.disk machine.new)) }
     ensures ready { IfOk result (λ engine. (engine.broken ≡ false) × IsAttached (M.disk machine.new) engine) }
+    ensures layout { (M.disk machine.old).tells_files → OnOk result (KeepsLayout ((M.disk machine.old).reads Objects) ((M.disk machine.new).reads Objects)) }
     ensures settled { OnOk result (IsSettled (M.disk machine.new)) }
     ensures quiet { (M.disk machine.old).tells_files → OnOk result ((M.disk machine.new).said ≡ (M.disk machine.old).said) }
     ensures read { (M.disk machine.old).tells_files → OnOk result (IsWellFormed (M.disk machine.old).reads) }

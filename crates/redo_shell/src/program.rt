@@ -9,9 +9,10 @@ ghost use Rattle.command_words.specs.Words.{Asks, IsAllowed};
 ghost use Rattle.command_words.specs.declared.asked.Asked.TheVariants.{Init, Run, Dump, Demo, Upgrade};
 ghost use Rattle.redo_shell.specs.Answers.{Moment};
 ghost use Rattle.redo_shell.specs.Calls.{IsRunCall, IsDumpCall, IsMaking, IsUpgradeCall, IsCallFor, GoesOn};
-ghost use Rattle.redo_shell.specs.Causes.{AsksNothing, CountsFaults, IsUsage, OrUnread, ComesByCause};
+ghost use Rattle.redo_shell.specs.Causes.{CountsFaults, OrUnread, ComesByCause};
 ghost use Rattle.redo_shell.specs.Demo.{IsDemo};
 ghost use Rattle.redo_shell.specs.Exactly.{IsFaultless, ComesExactly};
+ghost use Rattle.redo_shell.specs.Saving.{IsBackupCall, IsBackupFor, IsBesideRun};
 ghost use Rattle.redo_shell.specs.Store.{Command, Opens};
 
 use crate::demo::demo;
@@ -32,21 +33,24 @@ const USAGE: &[u8] =
     b"usage: redo init N CAP LIMIT | run | dump | demo --seed S --steps T | upgrade N CAP LIMIT\n";
 
 /// Does what was asked, with the files of the machine, its output, and the script that the source gives.
-fn serve<M: Machine, S: Source>(
+fn serve<M: Machine, T: Machine, S: Source>(
     alloc: Global,
     asked: Asked,
     machine: &mut M,
+    backup: &mut T,
     input: &mut S,
 ) -> Status
     requires { IsAllowed asked }
     ensures time { Passes (M.disk machine.old) (M.disk machine.new) }
+    ensures beside { IsBesideRun (T.disk backup.old) (T.disk backup.new) result }
+    ensures backup { IsBackupFor T.disk asked (S.tells input.old) (lines_of (S.left input.old)) (M.disk machine.old) (M.disk machine.new) backup.old backup.new }
     ensures call { IsCallFor asked (S.tells input.old) (S.left input.old) (S.left input.new) (M.disk machine.old) (M.disk machine.new) result }
     ensures faults { CountsFaults (M.disk machine.old) (M.disk machine.new) result }
     ensures read_fault { result ≡ Status.ReadFault → Rises (S.faults input.old) (S.faults input.new) }
     ensures too_long { S.tells input.old → result ≡ Status.TooLong → ReadsOn (S.left input.old) (S.left input.new) 0 (2 ^ 40) }
 {
     match asked {
-        Asked::Run => run(alloc, machine, input),
+        Asked::Run => run(alloc, machine, backup, input),
         Asked::Dump => dump(alloc, machine),
         Asked::Init(params) => init(machine, params),
         Asked::Demo { seed, steps } => demo(alloc, machine, seed, steps),
@@ -55,11 +59,12 @@ fn serve<M: Machine, S: Source>(
 }
 
 /// The program: does what the words ask, the program's name first, with the files of the machine, its output, and the
-/// script that the source gives.
-pub fn top<M: Machine, S: Source>(
+/// script that the source gives. A run whose script asks for a backup makes it in the files of the other machine.
+pub fn top<M: Machine, T: Machine, S: Source>(
     alloc: Global,
     words: &[String],
     machine: &mut M,
+    backup: &mut T,
     input: &mut S,
 ) -> Status
     // A run on files that stand for commands, as they are read: what a crash at any moment of it leaves a crash at the start
@@ -75,11 +80,13 @@ pub fn top<M: Machine, S: Source>(
     ensures upgrade { (q : Params) → Asks (map string_bytes words.now) (Upgrade q) → OrUnread (IsUpgradeCall q (M.disk machine.old) (M.disk machine.new) result) (M.disk machine.old) (M.disk machine.new) result }
     // A demo leaves the files alone, and says what the plain map's answers to the generated script count to.
     ensures demo { (seed steps : ℕ) → Asks (map string_bytes words.now) (Demo seed steps) → OrUnread (IsDemo seed steps (M.disk machine.old) (M.disk machine.new) result) (M.disk machine.old) (M.disk machine.new) result }
-    // Where there is no memory to read the words, the status is 8 and nothing is done: that is `OrUnread` here and in `exactly`.
-    ensures usage { AsksNothing (map string_bytes words.now) → OrUnread (IsUsage (M.disk machine.old) (M.disk machine.new) result) (M.disk machine.old) (M.disk machine.new) result }
-    // Each status of trouble comes only with its cause, and, where no count of faults rises, exactly there.
-    ensures cause { ComesByCause (map string_bytes words.now) (S.tells input.old) (S.left input.old) (S.left input.new) (S.faults input.old) (S.faults input.new) (M.disk machine.old) (M.disk machine.new) result }
-    ensures exactly { IsFaultless (M.disk machine.old) (M.disk machine.new) (S.faults input.old) (S.faults input.new) →
+    // What the answers of a run say of the backup is true of its files: where a line `saved n` was said, they stand for the n
+    // commands that were accepted up to it. No other call does anything with them, nor does a run without such lines.
+    ensures backup { IsBackupCall T.disk (map string_bytes words.now) (S.tells input.old) (lines_of (S.left input.old)) (M.disk machine.old) (M.disk machine.new) backup.old backup.new }
+    // Each status of trouble comes only with its cause, and, where no count of faults rises, exactly there. Where there is no
+    // memory to read the words, the status is 8 and nothing is done: that is `OrUnread` in these and above.
+    ensures cause { ComesByCause (map string_bytes words.now) (S.tells input.old) (S.left input.old) (S.left input.new) (S.faults input.old) (S.faults input.new) (T.disk backup.old) (T.disk backup.new) (M.disk machine.old) (M.disk machine.new) result }
+    ensures exactly { IsFaultless (M.disk machine.old) (M.disk machine.new) (S.faults input.old) (S.faults input.new) (T.disk backup.old) (T.disk backup.new) →
         ComesExactly (map string_bytes words.now) (S.tells input.old) (S.left input.old) (M.disk machine.old) (M.disk machine.new) result }
     // The machine goes on through the call, and what the call does goes on any calls of the program before it.
     ensures session { GoesOn M.disk (map string_bytes words.now) (S.tells input.old) (lines_of (S.left input.old)) machine.old machine.new }
@@ -88,7 +95,7 @@ pub fn top<M: Machine, S: Source>(
     one_damage::<AllOps>();
     words_ask_one_thing();
     match read_words(alloc, words) {
-        Ok(asked) => serve(alloc, asked, machine, input),
+        Ok(asked) => serve(alloc, asked, machine, backup, input),
         Err(Unread::Refused(_)) => end_with(machine, USAGE, Status::Usage),
         Err(Unread::Memory) => Status::Memory,
     }

@@ -11,6 +11,7 @@ ghost use Rattle.redo_shell.specs.Store.{Command, Holds};
 ghost use Rattle.redo_shell.specs.Calls.{IsRunCall};
 ghost use Rattle.redo_shell.specs.Causes.{CountsFaults};
 ghost use Rattle.redo_shell.specs.Run.{IsRun, IsComplete};
+ghost use Rattle.redo_shell.specs.Saving.{IsBackedUp, IsBackupOfRun, IsBesideRun};
 ghost use Rattle.redo_shell.specs.Status.{IsOfRun};
 
 use crate::damage::end_damaged;
@@ -23,21 +24,25 @@ use op_codec::AllOps;
 use std::alloc::Global;
 use store_engine::{Engine, standing_files_meet_their_format};
 
-/// Answers the lines of a script on an open store, and forces the log at its end. Where a slot breaks its format it says
-/// a line.
-fn run_open<M: Machine, S: Source>(
+/// Answers the lines of a script on an open store, of which no backup is made yet, and forces the log at its end. Where a
+/// slot breaks its format it says a line.
+fn run_open<M: Machine, T: Machine, S: Source>(
     alloc: Global,
     engine: &mut Engine<AllOps>,
     machine: &mut M,
+    backup: &mut T,
     input: &mut S,
 ) -> Status
     requires { engine.old.broken ≡ false }
     ensures time { Passes (M.disk machine.old) (M.disk machine.new) }
+    ensures beside { IsBesideRun (T.disk backup.old) (T.disk backup.new) result }
     ensures answers { (p : Params) (commands : List Command) → (holds : Holds p (M.disk machine.old) engine.old commands) → forced_in engine.old ≡ length commands → engine.old.group ≡ None → S.tells input.old →
         IsRun p (stage_of engine.old holds.world) (M.disk machine.old) (M.disk machine.new) commands (lines_of (S.left input.old)) result }
     ensures complete { (p : Params) (commands : List Command) → (holds : Holds p (M.disk machine.old) engine.old commands) → forced_in engine.old ≡ length commands → engine.old.group ≡ None → S.tells input.old →
         (result ≡ Status.Done) ⊎ (result ≡ Status.DoneWithRefusals) →
         IsComplete p (stage_of engine.old holds.world) (M.disk machine.old) (M.disk machine.new) commands (lines_of (S.left input.old)) result }
+    ensures backup { (p : Params) (commands : List Command) → (holds : Holds p (M.disk machine.old) engine.old commands) → forced_in engine.old ≡ length commands → engine.old.group ≡ None → engine.old.copied ≡ None → S.tells input.old →
+        IsBackedUp T.disk p (stage_of engine.old holds.world) commands (lines_of (S.left input.old)) (M.disk machine.old) (M.disk machine.new) backup.old backup.new }
     // Whatever a source that reports nothing gave, it is some script.
     ensures some { (script : List (List ℕ)) × ((p : Params) (commands : List Command) → (holds : Holds p (M.disk machine.old) engine.old commands) → forced_in engine.old ≡ length commands → engine.old.group ≡ None →
         IsRun p (stage_of engine.old holds.world) (M.disk machine.old) (M.disk machine.new) commands script result
@@ -46,12 +51,11 @@ fn run_open<M: Machine, S: Source>(
     // No slot of the files that were opened is damaged.
     ensures store { (M.disk machine.old).tells_files → IsAttached (M.disk machine.old) engine.old → (result ≢ Status.NotAStore) × (result ≢ Status.Damaged) }
     ensures status { IsOfRun result }
-    ensures disk_fault { result ≡ Status.DiskFault → Rises (M.disk machine.old).disk_faults (M.disk machine.new).disk_faults }
+    ensures faults { CountsFaults (M.disk machine.old) (M.disk machine.new) result }
     ensures read_fault { result ≡ Status.ReadFault → Rises (S.faults input.old) (S.faults input.new) }
-    ensures say_fault { result ≡ Status.SayFault → Rises (M.disk machine.old).say_faults (M.disk machine.new).say_faults }
     ensures too_long { S.tells input.old → result ≡ Status.TooLong → ReadsOn (S.left input.old) (S.left input.new) 0 (2 ^ 40) }
 {
-    let outcome = answer_script(alloc, engine, machine, input);
+    let outcome = answer_script(alloc, engine, machine, backup, input);
     match outcome {
         Err(Stop::Damaged { file, place }) => end_damaged(alloc, machine, file, place),
         _ => status_after(outcome),
@@ -60,8 +64,15 @@ fn run_open<M: Machine, S: Source>(
 
 /// Opens the store, answers the lines of a script, and forces the log at its end. Where there is no store to open it
 /// says a line.
-pub fn run<M: Machine, S: Source>(alloc: Global, machine: &mut M, input: &mut S) -> Status
+pub fn run<M: Machine, T: Machine, S: Source>(
+    alloc: Global,
+    machine: &mut M,
+    backup: &mut T,
+    input: &mut S,
+) -> Status
     ensures time { Passes (M.disk machine.old) (M.disk machine.new) }
+    ensures beside { IsBesideRun (T.disk backup.old) (T.disk backup.new) result }
+    ensures backup { IsBackupOfRun T.disk (S.tells input.old) (lines_of (S.left input.old)) (M.disk machine.old) (M.disk machine.new) backup.old backup.new }
     ensures call { IsRunCall (S.tells input.old) (S.left input.old) (S.left input.new) (M.disk machine.old) (M.disk machine.new) result }
     ensures faults { CountsFaults (M.disk machine.old) (M.disk machine.new) result }
     ensures read_fault { result ≡ Status.ReadFault → Rises (S.faults input.old) (S.faults input.new) }
@@ -70,7 +81,7 @@ pub fn run<M: Machine, S: Source>(alloc: Global, machine: &mut M, input: &mut S)
     standing_files_meet_their_format::<AllOps>();
     match open_store(alloc, machine) {
         Ok(mut engine) => {
-            let status = run_open(alloc, &mut engine, machine, input);
+            let status = run_open(alloc, &mut engine, machine, backup, input);
             drop(engine);
             status
         }

@@ -24,6 +24,7 @@ fn refuses(answer: &Answer<'_>) -> bool
             | Answer::Denied(_)
             | Answer::InGroup
             | Answer::NoGroup
+            | Answer::BackupDenied(_)
             | Answer::Full { .. }
             | Answer::End { .. }
     )

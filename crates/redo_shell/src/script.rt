@@ -13,6 +13,7 @@ ghost use Rattle.redo_shell.specs.Stages.{finish_course, stage_of};
 ghost use Rattle.redo_shell.specs.Store.{Between, Command, Holds, ShowsIn, meaning_in};
 ghost use Rattle.redo_shell.specs.Status.{status_after};
 ghost use Rattle.redo_shell.specs.Run.{IsRun, IsComplete, StopsWith, IsUndamaged};
+ghost use Rattle.redo_shell.specs.Saving.{IsBackedUp};
 
 use crate::line::answer_next;
 use crate::stop::Stop;
@@ -48,26 +49,30 @@ fn close_script<M: Machine>(engine: &mut Engine<AllOps>, machine: &mut M) -> Res
     }
 }
 
-/// Answers the lines of a script, where no group is open. At its end an open group is closed, and the log is forced. It
-/// reports whether some answer was a refusal.
-pub fn answer_script<M: Machine, S: Source>(
+/// Answers the lines of a script, where no group is open and no backup is made. At its end an open group is closed, and the
+/// log is forced. It reports whether some answer was a refusal.
+pub fn answer_script<M: Machine, T: Machine, S: Source>(
     alloc: Global,
     engine: &mut Engine<AllOps>,
     machine: &mut M,
+    backup: &mut T,
     input: &mut S,
 ) -> Result<bool, Stop>
     requires { engine.old.broken ≡ false }
     ensures time { Passes (M.disk machine.old) (M.disk machine.new) }
+    ensures backup_time { Passes (T.disk backup.old) (T.disk backup.new) }
     ensures answers { (p : Params) (commands : List Command) → (holds : Holds p (M.disk machine.old) engine.old commands) → forced_in engine.old ≡ length commands → engine.old.group ≡ None → S.tells input.old →
         IsRun p (stage_of engine.old holds.world) (M.disk machine.old) (M.disk machine.new) commands (lines_of (S.left input.old)) (status_after result) }
     ensures complete { (p : Params) (commands : List Command) → (holds : Holds p (M.disk machine.old) engine.old commands) → forced_in engine.old ≡ length commands → engine.old.group ≡ None → S.tells input.old →
         IfOk result (λ refusing. IsComplete p (stage_of engine.old holds.world) (M.disk machine.old) (M.disk machine.new) commands (lines_of (S.left input.old)) (status_after (Ok refusing))) }
+    ensures backup { (p : Params) (commands : List Command) → (holds : Holds p (M.disk machine.old) engine.old commands) → forced_in engine.old ≡ length commands → engine.old.group ≡ None → engine.old.copied ≡ None → S.tells input.old →
+        IsBackedUp T.disk p (stage_of engine.old holds.world) commands (lines_of (S.left input.old)) (M.disk machine.old) (M.disk machine.new) backup.old backup.new }
     // Whatever a source that reports nothing gave, it is some script.
     ensures some { (script : List (List ℕ)) × ((p : Params) (commands : List Command) → (holds : Holds p (M.disk machine.old) engine.old commands) → forced_in engine.old ≡ length commands → engine.old.group ≡ None →
         IsRun p (stage_of engine.old holds.world) (M.disk machine.old) (M.disk machine.new) commands script (status_after result)
         × IfOk result (λ refusing. IsComplete p (stage_of engine.old holds.world) (M.disk machine.old) (M.disk machine.new) commands script (status_after (Ok refusing)))) }
     ensures input { S.tells input.old → IfOk result (λ _. (S.left input.new ≡ []) × (length (S.left input.old) < 2 ^ 40)) }
-    ensures cause { IfErr result (λ stop. StopsWith stop (M.disk machine.old) (M.disk machine.new) (S.faults input.old) (S.faults input.new)) }
+    ensures cause { IfErr result (λ stop. StopsWith stop (M.disk machine.old) (M.disk machine.new) (S.faults input.old) (S.faults input.new) (T.disk backup.old) (T.disk backup.new)) }
     ensures undamaged { (M.disk machine.old).tells_files → IsAttached (M.disk machine.old) engine.old → IfErr result IsUndamaged }
     ensures too_long { S.tells input.old → IsErrOf result Stop.TooLong → ReadsOn (S.left input.old) (S.left input.new) 0 (2 ^ 40) }
 {
@@ -78,7 +83,7 @@ pub fn answer_script<M: Machine, S: Source>(
     loop {
         match lines.next(input)? {
             Next::End => break,
-            next => refusing |= answer_next(alloc, engine, machine, next, lines.line())?,
+            next => refusing |= answer_next(alloc, engine, machine, backup, next, lines.line())?,
         }
     }
     close_script(engine, machine)?;

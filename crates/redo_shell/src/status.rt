@@ -32,6 +32,8 @@ pub enum Status {
     AlreadyTwo,
     /// The store has more objects, or longer ones, than it was to get.
     Smaller,
+    /// The disk of the backup failed.
+    BackupFault,
 }
 
 impl Status {
@@ -52,6 +54,7 @@ impl Status {
             Status::TooLong => 9,
             Status::AlreadyTwo => 3,
             Status::Smaller => 10,
+            Status::BackupFault => 11,
         }
     }
 }

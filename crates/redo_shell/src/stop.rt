@@ -24,6 +24,9 @@ pub enum Stop {
     /// The output failed.
     #[error("the output failed")]
     SayFault,
+    /// The disk of the backup failed.
+    #[error("the disk of the backup failed")]
+    BackupFault,
     /// Out of memory.
     #[error("out of memory")]
     Memory,
@@ -42,6 +45,7 @@ impl Stop {
             Stop::Damaged { .. } => Status::Damaged,
             Stop::ReadFault => Status::ReadFault,
             Stop::SayFault => Status::SayFault,
+            Stop::BackupFault => Status::BackupFault,
             Stop::Memory => Status::Memory,
             Stop::TooLong => Status::TooLong,
         }

@@ -1,17 +1,17 @@
 // A store is made larger, where it stands.
-ghost use Rattle.std.specs.Prelude.{◌≡◌, ◌≢◌, ◌⊎◌, ◌++◌, false, List, ℕ, length, IfOk};
+ghost use Rattle.std.specs.Prelude.{◌≡◌, ◌≢◌, ◌⊎◌, ◌++◌, List, length, IfOk};
 ghost use Rattle.disk_model.specs.Disk.{LeavesOnly, Passes, Rises};
-ghost use Rattle.disk_model.specs.declared.machine.FileNo.{FileNo};
+ghost use Rattle.disk_model.specs.declared.machine.FileNo.TheVariants.{Objects};
 ghost use Rattle.formats.specs.Objects.{IsInRange};
 ghost use Rattle.formats.specs.declared.params.Params.{Params as Numbers};
 ghost use Rattle.stable_objects.specs.Larger.{IsLarger};
 ghost use Rattle.store_engine.specs.Engine.{InEachImage, forced_in};
 ghost use Rattle.store_engine.specs.Upgrading.{IsSecond, IsUncut};
 ghost use Rattle.redo_shell.specs.Calls.{IsUpgradeCall};
-ghost use Rattle.redo_shell.specs.Causes.{CountsFaults};
+ghost use Rattle.redo_shell.specs.Causes.{CountsFaults, last_length};
 ghost use Rattle.redo_shell.specs.Keeps.{KeepsFiles};
 ghost use Rattle.redo_shell.specs.Notices.{already_version_two, damaged, smaller};
-ghost use Rattle.redo_shell.specs.Status.{IsOfUpgrade};
+ghost use Rattle.redo_shell.specs.Status.{IsOfSecond, IsOfUpgrade};
 ghost use Rattle.redo_shell.specs.Store.{Command, Holds, IsAttached, IsUpgraded, Stands, StandsInEither};
 
 use crate::damage::end_damaged;
@@ -72,13 +72,13 @@ fn upgrade_open<M: Machine>(
         InEachImage (M.disk machine.new) (IsUpgraded params commands) × IsLarger p params × ((M.disk machine.new).said ≡ (M.disk machine.old).said) }
     ensures idle { (p : Numbers) (commands : List Command) → Holds p (M.disk machine.old) engine commands → forced_in engine ≡ length commands →
         (result ≡ Status.AlreadyTwo) ⊎ (result ≡ Status.Smaller) → InEachImage (M.disk machine.new) (λ files. Stands p files commands) }
-    ensures first { (M.disk machine.old).tells_files → IsAttached (M.disk machine.old) engine → result ≡ Status.Done → IsSecond (M.disk machine.old).reads → ⊥ }
+    ensures second { (M.disk machine.old).tells_files → IsAttached (M.disk machine.old) engine → IsSecond (M.disk machine.old).reads → IsOfSecond result }
     ensures smaller { (p : Numbers) (commands : List Command) → Holds p (M.disk machine.old) engine commands → result ≡ Status.Smaller →
         (IsLarger p params → ⊥) × ((M.disk machine.new).said ≡ (M.disk machine.old).said ++ smaller p.objects p.cap) }
     ensures already { (M.disk machine.old).tells_files → IsAttached (M.disk machine.old) engine → result ≡ Status.AlreadyTwo →
         IsSecond (M.disk machine.old).reads × ((M.disk machine.new).said ≡ (M.disk machine.old).said ++ already_version_two) }
     ensures damaged { (M.disk machine.old).tells_files → IsAttached (M.disk machine.old) engine → result ≡ Status.Damaged →
-        (IsUncut (M.disk machine.old) engine → ⊥) × ((file : FileNo) × (place : ℕ) × ((M.disk machine.new).said ≡ (M.disk machine.old).said ++ damaged file place)) }
+        (IsUncut (M.disk machine.old) engine → ⊥) × ((M.disk machine.new).said ≡ (M.disk machine.old).said ++ damaged Objects (last_length ((M.disk machine.old).reads Objects))) }
     ensures status { IsOfUpgrade result × (result ≢ Status.NotAStore) }
     ensures faults { CountsFaults (M.disk machine.old) (M.disk machine.new) result }
 {

@@ -7,14 +7,15 @@ ghost use Rattle.script_lines.specs.Grammar.{AsksFor};
 ghost use Rattle.script_lines.specs.declared.line.Line.TheVariants.{Install as install, Drain as drain, Checkpoint as checkpoint, Trim as trim, Stat as stat};
 ghost use Rattle.script_lines.specs.Replies.{reply_of};
 ghost use Rattle.redo_shell.specs.Store.{Command, Holds};
-ghost use Rattle.redo_shell.specs.Found.{IsBarredIn, IsDone, IsUpkept, answer_of_work, answer_of_work_error};
+ghost use Rattle.redo_shell.specs.Found.{IsBarredIn, IsDeniedIn, IsDone, IsUpkept, answer_of_work, answer_of_work_error};
+ghost use Rattle.redo_shell.specs.Stages.{IsBesideBackup};
 ghost use Rattle.redo_shell.specs.Work.{request_for};
 
 use crate::stop::Stop;
 use crate::work::Upkeep;
 use disk_model::Machine;
 use op_codec::AllOps;
-use script_lines::{Answer, StatLine};
+use script_lines::{Answer, BackupDenial, StatLine};
 use store_engine::{Engine, WorkErr};
 
 /// What is answered where a force, an install, a drain, a check or a trim is not done, or no group may begin.
@@ -23,6 +24,7 @@ pub fn refused(error: WorkErr) -> Result<Answer<'static>, Stop>
 {
     match error {
         WorkErr::InGroup { .. } => Ok(Answer::InGroup),
+        WorkErr::InBackup { .. } => Ok(Answer::BackupDenied(BackupDenial::InBackup)),
         WorkErr::LogFull { used, need, limit } => Ok(Answer::Full { used, need, limit }),
         WorkErr::LsnEnd { number } => Ok(Answer::End { number }),
         WorkErr::Exhausted { epoch } => Ok(Answer::End { number: epoch }),
@@ -85,7 +87,8 @@ fn trimmed<M: Machine>(
 ) -> Result<Answer<'static>, Stop>
     requires { engine.old.broken ≡ false }
     ensures in_group { IsTrue (is_some engine.old.group) → IsBarredIn machine.old machine.new engine.old engine.new result }
-    ensures alone { engine.old.group ≡ None → IsUpkept (M.disk machine.old) (M.disk machine.new) engine.old engine.new trim result }
+    ensures in_backup { engine.old.group ≡ None → IsTrue (is_some engine.old.copied) → IsDeniedIn machine.old machine.new engine.old engine.new result }
+    ensures alone { engine.old.group ≡ None → engine.old.copied ≡ None → IsUpkept (M.disk machine.old) (M.disk machine.new) engine.old engine.new trim result }
 {
     worked(engine.trim(machine))
 }
@@ -99,7 +102,8 @@ pub fn upkeep_answer<M: Machine>(
     requires { engine.old.broken ≡ false }
     ensures time { Passes (M.disk machine.old) (M.disk machine.new) }
     ensures in_group { IsTrue (is_some engine.old.group) → IsBarredIn machine.old machine.new engine.old engine.new result }
-    ensures alone { engine.old.group ≡ None → IsUpkept (M.disk machine.old) (M.disk machine.new) engine.old engine.new (request_for upkeep) result }
+    ensures in_backup { engine.old.group ≡ None → (IsBesideBackup engine.old.copied (request_for upkeep) → ⊥) → IsDeniedIn machine.old machine.new engine.old engine.new result }
+    ensures alone { engine.old.group ≡ None → IsBesideBackup engine.old.copied (request_for upkeep) → IsUpkept (M.disk machine.old) (M.disk machine.new) engine.old engine.new (request_for upkeep) result }
 {
     match upkeep {
         Upkeep::Install => installed(engine, machine),

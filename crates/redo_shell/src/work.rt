@@ -30,6 +30,17 @@ pub enum Grouping {
     End,
 }
 
+/// What makes a backup.
+#[derive(Clone, Copy, Debug, PartialEq, Eq)]
+pub enum Saving {
+    /// Start a backup.
+    Start,
+    /// Copy so many objects more, or all that are left.
+    Copy { count: u32 },
+    /// Make the backup a store.
+    Finish,
+}
+
 /// What may add several commands.
 #[derive(Clone, Copy)]
 pub enum Making {
@@ -113,6 +124,8 @@ pub enum Work {
     Keep(Upkeep),
     /// Open or close a group.
     Group(Grouping),
+    /// Start a backup, go on with it or end it.
+    Save(Saving),
     /// Report the counts of the store.
     Count,
     /// Nothing: the line is skipped.
@@ -204,6 +217,9 @@ impl Work {
             Line::Trim => Work::Keep(Upkeep::Trim),
             Line::Begin => Work::Group(Grouping::Begin),
             Line::End => Work::Group(Grouping::End),
+            Line::BackupStart => Work::Save(Saving::Start),
+            Line::BackupCopy { count } => Work::Save(Saving::Copy { count }),
+            Line::BackupFinish => Work::Save(Saving::Finish),
             Line::Stat => Work::Count,
             Line::Skip => Work::Nothing,
         }

@@ -91,19 +91,81 @@ fn is_said(alloc: Global, mut machine: MemMachine, said: &[u8]) -> bool {
     (status == Status::Damaged) & (machine.said() == said)
 }
 
-fn damage_is_said(alloc: Global, changes: &[Change], said: &[u8]) -> Result<bool, AllocError> {
-    let mut machine = new_store(alloc)?;
+// Whether it is said of this store with these changes.
+fn damage_is_said(alloc: Global, mut machine: MemMachine, changes: &[Change], said: &[u8]) -> bool {
     let mut done = true;
     for (file, at, bytes) in changes {
         done &= machine.write_at(*file, *at, bytes).is_ok();
     }
-    Ok(done & is_said(alloc, machine, said))
+    done & is_said(alloc, machine, said)
 }
 
 #[test]
 fn the_first_fault_is_said(rt: HostRuntime) -> Result<(), Fail> {
     for (row, (changes, said)) in DAMAGED.iter().enumerate() {
-        assert!(rt; damage_is_said(rt.alloc(), changes, said)?, "row {row}");
+        let machine = new_store(rt.alloc())?;
+        assert!(rt;
+            damage_is_said(rt.alloc(), machine, changes, said),
+            "row {row}"
+        );
+    }
+    Ok(())
+}
+
+// What makes a new store one of version 2 with the same numbers: the version and no smaller store, the numbers at 32, and a
+// file that reaches to the last gate. The slots of object 0 are at 64 and 141.
+static SECOND: [Change; 3] = [
+    (Objects, 8, b"2\0\0\0\0\0\0\0\0"),
+    (Objects, 32, b"\x08\0\0\0\x40\0\0\0\0\0\x01\0"),
+    (Objects, 1219, b"\0"),
+];
+
+// What is changed in such a store, and what is printed. Behind 8 objects of 64 bytes the numbers stand at 1264.
+static DAMAGED_SECOND: [(&[Change], &[u8]); 10] = [
+    (&[(Objects, 9, b"\x01\x10\0\0")], b"damaged objects 9\n"),
+    (&[(Objects, 13, b"\x01\x40\0\0")], b"damaged objects 13\n"),
+    (
+        &[(Objects, 9, b"\x08\0\0\0\x40\0\0\0")],
+        b"damaged objects 1264\n",
+    ),
+    (&[(Objects, 32, b"\0\0\0\0")], b"damaged objects 32\n"),
+    (&[(Objects, 36, b"\x0f\0\0\0")], b"damaged objects 36\n"),
+    (&[(Objects, 40, b"\x7f\x10\0\0")], b"damaged objects 40\n"),
+    (&[(Objects, 36, b"\x80\0\0\0")], b"damaged objects 0\n"),
+    (
+        &[(Objects, 64, b"\x01\0\0\0\0\0\0\0\0")],
+        b"damaged objects 65\n",
+    ),
+    (
+        &[(Objects, 64, b"\x01\x01\0\0\0\0\0\0\0\x41\0\0\0")],
+        b"damaged objects 73\n",
+    ),
+    (
+        &[
+            (Objects, 64, b"\x01\x01\0\0\0\0\0\0\0\0\0\0\0"),
+            (Objects, 141, b"\x01\x01\0\0\0\0\0\0\0\0\0\0\0"),
+        ],
+        b"damaged objects 142\n",
+    ),
+];
+
+// A store of version 2 without commands.
+fn new_second(alloc: Global) -> Result<MemMachine, AllocError> {
+    let mut machine = new_store(alloc)?;
+    for (file, at, bytes) in &SECOND {
+        let _ = machine.write_at(*file, *at, bytes);
+    }
+    Ok(machine)
+}
+
+#[test]
+fn the_first_fault_of_version_two_is_said(rt: HostRuntime) -> Result<(), Fail> {
+    for (row, (changes, said)) in DAMAGED_SECOND.iter().enumerate() {
+        let machine = new_second(rt.alloc())?;
+        assert!(rt;
+            damage_is_said(rt.alloc(), machine, changes, said),
+            "row {row}"
+        );
     }
     Ok(())
 }

@@ -9,13 +9,13 @@ use op_codec::{AllOps, Sum};
 use op_meaning::PlainOp;
 use oper_core::Refusal;
 use script_lines::{
-    Answer, Denial, Line, LineErr, LineReader, Next, ReadError, StatLine, answer_line, answer_text,
-    parse_line,
+    Answer, BackupDenial, Denial, Line, LineErr, LineReader, Next, ReadError, StatLine,
+    answer_line, answer_text, parse_line,
 };
 use std::alloc::Global;
 
 // A line of each form, and which one it is, counted from 1. That it asks what it says is a clause.
-const FORMS: [(&[u8], u32); 30] = [
+const FORMS: [(&[u8], u32); 33] = [
     (b"put 4294967295 00FfA9", 1),
     (b"copy 0 1", 2),
     (b"append 7 12", 3),
@@ -46,6 +46,9 @@ const FORMS: [(&[u8], u32); 30] = [
     (b"hset 0 7 01 Ff", 28),
     (b"hget 7 0 0102", 29),
     (b"hdel 0 7 01", 30),
+    (b"bstart", 31),
+    (b"bcopy 4294967295", 32),
+    (b"bfinish", 33),
 ];
 
 // Lines, and the plain ones that ask the same.
@@ -75,7 +78,12 @@ const SKIPPED: [&[u8]; 10] = [
     b"#\r\r",
 ];
 
-const BAD: [&[u8]; 74] = [
+const BAD: [&[u8]; 79] = [
+    b"bstart 0",
+    b"bcopy",
+    b"bcopy 1 2",
+    b"bcopy -",
+    b"bfinish 1",
     b"hset 0 7 01",
     b"hget 0 7 -",
     b"hdel 0 7",
@@ -210,6 +218,9 @@ fn line_told(line: &Line) -> [u32; 4] {
         Line::HashPut { .. } => [28, 0, 0, 0],
         Line::HashGet { .. } => [29, 0, 0, 0],
         Line::HashDelete { .. } => [30, 0, 0, 0],
+        Line::BackupStart => [31, 0, 0, 0],
+        Line::BackupCopy { .. } => [32, 0, 0, 0],
+        Line::BackupFinish => [33, 0, 0, 0],
         Line::Skip => [0; 4],
     }
 }
@@ -308,7 +319,7 @@ fn hex_is_read(rt: HostRuntime) {
 }
 
 // Answers, and their texts.
-const TEXTS: [(Answer<'static>, &[u8]); 28] = [
+const TEXTS: [(Answer<'static>, &[u8]); 35] = [
     (Answer::Done, b"ok"),
     (Answer::Value(&[]), b"-"),
     (Answer::Value(&[0x00, 0x9a, 0xff]), b"009aff"),
@@ -333,6 +344,25 @@ const TEXTS: [(Answer<'static>, &[u8]); 28] = [
     (Answer::Denied(Denial::BadHash), b"refused BadHash"),
     (Answer::Denied(Denial::HashFull), b"refused HashFull"),
     (Answer::Denied(Denial::NoRoom), b"refused NoRoom"),
+    (
+        Answer::BackupDenied(BackupDenial::InBackup),
+        b"refused InBackup",
+    ),
+    (
+        Answer::BackupDenied(BackupDenial::NoBackup),
+        b"refused NoBackup",
+    ),
+    (
+        Answer::BackupDenied(BackupDenial::AlreadyStore),
+        b"refused AlreadyStore",
+    ),
+    (
+        Answer::BackupDenied(BackupDenial::NotCopied),
+        b"refused NotCopied",
+    ),
+    (Answer::Copied(0), b"copied 0"),
+    (Answer::Copied(65535), b"copied 65535"),
+    (Answer::Saved(3), b"saved 3"),
     (
         Answer::Full {
             used: 5248,

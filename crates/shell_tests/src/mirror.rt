@@ -70,7 +70,9 @@ fn damage_of_copy<M: Machine>(alloc: Global, machine: &mut Mirrored<M>) -> Optio
 {
     let tuning = Tuning {
         clean: 2,
+        clean_bytes: 0,
         redo_dirty: 2,
+        redo_bytes: 0,
     };
     match restart::<AllOps, Mirrored<M>>(alloc, machine, tuning) {
         Ok(restarted) => {

@@ -1,5 +1,5 @@
 // The program in a folder in memory.
-use disk_model::{Crash, Machine, MemMachine, MemSource};
+use disk_model::{Crash, GrowMem, Machine, MemMachine, MemSource};
 use redo_shell::{Status, top};
 use std::alloc::{AllocError, Global};
 
@@ -25,10 +25,24 @@ fn given(alloc: Global, line: &str, input: &[u8]) -> Result<(Vec<String>, MemSou
     Ok((words, source))
 }
 
-// The program with these words and this input. Out of memory for them is reported as its own.
-pub fn run<M: Machine>(alloc: Global, machine: &mut M, line: &str, input: &[u8]) -> Status {
+// The program with these words, this input, and a machine for a backup. Out of memory for them is reported as its own.
+pub fn run_beside<M: Machine, T: Machine>(
+    alloc: Global,
+    machine: &mut M,
+    backup: &mut T,
+    line: &str,
+    input: &[u8],
+) -> Status {
     match given(alloc, line, input) {
-        Ok((words, mut source)) => top(alloc, words.as_slice(), machine, &mut source),
+        Ok((words, mut source)) => top(alloc, words.as_slice(), machine, backup, &mut source),
+        Err(_) => Status::Memory,
+    }
+}
+
+// The same with an empty folder for the backup.
+pub fn run<M: Machine>(alloc: Global, machine: &mut M, line: &str, input: &[u8]) -> Status {
+    match GrowMem::new(alloc) {
+        Ok(mut backup) => run_beside(alloc, machine, &mut backup, line, input),
         Err(_) => Status::Memory,
     }
 }

@@ -1,10 +1,11 @@
 // Commands and installs by calls of the crates.
+use crate::calls::put;
 use cache_manager::{InstallErr, install_one};
 use disk_model::Machine;
 use execution::execute;
 use op_codec::{AllOps, plain_op};
 use op_meaning::PlainOp;
-use oper_core::{ByteList, Memory};
+use oper_core::Memory;
 use redo_shell::Status;
 use restart::{OpenErr, Tuning, restart};
 use running_store::Store;
@@ -18,7 +19,9 @@ fn opened<M: Machine>(
 ) -> Result<Store<AllOps>, OpenErr> {
     let tuning = Tuning {
         clean: 2,
+        clean_bytes: 0,
         redo_dirty: dirty,
+        redo_bytes: 0,
     };
     restart::<AllOps, M>(alloc, machine, tuning)
 }
@@ -29,11 +32,6 @@ fn does<M: Machine>(it: &mut Store<AllOps>, machine: &mut M, op: AllOps) -> bool
         return false;
     }
     execute(it, machine, op, false).is_ok()
-}
-
-fn put(alloc: Global, object: u32, value: &[u8]) -> Result<AllOps, Memory> {
-    let value = ByteList::new(value.to_vec(alloc)?);
-    Ok(plain_op(PlainOp::Put { object, value }))
 }
 
 // Whether `put 0 aacc`, `put 1 bb` and `swap 0 1` are done.

@@ -8,6 +8,12 @@
 #[cfg(test)]
 mod acts;
 #[cfg(test)]
+mod backups;
+#[cfg(test)]
+mod calls;
+#[cfg(test)]
+mod empties;
+#[cfg(test)]
 mod faults;
 #[cfg(test)]
 mod found;
@@ -25,3 +31,5 @@ mod stops;
 mod trees;
 #[cfg(test)]
 mod trials;
+#[cfg(test)]
+mod upgrades;

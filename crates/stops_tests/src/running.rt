@@ -1,5 +1,5 @@
 // The program on machines in memory, and what is left after a process.
-use disk_model::{Crash, FileNo, Machine, MemMachine, MemSource};
+use disk_model::{Crash, FileNo, GrowMem, Machine, MemMachine, MemSource};
 use redo_shell::{Status, top};
 use std::alloc::{AllocError, Global};
 
@@ -100,8 +100,26 @@ fn given(
     Ok((words, source))
 }
 
-// The program with these words and this input, of which this read fails: its status, and how many reads failed. Out of
-// memory for them is reported as its own.
+// The program with these words, a machine for a backup, and this input, of which this read fails: its status, and how many
+// reads failed. Out of memory for them is reported as its own.
+fn run_all<M: Machine, T: Machine>(
+    alloc: Global,
+    machine: &mut M,
+    backup: &mut T,
+    line: &str,
+    input: &[u8],
+    read: u64,
+) -> (Status, u64) {
+    match given(alloc, line, input, read) {
+        Ok((words, mut source)) => {
+            let status = top(alloc, words.as_slice(), machine, backup, &mut source);
+            (status, source.read_faults())
+        }
+        Err(_) => (Status::Memory, 0),
+    }
+}
+
+// The same with an empty folder for the backup.
 pub fn run_failing<M: Machine>(
     alloc: Global,
     machine: &mut M,
@@ -109,13 +127,21 @@ pub fn run_failing<M: Machine>(
     input: &[u8],
     read: u64,
 ) -> (Status, u64) {
-    match given(alloc, line, input, read) {
-        Ok((words, mut source)) => {
-            let status = top(alloc, words.as_slice(), machine, &mut source);
-            (status, source.read_faults())
-        }
+    match GrowMem::new(alloc) {
+        Ok(mut backup) => run_all(alloc, machine, &mut backup, line, input, read),
         Err(_) => (Status::Memory, 0),
     }
+}
+
+// The same with a machine for the backup, where no read fails: its status.
+pub fn run_beside<M: Machine, T: Machine>(
+    alloc: Global,
+    machine: &mut M,
+    backup: &mut T,
+    line: &str,
+    input: &[u8],
+) -> Status {
+    run_all(alloc, machine, backup, line, input, 0).0
 }
 
 // The program with these words and this input: its status, and how many reads of the input failed.

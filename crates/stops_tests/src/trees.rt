@@ -1,27 +1,15 @@
 // Trees by calls of the engine, and by lines whose nodes are installed in part.
+use crate::calls::{TUNING, does};
 use crate::installs::{say, status_of};
 use crate::running::{Room, crashed, run};
 use btree_ops::NodeOp;
-use disk_model::{Crash, Machine, MemMachine};
+use disk_model::{Crash, Machine};
 use key_entries::Short;
 use op_codec::{AllOps, node_op};
 use redo_shell::Status;
 use std::alloc::{AllocError, Global};
 use std::test::Fail;
-use store_engine::{Engine, Tuning};
-
-const TUNING: Tuning = Tuning {
-    clean: 2,
-    redo_dirty: 64,
-};
-
-// Whether an operation on nodes is done.
-fn does<M: Machine>(engine: &mut Engine<AllOps>, machine: &mut M, op: NodeOp) -> bool {
-    if engine.is_broken() {
-        return false;
-    }
-    engine.exec(machine, node_op(op)).is_ok()
-}
+use store_engine::Engine;
 
 // A put of a pair of one byte each.
 fn put(key: u8, value: u8) -> Option<NodeOp> {
@@ -37,7 +25,7 @@ fn fills<M: Machine>(engine: &mut Engine<AllOps>, machine: &mut M) -> bool {
     let mut all = true;
     for key in 1..=7u8 {
         match put(key, 0xa0 + key) {
-            Some(op) => all &= does(engine, machine, op),
+            Some(op) => all &= does(engine, machine, node_op(op)),
             None => all = false,
         }
     }
@@ -62,7 +50,7 @@ fn fill_and_split<M: Machine>(engine: &mut Engine<AllOps>, machine: &mut M) -> R
         left: 1,
         right: 2,
     };
-    let done = fills(engine, machine) & does(engine, machine, split);
+    let done = fills(engine, machine) & does(engine, machine, node_op(split));
     let forced = force(engine, machine)?;
     if done & (forced == 8) {
         say(machine, b"forced 8\n")

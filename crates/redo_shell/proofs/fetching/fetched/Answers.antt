@@ -8,7 +8,7 @@ returns-clause-kept g c = c.fetch.ensures.fetched.call.kept
 
 pub returns-clause-holds : goal.returns-clause-holds
 returns-clause-holds g c = λ p commands holds.
-    fetched_kept holds (⊎_elim (λ fault. cc fault) (λ shows. shows) (c.in_ok-there.ensures.fetched.shows p holds.world holds.shows)) c.in_ok-there.ensures.fetched.call.log c.in_ok-there.ensures.fetched.call.identities (c.engine_stands.ensures p commands)
+    fetched_kept holds (⊎_elim (λ fault. cc fault) (λ shows. shows) (c.in_ok-there.ensures.fetched.shows p holds.world holds.shows)) c.in_ok-there.ensures.fetched.call.log c.in_ok-there.ensures.fetched.call.identities c.in_ok-there.ensures.fetched.call.copied (c.engine_stands.ensures p commands)
 
 pub returns-clause-value : goal.returns-clause-value
 returns-clause-value g c = λ p commands holds there. (is_one p holds.shows.shows.store.params c.in_ok-there.ensures.there there, c.in_ok-there.ensures.value p commands (in_engine holds) there)

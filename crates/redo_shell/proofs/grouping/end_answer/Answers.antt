@@ -18,7 +18,7 @@ pub returns-in-Ok-clause-images : goal.returns-in-Ok-clause-images
 returns-in-Ok-clause-images g c = λ p commands holds told. holds_between (g.met.M.Machine.lawful c.args.machine.now) holds told
 
 pub returns-in-Ok-clause-steps : goal.returns-in-Ok-clause-steps
-returns-in-Ok-clause-steps g c = λ told p w shows granted. takes_none (upkeep_course 0 end_group (meaning_in p) w (used_in c.args.engine.now)).steps (g.met.M.Machine.lawful c.args.machine.now) shows told
+returns-in-Ok-clause-steps g c = λ told p w shows granted. takes_none (upkeep_course 0 0 end_group (meaning_in p) w (used_in c.args.engine.now)).steps (g.met.M.Machine.lawful c.args.machine.now) shows told
 
 pub returns-in-Ok-clause-attached : goal.returns-in-Ok-clause-attached
 returns-in-Ok-clause-attached g c = λ attached. subst (λ (e : EngineView). IsAttached (g.M.Machine.disk c.args.machine.now) e) (sym (closed_now c.args.engine.now c.end.new.self c.end.result c.end.ensures.some (was_open c.args.engine.now c.end.new.self c.in-Ok.field-0 c.in-Ok.ensures.none))) attached
@@ -36,7 +36,7 @@ pub returns-in-Err-clause-images : goal.returns-in-Err-clause-images
 returns-in-Err-clause-images g c = λ p commands holds told. holds_between (g.met.M.Machine.lawful c.args.machine.now) holds told
 
 pub returns-in-Err-clause-steps : goal.returns-in-Err-clause-steps
-returns-in-Err-clause-steps g c = λ told p w shows granted. takes_none (upkeep_course 0 end_group (meaning_in p) w (used_in c.args.engine.now)).steps (g.met.M.Machine.lawful c.args.machine.now) shows told
+returns-in-Err-clause-steps g c = λ told p w shows granted. takes_none (upkeep_course 0 0 end_group (meaning_in p) w (used_in c.args.engine.now)).steps (g.met.M.Machine.lawful c.args.machine.now) shows told
 
 pub returns-in-Err-clause-attached : goal.returns-in-Err-clause-attached
 returns-in-Err-clause-attached g c = λ attached. subst (λ (e : EngineView). IsAttached (g.M.Machine.disk c.args.machine.now) e) (sym (c.in-Err.ensures.none (was_closed c.args.engine.now c.end.new.self c.in-Err.field-0 c.in-Err.ensures.some)).1) attached

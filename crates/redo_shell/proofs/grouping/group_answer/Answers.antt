@@ -26,7 +26,7 @@ returns-in-Begin-clause-steps g c =
     let old = g.M.Machine.disk c.args.machine.now in
     let new = g.M.Machine.disk c.begin_answer.new.machine in
     subst (λ (k : Grouping). old.tells_moments → (p : Params) (w : World Command) → ShowsIn p old c.args.engine.now w → IsGranted (open_in w) (group_request k)
-    → TakesSome (meaning_in p) p old new w (upkeep_course 0 (group_request k) (meaning_in p) w (used_in c.args.engine.now)).steps) (sym c.in-Begin.is) c.begin_answer.ensures.steps
+    → TakesSome (meaning_in p) p old new w (upkeep_course 0 0 (group_request k) (meaning_in p) w (used_in c.args.engine.now)).steps) (sym c.in-Begin.is) c.begin_answer.ensures.steps
 
 pub returns-in-Begin-clause-still : goal.returns-in-Begin-clause-still
 returns-in-Begin-clause-still g c =
@@ -44,7 +44,7 @@ returns-in-End-clause-steps g c =
     let old = g.M.Machine.disk c.args.machine.now in
     let new = g.M.Machine.disk c.end_answer.new.machine in
     subst (λ (k : Grouping). old.tells_moments → (p : Params) (w : World Command) → ShowsIn p old c.args.engine.now w → IsGranted (open_in w) (group_request k)
-    → TakesSome (meaning_in p) p old new w (upkeep_course 0 (group_request k) (meaning_in p) w (used_in c.args.engine.now)).steps) (sym c.in-End.is) c.end_answer.ensures.steps
+    → TakesSome (meaning_in p) p old new w (upkeep_course 0 0 (group_request k) (meaning_in p) w (used_in c.args.engine.now)).steps) (sym c.in-End.is) c.end_answer.ensures.steps
 
 pub returns-in-End-clause-still : goal.returns-in-End-clause-still
 returns-in-End-clause-still g c =

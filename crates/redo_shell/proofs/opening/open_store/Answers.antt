@@ -48,12 +48,16 @@ returns-in-Ok-clause-ok g c = λ p commands opens.
     record {
       all = stands.1;
       alone = c.in-Ok.ensures.ready.1;
-      shows = λ first is. shows_first first is c.in-Ok.ensures.ready.0 c.in-Ok.ensures.ready.1 c.in-Ok.ensures.ready.2 (c.in-Ok.ensures.follows p is.used is.world is.found)
-          (c.a_restart_may_be_made.ensures.reopened (bounds_of p) is.world redo_dirty is.used (small_store p ((g.M.Machine.disk c.args.machine.now).reads Objects) is.found.shows.objects) is.found.sound) stands.0 (c.engine_stands.ensures p);
+      uncopied = c.in-Ok.ensures.ready.2;
+      shows = λ first is. shows_first first is c.in-Ok.ensures.ready.0 c.in-Ok.ensures.ready.1 c.in-Ok.ensures.ready.2 c.in-Ok.ensures.ready.3 (c.in-Ok.ensures.follows p is.used is.world is.found)
+          (c.a_restart_may_be_made.ensures.reopened (bounds_of p) is.world (redo_dirty p) is.used (small_store p ((g.M.Machine.disk c.args.machine.now).reads Objects) is.found.shows.objects) is.found.sound) stands.0 (c.engine_stands.ensures p);
     }
 
 pub returns-in-Ok-clause-ready : goal.returns-in-Ok-clause-ready
-returns-in-Ok-clause-ready g c = (c.in-Ok.ensures.ready.0, c.in-Ok.ensures.ready.3)
+returns-in-Ok-clause-ready g c = (c.in-Ok.ensures.ready.0, c.in-Ok.ensures.ready.4)
+
+pub returns-in-Ok-clause-layout : goal.returns-in-Ok-clause-layout
+returns-in-Ok-clause-layout g c = λ told. (c.in-Ok.ensures.judged told).layout
 
 pub returns-in-Ok-clause-settled : goal.returns-in-Ok-clause-settled
 returns-in-Ok-clause-settled g c = c.in-Ok.ensures.opening.settled

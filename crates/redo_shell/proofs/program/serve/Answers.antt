@@ -1,8 +1,8 @@
-use Rattle.std.proofs.Common.{sym, subst}
+use Rattle.std.proofs.Common.{refl, sym, subst}
 use Rattle.command_words.specs.Words.{IsAllowed}
 use Rattle.redo_shell.specs.Demo.{IsOfDemo}
 use Rattle.redo_shell.specs.Status.{IsOfDump, IsOfInit, IsOfUpgrade}
-use Rattle.redo_shell.proofs.CallLemmas.{call_for}
+use Rattle.redo_shell.proofs.CallLemmas.{backup_for, beside_none, call_for}
 use Rattle.redo_shell.proofs.program.serve.Goals as goal
 
 pub init-requires : goal.init-requires
@@ -49,3 +49,30 @@ returns-in-Demo-clause-read_fault g c = λ is. absurd (subst IsOfDemo is c.demo.
 
 pub returns-in-Demo-clause-too_long : goal.returns-in-Demo-clause-too_long
 returns-in-Demo-clause-too_long g c = λ told is. absurd (subst IsOfDemo is c.demo.ensures.demo.ends)
+
+pub returns-in-Run-clause-backup : goal.returns-in-Run-clause-backup
+returns-in-Run-clause-backup g c = backup_for g.T.Machine.disk _ _ _ _ _ _ (sym c.in-Run.is) c.run.ensures.backup
+
+pub returns-in-Dump-clause-backup : goal.returns-in-Dump-clause-backup
+returns-in-Dump-clause-backup g c = backup_for g.T.Machine.disk _ _ _ _ _ _ (sym c.in-Dump.is) refl
+
+pub returns-in-Dump-clause-beside : goal.returns-in-Dump-clause-beside
+returns-in-Dump-clause-beside g c = beside_none (g.T.Machine.disk c.args.backup.now) c.dump.result (λ is. subst IsOfDump is c.dump.ensures.call.ends)
+
+pub returns-in-Init-clause-backup : goal.returns-in-Init-clause-backup
+returns-in-Init-clause-backup g c = backup_for g.T.Machine.disk _ _ _ _ _ _ (sym c.in-Init.is) refl
+
+pub returns-in-Init-clause-beside : goal.returns-in-Init-clause-beside
+returns-in-Init-clause-beside g c = beside_none (g.T.Machine.disk c.args.backup.now) c.init.result (λ is. subst IsOfInit is c.init.ensures.making.ends)
+
+pub returns-in-Demo-clause-backup : goal.returns-in-Demo-clause-backup
+returns-in-Demo-clause-backup g c = backup_for g.T.Machine.disk _ _ _ _ _ _ (sym c.in-Demo.is) refl
+
+pub returns-in-Demo-clause-beside : goal.returns-in-Demo-clause-beside
+returns-in-Demo-clause-beside g c = beside_none (g.T.Machine.disk c.args.backup.now) c.demo.result (λ is. subst IsOfDemo is c.demo.ensures.demo.ends)
+
+pub returns-in-Upgrade-clause-backup : goal.returns-in-Upgrade-clause-backup
+returns-in-Upgrade-clause-backup g c = backup_for g.T.Machine.disk _ _ _ _ _ _ (sym c.in-Upgrade.is) refl
+
+pub returns-in-Upgrade-clause-beside : goal.returns-in-Upgrade-clause-beside
+returns-in-Upgrade-clause-beside g c = beside_none (g.T.Machine.disk c.args.backup.now) c.upgrade.result (λ is. subst IsOfUpgrade is c.upgrade.ensures.call.ends)

@@ -2,7 +2,7 @@ use Rattle.std.proofs.Common.{⊎_elim, inl, inr, subst, sym, refl, map, string_
 use Rattle.disk_model.specs.Moments.{stays_here}
 use Rattle.command_words.specs.Refusals.{IsRefusal}
 use Rattle.command_words.specs.declared.asked.Asked.TheVariants.{Init, Run, Dump, Demo, Upgrade}
-use Rattle.redo_shell.proofs.CallLemmas.{call_for, call_caused, call_exactly, call_goes_on, unread_goes_on}
+use Rattle.redo_shell.proofs.CallLemmas.{backup_called, backup_idle, backup_unread, call_for, call_caused, call_exactly, call_goes_on, unread_goes_on}
 use Rattle.redo_shell.specs.Causes.{IsUnread}
 use Rattle.redo_shell.specs.declared.status.Status.TheVariants.{Memory}
 use Rattle.redo_shell.proofs.ExactLemmas.{IsOfUsage, usage_ends}
@@ -32,14 +32,14 @@ returns-in-Ok-clause-upgrade g c = λ q asks. inl (call_for _ _ _ _ _ _ (c.words
 pub returns-in-Ok-clause-demo : goal.returns-in-Ok-clause-demo
 returns-in-Ok-clause-demo g c = λ seed steps asks. inl (call_for _ _ _ _ _ _ (c.words_ask_one_thing.ensures (map string_bytes c.args.words.now) c.in-Ok.asked (Demo seed steps) c.in-Ok.ensures.ok asks) c.serve.ensures.call)
 
-pub returns-in-Ok-clause-usage : goal.returns-in-Ok-clause-usage
-returns-in-Ok-clause-usage g c = λ none. absurd (none c.in-Ok.asked c.in-Ok.ensures.ok)
+pub returns-in-Ok-clause-backup : goal.returns-in-Ok-clause-backup
+returns-in-Ok-clause-backup g c = backup_called g.T.Machine.disk _ _ _ _ _ _ c.in-Ok.asked c.in-Ok.ensures.ok (λ other asks. c.words_ask_one_thing.ensures (map string_bytes c.args.words.now) c.in-Ok.asked other c.in-Ok.ensures.ok asks) c.serve.ensures.beside c.serve.ensures.backup
 
 pub returns-in-Ok-clause-cause : goal.returns-in-Ok-clause-cause
-returns-in-Ok-clause-cause g c = call_caused c.in-Ok.asked c.serve.ensures.call c.serve.ensures.faults c.serve.ensures.read_fault c.serve.ensures.too_long c.in-Ok.ensures.ok
+returns-in-Ok-clause-cause g c = call_caused c.in-Ok.asked c.serve.ensures.call c.serve.ensures.faults c.serve.ensures.read_fault c.serve.ensures.beside c.serve.ensures.too_long c.in-Ok.ensures.ok
 
 pub returns-in-Ok-clause-exactly : goal.returns-in-Ok-clause-exactly
-returns-in-Ok-clause-exactly g c = call_exactly c.in-Ok.asked c.serve.ensures.call c.serve.ensures.faults c.serve.ensures.read_fault c.serve.ensures.too_long
+returns-in-Ok-clause-exactly g c = call_exactly c.in-Ok.asked c.serve.ensures.call c.serve.ensures.faults c.serve.ensures.read_fault c.serve.ensures.beside c.serve.ensures.too_long
     c.in-Ok.ensures.ok (λ other asks. c.words_ask_one_thing.ensures (map string_bytes c.args.words.now) c.in-Ok.asked other c.in-Ok.ensures.ok asks)
     (record { place = c.one_damage.ensures.place (g.M.Machine.disk c.args.machine.now).reads; none = c.one_damage.ensures.none (g.M.Machine.disk c.args.machine.now).reads })
     (λ p commands opens. c.standing_files_meet_their_format.ensures.format p _ commands opens.stands)
@@ -66,14 +66,15 @@ returns-in-Err-Refused-clause-upgrade g c = λ q asks. absurd (c.in-Err-Refused.
 pub returns-in-Err-Refused-clause-demo : goal.returns-in-Err-Refused-clause-demo
 returns-in-Err-Refused-clause-demo g c = λ seed steps asks. absurd (c.in-Err-Refused.ensures.refused (subst IsRefusal (sym c.in-Err-Refused.field-0-is) tt) _ asks)
 
-pub returns-in-Err-Refused-clause-usage : goal.returns-in-Err-Refused-clause-usage
-returns-in-Err-Refused-clause-usage g c = λ none. inl (record {
-  keeps = keeps_once (g.M.Machine.disk c.args.machine.now) (g.M.Machine.disk c.end_with.new.machine) c.end_with.ensures.runs;
-  ends = c.end_with.ensures.status;
-})
+pub returns-in-Err-Refused-clause-backup : goal.returns-in-Err-Refused-clause-backup
+returns-in-Err-Refused-clause-backup g c = backup_idle g.T.Machine.disk c.args.backup.now (λ asks. c.in-Err-Refused.ensures.refused (subst IsRefusal (sym c.in-Err-Refused.field-0-is) tt) _ asks)
 
 pub returns-in-Err-Refused-clause-cause : goal.returns-in-Err-Refused-clause-cause
 returns-in-Err-Refused-clause-cause g c = record {
+  nothing = λ none. inl (record {
+    keeps = keeps_once (g.M.Machine.disk c.args.machine.now) (g.M.Machine.disk c.end_with.new.machine) c.end_with.ensures.runs;
+    ends = c.end_with.ensures.status;
+  });
   usage = λ is asked asks. c.in-Err-Refused.ensures.refused (subst IsRefusal (sym c.in-Err-Refused.field-0-is) tt) asked asks;
   usage_said = λ told is. c.end_with.ensures.all told (λ e. cc (is, e));
   no_store = λ told is. absurd (subst IsOfUsage is (usage_ends c.end_with.result c.end_with.ensures.status));
@@ -84,6 +85,7 @@ returns-in-Err-Refused-clause-cause g c = record {
     output = λ is. ⊎_elim (λ e. cc e) (λ e. e) (c.end_with.ensures.cause is);
   };
   read_fault = λ is. absurd (subst IsOfUsage is (usage_ends c.end_with.result c.end_with.ensures.status));
+  backup_fault = λ is. absurd (subst IsOfUsage is (usage_ends c.end_with.result c.end_with.ensures.status));
   too_long = λ told is. absurd (subst IsOfUsage is (usage_ends c.end_with.result c.end_with.ensures.status));
 }
 
@@ -119,3 +121,20 @@ returns-clause-session g c =
 
 pub returns-clause-upgrade : goal.returns-clause-upgrade
 returns-clause-upgrade g c = λ q asks. inr (record { ends = refl; stays = stays_here (g.M.Machine.disk c.args.machine.now) (g.met.M.Machine.lawful c.args.machine.now) })
+
+pub returns-clause-backup : goal.returns-clause-backup
+returns-clause-backup g c = backup_unread c.standing_files_meet_their_format.ensures.few g.T.Machine.disk (g.M.Machine.disk c.args.machine.now) c.args.backup.now
+
+pub returns-clause-cause : goal.returns-clause-cause
+returns-clause-cause g c = record {
+  nothing = λ none. inr (record { ends = refl; stays = stays_here (g.M.Machine.disk c.args.machine.now) (g.met.M.Machine.lawful c.args.machine.now) });
+  usage = λ is. cc;
+  usage_said = λ told is. cc;
+  no_store = λ told is. cc;
+  damaged = λ told is. cc;
+  already = λ told is. cc;
+  faults = record { disk = λ is. cc; output = λ is. cc };
+  read_fault = λ is. cc;
+  backup_fault = λ is. cc;
+  too_long = λ told is. cc;
+}

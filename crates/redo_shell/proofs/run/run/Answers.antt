@@ -1,10 +1,12 @@
-use Rattle.std.proofs.Common.{[], arith, subst}
+use Rattle.std.proofs.Common.{[], arith, refl, subst}
 use Rattle.disk_model.specs.Moments.{passes_twice}
 use Rattle.script_lines.specs.Grammar.{lines_of}
 use Rattle.redo_shell.specs.Status.{IsOfUnopened}
 use Rattle.redo_shell.proofs.ExactLemmas.{unopened_run}
 use Rattle.redo_shell.proofs.HoldLemmas.{rises_within}
-use Rattle.redo_shell.proofs.OpenLemmas.{run_on, run_unopened, runs_from_each, judged_open, not_done}
+use Rattle.redo_shell.proofs.CallLemmas.{beside_none}
+use Rattle.redo_shell.proofs.OpenLemmas.{backed_each, backed_from, none_backed, run_on, run_unopened, runs_from_each, judged_open, not_done}
+use Rattle.redo_shell.proofs.SavedLemmas.{printed_backed}
 use Rattle.redo_shell.proofs.run.run.Goals as goal
 
 pub returns-in-Ok-clause-time : goal.returns-in-Ok-clause-time
@@ -41,10 +43,20 @@ returns-in-Ok-clause-call g c =
       judged = λ told. judged_open c.run_open-status.result (c.in-Ok.ensures.read told) (c.run_open-status.ensures.store (c.open_store.ensures.time.files_told.0 told) attached);
     }
 
+pub returns-in-Ok-clause-backup : goal.returns-in-Ok-clause-backup
+returns-in-Ok-clause-backup g c = record {
+  opened = λ p commands opens told first is.
+      let opened = c.in-Ok.ensures.ok p commands opens in
+      printed_backed c.standing_files_meet_their_format.ensures.few g.T.Machine.disk
+      (backed_from g.T.Machine.disk (g.met.M.Machine.lawful c.args.machine.now) (c.open_store.ensures.opens p commands opens) c.open_store.ensures.time
+      (backed_each g.T.Machine.disk opened (λ holds. c.run_open-status.ensures.backup p commands holds opened.all opened.alone opened.uncopied told) first is));
+  unopened = λ tells broken. absurd (broken (c.in-Ok.ensures.read tells));
+}
+
 pub returns-in-Ok-clause-faults : goal.returns-in-Ok-clause-faults
 returns-in-Ok-clause-faults g c = record {
-  disk = λ is. rises_within _ _ _ _ c.open_store.ensures.time.disk_faults (omega arith) (c.run_open-status.ensures.disk_fault is);
-  output = λ is. rises_within _ _ _ _ c.open_store.ensures.time.say_faults (omega arith) (c.run_open-status.ensures.say_fault is);
+  disk = λ is. rises_within _ _ _ _ c.open_store.ensures.time.disk_faults (omega arith) (c.run_open-status.ensures.faults.disk is);
+  output = λ is. rises_within _ _ _ _ c.open_store.ensures.time.say_faults (omega arith) (c.run_open-status.ensures.faults.output is);
 }
 
 pub returns-in-Err-clause-call : goal.returns-in-Err-clause-call
@@ -65,6 +77,15 @@ returns-in-Err-clause-call g c =
       ends = unopened_run c.in-Err.status c.in-Err.ensures.unopened.ends;
       judged = c.in-Err.ensures.unopened.judged;
     }
+
+pub returns-in-Err-clause-backup : goal.returns-in-Err-clause-backup
+returns-in-Err-clause-backup g c = record {
+  opened = λ p commands opens told first is. printed_backed c.standing_files_meet_their_format.ensures.few g.T.Machine.disk (none_backed g.T.Machine.disk first c.open_store.ensures.time (c.open_store.ensures.opens p commands opens).quiet);
+  unopened = λ tells broken. refl;
+}
+
+pub returns-in-Err-clause-beside : goal.returns-in-Err-clause-beside
+returns-in-Err-clause-beside g c = beside_none (g.T.Machine.disk c.args.backup.now) c.in-Err.status (λ is. subst IsOfUnopened is c.in-Err.ensures.unopened.ends)
 
 pub returns-in-Err-clause-faults : goal.returns-in-Err-clause-faults
 returns-in-Err-clause-faults g c = c.in-Err.ensures.unopened.faults

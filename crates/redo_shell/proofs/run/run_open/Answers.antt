@@ -1,7 +1,8 @@
-use Rattle.std.proofs.Common.{[], rules}
-use Rattle.redo_shell.proofs.HoldLemmas.{told_by, attached_of}
+use Rattle.std.proofs.Common.{[], arith, rules}
+use Rattle.redo_shell.proofs.DamageLemmas.{no_backup_fault, no_disk_fault}
+use Rattle.redo_shell.proofs.HoldLemmas.{told_by, attached_of, rises_within}
 use Rattle.redo_shell.proofs.OpenLemmas.{run_completes, run_ends}
-use Rattle.redo_shell.proofs.ScriptLemmas.{whole_end}
+use Rattle.redo_shell.proofs.ScriptLemmas.{run_beside, run_faults, whole_end}
 use Rattle.redo_shell.proofs.run.run_open.Goals as goal
 
 pub returns-in_default-clause-answers : goal.returns-in_default-clause-answers
@@ -31,3 +32,30 @@ returns-in-Err-Damaged-clause-some g c = (
   λ p commands holds all alone.
       absurd (whole_end (c.answer_script-outcome.ensures.undamaged (told_by holds) (attached_of holds)) {file = c.in-Err-Damaged.file} {place = c.in-Err-Damaged.place} (search rules)),
 )
+
+pub returns-in_default-clause-backup : goal.returns-in_default-clause-backup
+returns-in_default-clause-backup g c = c.answer_script-outcome.ensures.backup
+
+pub returns-in_default-clause-beside : goal.returns-in_default-clause-beside
+returns-in_default-clause-beside g c = run_beside (g.M.Machine.disk c.args.machine.now) (g.M.Machine.disk c.answer_script-outcome.new.machine) (g.S.Source.faults c.args.input.now) (g.S.Source.faults c.answer_script-outcome.new.input) (g.T.Machine.disk c.args.backup.now) (g.T.Machine.disk c.answer_script-outcome.new.backup)
+    c.answer_script-outcome.result c.status_after.result c.status_after.ensures c.answer_script-outcome.ensures.cause c.answer_script-outcome.ensures.backup_time
+
+pub returns-in_default-clause-faults : goal.returns-in_default-clause-faults
+returns-in_default-clause-faults g c = run_faults (g.M.Machine.disk c.args.machine.now) (g.M.Machine.disk c.answer_script-outcome.new.machine) (g.S.Source.faults c.args.input.now) (g.S.Source.faults c.answer_script-outcome.new.input) (g.T.Machine.disk c.args.backup.now) (g.T.Machine.disk c.answer_script-outcome.new.backup)
+    c.answer_script-outcome.result c.status_after.result c.status_after.ensures c.answer_script-outcome.ensures.cause
+
+pub returns-in-Err-Damaged-clause-backup : goal.returns-in-Err-Damaged-clause-backup
+returns-in-Err-Damaged-clause-backup g c = λ p commands holds all alone none told.
+    absurd (whole_end (c.answer_script-outcome.ensures.undamaged (told_by holds) (attached_of holds)) {file = c.in-Err-Damaged.file} {place = c.in-Err-Damaged.place} (search rules))
+
+pub returns-in-Err-Damaged-clause-beside : goal.returns-in-Err-Damaged-clause-beside
+returns-in-Err-Damaged-clause-beside g c = record {
+  time = c.answer_script-outcome.ensures.backup_time;
+  fault = λ is. absurd (no_backup_fault c.end_damaged.result c.end_damaged.ensures.status is);
+}
+
+pub returns-in-Err-Damaged-clause-faults : goal.returns-in-Err-Damaged-clause-faults
+returns-in-Err-Damaged-clause-faults g c = record {
+  disk = λ is. absurd (no_disk_fault c.end_damaged.result c.end_damaged.ensures.status is);
+  output = λ is. rises_within _ _ _ _ c.answer_script-outcome.ensures.time.say_faults (omega arith) (c.end_damaged.ensures.cause is);
+}

@@ -5,6 +5,7 @@ use Rattle.script_lines.specs.Grammar.{lines_of}
 use Rattle.script_lines.specs.Reading.{IsLine, ReadsOn}
 use Rattle.redo_shell.specs.Run.{Going}
 use Rattle.redo_shell.specs.Stages.{stage_of}
+use Rattle.redo_shell.proofs.BackupLemmas.{GoingBeside, answering_of, ends_here_beside, ends_in_finish_beside, ends_in_line_beside, goes_on_beside, goes_to_beside, opened_beside}
 use Rattle.redo_shell.proofs.HoldLemmas.{told_by}
 use Rattle.redo_shell.proofs.RunLemmas.{opened, goes_to, with_next, goes_on, ends_here, ends_in_line, ends_in_finish, completes}
 use Rattle.redo_shell.proofs.ScriptLemmas.{takes_on, next_line, ended, input_end, too_much, whole_uncut, finish_stops, finish_uncut, line_stops, line_not_long, line_undamaged}
@@ -13,6 +14,10 @@ use Rattle.redo_shell.proofs.script.answer_script.Goals as goal
 pub returns-in_err-lines-clause-answers : goal.returns-in_err-lines-clause-answers
 returns-in_err-lines-clause-answers g c = λ p commands holds all alone told.
     ends_here (opened c.standing_files_meet_their_format.ensures.few (lines_of (g.S.Source.left c.args.input.now)) (g.met.M.Machine.lawful c.args.machine.now) holds all alone)
+
+pub returns-in_err-lines-clause-backup : goal.returns-in_err-lines-clause-backup
+returns-in_err-lines-clause-backup g c = λ p commands holds all alone none told.
+    ends_here_beside g.T.Machine.disk (opened_beside g.T.Machine.disk c.args.backup.now c.standing_files_meet_their_format.ensures.few (lines_of (g.S.Source.left c.args.input.now)) (g.met.M.Machine.lawful c.args.machine.now) holds all alone none)
 
 pub returns-in_err-lines-clause-some : goal.returns-in_err-lines-clause-some
 returns-in_err-lines-clause-some g c =
@@ -27,6 +32,10 @@ loop-lines-init g c = record {
   going = λ p commands holds all alone told.
       subst (λ (l : List ℕ). Going p (stage_of c.args.engine.now holds.world) (g.M.Machine.disk c.args.machine.now) (g.M.Machine.disk c.args.machine.now) c.args.engine.now commands (lines_of (g.S.Source.left c.args.input.now)) (lines_of (l ++ g.S.Source.left c.args.input.now)) false)
       (sym c.in_ok-lines.ensures.0) (opened c.standing_files_meet_their_format.ensures.few (lines_of (g.S.Source.left c.args.input.now)) (g.met.M.Machine.lawful c.args.machine.now) holds all alone);
+  backup_time = passes_none (g.T.Machine.disk c.args.backup.now);
+  beside = λ p commands holds all alone none told.
+      subst (λ (l : List ℕ). GoingBeside g.T.Machine.disk c.args.backup.now c.args.backup.now p (stage_of c.args.engine.now holds.world) (g.M.Machine.disk c.args.machine.now) (g.M.Machine.disk c.args.machine.now) c.args.engine.now commands (lines_of (g.S.Source.left c.args.input.now)) (lines_of (l ++ g.S.Source.left c.args.input.now)) false)
+      (sym c.in_ok-lines.ensures.0) (opened_beside g.T.Machine.disk c.args.backup.now c.standing_files_meet_their_format.ensures.few (lines_of (g.S.Source.left c.args.input.now)) (g.met.M.Machine.lawful c.args.machine.now) holds all alone none);
   some = ([], λ p commands holds all alone. opened c.standing_files_meet_their_format.ensures.few [] (g.met.M.Machine.lawful c.args.machine.now) holds all alone);
   reads = omega arith;
   takes = λ told. record { bytes = []; front = refl; count = omega (arith, c.in_ok-lines.ensures.1) };
@@ -34,6 +43,9 @@ loop-lines-init g c = record {
 
 pub returns-in_err-next-clause-answers : goal.returns-in_err-next-clause-answers
 returns-in_err-next-clause-answers g c = λ p commands holds all alone told. ends_here (c.loop-lines.invariant.going p commands holds all alone told)
+
+pub returns-in_err-next-clause-backup : goal.returns-in_err-next-clause-backup
+returns-in_err-next-clause-backup g c = λ p commands holds all alone none told. ends_here_beside g.T.Machine.disk (c.loop-lines.invariant.beside p commands holds all alone none told)
 
 pub returns-in_err-next-clause-some : goal.returns-in_err-next-clause-some
 returns-in_err-next-clause-some g c =
@@ -54,7 +66,15 @@ returns-in_err-refusing-in_default g c = record {
       let l = next_line c.in_ok-next.next _ _ _ (c.in_ok-next.ensures.next (c.loop-lines.invariant.told told)) c.in_default.not-End in
       let here = goes_to (l.0 ∷ _) so_far l.2 in
       let is_line = subst (λ (s : List ℕ). IsLine c.in_ok-next.next s l.0) (sym c.line.ensures) l.1 in
-      ends_in_line c.standing_files_meet_their_format.ensures.few l.0 here c.loop-lines.invariant.time c.in_err-refusing-in_default.was (c.answer_next.ensures.answers p here.account.commands l.0 is_line here.holds);
+      ends_in_line c.standing_files_meet_their_format.ensures.few l.0 here c.loop-lines.invariant.time c.in_err-refusing-in_default.was (answering_of c.answer_next.result (c.answer_next.ensures.answers c.args.backup.now p here.account.commands l.0 is_line here.holds));
+  backup_time = passes_twice (g.T.Machine.disk c.args.backup.now) (g.T.Machine.disk c.loop-lines.backup) (g.T.Machine.disk c.answer_next.new.backup) (g.met.T.Machine.lawful c.answer_next.new.backup) c.loop-lines.invariant.backup_time c.answer_next.ensures.backup_time;
+  backup = λ p commands holds all alone none told.
+      let so_far = c.loop-lines.invariant.beside p commands holds all alone none told in
+      let l = next_line c.in_ok-next.next _ _ _ (c.in_ok-next.ensures.next (c.loop-lines.invariant.told told)) c.in_default.not-End in
+      let here = goes_to_beside g.T.Machine.disk (l.0 ∷ _) so_far l.2 in
+      let is_line = subst (λ (s : List ℕ). IsLine c.in_ok-next.next s l.0) (sym c.line.ensures) l.1 in
+      ends_in_line_beside g.T.Machine.disk c.standing_files_meet_their_format.ensures.few l.0 here c.loop-lines.invariant.time c.loop-lines.invariant.backup_time
+      (c.answer_next.ensures.answers c.args.backup.now p here.going.account.commands l.0 is_line here.going.holds) (c.answer_next.ensures.idle l.0 is_line) c.in_err-refusing-in_default.was;
   complete = λ p commands holds all alone told. IfOk-from_err c.from_residual-in_err-refusing-in_default.result _ c.from_residual-in_err-refusing-in_default.ensures.0;
   some =
       let (script, so_far) = c.loop-lines.invariant.some in
@@ -67,12 +87,12 @@ returns-in_err-refusing-in_default g c = record {
             ),
       );
   input = λ told. IfOk-from_err c.from_residual-in_err-refusing-in_default.result _ c.from_residual-in_err-refusing-in_default.ensures.0;
-  cause = line_stops c.from_residual-in_err-refusing-in_default.result c.answer_next.result c.in_err-refusing-in_default.field-0.0 (g.M.Machine.disk c.args.machine.now) (g.M.Machine.disk c.loop-lines.machine) (g.M.Machine.disk c.answer_next.new.machine)
-      (g.S.Source.faults c.args.input.now) (g.S.Source.faults c.next.new.input) c.from_residual-in_err-refusing-in_default.ensures.1 c.in_err-refusing-in_default.was c.loop-lines.invariant.time c.answer_next.ensures.cause;
+  cause = line_stops (g.M.Machine.disk c.answer_next.new.machine) (g.T.Machine.disk c.answer_next.new.backup) (g.S.Source.faults c.args.input.now) (g.S.Source.faults c.next.new.input) c.loop-lines.invariant.time c.loop-lines.invariant.backup_time c.from_residual-in_err-refusing-in_default.result c.answer_next.result
+      c.in_err-refusing-in_default.field-0.0 c.from_residual-in_err-refusing-in_default.ensures.1 c.in_err-refusing-in_default.was c.answer_next.ensures.cause;
   undamaged = λ told attached. line_undamaged c.from_residual-in_err-refusing-in_default.result c.answer_next.result c.in_err-refusing-in_default.field-0.0 c.from_residual-in_err-refusing-in_default.ensures.1 c.in_err-refusing-in_default.was
       (c.answer_next.ensures.undamaged (c.loop-lines.invariant.time.files_told.0 told) (c.loop-lines.invariant.attached attached));
   too_long = λ told long. absurd (line_not_long c.from_residual-in_err-refusing-in_default.result c.answer_next.result c.in_err-refusing-in_default.field-0.0 (g.M.Machine.disk c.loop-lines.machine) (g.M.Machine.disk c.answer_next.new.machine)
-      c.from_residual-in_err-refusing-in_default.ensures.1 c.in_err-refusing-in_default.was c.answer_next.ensures.cause long);
+      (g.T.Machine.disk c.loop-lines.backup) (g.T.Machine.disk c.answer_next.new.backup) c.from_residual-in_err-refusing-in_default.ensures.1 c.in_err-refusing-in_default.was c.answer_next.ensures.cause long);
 }
 
 pub loop-lines-preserved : goal.loop-lines-preserved
@@ -86,7 +106,15 @@ loop-lines-preserved g c = record {
       let l = next_line c.in_ok-next.next _ _ _ (c.in_ok-next.ensures.next (c.loop-lines.invariant.told told)) c.in_default.not-End in
       let here = goes_to (l.0 ∷ _) so_far l.2 in
       let is_line = subst (λ (s : List ℕ). IsLine c.in_ok-next.next s l.0) (sym c.line.ensures) l.1 in
-      goes_on c.standing_files_meet_their_format.ensures.few c.a_line_asks_one_thing.ensures l.0 here c.loop-lines.invariant.time c.in_ok-refusing-in_default.was (c.answer_next.ensures.answers p here.account.commands l.0 is_line here.holds);
+      goes_on c.standing_files_meet_their_format.ensures.few c.a_line_asks_one_thing.ensures l.0 here c.loop-lines.invariant.time c.in_ok-refusing-in_default.was (answering_of c.answer_next.result (c.answer_next.ensures.answers c.args.backup.now p here.account.commands l.0 is_line here.holds));
+  backup_time = passes_twice (g.T.Machine.disk c.args.backup.now) (g.T.Machine.disk c.loop-lines.backup) (g.T.Machine.disk c.answer_next.new.backup) (g.met.T.Machine.lawful c.answer_next.new.backup) c.loop-lines.invariant.backup_time c.answer_next.ensures.backup_time;
+  beside = λ p commands holds all alone none told.
+      let so_far = c.loop-lines.invariant.beside p commands holds all alone none told in
+      let l = next_line c.in_ok-next.next _ _ _ (c.in_ok-next.ensures.next (c.loop-lines.invariant.told told)) c.in_default.not-End in
+      let here = goes_to_beside g.T.Machine.disk (l.0 ∷ _) so_far l.2 in
+      let is_line = subst (λ (s : List ℕ). IsLine c.in_ok-next.next s l.0) (sym c.line.ensures) l.1 in
+      goes_on_beside g.T.Machine.disk c.standing_files_meet_their_format.ensures.few l.0 here c.loop-lines.invariant.time c.loop-lines.invariant.backup_time
+      (c.answer_next.ensures.answers c.args.backup.now p here.going.account.commands l.0 is_line here.going.holds) (c.answer_next.ensures.idle l.0 is_line) c.a_line_asks_one_thing.ensures c.in_ok-refusing-in_default.was;
   some =
       let (script, so_far) = c.loop-lines.invariant.some in
       let (line, answering) = c.answer_next.ensures.some c.in_default.not-End in (
@@ -106,6 +134,13 @@ returns-in_err-close_script-clause-answers g c = λ p commands holds all alone t
     let here = goes_to [] so_far over in
     ends_in_finish c.standing_files_meet_their_format.ensures.few (finish_uncut c.from_residual-in_err-close_script.result c.in_err-close_script.field-0.0 c.from_residual-in_err-close_script.ensures.1 c.in_err-close_script.ensures.cause.0) here c.loop-lines.invariant.time (c.close_script.ensures.quiet (told_by here.holds)) (λ telling. c.close_script.ensures.images p here.account.commands here.holds telling)
     (λ telling. c.close_script.ensures.steps telling p here.holds.world here.holds.shows)
+
+pub returns-in_err-close_script-clause-backup : goal.returns-in_err-close_script-clause-backup
+returns-in_err-close_script-clause-backup g c = λ p commands holds all alone none told.
+    let so_far = c.loop-lines.invariant.beside p commands holds all alone none told in
+    let over = ended c.in_ok-next.next _ _ _ (c.in_ok-next.ensures.next (c.loop-lines.invariant.told told)) c.in-End.is in
+    let here = goes_to_beside g.T.Machine.disk [] so_far over in
+    ends_in_finish_beside g.T.Machine.disk here c.loop-lines.invariant.time (c.close_script.ensures.quiet (told_by here.going.holds)) (λ telling. c.close_script.ensures.images p here.going.account.commands here.going.holds telling)
 
 pub returns-in_err-close_script-clause-some : goal.returns-in_err-close_script-clause-some
 returns-in_err-close_script-clause-some g c =
@@ -141,6 +176,13 @@ returns-clause-answers g c = λ p commands holds all alone told.
     ends_in_finish c.standing_files_meet_their_format.ensures.few (whole_uncut _) here c.loop-lines.invariant.time (c.close_script.ensures.quiet (told_by here.holds)) (λ telling. c.close_script.ensures.images p here.account.commands here.holds telling)
     (λ telling. c.close_script.ensures.steps telling p here.holds.world here.holds.shows)
 
+pub returns-clause-backup : goal.returns-clause-backup
+returns-clause-backup g c = λ p commands holds all alone none told.
+    let so_far = c.loop-lines.invariant.beside p commands holds all alone none told in
+    let over = ended c.in_ok-next.next _ _ _ (c.in_ok-next.ensures.next (c.loop-lines.invariant.told told)) c.in-End.is in
+    let here = goes_to_beside g.T.Machine.disk [] so_far over in
+    ends_in_finish_beside g.T.Machine.disk here c.loop-lines.invariant.time (c.close_script.ensures.quiet (told_by here.going.holds)) (λ telling. c.close_script.ensures.images p here.going.account.commands here.going.holds telling)
+
 pub returns-clause-complete : goal.returns-clause-complete
 returns-clause-complete g c = λ p commands holds all alone told.
     let so_far = c.loop-lines.invariant.going p commands holds all alone told in
@@ -158,4 +200,4 @@ returns-clause-input g c = λ told.
 pub returns-in_err-close_script-clause-cause : goal.returns-in_err-close_script-clause-cause
 returns-in_err-close_script-clause-cause g c =
     finish_stops c.from_residual-in_err-close_script.result c.in_err-close_script.field-0.0 (g.M.Machine.disk c.args.machine.now) (g.M.Machine.disk c.loop-lines.machine) (g.M.Machine.disk c.close_script.new.machine) (g.S.Source.faults c.args.input.now)
-    (g.S.Source.faults c.next.new.input) c.from_residual-in_err-close_script.ensures.1 c.in_err-close_script.ensures.cause.0 c.loop-lines.invariant.time c.in_err-close_script.ensures.cause.1
+    (g.S.Source.faults c.next.new.input) (g.T.Machine.disk c.args.backup.now) (g.T.Machine.disk c.loop-lines.backup) c.from_residual-in_err-close_script.ensures.1 c.in_err-close_script.ensures.cause.0 c.loop-lines.invariant.time c.in_err-close_script.ensures.cause.1

@@ -8,6 +8,7 @@ use Rattle.redo_shell.specs.Store.{IsAttached}
 use Rattle.redo_shell.specs.Stages.{stage_of}
 use Rattle.redo_shell.specs.Store.{Command, Holds}
 use Rattle.redo_shell.specs.Run.{Going}
+use Rattle.redo_shell.proofs.BackupLemmas.{GoingBeside}
 use Rattle.redo_shell.proofs.script.answer_script.Given as goal
 
 abbrev pub invariant-loop-lines : goal.invariant-loop-lines
@@ -18,6 +19,9 @@ invariant-loop-lines g l = record {
   time : Passes (g.M.Machine.disk l.fn.machine) (g.M.Machine.disk l.machine);
   going : (p : Params) (commands : List Command) → (holds : Holds p (g.M.Machine.disk l.fn.machine) l.fn.engine commands) → forced_in l.fn.engine ≡ length commands → l.fn.engine.group ≡ None → g.S.Source.tells l.fn.input →
       Going p (stage_of l.fn.engine holds.world) (g.M.Machine.disk l.fn.machine) (g.M.Machine.disk l.machine) l.engine commands (lines_of (g.S.Source.left l.fn.input)) (lines_of (l.lines.ahead ++ g.S.Source.left l.input)) l.refusing;
+  backup_time : Passes (g.T.Machine.disk l.fn.backup) (g.T.Machine.disk l.backup);
+  beside : (p : Params) (commands : List Command) → (holds : Holds p (g.M.Machine.disk l.fn.machine) l.fn.engine commands) → forced_in l.fn.engine ≡ length commands → l.fn.engine.group ≡ None → l.fn.engine.copied ≡ None → g.S.Source.tells l.fn.input →
+      GoingBeside g.T.Machine.disk l.fn.backup l.backup p (stage_of l.fn.engine holds.world) (g.M.Machine.disk l.fn.machine) (g.M.Machine.disk l.machine) l.engine commands (lines_of (g.S.Source.left l.fn.input)) (lines_of (l.lines.ahead ++ g.S.Source.left l.input)) l.refusing;
   some : (script : List (List ℕ)) × ((p : Params) (commands : List Command) → (holds : Holds p (g.M.Machine.disk l.fn.machine) l.fn.engine commands) → forced_in l.fn.engine ≡ length commands → l.fn.engine.group ≡ None →
       Going p (stage_of l.fn.engine holds.world) (g.M.Machine.disk l.fn.machine) (g.M.Machine.disk l.machine) l.engine commands script [] l.refusing);
   reads : g.S.Source.faults l.fn.input ≤ g.S.Source.faults l.input;

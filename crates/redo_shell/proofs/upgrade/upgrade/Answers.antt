@@ -1,6 +1,7 @@
-use Rattle.std.proofs.Common.{◌++◌, ◌∙◌, inl, List, ℕ, ap, arith}
+use Rattle.std.proofs.Common.{◌+◌, ◌++◌, ◌∙◌, inl, List, ℕ, ap, sym, arith}
 use Rattle.disk_model.specs.Moments.{passes_twice}
-use Rattle.store_engine.specs.Upgrading.{IsSecond}
+use Rattle.disk_model.specs.declared.machine.FileNo.TheVariants.{Objects}
+use Rattle.formats.specs.Objects.{last_slot}
 use Rattle.redo_shell.specs.Causes.{IsCutStore}
 use Rattle.redo_shell.specs.Notices.{already_version_two, damaged, smaller}
 use Rattle.redo_shell.proofs.HoldLemmas.{rises_within}
@@ -38,8 +39,8 @@ returns-in-Ok-clause-call g c =
                 (said.0, said.1 ∙ ap (λ (l : List ℕ). l ++ smaller p.objects p.cap) files.quiet);
             already = λ is.
                 let said = c.upgrade_open.ensures.already told_mid attached is in
-                (in_between IsSecond old mid new lawful first second said.0, said.1 ∙ ap (λ (l : List ℕ). l ++ already_version_two) files.quiet);
-            first = λ is. in_between (λ files. IsSecond files → ⊥) old mid new lawful first second (λ version. c.upgrade_open.ensures.first told_mid attached is version);
+                (sym (c.in-Ok.ensures.layout opens.told).version ∙ said.0, said.1 ∙ ap (λ (l : List ℕ). l ++ already_version_two) files.quiet);
+            second = λ is. c.upgrade_open.ensures.second told_mid attached ((c.in-Ok.ensures.layout opens.told).version ∙ is);
             idle = λ is. c.upgrade_open.ensures.idle p commands holds opened.all is;
             store = c.upgrade_open.ensures.status.1;
           };
@@ -52,9 +53,7 @@ returns-in-Ok-clause-call g c =
           record {
             whole = c.in-Ok.ensures.read told;
             cut = in_between IsCutStore old mid new lawful first second (cut_store mid c.in-Ok.engine told_mid attached said.0);
-            file = said.1.0;
-            place = said.1.1;
-            said = said.1.2 ∙ ap (λ (l : List ℕ). l ++ damaged said.1.0 said.1.1) (c.in-Ok.ensures.quiet told);
+            said = said.1 ∙ (λ i. c.in-Ok.ensures.quiet told i ++ damaged Objects (last_slot ((c.in-Ok.ensures.layout told).layout i) + 9));
           });
     }
 

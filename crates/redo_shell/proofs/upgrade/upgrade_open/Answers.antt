@@ -1,14 +1,17 @@
-use Rattle.std.proofs.Common.{◌≡◌, ◌++◌, ◌∙◌, inl, inr, ⊎_elim, List, ℕ, ap, length, sym, subst, arith, take, Result, Err}
+use Rattle.std.proofs.Common.{◌+◌, ◌++◌, ◌∙◌, ⊎_elim, List, ℕ, ap, subst, arith, take, Result, Err}
 use Rattle.disk_model.specs.Disk.{Rises}
 use Rattle.disk_model.specs.Moments.{passes_twice}
-use Rattle.store_engine.specs.Engine.{InEachImage, forced_in, params_of}
+use Rattle.disk_model.specs.declared.machine.FileNo.TheVariants.{Objects}
+use Rattle.formats.specs.Objects.{last_slot}
+use Rattle.stable_objects.specs.SlotLaws.{layout_of_file}
+use Rattle.store_engine.specs.Engine.{InEachImage, forced_in}
 use Rattle.store_engine.specs.Upgrading.{HasUpgradeCause, WhereIdle}
 use Rattle.store_engine.specs.declared.upgrade_err.UpgradeErr.{UpgradeErr}
 use Rattle.redo_shell.specs.Notices.{already_version_two, damaged, smaller}
 use Rattle.redo_shell.specs.Store.{Stands, StandsInEither}
 use Rattle.redo_shell.proofs.HoldLemmas.{in_engine, rises_within, told_by}
 use Rattle.redo_shell.proofs.KeepLemmas.{keeps_once}
-use Rattle.redo_shell.proofs.UpgradeLemmas.{IsOfDamage, IsOfSmaller, IsOfTwo, all_each, all_images, all_still, all_upgraded, damage_ends, damage_upgrade, images_behind, kept_each, larger_in, larger_of, silent_images, smaller_ends, smaller_upgrade, two_ends, two_upgrade}
+use Rattle.redo_shell.proofs.UpgradeLemmas.{IsOfDamage, IsOfSmaller, IsOfTwo, all_each, all_images, all_still, all_upgraded, damage_ends, damage_upgrade, images_behind, kept_each, larger_in, larger_of, silent_images, smaller_ends, smaller_upgrade, two_ends, two_second, two_upgrade}
 use Rattle.redo_shell.proofs.upgrade.upgrade_open.Goals as goal
 
 pub returns-in-Ok-clause-images : goal.returns-in-Ok-clause-images
@@ -157,10 +160,14 @@ pub returns-in-Err-Damaged-clause-already : goal.returns-in-Err-Damaged-clause-a
 returns-in-Err-Damaged-clause-already g c = λ told attached is. absurd (subst IsOfDamage is (damage_ends c.end_damaged.result c.end_damaged.ensures.status))
 
 pub returns-in-Err-Damaged-clause-damaged : goal.returns-in-Err-Damaged-clause-damaged
-returns-in-Err-Damaged-clause-damaged g c = λ told attached is. (
-  λ uncut. c.upgrade.ensures.undamaged told attached uncut c.in-Err-Damaged.file c.in-Err-Damaged.place (cc (c.in-Err-Damaged.is, c.in-Err-Damaged.field-0-is)),
-  (c.in-Err-Damaged.file, c.in-Err-Damaged.place, c.end_damaged.ensures.all (c.upgrade.ensures.time.files_told.0 told) is ∙ ap (λ (l : List ℕ). l ++ damaged c.in-Err-Damaged.file c.in-Err-Damaged.place) (c.upgrade.ensures.quiet told)),
-)
+returns-in-Err-Damaged-clause-damaged g c = λ told attached is.
+    let at = c.upgrade.ensures.damaged told attached c.in-Err-Damaged.file c.in-Err-Damaged.place (cc (c.in-Err-Damaged.is, c.in-Err-Damaged.field-0-is)) in
+    let slots = c.args.engine.parts.volatile.objects.slots in
+    let layout = layout_of_file slots ((g.M.Machine.disk c.args.machine.now).reads Objects) (attached told).0.slots in (
+      λ uncut. at.cut uncut,
+      c.end_damaged.ensures.all (c.upgrade.ensures.time.files_told.0 told) is
+          ∙ (λ i. c.upgrade.ensures.quiet told i ++ damaged (at.file_is i) ((at.place_is ∙ ap (λ l. last_slot l + 9) layout) i)),
+    )
 
 pub returns-in-Ok-clause-idle : goal.returns-in-Ok-clause-idle
 returns-in-Ok-clause-idle g c = λ p commands holds all is. absurd (⊎_elim (λ e. cc e) (λ e. cc e) is)
@@ -192,14 +199,14 @@ returns-in-Err-Damaged-clause-idle g c = λ p commands holds all is.
     let ends = damage_ends c.end_damaged.result c.end_damaged.ensures.status in
     absurd (⊎_elim (λ e. subst IsOfDamage e ends) (λ e. subst IsOfDamage e ends) is)
 
-pub returns-in-Ok-clause-first : goal.returns-in-Ok-clause-first
-returns-in-Ok-clause-first g c = λ told attached is second. cc (c.in-Ok.is, (c.upgrade.ensures.version told attached).1 second)
+pub returns-in-Ok-clause-second : goal.returns-in-Ok-clause-second
+returns-in-Ok-clause-second g c = λ told attached second. cc (c.in-Ok.is, (c.upgrade.ensures.version told attached).1 second)
 
-pub returns-in-Err-AlreadyTwo-clause-first : goal.returns-in-Err-AlreadyTwo-clause-first
-returns-in-Err-AlreadyTwo-clause-first g c = λ told attached is. absurd (subst IsOfTwo is (two_ends c.end_with.result c.end_with.ensures.status))
+pub returns-in-Err-AlreadyTwo-clause-second : goal.returns-in-Err-AlreadyTwo-clause-second
+returns-in-Err-AlreadyTwo-clause-second g c = λ told attached second. two_second c.end_with.result (two_ends c.end_with.result c.end_with.ensures.status)
 
-pub returns-in-Err-Smaller-clause-first : goal.returns-in-Err-Smaller-clause-first
-returns-in-Err-Smaller-clause-first g c = λ told attached is. absurd (subst IsOfSmaller is (smaller_ends c.end_smaller.result c.end_smaller.ensures.status))
+pub returns-in-Err-Smaller-clause-second : goal.returns-in-Err-Smaller-clause-second
+returns-in-Err-Smaller-clause-second g c = λ told attached second. cc (c.in-Err-Smaller.is, c.in-Err-Smaller.field-0-is, (c.upgrade.ensures.version told attached).1 second)
 
-pub returns-in-Err-Damaged-clause-first : goal.returns-in-Err-Damaged-clause-first
-returns-in-Err-Damaged-clause-first g c = λ told attached is. absurd (subst IsOfDamage is (damage_ends c.end_damaged.result c.end_damaged.ensures.status))
+pub returns-in-Err-Damaged-clause-second : goal.returns-in-Err-Damaged-clause-second
+returns-in-Err-Damaged-clause-second g c = λ told attached second. cc (c.in-Err-Damaged.is, c.in-Err-Damaged.field-0-is, (c.upgrade.ensures.version told attached).1 second)
