@@ -26,6 +26,8 @@ struct Store {
   virtual void put(const std::string &key, const std::string &value) = 0;
   virtual void commit() = 0;
   virtual size_t count(const std::string &from, const std::string &to) = 0;
+  // Copies the database into the folder `copy`; false where it has no such call.
+  virtual bool backup() { return false; }
 };
 
 [[noreturn]] static void fail(const char *what) {
@@ -50,6 +52,13 @@ struct Lmdb : Store {
   }
   void begin() {
     if (mdb_txn_begin(env, nullptr, 0, &txn)) fail("begin");
+  }
+  bool backup() override {
+    // (a copy waits for the writer, which is this one)
+    mdb_txn_abort(txn);
+    const bool done = mdb_env_copy(env, "copy") == 0;
+    begin();
+    return done;
   }
   static MDB_val bytes_of(const std::string &s) { return MDB_val{s.size(), const_cast<char *>(s.data())}; }
   std::string get(const std::string &key) override {
@@ -173,6 +182,10 @@ int main(int words, char **word) {
   std::mt19937_64 random(7);
   if (work == "open") {
     std::printf("%zu\n", store->count(key_of(0), key_of(UINT32_MAX)));
+    return 0;
+  }
+  if (work == "backup") {
+    if (!store->backup()) fail("the copy");
     return 0;
   }
   for (uint32_t x = 0; work != "index" && work != "puts" && x < 64; x++) store->put(key_of(x), std::string(length, 'a'));
