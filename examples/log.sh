@@ -1,5 +1,4 @@
 # The log of a store as text: `log` says the header, each block, each record, and the end.
-# needs: command -v rt
 log=$(dirname "$0")/log
 redo init 8 1024 8192
 redo run >said <<'END'
