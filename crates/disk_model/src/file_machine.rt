@@ -4,6 +4,7 @@ ghost use Rattle.disk_model.specs.Untold.{untold, lawful_untold};
 
 use crate::by_file::ByFile;
 use crate::count::counted;
+use crate::file_fault::{FileCall, FileFault, noted};
 use crate::file_path::FilePath;
 use crate::stored_file::StoredFile;
 use crate::{Failed, FileNames, FileNo, Machine};
@@ -20,6 +21,7 @@ pub struct FileMachine<R: Files + Print> {
     files: ByFile<StoredFile<R>>,
     disk_faults: u64,
     say_faults: u64,
+    fault: Option<FileFault>,
 }
 
 impl<R: Files + Print> FileMachine<R> {
@@ -74,6 +76,16 @@ impl<R: Files + Print> FileMachine<R> {
         Ok(FileMachine::over(rt, files))
     }
 
+    /// The first call on a file that failed, if one did.
+    pub fn fault(&self) -> Option<&FileFault> {
+        self.fault.as_ref()
+    }
+
+    /// Where a file is, from the current folder.
+    pub fn path(&self, file: FileNo) -> &str {
+        self.files.get(file).path()
+    }
+
     fn over(rt: R, files: ByFile<StoredFile<R>>) -> Self
         ensures disk_faults { result.disk_faults ≡ 0 }
         ensures say_faults { result.say_faults ≡ 0 }
@@ -83,6 +95,7 @@ impl<R: Files + Print> FileMachine<R> {
             files,
             disk_faults: 0,
             say_faults: 0,
+            fault: None,
         }
     }
 }
@@ -103,21 +116,25 @@ where
 
     fn size(&mut self, file: FileNo) -> Result<u64, Failed> {
         let answer = self.files.get_mut(file).size(&self.rt);
+        let answer = noted(&mut self.fault, file, FileCall::Size, answer);
         counted(&mut self.disk_faults, answer)
     }
 
     fn read(&mut self, file: FileNo, at: u64, into: &mut [u8]) -> Result<usize, Failed> {
         let answer = self.files.get_mut(file).read(&self.rt, at, into);
+        let answer = noted(&mut self.fault, file, FileCall::Read, answer);
         counted(&mut self.disk_faults, answer)
     }
 
     fn write_at(&mut self, file: FileNo, at: u64, bytes: &[u8]) -> Result<(), Failed> {
         let answer = self.files.get_mut(file).write(&self.rt, at, bytes);
+        let answer = noted(&mut self.fault, file, FileCall::Write, answer);
         counted(&mut self.disk_faults, answer)
     }
 
     fn sync(&mut self, file: FileNo) -> Result<(), Failed> {
         let answer = self.files.get_mut(file).sync(&self.rt);
+        let answer = noted(&mut self.fault, file, FileCall::Sync, answer);
         counted(&mut self.disk_faults, answer)
     }
 

@@ -28,6 +28,10 @@ impl<R: Files> StoredFile<R> {
         }
     }
 
+    pub fn path(&self) -> &str {
+        self.path.as_str()
+    }
+
     pub fn size(&mut self, rt: &R) -> io::Result<u64> {
         self.open(rt)?;
         match &mut self.opened {
