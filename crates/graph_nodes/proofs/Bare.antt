@@ -1,18 +1,18 @@
 -- Arcs that join no nodes.
-use Rattle.std.proofs.Common.{◌≡◌, ◌∙◌, sym, subst, ℕ, ◌/◌, ◌<◌, List, [], ◌∷◌, length, refl, arith, inl, inr}
-use Rattle.std.specs.Prelude.{IsTrue, IsFalse, Bool, Option, None}
+use Rattle.std.proofs.Common.{◌≡◌, ◌∙◌, ap, sym, subst, ℕ, ◌/◌, ◌<◌, List, [], ◌∷◌, length, refl, arith, inl, inr}
+use Rattle.std.specs.Prelude.{IsTrue, Bool, Option, None}
 use Rattle.std.proofs.lemmas.Bool.{cases_eq, cases_lt, both_ways}
 use Rattle.std.proofs.Math.ListN.{get_or-eq_default}
 use Rattle.oper_core.specs.State.{is_among}
 use Rattle.install_order.specs.Digraph.{Walk}
 use Rattle.install_order.specs.Digraph.Walk.{Here, Then}
 use Rattle.number_lists.specs.Lists.{Lists, list_at}
-use Rattle.graph_nodes.specs.Arcs.{arc_at, node_at}
+use Rattle.graph_nodes.specs.Arcs.{arc_at, node_at, IsArc}
 use Rattle.graph_nodes.specs.Merge.{IsFiled}
 use Rattle.graph_nodes.specs.Named.{Naming, AreForgotten, AreNamesMerged}
-use Rattle.graph_nodes.specs.Search.{IsBehind, IsSearched, IsOwn, IsBare, IsApart}
-use Rattle.graph_nodes.specs.Kept.{IsKept, AreGathered}
-use Rattle.graph_nodes.proofs.Options.{none-some, some-of}
+use Rattle.graph_nodes.specs.Search.{IsOwn, IsBare}
+use Rattle.graph_nodes.specs.Kept.{IsApart, IsKept, AreGathered}
+use Rattle.graph_nodes.proofs.Options.{none-some}
 use Rattle.graph_nodes.proofs.Joined.{merged-start}
 use Rattle.graph_nodes.proofs.Scattered.{one-in}
 
@@ -43,30 +43,17 @@ only-slot arcs node members w i filed own one e = elim (cases_lt i (length node)
 ]
 
 -- no walk leaves a node without arcs
-bare-walk : (arcs : List (Option ℕ)) (node : List ℕ) (into : Lists) (w q : ℕ) → ((c : ℕ) → node_at node (c / 8) ≡ w → arc_at arcs c ≡ None) → Walk (IsBehind arcs node into) w q → q ≡ w
-bare-walk arcs node into w q none Here = refl
-bare-walk arcs node into w q none (Then m p walk behind) =
-    let start = bare-walk arcs node into w m none walk in
-    let end = some-of (arc_at arcs behind.0) behind.2.0 in
-    absurd (none-some end.0 (sym (none behind.0 (behind.2.1 ∙ start)) ∙ end.1))
+bare-walk : (arcs : List (Option ℕ)) (node : List ℕ) (w i q : ℕ) → ((c : ℕ) → node_at node (c / 8) ≡ w → arc_at arcs c ≡ None) → node_at node i ≡ w → Walk (IsArc arcs) i q → q ≡ i
+bare-walk arcs node w i q none at Here = refl
+bare-walk arcs node w i q none at (Then m p walk arc) =
+    let start = bare-walk arcs node w i m none at walk in
+    absurd (none-some p (sym (none arc.0 (ap (λ (k : ℕ). node_at node k) (arc.1 ∙ start) ∙ at)) ∙ arc.2))
 
-pub bare-apart : (arcs : List (Option ℕ)) (node : List ℕ) (members into : Lists) (v w : ℕ) → IsFiled node members → IsOwn arcs node w → IsBare arcs members w → IsApart arcs node into v w
-bare-apart arcs node members into v w filed own bare = elim (cases_eq v w) [
+pub bare-apart : (arcs : List (Option ℕ)) (node : List ℕ) (members : Lists) (v w : ℕ) → IsFiled node members → IsOwn arcs node w → IsBare arcs members w → IsApart arcs node v w
+bare-apart arcs node members v w filed own bare = elim (cases_eq v w) [
   | inl e ↦ inl e
-  | inr ne ↦ inr (λ walk. ne (bare-walk arcs node into w v (λ c e. bare.1 c (only-slot arcs node members w (c / 8) filed own bare.0 e)) walk))
+  | inr ne ↦ inr (λ i j ei ej walk. ne (sym ej ∙ ap (λ (k : ℕ). node_at node k) (bare-walk arcs node w i j (λ c e. bare.1 c (only-slot arcs node members w (c / 8) filed own bare.0 e)) ei walk) ∙ ei))
 ]
-
--- what reaches what was found is found, or w is
-walk-found : (arcs : List (Option ℕ)) (node : List ℕ) (into : Lists) (v w q : ℕ) (found : List ℕ) → IsSearched arcs node into v w found → IsTrue (is_among q found) → Walk (IsBehind arcs node into) w q → IsTrue (is_among w found)
-walk-found arcs node into v w q found is held Here = held
-walk-found arcs node into v w q found is held (Then m p walk behind) = elim (cases_eq q w) [
-  | inl e ↦ subst (λ (k : ℕ). IsTrue (is_among k found)) e held
-  | inr ne ↦ walk-found arcs node into v w m found is (is.closed q m held ne behind) walk
-]
-
--- where w was not found, it does not reach v
-pub search-apart : (arcs : List (Option ℕ)) (node : List ℕ) (into : Lists) (v w : ℕ) (found : List ℕ) → IsSearched arcs node into v w found → IsFalse (is_among w found) → IsApart arcs node into v w
-search-apart arcs node into v w found is out = inr (λ walk. both_ways _ out (walk-found arcs node into v w v found is is.start walk))
 
 none-forgotten : (name : List ℕ) (least : ℕ) (marks : List Bool) → AreForgotten [] name least marks marks
 none-forgotten name least marks = record { done = λ k gone. absurd (both_ways _ refl gone.1); rest = λ k. inl refl; size = refl }

@@ -1,6 +1,6 @@
 -- How a search against the arcs goes on.
 use Rattle.std.proofs.Common.{◌≡◌, ◌∙◌, ap, sym, subst, ℕ, zero, suc, ◌+◌, ◌<◌, ◌≤◌, List, [], ◌∷◌, ◌++◌, append_assoc, append-nil, length, length-append, refl, arith, inl, inr}
-use Rattle.std.specs.Prelude.{IsTrue, ◌==◌, ◌↔◌, ◌⊎◌, Option, slice_index}
+use Rattle.std.specs.Prelude.{IsTrue, ◌==◌, ◌↔◌, ◌⊎◌, Option, slice_index, slice_index_or}
 use Rattle.std.proofs.lemmas.Bool.{cases_eq, cases_lt, both_ways, or_left, or_right, or_cases, eqb-true, eq-eqb}
 use Rattle.std.proofs.lemmas.List.{get_or_default}
 use Rattle.oper_core.specs.State.{is_among}
@@ -10,6 +10,7 @@ use Rattle.install_order.specs.MergeLaws.{walk-on}
 use Rattle.number_lists.specs.Lists.{Lists}
 use Rattle.number_lists.specs.Members.{Members, IsWith}
 use Rattle.graph_nodes.specs.Arcs.{node_at, IsStartOf}
+use Rattle.graph_nodes.specs.Levels.{level_at}
 use Rattle.graph_nodes.specs.Search.{AreKept, IsLookedBack, AreLookedBack, IsBehind, IsExpanded, IsSearching, IsSearched}
 
 pub kept-twice : (a b c : Members) → AreKept a b → AreKept b c → AreKept a c
@@ -128,6 +129,10 @@ searching-end arcs node into v stop next found le is = record {
       let p = among-place n found held in
       is.closed p.0 m (omega (arith, p.1, le)) (λ s. off (sym p.2 ∙ s)) (subst (λ (j : ℕ). IsBehind arcs node into m j) (sym p.2) behind);
 }
+
+-- what the code reads of a node's level
+pub level-read : (level : List ℕ) (m x : ℕ) → m < length level → x ≡ slice_index_or level m x → x ≡ level_at level m
+level-read level m x lt e = e ∙ get_or_default level m x 0 lt
 
 -- what the code reads of a slot's node
 pub node-read : (node : List ℕ) (i : ℕ) → i < length node → slice_index node i ≡ node_at node i

@@ -35,11 +35,11 @@ of-node arcs node n slots members filed low e minimal = record {
 
 module _ (arcs left : List (Option ℕ)) (old new : List ℕ) (n : ℕ) (slots : List ℕ) (into led_into : Lists) (are : AreOfNode arcs old n slots) (clear : AreCleared (λ c. IsTrue (is_among (c / 8) slots)) arcs left into led_into) (alone : AreAlone slots old new) where
   -- an arc that is left starts outside the node
-  start-out : (c j : ℕ) → arc_at left c ≡ Some j → IsTrue (is_among (c / 8) slots) → ⊥
+  pub start-out : (c j : ℕ) → arc_at left c ≡ Some j → IsTrue (is_among (c / 8) slots) → ⊥
   start-out c j arc t = none-some j (sym (clear.done c t) ∙ arc)
 
   -- and ends outside it
-  end-out : (c j : ℕ) → arc_at left c ≡ Some j → IsTrue (is_among j slots) → ⊥
+  pub end-out : (c j : ℕ) → arc_at left c ≡ Some j → IsTrue (is_among j slots) → ⊥
   end-out c j arc t =
       let was = arc-was (λ k. IsTrue (is_among (k / 8) slots)) arcs left into led_into c j clear arc in
       start-out c j arc (are.there (c / 8) (are.minimal (c / 8) j (c, refl, was) (are.only j t)))

@@ -1,11 +1,11 @@
 -- How nodes are merged.
-use Rattle.std.proofs.Common.{◌≡◌, ◌∙◌, ap, sym, subst, ℕ, ◌+◌, ◌<◌, Bool, false, List, [], ◌∷◌, ◌++◌, length, refl, arith, inl, inr}
+use Rattle.std.proofs.Common.{◌≡◌, ◌∙◌, ap, sym, subst, ℕ, ◌<◌, Bool, false, List, [], ◌∷◌, ◌++◌, length, refl, arith, inl, inr}
 use Rattle.std.specs.Prelude.{IsTrue, ◌==◌, ◌||◌, ◌⊎◌, if◌then◌else◌, slice_index}
 use Rattle.std.proofs.lemmas.Bool.{cases_eq, cases_Bool, or_left, or_from, eq-eqb, ne_eqb, cond-true, cond-false}
 use Rattle.oper_core.specs.State.{is_among}
 use Rattle.number_lists.specs.Lists.{Lists, list_at, AreAsMany}
 use Rattle.graph_nodes.specs.Arcs.{node_at}
-use Rattle.graph_nodes.specs.Merge.{IsFiled, IsRelabelled, renamed, gathered, IsAbsorbed, AreMerged}
+use Rattle.graph_nodes.specs.Merge.{IsFiled, IsRelabelled, renamed, gathered, AreMoved, IsAbsorbed, AreMerged}
 use Rattle.graph_nodes.proofs.Found.{among-place}
 
 -- the first so many of the slots
@@ -30,6 +30,10 @@ renamed-off n one m ne = cond-false (m == n) one m (ne_eqb m n ne)
 pub many-same : (a : Lists) → AreAsMany a a
 many-same a = record { lists = refl; items = refl; list_room = refl; item_room = refl }
 
+-- no list is moved
+pub moved-none : (one : ℕ) (a : Lists) → AreMoved (gathered [] one) a a
+moved-none one a = record { there = λ m k t. t; only = λ m k t. (m, t, refl); same = many-same a }
+
 -- none is merged
 pub merged-start : (one : ℕ) (node : List ℕ) (members into : Lists) → IsFiled node members → AreMerged [] one node node members members into into
 merged-start one node members into filed = record {
@@ -37,7 +41,7 @@ merged-start one node members into filed = record {
   size = refl;
   filed = filed;
   members = many-same members;
-  into = record { there = λ m k t. t; only = λ m k t. (m, t, refl); same = many-same into };
+  into = moved-none one into;
 }
 
 skip : (a b : Bool) → a ≡ false → (a || b) ≡ b
@@ -70,6 +74,16 @@ name-more ns n one m =
           ap (λ (k : ℕ). renamed n one k) left ∙ ap (λ (b : Bool). if b then one else m) (sym (push ∙ skip (is_among m ns) (m == n) f))
     ]
 
+pub moved-more : (ns : List ℕ) (n one : ℕ) (a b c : Lists) → AreMoved (gathered ns one) a b → AreMoved (renamed n one) b c → AreMoved (gathered (ns ++ n ∷ []) one) a c
+moved-more ns n one a b c was is = record {
+  there = λ m k t. subst (λ (j : ℕ). IsTrue (is_among k (list_at c.lists j))) (name-more ns n one m) (is.there (gathered ns one m) k (was.there m k t));
+  only = λ m k t.
+      let r = is.only m k t in
+      let s = was.only r.0 k r.1 in
+      (s.0, s.1, sym (name-more ns n one s.0) ∙ ap (λ (j : ℕ). renamed n one j) s.2 ∙ r.2);
+  same = many-twice a b c was.same is.same;
+}
+
 -- one node more is merged
 pub merged-on : (ns : List ℕ) (n one : ℕ) (a b c : List ℕ) (ma mb mc ia ib ic : Lists) → AreMerged ns one a b ma mb ia ib → IsAbsorbed n one b c mb mc ib ic → AreMerged (ns ++ n ∷ []) one a c ma mc ia ic
 merged-on ns n one a b c ma mb mc ia ib ic was is = record {
@@ -77,12 +91,5 @@ merged-on ns n one a b c ma mb mc ia ib ic was is = record {
   size = is.size ∙ was.size;
   filed = is.filed;
   members = many-twice ma mb mc was.members is.members;
-  into = record {
-    there = λ m k t. subst (λ (j : ℕ). IsTrue (is_among k (list_at ic.lists j))) (name-more ns n one m) (is.into.there (gathered ns one m) k (was.into.there m k t));
-    only = λ m k t.
-        let r = is.into.only m k t in
-        let s = was.into.only r.0 k r.1 in
-        (s.0, s.1, sym (name-more ns n one s.0) ∙ ap (λ (j : ℕ). renamed n one j) s.2 ∙ r.2);
-    same = many-twice ia ib ic was.into.same is.into.same;
-  };
+  into = moved-more ns n one ia ib ic was.into is.into;
 }

@@ -1,24 +1,20 @@
 -- The nodes with one arc more.
-use Rattle.std.proofs.Common.{◌≡◌, ◌≢◌, ◌∙◌, ap, sym, subst, ℕ, ◌*◌, ◌/◌, ◌<◌, ◌≤◌, List, [], length, refl, arith, inl, inr}
+use Rattle.std.proofs.Common.{◌≡◌, ◌≢◌, ◌∙◌, ap, sym, subst, ℕ, ◌*◌, ◌/◌, ◌<◌, List, [], length, refl, arith, inl, inr}
 use Rattle.std.specs.Prelude.{IsTrue, if◌then◌else◌, IsFalse, ◌==◌, ◌↔◌, ◌⊎◌, Bool, Option, None, Some, slice_index_or, slice_set}
 use Rattle.std.proofs.lemmas.Bool.{cases_eq, cases_lt, cases_Bool, both_ways, or_left, or_right, or_cases, eqb-true, eq-eqb, cond-true, cond-false, false_from_ne_true}
 use Rattle.std.proofs.lemmas.List.{get_or-set_same, get_or-set_other, length-set, get_or_default}
 use Rattle.std.proofs.Math.ListN.{get_or-eq_default}
 use Rattle.oper_core.specs.State.{is_among}
-use Rattle.install_order.specs.Digraph.{Walk, Joined, AreNodes, AreLevels, with_arc, IsOnWay, IsReached, AreWhole, merged}
+use Rattle.install_order.specs.Digraph.{Walk, Joined, AreNodes, with_arc, merged}
 use Rattle.install_order.specs.Digraph.Walk.{Here, Then}
-use Rattle.install_order.specs.MergeLaws.{walk-on, joined-more, nodes-stay, found-way, closure-way, nodes-merged}
+use Rattle.install_order.specs.MergeLaws.{walk-on, joined-more, nodes-stay, nodes-merged}
 use Rattle.number_lists.specs.Lists.{Lists, list_at, IsFree, IsPushed}
 use Rattle.graph_nodes.specs.Arcs.{arc_at, node_at, name_at, held_at, IsArc, IsFromOutside, AreCells}
 use Rattle.graph_nodes.specs.Into.{AreInto, IsLive, AreLed, AreLost, IsSettled}
 use Rattle.graph_nodes.specs.Named.{Naming, AreNamed, AreNamesMerged}
-use Rattle.graph_nodes.specs.Search.{IsBehind, IsSearched, IsApart}
-use Rattle.graph_nodes.specs.Spread.{IsSpread}
 use Rattle.graph_nodes.specs.Merge.{gathered, AreMoved}
-use Rattle.graph_nodes.specs.Kept.{AreGathered, AreJoined, AreOnWalks, AreOnWay, AreOwn, IsKept, IsSearchable}
+use Rattle.graph_nodes.specs.Kept.{AreGathered, AreJoined, AreOnWay, AreOwn, IsApart, IsKept}
 use Rattle.graph_nodes.proofs.Options.{none-some, some-of, of-some}
-use Rattle.graph_nodes.proofs.Along.{arc-behind, lift-leads, along-way, where-leads}
-use Rattle.graph_nodes.proofs.Through.{through-way, through-slot, through-start}
 use Rattle.graph_nodes.proofs.Settled.{settled-into, settled-fewer}
 
 pub same-nodes : (E : ℕ → ℕ → Type 0) (f g : ℕ → ℕ) → ((i : ℕ) → g i ≡ f i) → AreNodes E f → AreNodes E g
@@ -38,48 +34,6 @@ nodes-iff E F node same are i j = (
   (λ joined. (are i j).1 (walk-same F E i j (λ k l. (same k l).0) joined.0, walk-same F E j i (λ k l. (same k l).0) joined.1)),
 )
 
--- a walk between nodes is one between their slots
-lift : (arcs : List (Option ℕ)) (node : List ℕ) (into : Lists) (m n i j : ℕ) → AreNodes (IsArc arcs) (node_at node) → AreInto arcs node into → Walk (IsBehind arcs node into) m n → node_at node i ≡ m → node_at node j ≡ n → Walk (IsArc arcs) i j
-lift arcs node into m n i j nodes are Here at_i at_j = ((nodes i j).0 (at_i ∙ sym at_j)).0
-lift arcs node into m n i j nodes are (Then k q walk behind) at_i at_j =
-    let c = behind.0 in
-    let end = some-of (arc_at arcs c) behind.2.0 in
-    let at : node_at node end.0 ≡ q = (are.only q c behind.1).1 end.0 end.1 in
-    let start : Walk (IsArc arcs) i (c / 8) = lift arcs node into m k i (c / 8) nodes are walk at_i behind.2.1 in
-    let step : Walk (IsArc arcs) i end.0 = Then (c / 8) end.0 start (c, refl, end.1) in
-    walk-on (IsArc arcs) i end.0 j step ((nodes end.0 j).0 (at ∙ sym at_j)).0
-
-abbrev pub level_none : ℕ → ℕ
-level_none i = 0
-
--- the search found what reaches v, without a look past w
-pub found-is : (arcs : List (Option ℕ)) (node : List ℕ) (into : Lists) (vs ws : ℕ) (found : List ℕ) → AreNodes (IsArc arcs) (node_at node) → AreInto arcs node into → IsSearched arcs node into (node_at node vs) (node_at node ws) found →
-    IsReached (IsArc arcs) level_none (λ s. node_at node s == node_at node ws) (λ i. is_among (node_at node i) found) vs
-found-is arcs node into vs ws found nodes are is = record {
-  start = is.start;
-  sound = λ i t. (lift arcs node into (node_at node i) (node_at node vs) i vs nodes are (is.sound (node_at node i) t) refl refl, refl);
-  closed = λ o p arc t goes at. elim (cases_eq (node_at node o) (node_at node p)) [
-    | inl e ↦ subst (λ (k : ℕ). IsTrue (is_among k found)) (sym e) t
-    | inr ne ↦ is.closed (node_at node p) (node_at node o) t (λ e. both_ways _ goes (eq-eqb (node_at node p) (node_at node ws) e)) (arc-behind arcs node into o p are arc ne)
-  ];
-}
-
-no-levels : (arcs : List (Option ℕ)) → AreLevels (IsArc arcs) level_none
-no-levels arcs i j arc = omega arith
-
-whole : (node found : List ℕ) → AreWhole (node_at node) (λ i. is_among (node_at node i) found)
-whole node found i j e t = subst (λ (k : ℕ). IsTrue (is_among k found)) e t
-
--- a walk between slots is one between their nodes
-node-walk : (arcs : List (Option ℕ)) (node : List ℕ) (into : Lists) (i j : ℕ) → AreInto arcs node into → Walk (IsArc arcs) i j → Walk (IsBehind arcs node into) (node_at node i) (node_at node j)
-node-walk arcs node into i j are Here = Here
-node-walk arcs node into i j are (Then m q walk arc) =
-    let start : Walk (IsBehind arcs node into) (node_at node i) (node_at node m) = node-walk arcs node into i m are walk in
-    elim (cases_eq (node_at node m) (node_at node q)) [
-      | inl e ↦ subst (λ (k : ℕ). Walk (IsBehind arcs node into) (node_at node i) k) e start
-      | inr ne ↦ Then (node_at node m) (node_at node q) start (arc-behind arcs node into m q are arc ne)
-    ]
-
 -- an arc within a node leaves the nodes as they are
 nodes-inside : (E : ℕ → ℕ → Type 0) (node : ℕ → ℕ) (v w : ℕ) → AreNodes E node → node v ≡ node w → AreNodes (with_arc E v w) node
 nodes-inside E node v w are same i j =
@@ -92,96 +46,39 @@ nodes-inside E node v w are same i j =
     )
 
 -- where w does not reach v, or is its node, the nodes stay
-pub nodes-apart : (arcs : List (Option ℕ)) (node : List ℕ) (into : Lists) (vs ws : ℕ) → AreNodes (IsArc arcs) (node_at node) → AreInto arcs node into → IsApart arcs node into (node_at node vs) (node_at node ws) → AreNodes (with_arc (IsArc arcs) vs ws) (node_at node)
-nodes-apart arcs node into vs ws nodes are is = elim is [
+nodes-apart : (arcs : List (Option ℕ)) (node : List ℕ) (vs ws : ℕ) → AreNodes (IsArc arcs) (node_at node) → IsApart arcs node (node_at node vs) (node_at node ws) → AreNodes (with_arc (IsArc arcs) vs ws) (node_at node)
+nodes-apart arcs node vs ws nodes is = elim is [
   | inl same ↦ nodes-inside (IsArc arcs) (node_at node) vs ws nodes same
-  | inr none ↦ nodes-stay (IsArc arcs) (node_at node) vs ws nodes (λ walk. none (node-walk arcs node into ws vs are walk))
+  | inr none ↦ nodes-stay (IsArc arcs) (node_at node) vs ws nodes (none ws vs refl refl)
 ]
-
--- what was taken are the nodes on the way
-pub on-way : (arcs : List (Option ℕ)) (node : List ℕ) (into : Lists) (vs ws : ℕ) (found taken : List ℕ) → AreNodes (IsArc arcs) (node_at node) → AreInto arcs node into → IsSearched arcs node into (node_at node vs) (node_at node ws) found →
-    IsTrue (is_among (node_at node ws) found) → IsSpread (IsBehind arcs node into) (node_at node ws) found taken → (i : ℕ) → IsTrue (is_among (node_at node i) taken) ↔ IsOnWay (IsArc arcs) vs ws i
-on-way arcs node into vs ws found taken nodes are is held spread i =
-    let E = IsArc arcs in
-    let f = found-is arcs node into vs ws found nodes are is in
-    let way = found-way E (node_at node) level_none (λ k. is_among (node_at node k) found) vs ws i (no-levels arcs) f nodes (whole node found) (omega arith) in (
-      (λ t. elim (spread.sound (node_at node i) t) [
-        | inl e ↦ (((nodes i ws).0 e).1, (f.sound i (subst (λ (k : ℕ). IsTrue (is_among k found)) (sym e) held)).0)
-        | inr r ↦ (lift arcs node into (node_at node ws) (node_at node i) ws i nodes are r.1 refl refl, (f.sound i r.0).0)
-      ]),
-      (λ both. closure-way E (node_at node) level_none (λ k. is_among (node_at node k) found) (λ k. is_among (node_at node k) taken) vs ws i (no-levels arcs) f nodes (whole node found) (omega arith) spread.start
-          (λ o p arc t g. elim (cases_eq (node_at node o) (node_at node p)) [
-            | inl e ↦ subst (λ (k : ℕ). IsTrue (is_among k taken)) e t
-            | inr ne ↦ spread.closed (node_at node o) (node_at node p) t g (arc-behind arcs node into o p are arc ne)
-          ]) both.0 (way.0 both).1),
-    )
-
--- a walk ends at the node of a slot
-where-walk : (arcs : List (Option ℕ)) (node : List ℕ) (into : Lists) (ws n : ℕ) → AreInto arcs node into → ((c j : ℕ) → arc_at arcs c ≡ Some j → j < length node) → ws < length node → Walk (IsBehind arcs node into) (node_at node ws) n → (s : ℕ) × (s < length node) × (node_at node s ≡ n)
-where-walk arcs node into ws n are ends low Here = (ws, low, refl)
-where-walk arcs node into ws n are ends low (Then m q walk behind) =
-    let end = some-of (arc_at arcs behind.0) behind.2.0 in
-    (end.0, ends behind.0 end.0 end.1, (are.only q behind.0 behind.1).1 end.0 end.1)
 
 -- a node on the way is the node of a slot
-pub way-slot : (arcs : List (Option ℕ)) (node : List ℕ) (into : Lists) (v ws n : ℕ) (ns : List ℕ) → AreInto arcs node into → ((c j : ℕ) → arc_at arcs c ≡ Some j → j < length node) → ws < length node → AreOnWay arcs node into v (node_at node ws) ns → IsTrue (is_among n ns) →
-    (s : ℕ) × (s < length node) × (node_at node s ≡ n)
-way-slot arcs node into v ws n ns are ends low way t = elim way [
+pub way-slot : (arcs : List (Option ℕ)) (node : List ℕ) (v w n : ℕ) (ns : List ℕ) → AreOnWay arcs node v w ns → IsTrue (is_among n ns) → (s : ℕ) × (s < length node) × (node_at node s ≡ n)
+way-slot arcs node v w n ns way t = elim way [
   | inl none ↦ absurd (both_ways _ refl (subst (λ (xs : List ℕ). IsTrue (is_among n xs)) none.1 t))
-  | inr on ↦ elim on [
-    | inl some ↦ elim (some.3.sound n t) [ inl e ↦ (ws, low, sym e) | inr r ↦ where-walk arcs node into ws n are ends low r.1 ]
-    | inr more ↦ elim more [
-      | inl some ↦ elim (some.3.sound n t) [
-        | inl e ↦ let s = where-leads arcs node ws v ends low (some.1.sound v some.2) in (s.0, s.1, s.2 ∙ sym e)
-        | inr r ↦ where-leads arcs node ws n ends low (some.1.sound n r.0)
-      ]
-      | inr through ↦ through-slot arcs node into v ws n ns are ends low through t
-    ]
-  ]
+  | inr on ↦ on.slots n t
 ]
 
--- the nodes on the way, in either case
-way-all : (arcs : List (Option ℕ)) (node : List ℕ) (into : Lists) (vs ws : ℕ) (ns : List ℕ) → AreNodes (IsArc arcs) (node_at node) → AreInto arcs node into → AreOnWalks arcs node into (node_at node vs) (node_at node ws) ns →
-    (i : ℕ) → IsTrue (is_among (node_at node i) ns) ↔ IsOnWay (IsArc arcs) vs ws i
-way-all arcs node into vs ws ns nodes are on = elim on [
-  | inl some ↦ on-way arcs node into vs ws some.0 ns nodes are some.1 some.2 some.3
-  | inr more ↦ elim more [
-    | inl some ↦ along-way arcs node vs ws some.0 ns nodes some.1 some.2 some.3
-    | inr through ↦ through-way arcs node into vs ws ns nodes are through
-  ]
-]
-
--- the end of the arc is on the way
-pub way-start : (arcs : List (Option ℕ)) (node : List ℕ) (into : Lists) (vs ws : ℕ) (ns : List ℕ) → AreNodes (IsArc arcs) (node_at node) → AreInto arcs node into → AreOnWalks arcs node into (node_at node vs) (node_at node ws) ns →
-    IsTrue (is_among (node_at node ws) ns)
-way-start arcs node into vs ws ns nodes are on = elim on [
-  | inl some ↦ some.3.start
-  | inr more ↦ elim more [
-    | inl some ↦ (along-way arcs node vs ws some.0 ns nodes some.1 some.2 some.3 ws).1 (Here, lift-leads arcs node (node_at node ws) (node_at node vs) ws vs nodes (some.1.sound (node_at node vs) some.2) refl refl)
-    | inr through ↦ through-start arcs node into vs ws ns nodes are through
-  ]
-]
+-- where there are nodes on the way, the end of the arc is one
+pub way-end : (arcs : List (Option ℕ)) (node : List ℕ) (v w : ℕ) (ns : List ℕ) → AreOnWay arcs node v w ns → (ns ≡ []) ⊎ IsTrue (is_among w ns)
+way-end arcs node v w ns way = elim way [ inl none ↦ inl none.1 | inr on ↦ inr on.start ]
 
 -- the nodes after the merge are those with the arc
-pub nodes-joined : (arcs : List (Option ℕ)) (old new : List ℕ) (held : List Bool) (name : List ℕ) (members into : Lists) (vs ws one : ℕ) (ns : List ℕ) → IsKept arcs old held name members into → ws < length old → AreOnWay arcs old into (node_at old vs) (node_at old ws) ns → (ns ≡ []) ⊎ IsTrue (is_among one ns) →
-    ((i : ℕ) → node_at new i ≡ gathered ns one (node_at old i)) → AreNodes (with_arc (IsArc arcs) vs ws) (node_at new)
-nodes-joined arcs old new held name members into vs ws one ns kept low way is at =
-    let nodes = kept.nodes in
-    let are = kept.led.leads in
-    elim way [
-      | inl none ↦ same-nodes (with_arc (IsArc arcs) vs ws) (node_at old) (node_at new)
-          (λ i. at i ∙ ap (λ (xs : List ℕ). gathered xs one (node_at old i)) none.1)
-          (nodes-apart arcs old into vs ws nodes are none.0)
-      | inr some ↦
-          let held : IsTrue (is_among one ns) = elim is [
-            | inl e ↦ absurd (both_ways _ refl (subst (λ (xs : List ℕ). IsTrue (is_among (node_at old ws) xs)) e (way-start arcs old into vs ws ns nodes are some)))
-            | inr t ↦ t
-          ] in
-          let slot = way-slot arcs old into (node_at old vs) ws one ns are kept.range.ends low (inr some) held in
-          same-nodes (with_arc (IsArc arcs) vs ws) (merged (λ i. is_among (node_at old i) ns) (node_at old) slot.0) (node_at new)
-          (λ i. at i ∙ ap (λ (k : ℕ). if is_among (node_at old i) ns then k else node_at old i) (sym slot.2))
-          (nodes-merged (IsArc arcs) (node_at old) (λ i. is_among (node_at old i) ns) vs ws slot.0 nodes (way-all arcs old into vs ws ns nodes are some) (subst (λ (k : ℕ). IsTrue (is_among k ns)) (sym slot.2) held))
-    ]
+pub nodes-joined : (arcs : List (Option ℕ)) (old new : List ℕ) (vs ws one : ℕ) (ns : List ℕ) → AreNodes (IsArc arcs) (node_at old) → AreOnWay arcs old (node_at old vs) (node_at old ws) ns → (ns ≡ []) ⊎ IsTrue (is_among one ns) → ((i : ℕ) → node_at new i ≡ gathered ns one (node_at old i)) → AreNodes (with_arc (IsArc arcs) vs ws) (node_at new)
+nodes-joined arcs old new vs ws one ns nodes way is at = elim way [
+  | inl none ↦ same-nodes (with_arc (IsArc arcs) vs ws) (node_at old) (node_at new)
+      (λ i. at i ∙ ap (λ (xs : List ℕ). gathered xs one (node_at old i)) none.1)
+      (nodes-apart arcs old vs ws nodes none.0)
+  | inr some ↦
+      let held : IsTrue (is_among one ns) = elim is [
+        | inl e ↦ absurd (both_ways _ refl (subst (λ (xs : List ℕ). IsTrue (is_among (node_at old ws) xs)) e some.start))
+        | inr t ↦ t
+      ] in
+      let slot = some.slots one held in
+      same-nodes (with_arc (IsArc arcs) vs ws) (merged (λ i. is_among (node_at old i) ns) (node_at old) slot.0) (node_at new)
+      (λ i. at i ∙ ap (λ (k : ℕ). if is_among (node_at old i) ns then k else node_at old i) (sym slot.2))
+      (nodes-merged (IsArc arcs) (node_at old) (λ i. is_among (node_at old i) ns) vs ws slot.0 nodes (λ i. some.way vs ws i refl refl) (subst (λ (k : ℕ). IsTrue (is_among k ns)) (sym slot.2) held))
+]
 
 -- the arcs after the cell got its own
 pub arcs-more : (arcs : List (Option ℕ)) (c to i j : ℕ) → c < length arcs → arc_at arcs c ≡ None → IsArc (slice_set arcs c (Some to)) i j ↔ with_arc (IsArc arcs) (c / 8) to i j
@@ -202,7 +99,7 @@ arcs-more arcs c to i j lt none = (
 )
 
 -- where the arc of the cell leads that got one
-set-end : (arcs : List (Option ℕ)) (c to d j : ℕ) → c < length arcs → d ≡ c → arc_at (slice_set arcs c (Some to)) d ≡ Some j → to ≡ j
+pub set-end : (arcs : List (Option ℕ)) (c to d j : ℕ) → c < length arcs → d ≡ c → arc_at (slice_set arcs c (Some to)) d ≡ Some j → to ≡ j
 set-end arcs c to d j lt q arc =
     let here : Some to ≡ Some j = sym (get_or-set_same arcs c (Some to) None lt) ∙ ap (λ (k : ℕ). arc_at (slice_set arcs c (Some to)) k) (sym q) ∙ arc in
     cc
@@ -250,13 +147,13 @@ into-more arcs old new ia ib ic name c to lt none free are at moved push =
       ];
     }
 
-way-below : (arcs : List (Option ℕ)) (node : List ℕ) (held : List Bool) (name : List ℕ) (members into : Lists) (v ws n : ℕ) (ns : List ℕ) → IsKept arcs node held name members into → ws < length node → AreOnWay arcs node into v (node_at node ws) ns → IsTrue (is_among n ns) → n < length node
+way-below : (arcs : List (Option ℕ)) (node : List ℕ) (held : List Bool) (name : List ℕ) (members into : Lists) (v ws n : ℕ) (ns : List ℕ) → IsKept arcs node held name members into → ws < length node → AreOnWay arcs node v (node_at node ws) ns → IsTrue (is_among n ns) → n < length node
 way-below arcs node held name members into v ws n ns kept low way t =
-    let s = way-slot arcs node into v ws n ns kept.led.leads kept.range.ends low way t in
+    let s = way-slot arcs node v (node_at node ws) n ns way t in
     omega (arith, kept.range.nodes s.0 s.1, s.2)
 
 -- the names are those of all numbers, also past the end
-pub names-all : (arcs : List (Option ℕ)) (old new : List ℕ) (held : List Bool) (name : List ℕ) (members into : Lists) (v ws one : ℕ) (ns : List ℕ) → IsKept arcs old held name members into → ws < length old → AreOnWay arcs old into v (node_at old ws) ns → length new ≡ length old →
+pub names-all : (arcs : List (Option ℕ)) (old new : List ℕ) (held : List Bool) (name : List ℕ) (members into : Lists) (v ws one : ℕ) (ns : List ℕ) → IsKept arcs old held name members into → ws < length old → AreOnWay arcs old v (node_at old ws) ns → length new ≡ length old →
     ((i : ℕ) → i < length old → node_at new i ≡ gathered ns one (node_at old i)) → (i : ℕ) → node_at new i ≡ gathered ns one (node_at old i)
 names-all arcs old new held name members into v ws one ns kept low way size at i = elim (cases_lt i (length old)) [
   | inl lt ↦ at i lt
@@ -285,7 +182,7 @@ named-below ns one m end low lm = elim (cases_Bool (is_among m ns)) [
 ]
 
 -- what all on the way are merged into is below the end
-one-below : (arcs : List (Option ℕ)) (node : List ℕ) (held : List Bool) (name : List ℕ) (members into : Lists) (v ws one m : ℕ) (ns : List ℕ) → IsKept arcs node held name members into → ws < length node → AreOnWay arcs node into v (node_at node ws) ns → (ns ≡ []) ⊎ IsTrue (is_among one ns) → IsTrue (is_among m ns) → one < length node
+one-below : (arcs : List (Option ℕ)) (node : List ℕ) (held : List Bool) (name : List ℕ) (members into : Lists) (v ws one m : ℕ) (ns : List ℕ) → IsKept arcs node held name members into → ws < length node → AreOnWay arcs node v (node_at node ws) ns → (ns ≡ []) ⊎ IsTrue (is_among one ns) → IsTrue (is_among m ns) → one < length node
 one-below arcs node held name members into v ws one m ns kept low way is t = elim is [
   | inl e ↦ absurd (both_ways _ refl (subst (λ (xs : List ℕ). IsTrue (is_among m xs)) e t))
   | inr u ↦ way-below arcs node held name members into v ws one ns kept low way u
@@ -347,12 +244,12 @@ lost-more arcs held new ia ib ic id name c to n lt lost moved push settle m k t 
     ]
 
 -- each node is still stood for by a slot of its own
-own-more : (arcs : List (Option ℕ)) (old new : List ℕ) (held : List Bool) (name : List ℕ) (members into : Lists) (v to one : ℕ) (ns : List ℕ) → IsKept arcs old held name members into → to < length old → AreOnWay arcs old into v (node_at old to) ns → (ns ≡ []) ⊎ IsTrue (is_among one ns) →
+own-more : (arcs : List (Option ℕ)) (old new : List ℕ) (held : List Bool) (name : List ℕ) (members into : Lists) (v to one : ℕ) (ns : List ℕ) → IsKept arcs old held name members into → to < length old → AreOnWay arcs old v (node_at old to) ns → (ns ≡ []) ⊎ IsTrue (is_among one ns) →
     ((i : ℕ) → node_at new i ≡ gathered ns one (node_at old i)) → AreOwn new
 own-more arcs old new held name members into v to one ns kept low way is at i = elim (cases_Bool (is_among (node_at old i) ns)) [
   | inl t ↦
       let held_one : IsTrue (is_among one ns) = elim is [ inl e ↦ absurd (both_ways _ refl (subst (λ (xs : List ℕ). IsTrue (is_among (node_at old i) xs)) e t)) | inr u ↦ u ] in
-      let slot = way-slot arcs old into v to one ns kept.led.leads kept.range.ends low way held_one in
+      let slot = way-slot arcs old v (node_at old to) one ns way held_one in
       let own_one : node_at old one ≡ one = ap (λ (k : ℕ). node_at old k) (sym slot.2) ∙ kept.own slot.0 ∙ slot.2 in
       let here : node_at new i ≡ one = at i ∙ cond-true (is_among (node_at old i) ns) one (node_at old i) t in
       ap (λ (k : ℕ). node_at new k) here ∙ at one ∙ ap (λ (k : ℕ). gathered ns one k) own_one ∙ cond-true (is_among one ns) one one held_one ∙ sym here
@@ -362,7 +259,7 @@ own-more arcs old new held name members into v to one ns kept low way is at i = 
 ]
 
 -- the names after the merge
-named-more : (arcs : List (Option ℕ)) (old new : List ℕ) (held : List Bool) (name names : Naming) (members into : Lists) (v to one : ℕ) (ns : List ℕ) → IsKept arcs old held name.name members into → to < length old → AreOnWay arcs old into v (node_at old to) ns → (ns ≡ []) ⊎ IsTrue (is_among one ns) →
+named-more : (arcs : List (Option ℕ)) (old new : List ℕ) (held : List Bool) (name names : Naming) (members into : Lists) (v to one : ℕ) (ns : List ℕ) → IsKept arcs old held name.name members into → to < length old → AreOnWay arcs old v (node_at old to) ns → (ns ≡ []) ⊎ IsTrue (is_among one ns) →
     AreNamesMerged ns one name names → ((i : ℕ) → node_at new i ≡ gathered ns one (node_at old i)) → AreNamed new names.name
 named-more arcs old new held name names members into v to one ns kept low way is are at =
     let held_one : (i : ℕ) → IsTrue (is_among (node_at old i) ns) → IsTrue (is_among one ns) = λ i t. elim is [ inl e ↦ absurd (both_ways _ refl (subst (λ (xs : List ℕ). IsTrue (is_among (node_at old i) xs)) e t)) | inr u ↦ u ] in
@@ -377,7 +274,7 @@ named-more arcs old new held name names members into v to one ns kept low way is
       member = λ i. elim (cases_Bool (is_among (node_at old i) ns)) [
         | inl t ↦
             let from = are.from (held_one i t) in
-            let slot = way-slot arcs old into v to from.0 ns kept.led.leads kept.range.ends low way from.1 in
+            let slot = way-slot arcs old v (node_at old to) from.0 ns way from.1 in
             let was : node_at old (name_at name.name from.0) ≡ from.0 = ap (λ (k : ℕ). node_at old (name_at name.name k)) (sym slot.2) ∙ kept.named.member slot.0 ∙ slot.2 in
             let name_is : name_at names.name (node_at new i) ≡ name_at name.name from.0 = ap (λ (k : ℕ). name_at names.name k) (here i t) ∙ from.2 in
             ap (λ (k : ℕ). node_at new k) name_is ∙ at (name_at name.name from.0) ∙ ap (λ (k : ℕ). gathered ns one k) was ∙ cond-true (is_among from.0 ns) one from.0 from.1 ∙ sym (here i t)
@@ -399,9 +296,9 @@ kept-inserted arcs old new held name names ma mb ia ib ic id c to kept lt none h
     let at = names-all arcs old new held name.name ma ia (node_at old (c / 8)) to one ns kept low way are.size are.node in
     let set = slice_set arcs c (Some to) in
     let free = cell-free arcs held ia ib (gathered ns one) c none holds kept.lost are.into in
-    let end_in : (ns ≡ []) ⊎ IsTrue (is_among (node_at old to) ns) = elim way [ inl e ↦ inl e.1 | inr s ↦ inr (way-start arcs old ia (c / 8) to ns kept.nodes kept.led.leads s) ] in
+    let end_in = way-end arcs old (node_at old (c / 8)) (node_at old to) ns way in
     record {
-      nodes = nodes-iff (with_arc (IsArc arcs) (c / 8) to) (IsArc set) (node_at new) (λ i j. arcs-more arcs c to i j lt none) (nodes-joined arcs old new held name.name ma ia (c / 8) to one ns kept low way is at);
+      nodes = nodes-iff (with_arc (IsArc arcs) (c / 8) to) (IsArc set) (node_at new) (λ i j. arcs-more arcs c to i j lt none) (nodes-joined arcs old new (c / 8) to one ns kept.nodes way is at);
       own = own-more arcs old new held name.name ma ia (node_at old (c / 8)) to one ns kept low way is at;
       filed = are.filed;
       named = named-more arcs old new held name names ma ia (node_at old (c / 8)) to one ns kept low way is named at;
@@ -470,13 +367,13 @@ pub slot-in : (c n cells : ℕ) → cells ≡ 8 * n → c < cells → c / 8 < n
 slot-in c n cells e lt = slot-of c n (omega (arith, e, lt))
 
 -- the nodes on the way were found, and made one
-pub joined-at : (arcs a : List (Option ℕ)) (old n o : List ℕ) (x v y w : ℕ) (ns new : List ℕ) (name names : Naming) (ma mb ia ib : Lists) → a ≡ arcs → n ≡ old → o ≡ old → x ≡ v → y ≡ w → AreOnWay a n ia x y ns → AreGathered ns o new name names ma mb ia ib → AreJoined arcs v w old new name names ma mb ia ib
+abbrev pub joined-at : (arcs a : List (Option ℕ)) (old n o : List ℕ) (x v y w : ℕ) (ns new : List ℕ) (name names : Naming) (ma mb ia ib : Lists) → a ≡ arcs → n ≡ old → o ≡ old → x ≡ v → y ≡ w → AreOnWay a n x y ns → AreGathered ns o new name names ma mb ia ib → AreJoined arcs v w old new name names ma mb ia ib
 joined-at arcs a old n o x v y w ns new name names ma mb ia ib ea en eo ev ew way gathered = (
   ns,
-  subst (λ (k : ℕ). AreOnWay arcs old ia v k ns) ew
-      (subst (λ (k : ℕ). AreOnWay arcs old ia k y ns) ev
-      (subst (λ (xs : List ℕ). AreOnWay arcs xs ia x y ns) en
-      (subst (λ (xs : List (Option ℕ)). AreOnWay xs n ia x y ns) ea way))),
+  subst (λ (k : ℕ). AreOnWay arcs old v k ns) ew
+      (subst (λ (k : ℕ). AreOnWay arcs old k y ns) ev
+      (subst (λ (xs : List ℕ). AreOnWay arcs xs x y ns) en
+      (subst (λ (xs : List (Option ℕ)). AreOnWay xs n x y ns) ea way))),
   subst (λ (xs : List ℕ). AreGathered ns xs new name names ma mb ia ib) eo gathered,
 )
 
@@ -488,27 +385,6 @@ joined-below arcs old new held name names ma mb ia ib v to kept low join =
 -- the cells of a list are there
 pub led-cells : (arcs : List (Option ℕ)) (node : List ℕ) (into : Lists) (n : ℕ) → length arcs ≡ 8 * length node → AreInto arcs node into → AreCells arcs node (list_at into.lists n)
 led-cells arcs node into n size are c t = let lt = (are.only n c t).0 in (lt, slot-of c (length node) (omega (arith, lt, size)))
-
--- the tables of a graph are what a search reads
-pub searchable-at : (arcs a : List (Option ℕ)) (node b : List ℕ) (held : List Bool) (name : List ℕ) (members into : Lists) (end room : ℕ) → IsKept arcs node held name members into → end ≡ length node → 8 * length node ≤ room → a ≡ arcs → b ≡ node → IsSearchable a b members into end room
-searchable-at arcs a node b held name members into end room kept e wide ea eb =
-    let range = kept.range in
-    subst (λ (xs : List (Option ℕ)). IsSearchable xs b members into end room) (sym ea)
-    (subst (λ (xs : List ℕ). IsSearchable arcs xs members into end room) (sym eb)
-    record {
-      member_lists = omega (arith, e, range.member_lists);
-      into_lists = omega (arith, e, range.into_lists);
-      cells = λ n. led-cells arcs node into n range.cells kept.led.leads;
-      below = λ i lt. omega (arith, e, range.nodes i lt);
-      filed = kept.filed;
-      walkable = record {
-        size = range.cells;
-        ends = λ c j arc. let lt = range.ends c j arc in (lt, omega (arith, e, range.nodes j lt));
-        leads = kept.led.leads;
-      };
-      slots_fit = omega (arith, range.member_items, wide);
-      cells_fit = omega (arith, range.into_items, range.cells, wide);
-    })
 
 -- the cells are there after the cell got its arc
 pub pushed-cells : (arcs : List (Option ℕ)) (old new : List ℕ) (held : List Bool) (name names : Naming) (ma mb ia ib ic : Lists) (c to m : ℕ) → IsKept arcs old held name.name ma ia → c < length arcs → arc_at arcs c ≡ None → IsTrue (held_at held (c / 8)) → to < length old →

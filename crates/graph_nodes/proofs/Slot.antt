@@ -20,7 +20,7 @@ nones-at (suc n) zero = refl
 nones-at (suc n) (suc c) = nones-at n c
 
 -- the arcs are the same
-arc-same : (arcs : List (Option ℕ)) (n c : ℕ) → arc_at (arcs ++ no_arcs n) c ≡ arc_at arcs c
+pub arc-same : (arcs : List (Option ℕ)) (n c : ℕ) → arc_at (arcs ++ no_arcs n) c ≡ arc_at arcs c
 arc-same [] n c = nones-at n c
 arc-same (a ∷ arcs) n zero = refl
 arc-same (a ∷ arcs) n (suc c) = arc-same arcs n c

@@ -15,7 +15,7 @@ use Rattle.graph_nodes.specs.Named.{Graph, Naming, AreNamed, IsName, NamesMinima
 use Rattle.graph_nodes.specs.Removed.{AreReleased, AreAlone}
 use Rattle.graph_nodes.specs.Kept.{AreOwn, IsKept, IsMarked, AreOnWay, AreJoined}
 use Rattle.graph_nodes.proofs.Found.{among-place, place-among}
-use Rattle.graph_nodes.proofs.Ordered.{way-slot, way-start, list-was, names-all}
+use Rattle.graph_nodes.proofs.Ordered.{way-slot, way-end, list-was, names-all}
 use Rattle.graph_nodes.proofs.Scattered.{nothing-in}
 use Rattle.graph_nodes.proofs.Asked.{least-iff, minimal-iff}
 
@@ -109,17 +109,17 @@ pub told-of : (node : List ℕ) (held : List Bool) (into : Lists) (n : Naming) �
 told-of node held into n is = record { named = λ k t. ((is.names k).0 t).1; told = is.told }
 
 module _ (arcs : List (Option ℕ)) (old new : List ℕ) (held : List Bool) (n merged : Naming) (members ia ib : Lists) (v to one : ℕ) (ns : List ℕ) (kept : IsKept arcs old held n.name members ia) (marked : IsMarked old held ia n) (low : to < length old)
-    (way : AreOnWay arcs old ia (node_at old v) (node_at old to) ns) (is : (ns ≡ []) ⊎ IsTrue (is_among one ns)) (are : AreNamesMerged ns one n merged) (at : (i : ℕ) → node_at new i ≡ gathered ns one (node_at old i)) (moved : AreMoved (gathered ns one) ia ib) where
+    (way : AreOnWay arcs old (node_at old v) (node_at old to) ns) (is : (ns ≡ []) ⊎ IsTrue (is_among one ns)) (are : AreNamesMerged ns one n merged) (at : (i : ℕ) → node_at new i ≡ gathered ns one (node_at old i)) (moved : AreMoved (gathered ns one) ia ib) where
   one-in-ns : (m : ℕ) → IsTrue (is_among m ns) → IsTrue (is_among one ns)
   one-in-ns m t = elim is [ inl e ↦ absurd (both_ways _ refl (subst (λ (xs : List ℕ). IsTrue (is_among m xs)) e t)) | inr u ↦ u ]
 
   end-in : (ns ≡ []) ⊎ IsTrue (is_among (node_at old to) ns)
-  end-in = elim way [ inl e ↦ inl e.1 | inr s ↦ inr (way-start arcs old ia v to ns kept.nodes kept.led.leads s) ]
+  end-in = way-end arcs old (node_at old v) (node_at old to) ns way
 
   -- the slot with the name of a merged node is in it
   name-in : (m : ℕ) → IsTrue (is_among m ns) → node_at old (name_at n.name m) ≡ m
   name-in m t =
-      let s = way-slot arcs old ia (node_at old v) to m ns kept.led.leads kept.range.ends low way t in
+      let s = way-slot arcs old (node_at old v) (node_at old to) m ns way t in
       ap (λ (k : ℕ). node_at old (name_at n.name k)) (sym s.2) ∙ kept.named.member s.0 ∙ s.2
 
   to-one : (k : ℕ) → IsTrue (is_among (node_at old k) ns) → node_at new k ≡ one

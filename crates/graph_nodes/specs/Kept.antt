@@ -1,18 +1,13 @@
 -- What a graph of slots keeps.
-use Rattle.std.specs.Prelude.{◌≡◌, ℕ, ◌*◌, ◌^◌, ◌<◌, ◌≤◌, ◌⊎◌, ◌↔◌, Bool, true, IsTrue, IsFalse, ◌+◌, ◌++◌, ◌∷◌, replicate, List, [], length, Option, None, Some}
+use Rattle.std.specs.Prelude.{◌≡◌, ℕ, ◌*◌, ◌^◌, ◌<◌, ◌≤◌, ◌⊎◌, ◌↔◌, Bool, true, false, IsTrue, ◌+◌, ◌++◌, ◌∷◌, replicate, List, [], length, Option, None, Some}
 use Rattle.oper_core.specs.State.{is_among}
-use Rattle.install_order.specs.Digraph.{AreNodes}
+use Rattle.install_order.specs.Digraph.{AreNodes, IsOnWay, Walk}
 use Rattle.number_lists.specs.Lists.{Lists, list_at}
 use Rattle.number_lists.specs.Members.{Members}
 use Rattle.number_lists.specs.Marks.{mark_at}
 use Rattle.graph_nodes.specs.Arcs.{AreBelow, AreCells, arc_at, node_at, name_at, held_at, IsArc}
 use Rattle.graph_nodes.specs.Into.{AreLed, AreLost}
 use Rattle.graph_nodes.specs.Named.{Graph, Naming, AreNamed, AreNamesMerged}
-use Rattle.graph_nodes.specs.declared.turns.Way.{Way}
-use Rattle.graph_nodes.specs.declared.turns.Way.TheVariants.{Apart, Against, Along, Through}
-use Rattle.graph_nodes.specs.Search.{IsBehind, IsSearched, IsApart}
-use Rattle.graph_nodes.specs.Ahead.{IsReached, IsWalkable}
-use Rattle.graph_nodes.specs.Spread.{IsSpread, IsLedTo}
 use Rattle.graph_nodes.specs.Merge.{IsFiled, gathered, AreRenamed}
 
 -- each node is stood for by a slot of its own
@@ -72,86 +67,46 @@ pub record AreAsWide (old_found old_ahead new_found new_ahead : Members) : Type 
   pub ahead_end : new_ahead.end ≡ old_ahead.end
   pub room : (n : ℕ) → n ≤ old_found.room → n ≤ old_ahead.room → (n ≤ new_found.room) × (n ≤ new_ahead.room)
 
--- what a search reads: each node is below the end, the lists are those of the nodes, and none is longer than the room
-pub record IsSearchable (arcs : List (Option ℕ)) (node : List ℕ) (members into : Lists) (end room : ℕ) : Type 0 where
-  pub member_lists : end ≤ length members.lists
-  pub into_lists : end ≤ length into.lists
+-- what a search against the arcs reads: each node is below the end, the lists are those of the nodes, and none is longer than the room
+pub record IsSearchable (arcs : List (Option ℕ)) (node : List ℕ) (into : Lists) (end room : ℕ) : Type 0 where
+  pub lists : end ≤ length into.lists
   pub cells : (n : ℕ) → AreCells arcs node (list_at into.lists n)
   pub below : AreBelow node end
-  pub filed : IsFiled node members
-  pub walkable : IsWalkable arcs node into end
-  pub slots_fit : members.items ≤ room
-  pub cells_fit : into.items ≤ room
+  pub fit : into.items ≤ room
 
--- all was found that reaches v, and of it that is taken to which walks from w lead
-abbrev pub AreOnWayBack : List (Option ℕ) → List ℕ → Lists → ℕ → ℕ → List ℕ → Type 0
-AreOnWayBack arcs node into v w ns = (found : List ℕ) × IsSearched arcs node into v w found × IsTrue (is_among w found) × IsSpread (IsBehind arcs node into) w found ns
+-- the nodes v and w are one, or no walk leads from w to v
+abbrev pub IsApart : List (Option ℕ) → List ℕ → ℕ → ℕ → Type 0
+IsApart arcs node v w = (v ≡ w) ⊎ ((i j : ℕ) → node_at node i ≡ w → node_at node j ≡ v → Walk (IsArc arcs) i j → ⊥)
 
--- all was found that w reaches, and of it that is taken from which walks lead to v
-abbrev pub AreOnWayAhead : List (Option ℕ) → List ℕ → ℕ → ℕ → List ℕ → Type 0
-AreOnWayAhead arcs node v w ns = (ahead : List ℕ) × IsReached arcs node w v ahead × IsTrue (is_among v ahead) × IsSpread (IsLedTo arcs node) v ahead ns
+-- these are the nodes of all slots that walks from w to v go through, of which there are some
+pub record AreOnWalks (arcs : List (Option ℕ)) (node : List ℕ) (v w : ℕ) (ns : List ℕ) : Type 0 where
+  pub start : IsTrue (is_among w ns)
+  pub slots : (n : ℕ) → IsTrue (is_among n ns) → (s : ℕ) × (s < length node) × (node_at node s ≡ n)
+  pub way : (vs ws i : ℕ) → node_at node vs ≡ v → node_at node ws ≡ w → IsTrue (is_among (node_at node i) ns) ↔ IsOnWay (IsArc arcs) vs ws i
 
--- all was found that reaches v and all that w reaches, without a look beyond the hub, and the hub is found in both searches
-pub record AreSplit (arcs : List (Option ℕ)) (node : List ℕ) (into : Lists) (v w hub : ℕ) (found ahead : List ℕ) : Type 0 where
-  pub against : IsSearched arcs node into v hub found
-  pub along : IsReached arcs node w hub ahead
-  pub in_found : IsTrue (is_among hub found)
-  pub in_ahead : IsTrue (is_among hub ahead)
+-- the nodes that walks from w to v go through, none where w does not reach v or is v
+abbrev pub AreOnWay : List (Option ℕ) → List ℕ → ℕ → ℕ → List ℕ → Type 0
+AreOnWay arcs node v w ns = (IsApart arcs node v w × (ns ≡ [])) ⊎ AreOnWalks arcs node v w ns
 
--- one list has what is in the two others
-abbrev pub AreTogether : List ℕ → List ℕ → List ℕ → Type 0
-AreTogether left right all = (n : ℕ) → IsTrue (is_among n all) ↔ (IsTrue (is_among n left) ⊎ IsTrue (is_among n right))
+-- where the answer is that w reaches v, these are the nodes on the way, and else it does not
+abbrev pub IsToldWay : List (Option ℕ) → List ℕ → ℕ → ℕ → List ℕ → Bool → Type 0
+IsToldWay arcs node v w ns true = AreOnWalks arcs node v w ns
+IsToldWay arcs node v w ns false = IsApart arcs node v w
 
--- of what two such searches found, that to which walks from w lead, and of that what walks to v come from
-pub record AreOnWayThrough (arcs : List (Option ℕ)) (node : List ℕ) (into : Lists) (v w : ℕ) (ns : List ℕ) : Type 0 where
-  pub hub : ℕ
-  pub found : List ℕ
-  pub ahead : List ℕ
-  pub all : List ℕ
-  pub some : List ℕ
-  pub split : AreSplit arcs node into v w hub found ahead
-  pub together : AreTogether found ahead all
-  pub from_w : IsSpread (IsBehind arcs node into) w all some
-  pub to_v : IsSpread (IsLedTo arcs node) v some ns
-
--- what two searches say, of which the one from v has found the one list, and the one from w the other
-abbrev pub IsWay : List (Option ℕ) → List ℕ → Lists → ℕ → ℕ → ℕ → List ℕ → List ℕ → Way → Type 0
-IsWay arcs node into v w hub found ahead Apart = IsApart arcs node into v w
-IsWay arcs node into v w hub found ahead Against = IsSearched arcs node into v w found × IsTrue (is_among w found)
-IsWay arcs node into v w hub found ahead Along = IsReached arcs node w v ahead × IsTrue (is_among v ahead)
-IsWay arcs node into v w hub found ahead Through = AreSplit arcs node into v w hub found ahead
-
--- what a search along the arcs says that is over
-abbrev pub IsAlong : ℕ → List ℕ → Way → Type 0
-IsAlong v ahead Apart = IsFalse (is_among v ahead)
-IsAlong v ahead Against = ⊥
-IsAlong v ahead Along = IsTrue (is_among v ahead)
-IsAlong v ahead Through = ⊥
-
--- what a search against the arcs says that is over
-abbrev pub IsAgainst : ℕ → List ℕ → Way → Type 0
-IsAgainst w found Apart = IsFalse (is_among w found)
-IsAgainst w found Against = IsTrue (is_among w found)
-IsAgainst w found Along = ⊥
-IsAgainst w found Through = ⊥
+-- where the answer is that w reaches v, these nodes are those, and else there are none
+abbrev pub IsKeptWay : Bool → List ℕ → List ℕ → Type 0
+IsKeptWay true way ns = ns ≡ way
+IsKeptWay false way ns = ns ≡ []
 
 -- these nodes, if there are any, are one
 abbrev pub AreGathered : List ℕ → List ℕ → List ℕ → Naming → Naming → Lists → Lists → Lists → Lists → Type 0
 AreGathered ns old_node new_node old_names new_names old_members new_members old_into new_into =
     (one : ℕ) × ((ns ≡ []) ⊎ IsTrue (is_among one ns)) × AreNamesMerged ns one old_names new_names × AreRenamed (gathered ns one) old_node new_node old_members new_members old_into new_into
 
--- the nodes that walks from w to v go through, found in one of three ways
-abbrev pub AreOnWalks : List (Option ℕ) → List ℕ → Lists → ℕ → ℕ → List ℕ → Type 0
-AreOnWalks arcs node into v w ns = AreOnWayBack arcs node into v w ns ⊎ (AreOnWayAhead arcs node v w ns ⊎ AreOnWayThrough arcs node into v w ns)
-
--- the nodes that walks from w to v go through, none where w does not reach v or is v
-abbrev pub AreOnWay : List (Option ℕ) → List ℕ → Lists → ℕ → ℕ → List ℕ → Type 0
-AreOnWay arcs node into v w ns = (IsApart arcs node into v w × (ns ≡ [])) ⊎ AreOnWalks arcs node into v w ns
-
 -- the nodes on the way from w to v are one
 abbrev pub AreJoined : List (Option ℕ) → ℕ → ℕ → List ℕ → List ℕ → Naming → Naming → Lists → Lists → Lists → Lists → Type 0
 AreJoined arcs v w old_node new_node old_names new_names old_members new_members old_into new_into =
-    (ns : List ℕ) × AreOnWay arcs old_node old_into v w ns × AreGathered ns old_node new_node old_names new_names old_members new_members old_into new_into
+    (ns : List ℕ) × AreOnWay arcs old_node v w ns × AreGathered ns old_node new_node old_names new_names old_members new_members old_into new_into
 
 -- the cells of one more slot, which have no arcs
 abbrev pub no_arcs : ℕ → List (Option ℕ)
@@ -172,3 +127,11 @@ pub record AreCellsAdded (n : ℕ) (old new : List (Option ℕ)) (old_into new_i
   pub items : new_into.items ≡ old_into.items + n
   pub list_room : new_into.list_room ≡ old_into.list_room
   pub item_room : old_into.item_room ≤ new_into.item_room + n
+
+-- so many more cells, which are in no list
+pub record AreItemsAdded (n : ℕ) (old new : Lists) : Type 0 where
+  pub here : (j : ℕ) → list_at new.lists j ≡ list_at old.lists j
+  pub lists : length new.lists ≡ length old.lists
+  pub items : new.items ≡ old.items + n
+  pub list_room : new.list_room ≡ old.list_room
+  pub item_room : old.item_room ≤ new.item_room + n

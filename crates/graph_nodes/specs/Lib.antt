@@ -1,9 +1,10 @@
 pub mod Arcs
 pub mod Search
-pub mod Ahead
 pub mod Spread
 pub mod Merge
 pub mod Into
+pub mod Levels
+pub mod Ahead
 pub mod Named
 pub mod Removed
 pub mod Kept

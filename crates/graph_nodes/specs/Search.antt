@@ -59,6 +59,7 @@ HasNoArcs arcs i = (c : ℕ) → c / 8 ≡ i → arc_at arcs c ≡ None
 abbrev pub IsBare : List (Option ℕ) → Lists → ℕ → Type 0
 IsBare arcs members m = (length (list_at members.lists m) ≡ 1) × HasNoArcs arcs m
 
--- v and w are one node, or no walk leads from w to v
-abbrev pub IsApart : List (Option ℕ) → List ℕ → Lists → ℕ → ℕ → Type 0
-IsApart arcs node into v w = (v ≡ w) ⊎ (Walk (IsBehind arcs node into) w v → ⊥)
+-- the next of the found nodes is done: a step against the arcs
+pub record IsStepBack (arcs : List (Option ℕ)) (node : List ℕ) (into : Lists) (stop old_next new_next : ℕ) (old new : Members) : Type 0 where
+  pub step : IsExpanded arcs node into (slice_index old.members old_next) stop old new
+  pub next : new_next ≡ old_next + 1

@@ -1,10 +1,9 @@
 -- What of the found nodes walks from a node lead to.
-use Rattle.std.specs.Prelude.{◌≡◌, ℕ, ◌⊎◌, IsTrue, List, Option, Some, length}
+use Rattle.std.specs.Prelude.{◌≡◌, ℕ, ◌⊎◌, IsTrue, List, Option, length}
 use Rattle.oper_core.specs.State.{is_among}
 use Rattle.install_order.specs.Digraph.{Walk}
 use Rattle.number_lists.specs.Members.{Members}
-use Rattle.graph_nodes.specs.Arcs.{arc_at, node_at, IsStartOf}
-use Rattle.graph_nodes.specs.Ahead.{LeadsTo}
+use Rattle.graph_nodes.specs.Arcs.{IsStartOf}
 use Rattle.graph_nodes.specs.Search.{AreKept}
 
 -- the cell has an arc that starts in one of the nodes
@@ -36,11 +35,3 @@ pub record IsSpread (Next : ℕ → ℕ → Type 0) (w : ℕ) (found taken : Lis
   pub start : IsTrue (is_among w taken)
   pub sound : (n : ℕ) → IsTrue (is_among n taken) → IsSpreadTo Next w found n
   pub closed : (m n : ℕ) → IsTrue (is_among m taken) → IsTrue (is_among n found) → Next m n → IsTrue (is_among n taken)
-
--- an arc of one of these cells leads to a taken node
-abbrev pub LeadsIn : (ℕ → Type 0) → List (Option ℕ) → List ℕ → List ℕ → Type 0
-LeadsIn Cells arcs node taken = (c : ℕ) × (j : ℕ) × Cells c × (arc_at arcs c ≡ Some j) × IsTrue (is_among (node_at node j) taken)
-
--- an arc leads from the node n to the node m
-abbrev pub IsLedTo : List (Option ℕ) → List ℕ → ℕ → ℕ → Type 0
-IsLedTo arcs node m n = LeadsTo arcs node n m

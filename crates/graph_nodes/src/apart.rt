@@ -1,16 +1,39 @@
-ghost use Rattle.std.specs.Prelude.{◌≡◌, ◌<◌, ◌≤◌, ◌+◌, ◌*◌, ◌⊎◌, length, IsTrue};
-ghost use Rattle.graph_nodes.specs.Search.{HasNoArcs, IsBare};
+ghost use Rattle.std.specs.Prelude.{◌≡◌, ◌<◌, ◌≤◌, ◌+◌, ◌*◌, ◌/◌, ◌↔◌, length, IsTrue};
+ghost use Rattle.number_lists.specs.Lists.{list_at};
+ghost use Rattle.graph_nodes.specs.Arcs.{AreCells, IsStartOf};
+ghost use Rattle.graph_nodes.specs.Search.{HasNoArcs, IsBare, IsBehind};
 
+use crate::nodes::Nodes;
 use number_lists::{Chains, PackedOption};
 
-/// Whether it is clear without a search that an arc from v to w joins no nodes: they are one, or w is a slot alone that
-/// has no arcs.
-pub(crate) fn joins_nothing(v: u32, w: u32, arcs: &[PackedOption], members: &Chains) -> bool
-    requires list { w < length members.now.lists }
-    requires cells { 8 * w + 8 ≤ length arcs.now }
-    ensures { IsTrue result → (v ≡ w) ⊎ IsBare arcs.now members.now w }
+/// Whether the first cell in the list of the node w has an arc from the node v.
+pub(crate) fn is_led_from(v: u32, w: u32, nodes: &Nodes, into: &Chains) -> bool
+    requires list { w < length into.now.lists }
+    requires cells { AreCells nodes.now.arcs.now nodes.now.node.now (list_at into.now.lists w) }
+    ensures { IsTrue result → IsBehind nodes.now.arcs.now nodes.now.node.now into.now v w }
 {
-    v == w || (members.count(w) == 1 && has_no_arcs(w, arcs))
+    let Some(cell) = into.first(w) else {
+        return false;
+    };
+    is_start_of(cell, v, nodes.arcs, nodes.node)
+}
+
+/// Whether the cell has an arc, which starts in the node n.
+fn is_start_of(cell: u32, n: u32, arcs: &[PackedOption], node: &[u32]) -> bool
+    requires cell { cell < length arcs.now }
+    requires slot { cell / 8 < length node.now }
+    ensures { IsTrue result ↔ IsStartOf arcs.now node.now cell n }
+{
+    node[cell as usize / 8] == n && arcs[cell as usize].get().is_some()
+}
+
+/// Whether it is clear without a search that no arc leads away from the node: it is one slot, which has none.
+pub(crate) fn is_bare(n: u32, arcs: &[PackedOption], members: &Chains) -> bool
+    requires list { n < length members.now.lists }
+    requires cells { 8 * n + 8 ≤ length arcs.now }
+    ensures { IsTrue result → IsBare arcs.now members.now n }
+{
+    members.count(n) == 1 && has_no_arcs(n, arcs)
 }
 
 /// Whether none of the slot's eight cells has an arc.

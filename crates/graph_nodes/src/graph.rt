@@ -7,16 +7,17 @@ ghost use Rattle.graph_nodes.specs.Arcs.{IsArc, arc_at, node_at, held_at};
 ghost use Rattle.graph_nodes.specs.Named.{IsMinimal, IsName, NamesMinimal, IsLeast};
 ghost use Rattle.number_lists.specs.Marks.{IsCount};
 ghost use Rattle.graph_nodes.specs.Removed.{IsRemoved};
-ghost use Rattle.graph_nodes.specs.Kept.{IsSlotAdded, AreCellsAdded};
+ghost use Rattle.graph_nodes.specs.Kept.{IsSlotAdded, AreCellsAdded, AreItemsAdded};
 
 use crate::clearing::clear_slots;
-use crate::merging::gather;
+use crate::levels::Levels;
+use crate::linking::link_cell;
+use crate::merging::{gather, join_lists};
 use crate::names::Names;
 use crate::nodes::Nodes;
 use crate::pruning::tidy;
 use crate::removing::{release, scatter};
 use crate::searches::Searches;
-use crate::turns::next_hub;
 use crate::uniting::find_way;
 use number_lists::{Chains, PackedOption, push_in_room};
 use oper_core::Memory;
@@ -37,8 +38,7 @@ pub struct SlotGraph {
     /// By node, the cells whose arcs lead into it from another, and some without such an arc, but never those alone.
     into: Chains,
     searches: Searches,
-    /// A slot of the large node into which an arc led last: a search does not look beyond that node.
-    hub: u32,
+    levels: Levels,
     /// How many looks at cells are saved up.
     saved: u64,
     /// For how many more slots all tables have memory.
@@ -50,13 +50,15 @@ impl Model for SlotGraph {
     ghost use Rattle.std.specs.Vec.{vec_capacity};
     ghost use Rattle.graph_nodes.specs.Named.{Graph};
     ghost use Rattle.graph_nodes.specs.Kept.{IsKept, IsMarked, HasRoom};
+    ghost use Rattle.graph_nodes.specs.Levels.{HaveLevels, HasLevelRoom};
 
     ghost Value = { Graph };
 
     ghost view = { λ g. record { arcs = g.arcs.items; node = g.node.items; held = g.held.items; room = g.room } };
 
     ghost invariant = { λ g. IsKept g.arcs.items g.node.items g.held.items g.names.name g.members g.into × (g.searches.found.end ≡ length g.node.items) × (g.searches.ahead.end ≡ length g.node.items) ×
-        HasRoom g.room (length g.node.items) (vec_capacity g.arcs) (vec_capacity g.node) (vec_capacity g.held) (vec_capacity g.searches.cells) g.names g.members g.into g.searches.found g.searches.ahead × IsMarked g.node.items g.held.items g.into g.names };
+        HasRoom g.room (length g.node.items) (vec_capacity g.arcs) (vec_capacity g.node) (vec_capacity g.held) (vec_capacity g.searches.cells) g.names g.members g.into g.searches.found g.searches.ahead × IsMarked g.node.items g.held.items g.into g.names ×
+        HaveLevels g.arcs.items g.node.items g.held.items g.levels.level.items g.levels.near × HasLevelRoom g.room (length g.node.items) (vec_capacity g.levels.level) g.levels.near };
 }
 
 impl SlotGraph {
@@ -74,7 +76,7 @@ impl SlotGraph {
             members: Chains::new(alloc),
             into: Chains::new(alloc),
             searches: Searches::new(alloc),
-            hub: 0,
+            levels: Levels::new(alloc),
             saved: 0,
             room: 0,
         }
@@ -131,6 +133,7 @@ impl SlotGraph {
         self.members.make_room(1, 1)?;
         self.into.make_room(1, 8)?;
         self.searches.make_room(self.arcs.len() + 8)?;
+        self.levels.make_room()?;
         self.room = 1;
         Ok(())
     }
@@ -153,6 +156,9 @@ impl SlotGraph {
         add_cells(&mut self.arcs, &mut self.into);
         self.searches.found.add_number();
         self.searches.ahead.add_number();
+        push_in_room(&mut self.levels.level, 0);
+        self.levels.near.add_list();
+        add_items(&mut self.levels.near);
         self.room -= 1;
     }
 
@@ -168,17 +174,16 @@ impl SlotGraph {
         ensures nodes { AreNodes (IsArc self.new.arcs) (node_at self.new.node) }
         ensures room { self.new.room ≡ self.old.room }
     {
-        let hub = self.hub_node();
         find_way(
             self.node[cell as usize / 8],
             self.node[to as usize],
-            hub,
             &Nodes {
                 arcs: self.arcs.as_slice(),
                 node: self.node.as_slice(),
                 members: &self.members,
-                into: &self.into,
             },
+            &self.into,
+            &mut self.levels,
             &mut self.searches,
         );
         gather(
@@ -201,18 +206,17 @@ impl SlotGraph {
             &mut self.saved,
         );
         self.names.tell(n, self.into.count(n) == 0);
-        self.hub = next_hub(hub, n, &self.members);
-    }
-
-    /// The node of the hub, or of the first slot where the hub is none.
-    fn hub_node(&self) -> u32
-        requires { 0 < length self.now.node }
-        ensures { result < length self.now.node }
-    {
-        if self.hub as usize >= self.node.len() {
-            return self.node[0];
-        }
-        self.node[self.hub as usize]
+        join_lists(n, &self.searches.found, &mut self.levels.near);
+        link_cell(
+            cell,
+            &Nodes {
+                arcs: self.arcs.as_slice(),
+                node: self.node.as_slice(),
+                members: &self.members,
+            },
+            self.levels.level.as_slice(),
+            &mut self.levels.near,
+        );
     }
 
     /// Takes out the slots of a minimal node: they are held no more, have no arcs, and are nodes by themselves.
@@ -286,5 +290,15 @@ fn add_cells(arcs: &mut Vec<PackedOption>, into: &mut Chains)
     for i in 0..8u32 {
         push_in_room(arcs, PackedOption::none());
         into.add_item();
+    }
+}
+
+/// Adds eight cells, which are in no list.
+fn add_items(lists: &mut Chains)
+    requires { 8 ≤ lists.old.item_room }
+    ensures { AreItemsAdded 8 lists.old lists.new }
+{
+    for i in 0..8u32 {
+        lists.add_item();
     }
 }

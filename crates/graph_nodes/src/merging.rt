@@ -2,7 +2,7 @@ ghost use Rattle.std.specs.Prelude.{◌≡◌, ℕ, ◌<◌, ◌≤◌, ◌⊎�
 ghost use Rattle.std.specs.Vec.{vec_capacity};
 ghost use Rattle.oper_core.specs.State.{is_among};
 ghost use Rattle.graph_nodes.specs.Kept.{AreGathered};
-ghost use Rattle.graph_nodes.specs.Merge.{IsFiled, IsRelabelled, IsAbsorbed, AreMerged};
+ghost use Rattle.graph_nodes.specs.Merge.{IsFiled, IsRelabelled, IsAbsorbed, AreMerged, AreMoved, gathered, renamed};
 
 use crate::names::Names;
 use number_lists::{Chains, NumberSet};
@@ -52,6 +52,28 @@ pub(crate) fn gather(
     let one = largest(taken, members);
     names.merge(one, taken);
     merge(one, taken, node, members, into, slots);
+}
+
+/// Moves the cells in the lists of the taken nodes to the list of one of them.
+pub(crate) fn join_lists(one: u32, taken: &NumberSet, lists: &mut Chains)
+    requires one { one < length lists.old.lists }
+    requires taken { taken.now.end ≤ length lists.old.lists }
+    ensures { AreMoved (gathered taken.now.members one) lists.old lists.new }
+{
+    for i in 0..taken.len() {
+        join_list(taken.get(i), one, lists);
+    }
+}
+
+/// Moves the cells in the list of the node to that of another, unless they are the same.
+fn join_list(n: u32, one: u32, lists: &mut Chains)
+    requires n { n < length lists.old.lists }
+    requires one { one < length lists.old.lists }
+    ensures { AreMoved (renamed n one) lists.old lists.new }
+{
+    if n != one {
+        lists.pour(n, one);
+    }
 }
 
 /// The taken node with most members.

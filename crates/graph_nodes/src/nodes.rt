@@ -9,6 +9,4 @@ pub(crate) struct Nodes<'a> {
     pub(crate) node: &'a [u32],
     /// By node, its slots.
     pub(crate) members: &'a Chains,
-    /// By node, the cells whose arcs lead into it.
-    pub(crate) into: &'a Chains,
 }

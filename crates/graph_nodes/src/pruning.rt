@@ -5,9 +5,12 @@ ghost use Rattle.std.specs.Vec.{vec_capacity};
 ghost use Rattle.number_lists.specs.Lists.{list_at, IsFree};
 ghost use Rattle.graph_nodes.specs.Arcs.{AreCells};
 ghost use Rattle.graph_nodes.specs.Into.{IsSettled, IsPutBack, ArePutBack};
+ghost use Rattle.graph_nodes.specs.Kept.{IsSearchable};
+ghost use Rattle.graph_nodes.specs.Levels.{ArePruned};
 
+use crate::nodes::Nodes;
 use crate::settling::{is_from_outside, settle};
-use number_lists::{Chains, PackedOption};
+use number_lists::{Chains, NumberSet, PackedOption};
 
 /// How many arcs have to be inserted for each cell that is looked at: a look is dear where there are many slots, since it
 /// waits for memory.
@@ -42,6 +45,32 @@ pub(crate) fn tidy(
     }
     *saved -= cost;
     prune(n, arcs, node, into, cells);
+}
+
+/// Drops all cells without an arc from another node from the lists of the first so many found nodes, but not from that of
+/// the node where the search stopped. So no search looks at such a cell that another one has looked at.
+pub(crate) fn prune_found(
+    stop: u32,
+    count: usize,
+    nodes: &Nodes,
+    near: &mut Chains,
+    cells: &mut Vec<u32>,
+    found: &NumberSet,
+)
+    requires ready { IsSearchable nodes.now.arcs.now nodes.now.node.now near.old found.now.end (vec_capacity cells.old) }
+    requires items { length nodes.now.arcs.now ≤ near.old.items }
+    ensures pruned { ArePruned nodes.now.arcs.now nodes.now.node.now near.old near.new }
+    ensures capacity { vec_capacity cells.old ≤ vec_capacity cells.new }
+{
+    for i in 0..found.len() {
+        if i >= count {
+            return;
+        }
+        let n = found.get(i);
+        if n != stop {
+            prune(n, nodes.arcs, nodes.node, near, cells);
+        }
+    }
 }
 
 /// Drops all cells without an arc from another node from the node's list.

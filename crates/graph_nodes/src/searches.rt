@@ -7,8 +7,7 @@ use number_lists::NumberSet;
 use oper_core::Memory;
 use std::alloc::Global;
 
-/// Two searches, one against the arcs and one along them. Its tables stay from one pair of searches to the next, so that
-/// none of these takes memory.
+/// A search against the arcs, and one along them. Their tables stay from one search to the next, so that none takes memory.
 #[derive(Drop)]
 pub(crate) struct Searches {
     /// The nodes that were found against the arcs.
@@ -17,8 +16,6 @@ pub(crate) struct Searches {
     pub(crate) ahead: NumberSet,
     /// How far the search against the arcs has come.
     pub(crate) back: Front,
-    /// How far the search along the arcs has come.
-    pub(crate) on: Front,
     /// The cells or the slots of the node that is looked at.
     pub(crate) cells: Vec<u32>,
 }
@@ -33,7 +30,6 @@ impl Searches {
             found: NumberSet::new(alloc),
             ahead: NumberSet::new(alloc),
             back: Front { next: 0, spent: 0 },
-            on: Front { next: 0, spent: 0 },
             cells: Vec::new(alloc),
         }
     }

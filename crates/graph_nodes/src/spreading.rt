@@ -5,38 +5,33 @@ ghost use Rattle.number_lists.specs.Lists.{list_at};
 ghost use Rattle.graph_nodes.specs.Arcs.{AreCells, AreBelow};
 ghost use Rattle.graph_nodes.specs.Kept.{IsSearchable, IsWide};
 ghost use Rattle.graph_nodes.specs.Search.{IsBehind};
-ghost use Rattle.graph_nodes.specs.Spread.{StartsIn, StartAmongIn, IsTakenUp, IsRoundDone, IsSpread, IsSpreadTo};
+ghost use Rattle.graph_nodes.specs.Spread.{StartsIn, StartAmongIn, IsTakenUp, IsRoundDone, IsSpread};
 
 use crate::nodes::Nodes;
 use number_lists::{Chains, NumberSet, PackedOption};
 
-/// Takes the node w and all that walks from it lead to among the nodes that were found. That one of these is such a node,
-/// or w, is known before.
+/// Takes the node w and all that walks from it lead to among the nodes that were found.
 pub(crate) fn spread(
     w: u32,
-    known: u32,
     nodes: &Nodes,
+    into: &Chains,
     cells: &mut Vec<u32>,
     found: &NumberSet,
     taken: &mut NumberSet,
 )
     requires start { w < taken.old.end }
-    requires below_end { known < taken.old.end }
-    requires known { IsSpreadTo (IsBehind nodes.now.arcs.now nodes.now.node.now nodes.now.into.now) w found.now.members known }
     requires ends { found.now.end ≡ taken.old.end }
-    requires ready { IsSearchable nodes.now.arcs.now nodes.now.node.now nodes.now.members.now nodes.now.into.now taken.old.end (vec_capacity cells.old) }
-    ensures taken { IsSpread (IsBehind nodes.now.arcs.now nodes.now.node.now nodes.now.into.now) w found.now.members taken.new.members }
-    ensures known { IsTrue (is_among known taken.new.members) }
+    requires ready { IsSearchable nodes.now.arcs.now nodes.now.node.now into.now taken.old.end (vec_capacity cells.old) }
+    ensures taken { IsSpread (IsBehind nodes.now.arcs.now nodes.now.node.now into.now) w found.now.members taken.new.members }
     ensures wide { IsWide taken.old taken.new }
     ensures capacity { vec_capacity cells.old ≤ vec_capacity cells.new }
 {
     taken.clear();
     taken.add(w);
-    taken.add(known);
     let mut before = 0;
     while before < taken.len() {
         before = taken.len();
-        take_round(nodes.arcs, nodes.node, nodes.into, cells, found, taken);
+        take_round(nodes.arcs, nodes.node, into, cells, found, taken);
     }
 }
 

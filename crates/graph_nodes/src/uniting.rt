@@ -1,97 +1,186 @@
-ghost use Rattle.std.specs.Prelude.{◌≡◌, ◌<◌, ◌≤◌};
+ghost use Rattle.std.specs.Prelude.{◌≡◌, ◌<◌, ◌≤◌, ◌⊎◌, length};
+ghost use Rattle.graph_nodes.specs.Into.{AreInto};
 ghost use Rattle.std.specs.Vec.{vec_capacity};
-ghost use Rattle.graph_nodes.specs.Kept.{AreAsWide, AreOnWay, AreOnWayThrough, AreSplit, AreTogether, IsSearchable, IsWide};
-ghost use Rattle.graph_nodes.specs.Search.{IsOwn};
+ghost use Rattle.graph_nodes.specs.Kept.{AreAsWide, AreOnWay, IsKeptWay, IsToldWay, IsWide};
+ghost use Rattle.graph_nodes.specs.Levels.{AreReady, AreStillLevelled, level_at};
+ghost use Rattle.graph_nodes.specs.Search.{IsOwn, IsSearched};
 
-use crate::apart::joins_nothing;
-use crate::leading::spread_back;
+use crate::apart::{is_bare, is_led_from};
+use crate::levels::{LEAST_LOOKS, Levels};
 use crate::nodes::Nodes;
+use crate::pruning::prune_found;
+use crate::raising::raise;
+use crate::search::{look, look_all};
 use crate::searches::Searches;
 use crate::spreading::spread;
-use crate::turns::{Way, search};
-use number_lists::NumberSet;
+use number_lists::Chains;
 use std::mem;
 
-/// Finds the nodes that an arc from v to w makes one: those on the way from w to v, and none where it joins no nodes.
-pub(crate) fn find_way(v: u32, w: u32, hub: u32, nodes: &Nodes, searches: &mut Searches)
-    requires v { v < searches.old.found.end }
-    requires w { w < searches.old.found.end }
-    requires hub { hub < searches.old.found.end }
-    requires ends { searches.old.found.end ≡ searches.old.ahead.end }
-    requires ready { IsSearchable nodes.now.arcs.now nodes.now.node.now nodes.now.members.now nodes.now.into.now searches.old.found.end (vec_capacity searches.old.cells) }
-    requires own { IsOwn nodes.now.arcs.now nodes.now.node.now w }
-    ensures way { AreOnWay nodes.now.arcs.now nodes.now.node.now nodes.now.into.now v w searches.new.found.members }
+/// Finds the nodes that an arc from v to w makes one: those on the way from w to v, and none where it joins no nodes. The
+/// level of v is not above that of w then.
+///
+/// Where the last arc into w came from v too, it joins none.
+pub(crate) fn find_way(
+    v: u32,
+    w: u32,
+    nodes: &Nodes,
+    into: &Chains,
+    levels: &mut Levels,
+    searches: &mut Searches,
+)
+    requires v { IsOwn nodes.now.arcs.now nodes.now.node.now v }
+    requires w { IsOwn nodes.now.arcs.now nodes.now.node.now w }
+    requires found_end { searches.old.found.end ≡ length nodes.now.node.now }
+    requires ahead_end { searches.old.ahead.end ≡ length nodes.now.node.now }
+    requires ready { AreReady nodes.now.arcs.now nodes.now.node.now nodes.now.members.now levels.old.level.items levels.old.near (vec_capacity searches.old.cells) }
+    requires into { AreInto nodes.now.arcs.now nodes.now.node.now into.now × (length into.now.lists ≡ length nodes.now.node.now) }
+    ensures way { AreOnWay nodes.now.arcs.now nodes.now.node.now v w searches.new.found.members }
+    ensures fits { (v ≡ w) ⊎ (level_at levels.new.level.items v ≤ level_at levels.new.level.items w) }
+    ensures still { AreStillLevelled nodes.now.arcs.now nodes.now.node.now levels.old.level.items levels.new.level.items levels.old.near levels.new.near }
+    ensures level { vec_capacity levels.old.level ≤ vec_capacity levels.new.level }
     ensures wide { AreAsWide searches.old.found searches.old.ahead searches.new.found searches.new.ahead }
     ensures capacity { vec_capacity searches.old.cells ≤ vec_capacity searches.new.cells }
 {
-    if joins_nothing(v, w, nodes.arcs, nodes.members) {
-        searches.found.clear();
+    searches.found.clear();
+    if v == w {
         return;
     }
-    match search(v, w, hub, nodes, searches) {
-        Way::Apart => searches.found.clear(),
-        Way::Against => {
-            spread(
-                w,
-                w,
-                nodes,
-                &mut searches.cells,
-                &searches.found,
-                &mut searches.ahead,
-            );
-            mem::swap(&mut searches.found, &mut searches.ahead);
-        }
-        Way::Along => spread_back(
-            v,
-            v,
-            nodes,
-            &mut searches.cells,
-            &searches.ahead,
-            &mut searches.found,
-        ),
-        Way::Through => unite(v, w, hub, nodes, searches),
+    let l = levels.level[v as usize];
+    if l < levels.level[w as usize] {
+        return;
+    }
+    if is_led_from(v, w, nodes, into) {
+        return;
+    }
+    let looks = raise(
+        w,
+        l,
+        nodes,
+        levels,
+        &mut searches.cells,
+        &mut searches.ahead,
+    );
+    levels.spent = levels.spent.saturating_add(looks);
+    if is_bare(w, nodes.arcs, nodes.members) {
+        return;
+    }
+    let reaches = search(v, w, nodes, levels, searches);
+    prune_found(
+        w,
+        searches.back.next,
+        nodes,
+        &mut levels.near,
+        &mut searches.cells,
+        &searches.found,
+    );
+    keep_way(reaches, searches);
+}
+
+/// Keeps the nodes on the way, where w reaches v, and else none.
+fn keep_way(reaches: bool, searches: &mut Searches)
+    requires { searches.old.found.end ≡ searches.old.ahead.end }
+    ensures kept { IsKeptWay reaches searches.old.ahead.members searches.new.found.members }
+    ensures wide { AreAsWide searches.old.found searches.old.ahead searches.new.found searches.new.ahead }
+    ensures capacity { vec_capacity searches.old.cells ≤ vec_capacity searches.new.cells }
+{
+    if reaches {
+        mem::swap(&mut searches.found, &mut searches.ahead);
+    } else {
+        searches.found.clear();
     }
 }
 
-/// Finds the nodes on the way from w to v among those that two searches found, which did not look beyond the hub.
-fn unite(v: u32, w: u32, hub: u32, nodes: &Nodes, searches: &mut Searches)
-    requires v { v < searches.old.found.end }
-    requires w { w < searches.old.found.end }
-    requires hub { hub < searches.old.found.end }
-    requires ends { searches.old.found.end ≡ searches.old.ahead.end }
-    requires ready { IsSearchable nodes.now.arcs.now nodes.now.node.now nodes.now.members.now nodes.now.into.now searches.old.found.end (vec_capacity searches.old.cells) }
-    requires split { AreSplit nodes.now.arcs.now nodes.now.node.now nodes.now.into.now v w hub searches.old.found.members searches.old.ahead.members }
-    ensures way { AreOnWayThrough nodes.now.arcs.now nodes.now.node.now nodes.now.into.now v w searches.new.found.members }
+/// Whether w reaches v, where the level of v is not above that of w: then the nodes on the way are those ahead.
+///
+/// The search goes from v against the arcs within its level. Where it takes too many looks it is given up, and w and all
+/// that it reaches are raised above v.
+fn search(v: u32, w: u32, nodes: &Nodes, levels: &mut Levels, searches: &mut Searches) -> bool
+    requires v { IsOwn nodes.now.arcs.now nodes.now.node.now v }
+    requires w { IsOwn nodes.now.arcs.now nodes.now.node.now w }
+    requires fits { level_at levels.old.level.items v ≤ level_at levels.old.level.items w }
+    requires found_end { searches.old.found.end ≡ length nodes.now.node.now }
+    requires ahead_end { searches.old.ahead.end ≡ length nodes.now.node.now }
+    requires ready { AreReady nodes.now.arcs.now nodes.now.node.now nodes.now.members.now levels.old.level.items levels.old.near (vec_capacity searches.old.cells) }
+    ensures way { IsToldWay nodes.now.arcs.now nodes.now.node.now v w searches.new.ahead.members result }
+    ensures fits { level_at levels.new.level.items v ≤ level_at levels.new.level.items w }
+    ensures still { AreStillLevelled nodes.now.arcs.now nodes.now.node.now levels.old.level.items levels.new.level.items levels.old.near levels.new.near }
+    ensures level { vec_capacity levels.old.level ≤ vec_capacity levels.new.level }
     ensures found { IsWide searches.old.found searches.new.found }
     ensures ahead { IsWide searches.old.ahead searches.new.ahead }
     ensures capacity { vec_capacity searches.old.cells ≤ vec_capacity searches.new.cells }
 {
-    add_all(&searches.ahead, &mut searches.found);
+    let looks = levels.looks();
+    look(v, w, looks, nodes, &levels.near, searches);
+    if searches.back.next >= searches.found.len() {
+        let more = searches.back.spent.saturating_sub(LEAST_LOOKS);
+        levels.used = levels.used.saturating_add(more);
+        return take_way(v, w, nodes, levels, searches);
+    }
+    give_up(v, w, nodes, levels, searches);
+    if levels.level[v as usize] < levels.level[w as usize] {
+        return false;
+    }
+    look_all(v, w, nodes, &levels.near, searches);
+    take_way(v, w, nodes, levels, searches)
+}
+
+/// Raises w and all that it reaches above v.
+fn give_up(v: u32, w: u32, nodes: &Nodes, levels: &mut Levels, searches: &mut Searches)
+    requires v { v < length nodes.now.node.now }
+    requires w { w < length nodes.now.node.now }
+    requires ahead_end { searches.old.ahead.end ≡ length nodes.now.node.now }
+    requires ready { AreReady nodes.now.arcs.now nodes.now.node.now nodes.now.members.now levels.old.level.items levels.old.near (vec_capacity searches.old.cells) }
+    ensures fits { level_at levels.new.level.items v ≤ level_at levels.new.level.items w }
+    ensures still { AreStillLevelled nodes.now.arcs.now nodes.now.node.now levels.old.level.items levels.new.level.items levels.old.near levels.new.near }
+    ensures level { vec_capacity levels.old.level ≤ vec_capacity levels.new.level }
+    ensures found { searches.new.found ≡ searches.old.found }
+    ensures ahead { IsWide searches.old.ahead searches.new.ahead }
+    ensures capacity { vec_capacity searches.old.cells ≤ vec_capacity searches.new.cells }
+{
+    let l = next_level(levels.level[v as usize]);
+    let looks = raise(
+        w,
+        l,
+        nodes,
+        levels,
+        &mut searches.cells,
+        &mut searches.ahead,
+    );
+    levels.spent = levels.spent.saturating_add(looks);
+    levels.raises = levels.raises.saturating_add(1);
+}
+
+/// The next level, or the same one where it is the last.
+fn next_level(l: u32) -> u32
+    ensures { l ≤ result }
+{
+    if l < u32::MAX { l + 1 } else { l }
+}
+
+/// Whether a search against the arcs from v, which is over, has found w: then it takes the nodes on the way.
+fn take_way(v: u32, w: u32, nodes: &Nodes, levels: &Levels, searches: &mut Searches) -> bool
+    requires v { IsOwn nodes.now.arcs.now nodes.now.node.now v }
+    requires w { IsOwn nodes.now.arcs.now nodes.now.node.now w }
+    requires fits { level_at levels.now.level.items v ≤ level_at levels.now.level.items w }
+    requires found_end { searches.old.found.end ≡ length nodes.now.node.now }
+    requires ahead_end { searches.old.ahead.end ≡ length nodes.now.node.now }
+    requires ready { AreReady nodes.now.arcs.now nodes.now.node.now nodes.now.members.now levels.now.level.items levels.now.near (vec_capacity searches.old.cells) }
+    requires over { IsSearched nodes.now.arcs.now nodes.now.node.now levels.now.near v w searches.old.found.members }
+    ensures way { IsToldWay nodes.now.arcs.now nodes.now.node.now v w searches.new.ahead.members result }
+    ensures found { searches.new.found ≡ searches.old.found }
+    ensures ahead { IsWide searches.old.ahead searches.new.ahead }
+    ensures capacity { vec_capacity searches.old.cells ≤ vec_capacity searches.new.cells }
+{
+    if !searches.found.contains(w) {
+        return false;
+    }
     spread(
         w,
-        hub,
         nodes,
+        &levels.near,
         &mut searches.cells,
         &searches.found,
         &mut searches.ahead,
     );
-    spread_back(
-        v,
-        hub,
-        nodes,
-        &mut searches.cells,
-        &searches.ahead,
-        &mut searches.found,
-    );
-}
-
-/// Puts the numbers of one set into the other.
-fn add_all(from: &NumberSet, to: &mut NumberSet)
-    requires { from.now.end ≡ to.old.end }
-    ensures together { AreTogether to.old.members from.now.members to.new.members }
-    ensures wide { IsWide to.old to.new }
-{
-    for i in 0..from.len() {
-        to.add(from.get(i));
-    }
+    true
 }

@@ -60,7 +60,7 @@ front : (next : List ℕ) (k first : ℕ) → (k ≡ 0 → ⊥) → follow next 
 front next zero first ne = absurd (ne refl)
 front next (suc k) first ne = let e : suc k - 1 ≡ k = omega arith in ap (λ (n : ℕ). first ∷ follow next n (slice_index next first)) (sym e)
 
-begins : (next : List ℕ) (cs : List Chain) (i f : ℕ) (c : Chain) → i < length (lists_of next cs) → c ≡ slice_index_or cs i c → (c.count ≡ 0 → ⊥) → GoesOn next (c.count - 1) c.first f → list_at (lists_of next cs) i ≡ c.first ∷ follow next (c.count - 1) f
+pub begins : (next : List ℕ) (cs : List Chain) (i f : ℕ) (c : Chain) → i < length (lists_of next cs) → c ≡ slice_index_or cs i c → (c.count ≡ 0 → ⊥) → GoesOn next (c.count - 1) c.first f → list_at (lists_of next cs) i ≡ c.first ∷ follow next (c.count - 1) f
 begins next cs i f c lt at some e = listed next cs i c lt at ∙ front next c.count c.first some ∙ ap (λ (ys : List ℕ). c.first ∷ ys) (sym e)
 
 popped-lists : (next : List ℕ) (cs : List Chain) (i f : ℕ) (c : Chain) → lists_of next (slice_set cs i record { first = f; count = c.count - 1 }) ≡ slice_set (lists_of next cs) i (follow next (c.count - 1) f)

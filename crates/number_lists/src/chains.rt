@@ -1,4 +1,4 @@
-ghost use Rattle.std.specs.Prelude.{◌≡◌, ℕ, ◌<◌, ◌≤◌, [], length, slice_index, nat_eq, IsTrue, OnOk, MatchOption};
+ghost use Rattle.std.specs.Prelude.{◌≡◌, ℕ, ◌<◌, ◌≤◌, List, [], ◌∷◌, length, slice_index, nat_eq, IsTrue, OnOk, MatchOption};
 ghost use Rattle.std.specs.List.{IsDistinct};
 ghost use Rattle.oper_core.specs.State.{is_among};
 ghost use Rattle.number_lists.specs.Links.{follow};
@@ -61,6 +61,18 @@ impl Chains {
     {
         let chain = self.chains[list as usize];
         chain.count as usize
+    }
+
+    /// The first number of a list, none where it is empty.
+    pub fn first(&self, list: u32) -> Option<u32>
+        requires { list < length self.now.lists }
+        ensures { MatchOption result (list_at self.now.lists list ≡ []) (λ k. (rest : List ℕ) × (list_at self.now.lists list ≡ k ∷ rest)) }
+    {
+        let chain = self.chains[list as usize];
+        if chain.count == 0 {
+            return None;
+        }
+        Some(chain.first)
     }
 
     /// Puts a number that is in no list in front of a list.

@@ -1,4 +1,5 @@
-ghost use Rattle.std.specs.Prelude.{◌≡◌, ◌<◌, ◌≤◌, ◌+◌, ◌^◌, ◌++◌, ◌∷◌, [], IsFalse, length, slice_index, OnOk};
+ghost use Rattle.std.specs.Prelude.{◌≡◌, ◌<◌, ◌≤◌, ◌+◌, ◌^◌, ◌++◌, ◌∷◌, [], IsFalse, length, slice_index, nat_eq, OnOk};
+ghost use Rattle.std.specs.List.{IsDistinct};
 ghost use Rattle.oper_core.specs.State.{is_among};
 ghost use Rattle.number_lists.specs.Members.{IsWith};
 
@@ -43,6 +44,7 @@ impl NumberSet {
     pub fn len(&self) -> usize
         ensures count { result ≡ length self.now.members }
         ensures few { result ≤ self.now.end }
+        ensures distinct { IsDistinct nat_eq self.now.members }
     {
         let _place = &self.place;
         self.members.len()

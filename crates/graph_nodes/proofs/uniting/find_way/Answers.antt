@@ -1,107 +1,64 @@
-use Rattle.std.proofs.Common.{◌∙◌, sym, subst, refl, arith, inl, inr}
-use Rattle.std.specs.Vec.{vec_capacity}
-use Rattle.number_lists.specs.Members.{Members}
-use Rattle.graph_nodes.specs.Search.{IsApart}
-use Rattle.graph_nodes.specs.Kept.{AreOnWay}
+use Rattle.std.proofs.Common.{arith, inl, inr}
 use Rattle.graph_nodes.proofs.Bare.{bare-apart}
-use Rattle.graph_nodes.proofs.Turned.{searchable-on, wide-none, wide-twice, wide-both, wide-swapped}
+use Rattle.graph_nodes.proofs.Found.{level-read}
+use Rattle.graph_nodes.proofs.Raised.{still-twice, pruned-still}
+use Rattle.graph_nodes.proofs.Turned.{as-wide-after, wide-twice}
+use Rattle.graph_nodes.proofs.Ways.{below-apart, led-apart, led-fits}
 use Rattle.graph_nodes.proofs.uniting.find_way.Goals as goal
 
-pub joins_nothing-requires-clause-list : goal.joins_nothing-requires-clause-list
-joins_nothing-requires-clause-list c = omega (arith, c.requires.w, c.requires.ready.member_lists)
-
-pub joins_nothing-requires-clause-cells : goal.joins_nothing-requires-clause-cells
-joins_nothing-requires-clause-cells c = c.requires.own.cells
-
-pub returns-then-joins_nothing-clause-way : goal.returns-then-joins_nothing-clause-way
-returns-then-joins_nothing-clause-way c =
+pub returns-then-l-index-clause-way : goal.returns-then-l-index-clause-way
+returns-then-l-index-clause-way c =
     let nodes = c.args.nodes.now in
-    let is : IsApart nodes.arcs.now nodes.node.now nodes.into.now c.args.v c.args.w = elim (c.joins_nothing.ensures c.if-joins_nothing.true) [
-      | inl e ↦ inl e
-      | inr bare ↦ bare-apart nodes.arcs.now nodes.node.now nodes.members.now nodes.into.now c.args.v c.args.w c.requires.ready.filed c.requires.own bare
-    ] in
-    inl (is, c.clear.ensures.members)
+    let levels = c.args.levels.now in
+    let ready = c.requires.ready in
+    let size = ready.linkable.sizes.levels in
+    let v = level-read levels.level.items c.args.v c.index-l.result.now (omega (arith, size, c.requires.v.slot)) c.index-l.ensures in
+    let w = level-read levels.level.items c.args.w c.index.result.now (omega (arith, size, c.requires.w.slot)) c.index.ensures in
+    inl (below-apart nodes.arcs.now nodes.node.now levels.level.items levels.near ready.nodes ready.levelled c.args.v c.args.w (omega (arith, c.if-l-index.true, v, w)), c.clear.ensures.members)
 
-pub returns-then-joins_nothing-clause-wide : goal.returns-then-joins_nothing-clause-wide
-returns-then-joins_nothing-clause-wide c =
-    let was = c.args.searches.now in
-    wide-both was.found was.ahead c.clear.new.self was.ahead record { end = c.clear.ensures.end; room = c.clear.ensures.room } (wide-none was.ahead)
+pub is_led_from-requires-clause-list : goal.is_led_from-requires-clause-list
+is_led_from-requires-clause-list c = omega (arith, c.requires.into.1, c.requires.w.slot)
 
-pub returns-in-Apart-clause-way : goal.returns-in-Apart-clause-way
-returns-in-Apart-clause-way c = inl (c.in-Apart.ensures.way, c.clear-in-Apart.ensures.members)
+pub is_led_from-requires-clause-cells : goal.is_led_from-requires-clause-cells
+is_led_from-requires-clause-cells c = λ k t. let r = c.requires.into.0.only c.args.w k t in (r.0, omega (arith, r.0, c.requires.ready.linkable.sizes.cells))
 
-pub returns-in-Apart-clause-wide : goal.returns-in-Apart-clause-wide
-returns-in-Apart-clause-wide c =
-    let was = c.args.searches.now in
-    let now = c.search.new.searches in
-    wide-both was.found was.ahead c.clear-in-Apart.new.self now.ahead (wide-twice was.found now.found c.clear-in-Apart.new.self c.search.ensures.found record { end = c.clear-in-Apart.ensures.end; room = c.clear-in-Apart.ensures.room }) c.search.ensures.ahead
-
-pub spread-requires-clause-known : goal.spread-requires-clause-known
-spread-requires-clause-known c = inl refl
-
-pub spread-requires-clause-ends : goal.spread-requires-clause-ends
-spread-requires-clause-ends c = c.search.ensures.found.end ∙ c.requires.ends ∙ sym c.search.ensures.ahead.end
-
-pub spread-requires-clause-ready : goal.spread-requires-clause-ready
-spread-requires-clause-ready c =
+pub returns-then-is_led_from-clause-way : goal.returns-then-is_led_from-clause-way
+returns-then-is_led_from-clause-way c =
     let nodes = c.args.nodes.now in
-    let was = c.args.searches.now in
-    let now = c.search.new.searches in
-    searchable-on nodes.arcs.now nodes.node.now nodes.members.now nodes.into.now was.found.end now.ahead.end (vec_capacity was.cells) (vec_capacity now.cells) (c.search.ensures.ahead.end ∙ sym c.requires.ends) c.search.ensures.capacity c.requires.ready
+    let levels = c.args.levels.now in
+    let ready = c.requires.ready in
+    inl (led-apart nodes.arcs.now nodes.node.now levels.level.items levels.near ready.nodes ready.levelled c.args.into.now c.args.v c.args.w c.requires.into.0 (c.is_led_from.ensures c.if-is_led_from.true), c.clear.ensures.members)
 
-pub returns-in-Against-clause-way : goal.returns-in-Against-clause-way
-returns-in-Against-clause-way c =
+pub returns-then-is_led_from-clause-fits : goal.returns-then-is_led_from-clause-fits
+returns-then-is_led_from-clause-fits c =
     let nodes = c.args.nodes.now in
-    subst (λ (m : Members). AreOnWay nodes.arcs.now nodes.node.now nodes.into.now c.args.v c.args.w m.members) (sym c.swap.ensures.x_after)
-    (inr (inl (c.search.new.searches.found.members, c.in-Against.ensures.way.0, c.in-Against.ensures.way.1, c.spread.ensures.taken)))
+    let levels = c.args.levels.now in
+    let ready = c.requires.ready in
+    inr (led-fits nodes.arcs.now nodes.node.now levels.level.items levels.near ready.nodes ready.levelled c.args.into.now c.args.v c.args.w c.requires.into.0 (c.is_led_from.ensures c.if-is_led_from.true))
 
-pub returns-in-Against-clause-wide : goal.returns-in-Against-clause-wide
-returns-in-Against-clause-wide c =
-    let was = c.args.searches.now in
-    let now = c.search.new.searches in
-    wide-swapped was.found was.ahead now.found c.spread.new.taken c.swap.new.x c.swap.new.y c.requires.ends c.search.ensures.found (wide-twice was.ahead now.ahead c.spread.new.taken c.search.ensures.ahead c.spread.ensures.wide) c.swap.ensures.x_after c.swap.ensures.y_after
-
-pub spread_back-requires-clause-known : goal.spread_back-requires-clause-known
-spread_back-requires-clause-known c = inl refl
-
-pub spread_back-requires-clause-same : goal.spread_back-requires-clause-same
-spread_back-requires-clause-same c = c.search.ensures.ahead.end ∙ sym c.requires.ends ∙ sym c.search.ensures.found.end
-
-pub spread_back-requires-clause-ready : goal.spread_back-requires-clause-ready
-spread_back-requires-clause-ready c =
+pub returns-then-is_bare-clause-way : goal.returns-then-is_bare-clause-way
+returns-then-is_bare-clause-way c =
     let nodes = c.args.nodes.now in
+    inl (bare-apart nodes.arcs.now nodes.node.now nodes.members.now c.args.v c.args.w c.requires.ready.linkable.filed c.requires.w (c.is_bare.ensures c.if-is_bare.true), c.clear.ensures.members)
+
+pub returns-clause-still : goal.returns-clause-still
+returns-clause-still c =
+    let arcs = c.args.nodes.now.arcs.now in
+    let node = c.args.nodes.now.node.now in
+    let was = c.args.levels.now in
+    let raised = c.raise-looks.new.levels in
+    let last = c.search-reaches.new.levels in
+    let near = c.prune_found.new.near in
+    still-twice arcs node was.level.items raised.level.items last.level.items was.near raised.near near c.raise-looks.ensures.still
+    (still-twice arcs node raised.level.items last.level.items last.level.items raised.near last.near near c.search-reaches.ensures.still
+    (pruned-still arcs node last.level.items last.near near c.search-reaches.ensures.still.levelled c.prune_found.ensures.pruned))
+
+pub returns-clause-wide : goal.returns-clause-wide
+returns-clause-wide c =
     let was = c.args.searches.now in
-    let now = c.search.new.searches in
-    searchable-on nodes.arcs.now nodes.node.now nodes.members.now nodes.into.now was.found.end now.found.end (vec_capacity was.cells) (vec_capacity now.cells) c.search.ensures.found.end c.search.ensures.capacity c.requires.ready
-
-pub returns-in-Along-clause-way : goal.returns-in-Along-clause-way
-returns-in-Along-clause-way c = inr (inr (inl (c.search.new.searches.ahead.members, c.in-Along.ensures.way.0, c.in-Along.ensures.way.1, c.spread_back.ensures.taken)))
-
-pub returns-in-Along-clause-wide : goal.returns-in-Along-clause-wide
-returns-in-Along-clause-wide c =
-    let was = c.args.searches.now in
-    let now = c.search.new.searches in
-    wide-both was.found was.ahead c.spread_back.new.taken now.ahead (wide-twice was.found now.found c.spread_back.new.taken c.search.ensures.found c.spread_back.ensures.wide) c.search.ensures.ahead
-
-pub unite-requires-clause-ends : goal.unite-requires-clause-ends
-unite-requires-clause-ends c = c.search.ensures.found.end ∙ c.requires.ends ∙ sym c.search.ensures.ahead.end
-
-pub unite-requires-clause-ready : goal.unite-requires-clause-ready
-unite-requires-clause-ready c =
-    let nodes = c.args.nodes.now in
-    let was = c.args.searches.now in
-    let now = c.search.new.searches in
-    searchable-on nodes.arcs.now nodes.node.now nodes.members.now nodes.into.now was.found.end now.found.end (vec_capacity was.cells) (vec_capacity now.cells) c.search.ensures.found.end c.search.ensures.capacity c.requires.ready
-
-pub unite-requires-clause-split : goal.unite-requires-clause-split
-unite-requires-clause-split c = c.in-Through.ensures.way
-
-pub returns-in-Through-clause-way : goal.returns-in-Through-clause-way
-returns-in-Through-clause-way c = inr (inr (inr c.unite.ensures.way))
-
-pub returns-in-Through-clause-wide : goal.returns-in-Through-clause-wide
-returns-in-Through-clause-wide c =
-    let was = c.args.searches.now in
-    let now = c.search.new.searches in
-    let new = c.unite.new.searches in
-    wide-both was.found was.ahead new.found new.ahead (wide-twice was.found now.found new.found c.search.ensures.found c.unite.ensures.found) (wide-twice was.ahead now.ahead new.ahead c.search.ensures.ahead c.unite.ensures.ahead)
+    let now = c.search-reaches.new.searches in
+    let new = c.keep_way.new.searches in
+    as-wide-after was.found was.ahead now.found now.ahead new.found new.ahead
+    (wide-twice was.found c.clear.new.self now.found record { end = c.clear.ensures.end; room = c.clear.ensures.room } c.search-reaches.ensures.found)
+    (wide-twice was.ahead c.raise-looks.new.ahead now.ahead c.raise-looks.ensures.wide c.search-reaches.ensures.ahead)
+    c.keep_way.ensures.wide

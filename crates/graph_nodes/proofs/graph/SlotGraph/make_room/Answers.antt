@@ -1,5 +1,6 @@
 use Rattle.std.proofs.Common.{◌≡◌, ◌∙◌, ap, sym, length, refl, arith}
 use Rattle.std.specs.Vec.{vec_capacity}
+use Rattle.graph_nodes.proofs.Levelled.{have-as, level-room-more}
 use Rattle.graph_nodes.proofs.Slot.{kept-room, room-more}
 use Rattle.graph_nodes.proofs.Told.{marked-as}
 use Rattle.graph_nodes.proofs.graph.SlotGraph.make_room.Goals as goal
@@ -16,6 +17,8 @@ invariant_of-self-in_err-make_room c =
           same c.reserve.ensures.capacity c.reserve-2.ensures.capacity c.reserve-3.ensures.capacity (omega arith) c.make_room.ensures.kept (omega arith) (omega arith) (omega arith) (omega arith) c.self.invariant.3.found c.self.invariant.3.ahead c.self.invariant.3,
       marked-as c.self.inside.node.items c.reserve-2.new.self.items c.self.inside.held.items c.reserve-3.new.self.items c.self.inside.into c.self.inside.into c.self.inside.names c.make_room.new.self c.reserve-2.ensures.items c.reserve-3.ensures.items refl
           c.make_room.ensures.name c.make_room.ensures.names c.make_room.ensures.minimal c.self.invariant.4,
+      have-as c.self.inside.arcs.items c.reserve.new.self.items c.self.inside.node.items c.reserve-2.new.self.items c.self.inside.held.items c.reserve-3.new.self.items c.self.inside.levels.level.items c.self.inside.levels.level.items c.self.inside.levels.near c.self.inside.levels.near c.self.invariant.5 c.reserve.ensures.items c.reserve-2.ensures.items c.reserve-3.ensures.items refl refl refl,
+      level-room-more c.self.inside.room (length c.self.inside.node.items) (length c.reserve-2.new.self.items) (vec_capacity c.self.inside.levels.level) (vec_capacity c.self.inside.levels.level) c.self.inside.levels.near c.self.inside.levels.near same (omega arith) (omega arith) (omega arith) c.self.invariant.6,
     )
 
 pub invariant_of-self-in_err-make_room-2 : goal.invariant_of-self-in_err-make_room-2
@@ -30,6 +33,8 @@ invariant_of-self-in_err-make_room-2 c =
           same c.reserve.ensures.capacity c.reserve-2.ensures.capacity c.reserve-3.ensures.capacity (omega arith) c.make_room.ensures.kept c.make_room-2.ensures.lists_kept c.make_room-2.ensures.items_kept (omega arith) (omega arith) c.self.invariant.3.found c.self.invariant.3.ahead c.self.invariant.3,
       marked-as c.self.inside.node.items c.reserve-2.new.self.items c.self.inside.held.items c.reserve-3.new.self.items c.self.inside.into c.self.inside.into c.self.inside.names c.make_room.new.self c.reserve-2.ensures.items c.reserve-3.ensures.items refl
           c.make_room.ensures.name c.make_room.ensures.names c.make_room.ensures.minimal c.self.invariant.4,
+      have-as c.self.inside.arcs.items c.reserve.new.self.items c.self.inside.node.items c.reserve-2.new.self.items c.self.inside.held.items c.reserve-3.new.self.items c.self.inside.levels.level.items c.self.inside.levels.level.items c.self.inside.levels.near c.self.inside.levels.near c.self.invariant.5 c.reserve.ensures.items c.reserve-2.ensures.items c.reserve-3.ensures.items refl refl refl,
+      level-room-more c.self.inside.room (length c.self.inside.node.items) (length c.reserve-2.new.self.items) (vec_capacity c.self.inside.levels.level) (vec_capacity c.self.inside.levels.level) c.self.inside.levels.near c.self.inside.levels.near same (omega arith) (omega arith) (omega arith) c.self.invariant.6,
     )
 
 pub invariant_of-self-in_err-make_room-3 : goal.invariant_of-self-in_err-make_room-3
@@ -44,6 +49,8 @@ invariant_of-self-in_err-make_room-3 c =
           same c.reserve.ensures.capacity c.reserve-2.ensures.capacity c.reserve-3.ensures.capacity (omega arith) c.make_room.ensures.kept c.make_room-2.ensures.lists_kept c.make_room-2.ensures.items_kept c.make_room-3.ensures.lists_kept c.make_room-3.ensures.items_kept c.self.invariant.3.found c.self.invariant.3.ahead c.self.invariant.3,
       marked-as c.self.inside.node.items c.reserve-2.new.self.items c.self.inside.held.items c.reserve-3.new.self.items c.self.inside.into c.make_room-3.new.self c.self.inside.names c.make_room.new.self c.reserve-2.ensures.items c.reserve-3.ensures.items c.make_room-3.ensures.lists
           c.make_room.ensures.name c.make_room.ensures.names c.make_room.ensures.minimal c.self.invariant.4,
+      have-as c.self.inside.arcs.items c.reserve.new.self.items c.self.inside.node.items c.reserve-2.new.self.items c.self.inside.held.items c.reserve-3.new.self.items c.self.inside.levels.level.items c.self.inside.levels.level.items c.self.inside.levels.near c.self.inside.levels.near c.self.invariant.5 c.reserve.ensures.items c.reserve-2.ensures.items c.reserve-3.ensures.items refl refl refl,
+      level-room-more c.self.inside.room (length c.self.inside.node.items) (length c.reserve-2.new.self.items) (vec_capacity c.self.inside.levels.level) (vec_capacity c.self.inside.levels.level) c.self.inside.levels.near c.self.inside.levels.near same (omega arith) (omega arith) (omega arith) c.self.invariant.6,
     )
 
 pub invariant_of-self-in_err-make_room-4 : goal.invariant_of-self-in_err-make_room-4
@@ -58,6 +65,24 @@ invariant_of-self-in_err-make_room-4 c =
           same c.reserve.ensures.capacity c.reserve-2.ensures.capacity c.reserve-3.ensures.capacity c.make_room-4.ensures.capacity c.make_room.ensures.kept c.make_room-2.ensures.lists_kept c.make_room-2.ensures.items_kept c.make_room-3.ensures.lists_kept c.make_room-3.ensures.items_kept (omega (arith, c.self.invariant.3.found, c.make_room-4.ensures.found.room)) (omega (arith, c.self.invariant.3.ahead, c.make_room-4.ensures.ahead.room)) c.self.invariant.3,
       marked-as c.self.inside.node.items c.reserve-2.new.self.items c.self.inside.held.items c.reserve-3.new.self.items c.self.inside.into c.make_room-3.new.self c.self.inside.names c.make_room.new.self c.reserve-2.ensures.items c.reserve-3.ensures.items c.make_room-3.ensures.lists
           c.make_room.ensures.name c.make_room.ensures.names c.make_room.ensures.minimal c.self.invariant.4,
+      have-as c.self.inside.arcs.items c.reserve.new.self.items c.self.inside.node.items c.reserve-2.new.self.items c.self.inside.held.items c.reserve-3.new.self.items c.self.inside.levels.level.items c.self.inside.levels.level.items c.self.inside.levels.near c.self.inside.levels.near c.self.invariant.5 c.reserve.ensures.items c.reserve-2.ensures.items c.reserve-3.ensures.items refl refl refl,
+      level-room-more c.self.inside.room (length c.self.inside.node.items) (length c.reserve-2.new.self.items) (vec_capacity c.self.inside.levels.level) (vec_capacity c.self.inside.levels.level) c.self.inside.levels.near c.self.inside.levels.near same (omega arith) (omega arith) (omega arith) c.self.invariant.6,
+    )
+
+pub invariant_of-self-in_err-make_room-5 : goal.invariant_of-self-in_err-make_room-5
+invariant_of-self-in_err-make_room-5 c =
+    let same : length c.reserve-2.new.self.items ≡ length c.self.inside.node.items = ap length c.reserve-2.ensures.items in (
+      kept-room c.self.inside.arcs.items c.reserve.new.self.items c.self.inside.node.items c.reserve-2.new.self.items c.self.inside.held.items c.reserve-3.new.self.items c.self.inside.names.name c.make_room.new.self.name c.self.inside.members c.make_room-2.new.self c.self.inside.into c.make_room-3.new.self c.self.invariant.0
+          c.reserve.ensures.items c.reserve-2.ensures.items c.reserve-3.ensures.items c.make_room.ensures.name c.make_room-2.ensures.lists c.make_room-2.ensures.items c.make_room-3.ensures.lists c.make_room-3.ensures.items,
+      c.make_room-4.ensures.found.end ∙ c.self.invariant.1 ∙ sym same,
+      c.make_room-4.ensures.ahead.end ∙ c.self.invariant.2 ∙ sym same,
+      room-more c.self.inside.room (length c.self.inside.node.items) (length c.reserve-2.new.self.items) (vec_capacity c.self.inside.arcs) (vec_capacity c.reserve.new.self) (vec_capacity c.self.inside.node) (vec_capacity c.reserve-2.new.self) (vec_capacity c.self.inside.held) (vec_capacity c.reserve-3.new.self)
+          (vec_capacity c.self.inside.searches.cells) (vec_capacity c.make_room-4.new.self.cells) c.self.inside.names c.make_room.new.self c.self.inside.members c.make_room-2.new.self c.self.inside.into c.make_room-3.new.self c.self.inside.searches.found c.make_room-4.new.self.found c.self.inside.searches.ahead c.make_room-4.new.self.ahead
+          same c.reserve.ensures.capacity c.reserve-2.ensures.capacity c.reserve-3.ensures.capacity c.make_room-4.ensures.capacity c.make_room.ensures.kept c.make_room-2.ensures.lists_kept c.make_room-2.ensures.items_kept c.make_room-3.ensures.lists_kept c.make_room-3.ensures.items_kept (omega (arith, c.self.invariant.3.found, c.make_room-4.ensures.found.room)) (omega (arith, c.self.invariant.3.ahead, c.make_room-4.ensures.ahead.room)) c.self.invariant.3,
+      marked-as c.self.inside.node.items c.reserve-2.new.self.items c.self.inside.held.items c.reserve-3.new.self.items c.self.inside.into c.make_room-3.new.self c.self.inside.names c.make_room.new.self c.reserve-2.ensures.items c.reserve-3.ensures.items c.make_room-3.ensures.lists
+          c.make_room.ensures.name c.make_room.ensures.names c.make_room.ensures.minimal c.self.invariant.4,
+      have-as c.self.inside.arcs.items c.reserve.new.self.items c.self.inside.node.items c.reserve-2.new.self.items c.self.inside.held.items c.reserve-3.new.self.items c.self.inside.levels.level.items c.make_room-5.new.self.level.items c.self.inside.levels.near c.make_room-5.new.self.near c.self.invariant.5 c.reserve.ensures.items c.reserve-2.ensures.items c.reserve-3.ensures.items c.make_room-5.ensures.level c.make_room-5.ensures.lists c.make_room-5.ensures.items,
+      level-room-more c.self.inside.room (length c.self.inside.node.items) (length c.reserve-2.new.self.items) (vec_capacity c.self.inside.levels.level) (vec_capacity c.make_room-5.new.self.level) c.self.inside.levels.near c.make_room-5.new.self.near same c.make_room-5.ensures.capacity c.make_room-5.ensures.list_room c.make_room-5.ensures.item_room c.self.invariant.6,
     )
 
 pub invariant_of-self-2 : goal.invariant_of-self-2
@@ -82,4 +107,10 @@ invariant_of-self-2 c =
       },
       marked-as c.self.inside.node.items c.reserve-2.new.self.items c.self.inside.held.items c.reserve-3.new.self.items c.self.inside.into c.make_room-3.new.self c.self.inside.names c.make_room.new.self c.reserve-2.ensures.items c.reserve-3.ensures.items c.make_room-3.ensures.lists
           c.make_room.ensures.name c.make_room.ensures.names c.make_room.ensures.minimal c.self.invariant.4,
+      have-as c.self.inside.arcs.items c.reserve.new.self.items c.self.inside.node.items c.reserve-2.new.self.items c.self.inside.held.items c.reserve-3.new.self.items c.self.inside.levels.level.items c.make_room-5.new.self.level.items c.self.inside.levels.near c.make_room-5.new.self.near c.self.invariant.5 c.reserve.ensures.items c.reserve-2.ensures.items c.reserve-3.ensures.items c.make_room-5.ensures.level c.make_room-5.ensures.lists c.make_room-5.ensures.items,
+      record {
+        level = omega (arith, same, c.in_ok-make_room-5.ensures.room.0, ap length c.make_room-5.ensures.level, c.self.invariant.5.levels);
+        lists = c.in_ok-make_room-5.ensures.room.1;
+        items = c.in_ok-make_room-5.ensures.room.2;
+      },
     )

@@ -1,4 +1,5 @@
 use Rattle.std.proofs.Common.{arith}
+use Rattle.graph_nodes.proofs.Levelled.{have-none}
 use Rattle.graph_nodes.proofs.Ordered.{kept-none}
 use Rattle.graph_nodes.proofs.Told.{marked-none}
 use Rattle.graph_nodes.proofs.graph.SlotGraph.new.Goals as goal
@@ -22,4 +23,6 @@ invariant_of-result c = rw (c.new.ensures.items, c.new-2.ensures.items, c.new-3.
     ahead = omega arith;
   },
   marked-none c.new-6.result c.new-4.result c.new-4.ensures.names c.new-4.ensures.minimal,
+  have-none c.new-8.result.level.items c.new-8.result.near c.new-8.ensures.level c.new-8.ensures.lists c.new-8.ensures.items,
+  record { level = omega arith; lists = omega arith; items = omega arith },
 )

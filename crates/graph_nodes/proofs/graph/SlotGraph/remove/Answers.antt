@@ -9,6 +9,7 @@ use Rattle.graph_nodes.specs.Into.{AreLed, AreCleared}
 use Rattle.graph_nodes.specs.Named.{Graph, IsMinimal, AreTold}
 use Rattle.graph_nodes.specs.Removed.{AreReleased, AreAlone, IsInOrder}
 use Rattle.graph_nodes.proofs.Ordered.{value-at}
+use Rattle.graph_nodes.proofs.Levelled.{have-as, have-gone, level-room-more}
 use Rattle.graph_nodes.proofs.Slot.{kept-room, room-more}
 use Rattle.graph_nodes.proofs.Told.{told-of, marked-gone, marked-as}
 use Rattle.graph_nodes.proofs.Gone.{AreOfNode, of-node, kept-gone, removed-gone, released-as, alone-as, cleared-of, removed-as, nodes-as}
@@ -199,6 +200,8 @@ invariant_of-self c =
     let release : AreReleased slots held holders = released-as c.as_slice.result.now slots c.as_mut_slice.result.now held holders c.as_slice.ensures.value c.as_mut_slice.ensures.value c.release.ensures in
     let clear : AreCleared (λ k. IsTrue (is_among (k / 8) slots)) arcs left into led_into = cleared-of c.as_slice-2.result.now slots c.as_mut_slice-2.result.now arcs left into led_into c.as_slice-2.ensures.value c.as_mut_slice-2.ensures.value c.clear_slots.ensures.cleared in
     let alone : AreAlone slots old new = alone-as c.as_slice-4.result.now slots c.as_mut_slice-3.result.now old new c.as_slice-4.ensures.value c.as_mut_slice-3.ensures.value c.scatter.ensures.node in
+    let level = c.self.inside.levels.level.items in
+    let near = c.self.inside.levels.near in
     let name = c.self.inside.names in
     let after_names = c.clear_slots.new.names in
     let last = c.remove.new.self in
@@ -219,6 +222,8 @@ invariant_of-self c =
           c.self.inside.searches.found c.self.inside.searches.found c.self.inside.searches.ahead c.self.inside.searches.ahead (ap length back ∙ alone.size) (omega arith) (omega arith) (omega arith) c.copy_to.ensures.capacity (omega (arith, same.room, c.remove.ensures.room)) (omega (arith, c.scatter.ensures.same.list_room)) (omega (arith, c.scatter.ensures.same.item_room))
           (omega (arith, clear.same.list_room)) (omega (arith, clear.same.item_room)) c.self.invariant.3.found c.self.invariant.3.ahead c.self.invariant.3,
       marked-as new _ holders _ led_into led_into last last back back_held refl refl refl refl marks,
+      have-as left _ new _ holders _ level level near near (have-gone arcs left old new n slots into led_into are clear alone held holders level near c.self.invariant.5 release) back_arcs back back_held refl refl refl,
+      level-room-more c.self.inside.room (length old) _ (vec_capacity c.self.inside.levels.level) _ near near (ap length back ∙ alone.size) (omega arith) (omega arith) (omega arith) c.self.invariant.6,
     )
 
 pub returns-clause-removed : goal.returns-clause-removed

@@ -1,0 +1,65 @@
+ghost use Rattle.std.specs.Prelude.{◌≡◌, ◌≤◌, ◌+◌, [], OnOk, length};
+ghost use Rattle.std.specs.Vec.{vec_capacity};
+
+use number_lists::Chains;
+use oper_core::Memory;
+use std::alloc::Global;
+
+/// How many looks at cells a search against the arcs has in any case.
+pub(crate) const LEAST_LOOKS: u64 = 64;
+
+/// The levels of nodes. A search against the arcs looks at the nodes of one level alone.
+#[derive(Drop)]
+pub(crate) struct Levels {
+    /// By node, its level: no arc leads to a lower one.
+    pub(crate) level: Vec<u32>,
+    /// By node, the cells whose arcs lead into it from another node of its level, and some without such an arc.
+    pub(crate) near: Chains,
+    /// How many looks at cells it took to raise nodes.
+    pub(crate) spent: u64,
+    /// How often a search was given up.
+    pub(crate) raises: u64,
+    /// How many looks searches took that were not given up, beyond those that each has in any case.
+    pub(crate) used: u64,
+}
+
+impl Levels {
+    /// No nodes.
+    pub(crate) fn new(alloc: Global) -> Self
+        ensures level { result.level.items ≡ [] }
+        ensures lists { result.near.lists ≡ [] }
+        ensures items { result.near.items ≡ 0 }
+    {
+        Levels {
+            level: Vec::new(alloc),
+            near: Chains::new(alloc),
+            spent: 0,
+            raises: 0,
+            used: 0,
+        }
+    }
+
+    /// Takes the memory for one more node. Nothing else changes, also where it is out of memory.
+    pub(crate) fn make_room(&mut self) -> Result<(), Memory>
+        ensures level { self.new.level.items ≡ self.old.level.items }
+        ensures capacity { vec_capacity self.old.level ≤ vec_capacity self.new.level }
+        ensures lists { self.new.near.lists ≡ self.old.near.lists }
+        ensures items { self.new.near.items ≡ self.old.near.items }
+        ensures list_room { self.old.near.list_room ≤ self.new.near.list_room }
+        ensures item_room { self.old.near.item_room ≤ self.new.near.item_room }
+        ensures room { OnOk result ((length self.new.level.items + 1 ≤ vec_capacity self.new.level) × (1 ≤ self.new.near.list_room) × (8 ≤ self.new.near.item_room)) }
+    {
+        self.level.reserve(1)?;
+        self.near.make_room(1, 8)?;
+        Ok(())
+    }
+
+    /// How many looks at cells the next search has before it is given up: beyond some that each has, as many as raising nodes
+    /// took for each search that was given up. All searches together take no more such looks than raising.
+    pub(crate) fn looks(&self) -> u64 {
+        let average = self.spent / self.raises.saturating_add(1);
+        let left = self.spent.saturating_sub(self.used);
+        let more = if average < left { average } else { left };
+        more.saturating_add(LEAST_LOOKS)
+    }
+}
