@@ -7,6 +7,7 @@
 
 mod dice;
 mod feed;
+mod script;
 mod works;
 
 use feed::Feed;

@@ -1,4 +1,5 @@
 use crate::dice::Dice;
+use crate::script::scripted;
 use oper_core::Objs;
 
 /// What the operations of a run read and write.
@@ -18,6 +19,18 @@ pub enum Work {
     Close,
     /// All but two read the version that the first wrote and the last overwrites.
     Readers,
+    /// Each object's value is copied into the next one, from object 0 up to this one, over and over.
+    ShiftUp(u32),
+    /// The same from this object down to object 0.
+    ShiftDown(u32),
+    /// One object is overwritten, and an earlier copy of it is read; it is copied each so many turns.
+    Snap(u32),
+    /// A copy is read many times, and overwritten last.
+    Late,
+    /// Many copies of one object, the last of which is the first to be overwritten.
+    Fan,
+    /// What the rows of the script of this number say.
+    Script(u64),
 }
 
 /// When nodes are taken out.
@@ -38,7 +51,7 @@ pub struct Plan {
     pub removal: Removal,
 }
 
-/// The kind of work of the name, and when nodes are taken out in it.
+/// The kind of work of the name, or of the number of a script, and when nodes are taken out in it.
 pub fn works(name: &str) -> Option<(Work, Removal)> {
     match name {
         "independent" => Some((Work::Independent, Removal::AtEnd)),
@@ -56,7 +69,15 @@ pub fn works(name: &str) -> Option<(Work, Removal)> {
         "random_65536_emptied" => Some((Work::Random(65535), Removal::AtEnd)),
         "close" => Some((Work::Close, Removal::AtEnd)),
         "readers" => Some((Work::Readers, Removal::AtEnd)),
-        _ => None,
+        "pipe64" => Some((Work::ShiftDown(63), Removal::AtEnd)),
+        "pipeup1000" => Some((Work::ShiftUp(999), Removal::AtEnd)),
+        "shift_down4096" => Some((Work::ShiftDown(4095), Removal::AtEnd)),
+        "snap10" => Some((Work::Snap(10), Removal::AtEnd)),
+        "snap1000" => Some((Work::Snap(1000), Removal::AtEnd)),
+        "snap100000" => Some((Work::Snap(100000), Removal::AtEnd)),
+        "late" => Some((Work::Late, Removal::AtEnd)),
+        "fan" => Some((Work::Fan, Removal::AtEnd)),
+        number => Some((Work::Script(number.parse::<u64>().ok()?), Removal::AtEnd)),
     }
 }
 
@@ -71,12 +92,22 @@ pub fn accesses(work: Work, k: u32, count: u32, dice: &mut Dice) -> (Objs, Objs)
         Work::Random(most) => random(most, dice),
         Work::Close => close(k == 0, is_end),
         Work::Readers if is_end => put(0),
-        Work::Readers => (Objs::one(0), Objs::one(k)),
+        Work::Readers => copy(0, k),
+        Work::ShiftUp(most) => shift(place(k, most)),
+        Work::ShiftDown(most) => shift(most.saturating_sub(place(k, most))),
+        Work::Snap(turns) => snap(k as u64 % (2 * turns as u64 + 1), turns as u64),
+        Work::Late => late(k as u64, count as u64 / 3, is_end),
+        Work::Fan => fan(k, count / 4),
+        Work::Script(number) => scripted(number, k),
     }
 }
 
-fn put(x: u32) -> (Objs, Objs) {
+pub fn put(x: u32) -> (Objs, Objs) {
     (Objs::new(), Objs::one(x))
+}
+
+fn copy(x: u32, y: u32) -> (Objs, Objs) {
+    (Objs::one(x), Objs::one(y))
 }
 
 fn two(x: u32, y: u32) -> Objs {
@@ -88,7 +119,7 @@ fn two(x: u32, y: u32) -> Objs {
 /// Operation k of a chain of so many copies.
 fn link(k: u32, copies: u32) -> (Objs, Objs) {
     if k < copies {
-        return (Objs::one(k), Objs::one(k + 1));
+        return copy(k, k + 1);
     }
     let scattered = k as u64 * 7919 % (copies as u64 + 1);
     put(scattered as u32)
@@ -110,10 +141,66 @@ fn random(most: u32, dice: &mut Dice) -> (Objs, Objs) {
     let form = dice.next(3);
     let x = dice.next(most);
     let y = dice.next(most);
+    of_form(form, x, y)
+}
+
+/// A put, a copy, an append or a swap.
+pub fn of_form(form: u32, x: u32, y: u32) -> (Objs, Objs) {
     match form {
         0 => put(x),
-        1 => (Objs::one(x), Objs::one(y)),
+        1 => copy(x, y),
         2 => (two(x, y), Objs::one(y)),
         _ => (two(x, y), two(x, y)),
+    }
+}
+
+/// The place of operation k in its round over the objects from 0 to `most`.
+fn place(k: u32, most: u32) -> u32 {
+    (k as u64 % (most as u64 + 1)) as u32
+}
+
+/// Copies the object before this one into it, or puts object 0.
+fn shift(x: u32) -> (Objs, Objs) {
+    if x == 0 { put(0) } else { copy(x - 1, x) }
+}
+
+/// Operation t of so many turns: object 1 is overwritten, and object 2, which was copied from it before, is read.
+fn snap(t: u64, turns: u64) -> (Objs, Objs) {
+    if t >= turns.saturating_mul(2) {
+        copy(1, 2)
+    } else if t % 2 == 0 {
+        put(1)
+    } else {
+        copy(2, 0)
+    }
+}
+
+/// Operation k of a run in which object 2, a copy of object 1, is read so many times.
+fn late(k: u64, times: u64, is_end: bool) -> (Objs, Objs) {
+    if is_end {
+        put(2)
+    } else if k < times {
+        put(0)
+    } else if k == times {
+        put(1)
+    } else if k - times == 1 {
+        copy(1, 2)
+    } else if k - times <= times.saturating_add(1) {
+        copy(2, 0)
+    } else {
+        put(1)
+    }
+}
+
+/// Operation k of a run in which object 1 has so many copies. They are copied on in one order, and overwritten in the other.
+fn fan(k: u32, copies: u32) -> (Objs, Objs) {
+    let round = copies.saturating_add(1);
+    let place = k % round;
+    match k / round {
+        0 if k == 0 => put(1),
+        0 => copy(1, place.saturating_add(100)),
+        1 => put(1),
+        2 => copy(place.saturating_add(100), 2),
+        _ => put(copies.saturating_sub(place).saturating_add(100)),
     }
 }
