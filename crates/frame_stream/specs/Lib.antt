@@ -1,0 +1,3 @@
+pub mod Frames
+pub mod FrameBuffer
+pub mod Laws
