@@ -1,0 +1,32 @@
+-- What the files were, and what has been made of them.
+use Rattle.std.specs.Prelude.{◌≡◌, ◌++◌, ℕ, List, refl}
+use Rattle.disk_model.specs.Disk.{Files, Disk, IsDisk}
+use Rattle.disk_model.specs.Calls.{Call, Matches, disk_start, disk_after, disk_at}
+use Rattle.disk_model.specs.CallLaws.{is_disk}
+use Rattle.disk_model.specs.declared.machine.FileNo.{FileNo}
+use Rattle.write_queue.specs.Handed.{handed}
+use Rattle.write_queue.specs.Waiting.{waiting}
+use Rattle.write_queue.specs.declared.past.Past.{Past}
+use Rattle.write_queue.specs.declared.queue.Queue.{Queue}
+
+-- the files as they were handed in
+abbrev pub first_of : Past → Files
+first_of past = handed past.objects past.log_a past.log_b
+
+-- all calls, those that were taken and those that wait
+abbrev pub all_calls : Past → Queue → List Call
+all_calls past queue = past.taken ++ waiting queue
+
+-- what files become by calls, by the disk model
+abbrev pub Makes : Files → List Call → Files → Type 0
+Makes first calls now = (file : FileNo) → now file ≡ (disk_after (disk_start first) calls).reads file
+
+-- a machine that holds what its calls made of the files that were handed in, and said what they said
+abbrev pub disk_by : Files → List Call → Files → ℕ → ℕ → Disk
+disk_by first calls reads disk_faults say_faults = disk_at first calls reads (disk_after (disk_start first) calls).said disk_faults say_faults
+
+pub lawful_by : (first : Files) (calls : List Call) (reads : Files) (disk_faults say_faults : ℕ) → Makes first calls reads → IsDisk (disk_by first calls reads disk_faults say_faults)
+lawful_by first calls reads disk_faults say_faults made =
+    let st = disk_after (disk_start first) calls in
+    let matches : Matches first calls reads st.synced st.said = record { reads = made; syncs = λ file. refl; said = refl } in
+    is_disk first calls reads st.synced st.said disk_faults say_faults matches

@@ -1,0 +1,19 @@
+//! A machine in memory for a program whose files are another's: it is handed the files' bytes, and keeps a queue of what was
+//! written, synced and printed since, which the caller makes on the real files.
+//!
+//! The one contract is [`QueueMem`], a [`disk_model::Machine`] that tells its files and what a crash may leave of them, so that
+//! all that is proved of a store over such a machine holds over it. [`fronts_are_what_is_left`] says what that is worth for the real
+//! files: what a crash leaves of them, where some front of the queue was made on them, is what it may leave of the machine. It
+//! depends on disk_model alone.
+#![tactic(auto)]
+
+mod adding;
+mod laws;
+mod past;
+mod queue;
+mod queue_mem;
+mod queued;
+
+pub use laws::fronts_are_what_is_left;
+pub use queue_mem::QueueMem;
+pub use queued::Queued;
