@@ -1,9 +1,9 @@
--- What a method of a store that makes no device call leaves: a command, a redone record, a check.
+-- What a method of a store that makes no device call leaves: a member that is appended, a redone record, a check.
 use Rattle.std.proofs.Common.{◌≡◌, ◌∙◌, sym, subst, ap, ℕ, ◌+◌, ◌<◌, ◌≤◌, Bool, true, false, if◌then◌else◌, List, [], ◌∷◌, ◌++◌, refl, arith, inl, inr, Option, Some}
 use Rattle.std.specs.Prelude.{All, ◌^◌, ◌||◌, ◌&&◌}
 use Rattle.std.proofs.lemmas.Bool.{and_parts, both_ways, cases_Bool, cond-true, cond-false}
 use Rattle.std.proofs.lemmas.List.{map-append}
-use Rattle.std.proofs.lemmas.List.Elements.{All-push, All-weaker}
+use Rattle.std.proofs.lemmas.List.Elements.{All-cons, All-nil, All-push, All-weaker}
 use Rattle.oper_core.specs.Meaning.{Meaning}
 use Rattle.oper_core.specs.State.{is_among, value_for}
 use Rattle.formats.specs.Objects.{bounds_of}
@@ -14,7 +14,8 @@ use Rattle.install_order.specs.declared.entry.Entry.{Entry}
 use Rattle.write_graph.specs.Graph.{numbers}
 use Rattle.dirty_cache.specs.Contents.{held, is_dirty}
 use Rattle.dirty_cache.specs.declared.entry.Entry.{Entry as Pair}
-use Rattle.explain_core.specs.History.Member.{Command}
+use Rattle.explain_core.specs.History.{Member, writes_of}
+use Rattle.explain_core.specs.History.Member.{Command, Identity}
 use Rattle.running_store.specs.Among.{all_among, slot_most}
 use Rattle.running_store.specs.Entered.{IsEntered}
 use Rattle.running_store.specs.Laid.{id_at, lsn_or}
@@ -68,19 +69,19 @@ in_use_later p next later it used more low = record {
 }
 
 module _ (before after : Parts) (used : ArePartsInUse before) where
-  -- parts in use are in use after a command
-  commanded_in_use : {O : Type 0} (m : Meaning O) (op : O) (made : List (List ℕ)) → IsAppended m before after (Command op) made → All (λ x. x < before.volatile.objects.slots.params.objects) (m.writes op) → before.log.next < 2 ^ 62 → ArePartsInUse after
-  commanded_in_use m op made done below low =
+  -- parts in use are in use after a member is appended
+  appended_in_use : {O : Type 0} (m : Meaning O) (member : Member O) (made : List (List ℕ)) → IsAppended m before after member made → All (λ x. x < before.volatile.objects.slots.params.objects) (writes_of m member) → before.log.next < 2 ^ 62 → ArePartsInUse after
+  appended_in_use m member made done below low =
       let next : after.log.next ≡ before.log.next + 1 = ap (λ (r : RecordLogView). r.next) done.log in
       let params : after.volatile.objects.slots.params ≡ before.volatile.objects.slots.params = ap (λ (s : SlotsView). s.params) done.slots in
       let number = before.log.next in
       let later = in_use_later before.volatile.objects.slots.params number after.log.next before.volatile used.store (omega (arith, next)) (omega (arith, next, low)) in
       record {
         bounds = ap (λ (r : RecordLogView). r.bounds) done.log ∙ used.bounds ∙ ap bounds_of (sym params);
-        store = subst (λ (q : Params). AreInUse q after.log.next after.volatile) (sym params) (set_in_use before.volatile.objects.slots.params after.log.next before.volatile after.volatile number (λ x. is_among x (m.writes op)) (λ x. value_for x (m.writes op) made)
-            later done.slots (omega (arith, next)) (above_more after.log.next before.volatile.entries after.volatile.entries (entry_of m number (Command op)) done.entries later.above (omega (arith, next)))
-            (λ x among. used.early x (all_among (λ y. y < before.volatile.objects.slots.params.objects) (m.writes op) x below among))
-            (λ x among. done.held x ∙ cond-true (is_among x (m.writes op)) _ _ among) (λ x left. done.held x ∙ cond-false (is_among x (m.writes op)) _ _ left) done.dirty);
+        store = subst (λ (q : Params). AreInUse q after.log.next after.volatile) (sym params) (set_in_use before.volatile.objects.slots.params after.log.next before.volatile after.volatile number (λ x. is_among x (writes_of m member)) (λ x. value_for x (writes_of m member) made)
+            later done.slots (omega (arith, next)) (above_more after.log.next before.volatile.entries after.volatile.entries (entry_of m number member) done.entries later.above (omega (arith, next)))
+            (λ x among. used.early x (all_among (λ y. y < before.volatile.objects.slots.params.objects) (writes_of m member) x below among))
+            (λ x among. done.held x ∙ cond-true (is_among x (writes_of m member)) _ _ among) (λ x left. done.held x ∙ cond-false (is_among x (writes_of m member)) _ _ left) done.dirty);
         early = λ x below.
             let was = used.early x (subst (λ (q : Params). x < q.objects) params below) in
             omega (arith, was, ap (λ (s : SlotsView). id_in s x) done.slots, next);
@@ -117,7 +118,14 @@ module _ (before after : Parts) (identities : ℕ) (used : IsUsable before ident
   left_usable left = record { in_use = untaken_in_use before after left used.in_use; counted = omega (arith, used.counted, ap (λ (r : RecordLogView). r.next) left.log) }
 
   pub command_usable : {O : Type 0} (m : Meaning O) (op : O) (made : List (List ℕ)) → IsAppended m before after (Command op) made → All (λ x. x < before.volatile.objects.slots.params.objects) (m.writes op) → before.log.next < 2 ^ 62 → IsUsable after identities
-  command_usable m op made done below low = record { in_use = commanded_in_use before after used.in_use m op made done below low; counted = omega (arith, used.counted, ap (λ (r : RecordLogView). r.next) done.log) }
+  command_usable m op made done below low = record { in_use = appended_in_use before after used.in_use m (Command op) made done below low; counted = omega (arith, used.counted, ap (λ (r : RecordLogView). r.next) done.log) }
+
+  -- an identity write is counted
+  pub write_usable : {O : Type 0} (m : Meaning O) (x : ℕ) (bytes : List ℕ) → IsAppended m before after (Identity x bytes) (bytes ∷ []) → x < before.volatile.objects.slots.params.objects → before.log.next < 2 ^ 62 → IsUsable after (identities + 1)
+  write_usable m x bytes done below low = record {
+    in_use = appended_in_use before after used.in_use m (Identity x bytes) (bytes ∷ []) done (All-cons (λ y. y < before.volatile.objects.slots.params.objects) x [] below (All-nil (λ y. y < before.volatile.objects.slots.params.objects))) low;
+    counted = omega (arith, used.counted, ap (λ (r : RecordLogView). r.next) done.log);
+  }
 
   pub entry_usable : (due : List ℕ) (e : Entry) (made : List (List ℕ)) → IsEntered before.volatile after.volatile due e made → after.log ≡ before.log → e.number < before.log.next → All (λ x. id_at before.volatile.objects x < e.number) due → IsUsable after identities
   entry_usable due e made done same low later = record { in_use = entered_in_use before after used.in_use due e made done same low later; counted = omega (arith, used.counted, ap (λ (r : RecordLogView). r.next) same) }

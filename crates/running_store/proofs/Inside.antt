@@ -1,6 +1,6 @@
 -- What a method of a store leaves, by what the calls on its parts do.
-use Rattle.std.proofs.Common.{◌≡◌, ◌∙◌, sym, subst, ap, ℕ, ◌+◌, ◌≤◌, Bool, true, false, List, [], ◌∷◌, ◌++◌, ◌<◌, Some, ◌⊎◌, inl, inr, refl, arith}
-use Rattle.std.specs.Prelude.{◌↔◌, ◌||◌, ◌^◌, IsErr, OnErr, OnOk, Result, Ok, Err}
+use Rattle.std.proofs.Common.{◌≡◌, ◌∙◌, sym, subst, ap, ℕ, ◌+◌, ◌≤◌, Bool, true, false, List, [], ◌++◌, ◌⊎◌, inl, inr, refl, arith}
+use Rattle.std.specs.Prelude.{◌↔◌, ◌||◌, IsErr, OnErr, OnOk, Result, Ok, Err}
 use Rattle.std.proofs.lemmas.Bool.{both_ways}
 use Rattle.disk_model.specs.Disk.{LeavesOnly, Any, Disk, In, IsSettled, Rises, Runs, Same}
 use Rattle.disk_model.specs.Moments.{runs_wider}
@@ -13,9 +13,6 @@ use Rattle.formats.specs.declared.record.Record.{Record}
 use Rattle.install_order.specs.declared.entry.Entry.{Entry}
 use Rattle.log_frames.specs.LogView.{used_of}
 use Rattle.log_records.specs.RecordLog.{IsForcedPartly, Keeps, RecordLogView}
-use Rattle.dirty_cache.specs.Contents.{held, is_dirty}
-use Rattle.dirty_cache.specs.declared.entry.Entry.{Entry as Pair}
-use Rattle.explain_core.specs.History.Member.{Identity}
 use Rattle.explain_core.specs.Sound.{IsSound}
 use Rattle.explain_core.specs.World.{World, step, IsAllowed}
 use Rattle.explain_core.specs.World.Step.{Block_gate}
@@ -31,14 +28,13 @@ use Rattle.running_store.specs.Keeping.{forced_attached}
 use Rattle.running_store.specs.Kept.{IsAttached, KeepsLog}
 use Rattle.running_store.specs.KeptLaws.{forced_log}
 use Rattle.running_store.specs.Laid.{Laid}
-use Rattle.running_store.specs.Parts.{IsAppended, Parts, Shows, Volatile, meaning_in, parts, volatile}
+use Rattle.running_store.specs.Parts.{Parts, Shows, Volatile, meaning_in, parts, volatile}
 use Rattle.running_store.specs.Reads.{read_in_use}
 use Rattle.running_store.specs.StoreView.{IsUsable, StoreView, view_of}
 use Rattle.running_store.specs.Taking.{Ending, Takes}
 use Rattle.running_store.specs.Taking.Ending.{Done, Stopped, Failed}
 use Rattle.running_store.specs.TakesLaws.{takes_failed}
 use Rattle.running_store.specs.Unchanged.{HasRead}
-use Rattle.running_store.specs.Written.{written_parts}
 
 -- a call on one file is quiet
 pub quiet_one : (old new : Disk) (file : _) → Runs (In file Any) Same old new → IsQuiet old new
@@ -175,11 +171,3 @@ module _ (old new : Disk) (log : RecordLogView) (objects later : Laid) (entries 
 
   pub fetch_usable : IsUsable (parts log objects entries) identities → IsUsable (parts log later entries) identities
   fetch_usable used = record { in_use = read_in_use old new (parts log objects entries) later read used.in_use; counted = used.counted }
-
--- a store that is not broken may be used after an identity write of a dirty object
-pub write_usable : {O : Type 0} (m : Meaning O) (before after : Parts) (identities x : ℕ) (pair : Pair) → IsUsable before identities → held before.volatile.objects.cache x ≡ Some pair → is_dirty before.volatile.objects.cache x ≡ true
-    → before.log.next < 2 ^ 62 → IsAppended m before after (Identity x pair.bytes) (pair.bytes ∷ []) → IsUsable after (identities + 1)
-write_usable m before after identities x pair used had dirty low done = record {
-  in_use = written_parts m x pair before before after had done used.in_use (record { bounds = refl; next = refl; used = refl }) refl dirty low;
-  counted = omega (arith, used.counted, ap (λ (l : RecordLogView). l.next) done.log);
-}

@@ -1,6 +1,6 @@
 -- A command that a store appends, in its buffer and in memory: what it needs, what it leaves, and that it is a call on any
 -- machine, which stays.
-use Rattle.std.proofs.Common.{◌≡◌, ◌∙◌, sym, subst, ap, ℕ, ◌+◌, ◌<◌, ◌≤◌, false, List, arith, inr, None}
+use Rattle.std.proofs.Common.{◌≡◌, ◌∙◌, sym, subst, ap, ℕ, ◌+◌, ◌<◌, ◌≤◌, false, List, [], ◌∷◌, length, refl, arith, inr, None}
 use Rattle.std.specs.Prelude.{◌^◌, Result, Ok, Err}
 use Rattle.disk_model.specs.Disk.{Disk, IsDisk}
 use Rattle.disk_model.specs.Moments.{runs_none}
@@ -9,7 +9,7 @@ use Rattle.oper_core.specs.Meaning.{Meaning, FitsReads}
 use Rattle.oper_core.specs.declared.bounds.Bounds.{Bounds}
 use Rattle.formats.specs.Objects.{bounds_of}
 use Rattle.formats.specs.declared.params.Params.{Params}
-use Rattle.log_frames.specs.LogView.{used_of, growth_of}
+use Rattle.log_frames.specs.LogView.{end_with, used_of, growth_of}
 use Rattle.log_records.specs.RecordLog.{RecordLogView}
 use Rattle.stable_objects.specs.SlotsView.{layout_of}
 use Rattle.explain_core.specs.History.Member.{Command}
@@ -20,10 +20,11 @@ use Rattle.running_store.specs.Courses.{Course, record_length}
 use Rattle.running_store.specs.Kept.{HasLog, KeepsLog}
 use Rattle.running_store.specs.KeptLaws.{appended_log, roomed_log}
 use Rattle.running_store.specs.Laid.{IsLaidOn}
+use Rattle.running_store.specs.Logged.{HasPlace}
 use Rattle.running_store.specs.Parts.{IsAppended, Shows, meaning_in}
 use Rattle.running_store.specs.Reads.{untaken_attached, untaken_shows}
 use Rattle.running_store.specs.Stored.{stays_shown, store_shown}
-use Rattle.running_store.specs.StoreView.{StoreView, store_params}
+use Rattle.running_store.specs.StoreView.{StoreView, next_of, store_params}
 use Rattle.running_store.specs.Taking.{Takes}
 use Rattle.running_store.specs.Taking.Ending.{Done, Short}
 use Rattle.running_store.specs.Unchanged.{IsUntaken}
@@ -41,6 +42,14 @@ pub record HasPlaceBelow (limit : ℕ) (log : RecordLogView) (n : ℕ) : Type 0 
   pub room : length_with log n ≤ limit
   pub number : log.next < 2 ^ 62
 
+-- below a limit that a store may have, it has its place in the block and in the file
+pub has_place : (limit : ℕ) (log : RecordLogView) (n : ℕ) → limit ≤ 2 ^ 29 → length_with log n ≤ limit → HasPlace log.log n
+has_place limit log n low fits = of_pending log.log.pending refl fits
+  where
+    of_pending : (pending : List ℕ) → log.log.pending ≡ pending → end_with log.log.end pending + growth_of pending n ≤ limit → HasPlace log.log n
+    of_pending [] is fits = record { block = omega (arith, ap length is, fits, low); file = omega (arith, ap length is, fits, low) }
+    of_pending (b ∷ bytes) is fits = record { block = omega (arith, ap length is, fits, low); file = omega (arith, ap length is, fits, low) }
+
 -- nothing refuses the command on these values, which it may read
 pub record IsReady {O : Type 0} (meaning : Bounds → Meaning O) (p : Params) (op : O) (values : List (List ℕ)) : Type 0 where
   pub shape : (meaning_in meaning p).shape op ≡ None
@@ -50,7 +59,7 @@ pub record IsReady {O : Type 0} (meaning : Bounds → Meaning O) (p : Params) (o
 -- The command is appended, with what it makes of the values.
 pub record IsCommanded {O : Type 0} (meaning : Bounds → Meaning O) (before after : StoreView) (op : O) (values : List (List ℕ)) : Type 0 where
   pub ready : IsReady meaning (store_params before) op values
-  pub place : HasPlaceBelow (store_params before).limit before.parts.log (command_length (meaning_in meaning (store_params before)) op)
+  pub number : next_of before < 2 ^ 62
   pub bounds : before.parts.log.bounds ≡ bounds_of (store_params before)
   pub appended : IsAppended (meaning_in meaning (store_params before)) before.parts after.parts (Command op) ((meaning_in meaning (store_params before)).effect op values)
   pub laid : (file : List ℕ) → IsLaidOn before.parts.volatile.objects file → IsLaidOn after.parts.volatile.objects file
@@ -72,7 +81,7 @@ module _ {O : Type 0} (meaning : Bounds → Meaning O) (before after : StoreView
   commanded_call op values is =
       let m = meaning_in meaning (store_params before) in
       let same : meaning before.parts.log.bounds ≡ m = ap meaning is.bounds in
-      let low = is.place.number in
+      let low = is.number in
       let keeps : KeepsLog meaning d d before.parts.log after.parts.log =
       λ told has. subst (λ (n : Meaning O). HasLog n d after.parts.log) (sym (ap (λ (r : RecordLogView). meaning r.bounds) is.appended.log ∙ same))
       (appended_log m d before.parts after.parts (Command op) (m.effect op values) is.appended (omega (arith, low), is.ready.shape) low (subst (λ (n : Meaning O). HasLog n d before.parts.log) same has)) in

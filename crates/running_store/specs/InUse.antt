@@ -28,6 +28,11 @@ dirty_held c x = elim (entry_at c.places x) as (λ d. is_some d ≡ true → (pa
 pub dirty_cached : (c : Contents) (x : ℕ) → is_dirty c x ≡ true → IsSome (held c x)
 dirty_cached c x dirty = let found = dirty_held c x dirty in subst (λ (o : Option Pair). IsSome o) (sym found.1) refl
 
+-- and what is cached is a pair
+pub cached_pair : (o : Option Pair) → IsSome o → (pair : Pair) × (o ≡ Some pair)
+cached_pair None none = absurd (both_ways _ refl none)
+cached_pair (Some pair) some = (pair, refl)
+
 -- an option is not both
 pub none_some : {B : Type 0} (o : Option Pair) (pair : Pair) → o ≡ None → o ≡ Some pair → B
 none_some o pair none some = let h : None ≡ Some pair = sym none ∙ some in cc

@@ -1,6 +1,6 @@
 -- What calls keep of the parts of a store, one after the other, and what their ends leave.
 use Rattle.std.proofs.Common.{◌≡◌, ◌∙◌, sym, subst, ap, ℕ, ◌+◌, ◌<◌, ◌≤◌, true, List, [], ◌∷◌, length, refl, arith, inl, inr, ⊎_elim, length-append, Option, Some, None}
-use Rattle.std.specs.Prelude.{◌^◌}
+use Rattle.std.specs.Prelude.{Bool, ◌^◌, ◌||◌}
 use Rattle.std.proofs.lemmas.Bool.{both_ways, cases_Bool, cases_eq, cond-false, ne_eqb}
 use Rattle.disk_model.specs.Disk.{Disk, Runs, In, Any, Same}
 use Rattle.disk_model.specs.declared.machine.FileNo.TheVariants.{Objects}
@@ -22,7 +22,7 @@ use Rattle.running_store.specs.KeptLaws.{appended_log}
 use Rattle.running_store.specs.Laid.{Laid, IsLaidOn}
 use Rattle.running_store.specs.Parts.{AreInUse, IsAppended, Parts, Volatile, entry_of, parts, volatile}
 use Rattle.running_store.specs.Taking.{ArePartsInUse}
-use Rattle.running_store.specs.Written.{same_object, written_dirty}
+use Rattle.running_store.specs.Written.{written_dirty}
 
 pub longer_here : (it : Parts) → IsLonger 0 it it
 longer_here it = record { next = omega arith; entries = omega arith; dirty = λ y. refl }
@@ -50,17 +50,17 @@ still_in_use log later objects entries bounds next used = record {
   early = subst (λ (n : ℕ). AreEarly n objects) (sym next) used.early;
 }
 
--- an identity write of a dirty object
+-- an identity write of a cached object
 module _ {O : Type 0} (m : Meaning O) (x : ℕ) (pair : Pair) (before after : Parts) (had : held before.volatile.objects.cache x ≡ Some pair)
-    (done : IsAppended m before after (Identity x pair.bytes) (pair.bytes ∷ [])) (dirty : is_dirty before.volatile.objects.cache x ≡ true) where
+    (done : IsAppended m before after (Identity x pair.bytes) (pair.bytes ∷ [])) where
   appended_laid : (file : List ℕ) → IsLaidOn before.volatile.objects file → IsLaidOn after.volatile.objects file
   appended_laid file laid = record {
     slots = subst (λ (s : SlotsView). AreOf s file) (sym done.slots) laid.slots;
     clean = λ y other clean there. elim (cases_Bool (is_among y (x ∷ []))) [
-      | inl among ↦ absurd (both_ways _ clean (written_dirty m x pair before after had done dirty y ∙ subst (λ (z : ℕ). is_dirty before.volatile.objects.cache z ≡ true) (sym (same_object x y among)) dirty))
+      | inl among ↦ absurd (both_ways _ clean (done.dirty y ∙ ap (λ (b : Bool). b || is_dirty before.volatile.objects.cache y) among))
       | inr left ↦
           let here : held before.volatile.objects.cache y ≡ Some other = sym (cond-false (is_among y (x ∷ [])) _ _ left) ∙ sym (done.held y) ∙ there in
-          laid.clean y other (sym (written_dirty m x pair before after had done dirty y) ∙ clean) here
+          laid.clean y other (sym (done.dirty y ∙ ap (λ (b : Bool). b || is_dirty before.volatile.objects.cache y) left) ∙ clean) here
     ];
   }
 
@@ -72,8 +72,9 @@ module _ {O : Type 0} (m : Meaning O) (x : ℕ) (pair : Pair) (before after : Pa
   pub appended_attached : (meaning : Bounds → Meaning O) (d : Disk) → KeepsLog meaning d d before.log after.log → IsAttached meaning d before → IsAttached meaning d after
   appended_attached meaning d keeps at told = let was = at told in (appended_laid (d.reads Objects) was.0, keeps told was.1)
 
-  pub appended_longer : (old : Parts) → before.log.next ≡ old.log.next → before.volatile ≡ old.volatile → IsLonger 1 old after
-  appended_longer old next store =
+  -- of one that is dirty
+  pub appended_longer : is_dirty before.volatile.objects.cache x ≡ true → (old : Parts) → before.log.next ≡ old.log.next → before.volatile ≡ old.volatile → IsLonger 1 old after
+  appended_longer dirty old next store =
       let more = ap length done.entries ∙ length-append before.volatile.entries (entry_of m before.log.next (Identity x pair.bytes) ∷ []) in
       let same = ap (λ (s : Volatile). length s.entries) store in
       let later = ap (λ (r : RecordLogView). r.next) done.log in

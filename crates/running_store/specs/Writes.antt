@@ -34,11 +34,10 @@ use Rattle.running_store.specs.Taking.{Takes}
 use Rattle.running_store.specs.Taking.Ending.{Done, Short}
 use Rattle.running_store.specs.Written.{written_long, written_shows}
 
--- The dirty object x is logged with the pair that is cached, and counted.
+-- The object x is logged with the pair that is cached, and counted. It is dirty then, as each object that a member writes.
 pub record IsWritten {O : Type 0} (meaning : Bounds → Meaning O) (before after : StoreView) (x : ℕ) : Type 0 where
   pub pair : Pair
   pub had : held before.parts.volatile.objects.cache x ≡ Some pair
-  pub dirty : is_dirty before.parts.volatile.objects.cache x ≡ true
   pub below : x < (store_params before).objects
   pub short : length pair.bytes ≤ (store_params before).cap
   pub low : next_of before < 2 ^ 62
@@ -47,7 +46,7 @@ pub record IsWritten {O : Type 0} (meaning : Bounds → Meaning O) (before after
   pub counted : after.identities ≡ before.identities + 1
   pub flag : after.broken ≡ before.broken
 
--- Nothing is, but the log's buffer may have more room.
+-- Nothing is logged, but the log's buffer may have more room.
 pub record IsUnwritten (before after : StoreView) : Type 0 where
   pub roomed : IsRoomed before.parts after.parts
   pub counted : after.identities ≡ before.identities
@@ -55,7 +54,7 @@ pub record IsUnwritten (before after : StoreView) : Type 0 where
 
 abbrev pub HasWritten : {O T E : Type 0} → (Bounds → Meaning O) → StoreView → StoreView → ℕ → Result T E → Type 0
 HasWritten meaning before after x (Ok value) = IsWritten meaning before after x
-HasWritten meaning before after x (Err e) = IsUnwritten before after
+HasWritten meaning before after x (Err e) = IsLeft before after
 
 -- all but the log's room is as it was
 unwritten_left : (before after : StoreView) → IsUnwritten before after → IsLeft before after
@@ -78,7 +77,7 @@ module _ {O : Type 0} (meaning : Bounds → Meaning O) (before after : StoreView
     write_call =
         let m = meaning before.parts.log.bounds in
         let has = bounded before.parts.log.bounds in
-        let keeps = appended_keeps m x is.pair before.parts after.parts is.had is.appended is.dirty meaning refl (omega (arith, is.below, has.objects, ap (λ (b : Bounds). b.objects) is.bounds))
+        let keeps = appended_keeps m x is.pair before.parts after.parts is.had is.appended meaning refl (omega (arith, is.below, has.objects, ap (λ (b : Bounds). b.objects) is.bounds))
         (omega (arith, is.short, has.cap, ap (λ (b : Bounds). b.cap) is.bounds)) is.low d in
         record {
           quiet = runs_none d (λ a b. Unit {0}) (λ files. tt) lawful;
@@ -87,14 +86,14 @@ module _ {O : Type 0} (meaning : Bounds → Meaning O) (before after : StoreView
           identities = is.counted;
           settled = inr (λ settled. settled);
           kept = inr keeps;
-          attached = inr (appended_attached m x is.pair before.parts after.parts is.had is.appended is.dirty meaning d keeps);
+          attached = inr (appended_attached m x is.pair before.parts after.parts is.had is.appended meaning d keeps);
           stopped = λ stop ends. cc;
           broken = unset before after Done fine is.flag (λ failed. failed);
           fault = λ failed. absurd failed;
         }
 
-    pub write_longer : IsLonger 1 before.parts after.parts
-    write_longer = appended_longer (meaning before.parts.log.bounds) x is.pair before.parts after.parts is.had is.appended is.dirty before.parts refl refl
+    pub write_longer : is_dirty before.parts.volatile.objects.cache x ≡ true → IsLonger 1 before.parts after.parts
+    write_longer dirty = appended_longer (meaning before.parts.log.bounds) x is.pair before.parts after.parts is.had is.appended dirty before.parts refl refl
 
     pub write_takes : ((b : Bounds) (w : World O) (y : ℕ) → IsSound (meaning b) w → IsLive w → NoGroup w → y < b.objects → IsSound (meaning b) (step (meaning b) w (Append (Identity y (w.cache y).value))))
         → Takes meaning d d before.parts after.parts (λ m w used. written_course m x w used) Done

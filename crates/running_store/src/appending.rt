@@ -1,6 +1,6 @@
 // An identity write is appended to the log's buffer.
-ghost use Rattle.std.specs.Prelude.{◌≡◌, ◌<◌, ◌^◌, true, Some, length, false};
-ghost use Rattle.dirty_cache.specs.Contents.{held, is_dirty};
+ghost use Rattle.std.specs.Prelude.{◌≡◌, ◌<◌, ◌^◌, Some, IsSome, length, false};
+ghost use Rattle.dirty_cache.specs.Contents.{held};
 ghost use Rattle.dirty_cache.specs.declared.entry.Entry.{Entry as Pair};
 ghost use Rattle.running_store.specs.Courses.{identity_length};
 ghost use Rattle.running_store.specs.Logged.{HasPlace};
@@ -13,14 +13,16 @@ use install_order::Entry;
 use oper_core::{ByteList, Memory, Objs, Oper};
 
 impl<O: Oper> Store<O> {
-    /// Logs an identity write of a dirty object, in the buffer alone. Without memory nothing changes but room.
+    /// Logs an identity write of a cached object, in the buffer alone. The object is dirty then, also where it was clean.
+    /// Without memory nothing changes but room.
     pub fn append_identity(&mut self, x: u32) -> Result<(), Memory>
         requires unbroken { self.old.broken ≡ false }
-        requires dirty { is_dirty self.old.parts.volatile.objects.cache x ≡ true }
+        requires cached { IsSome (held self.old.parts.volatile.objects.cache x) }
         requires number { next_of self.old < 2 ^ 62 }
         requires place { (pair : Pair) → held self.old.parts.volatile.objects.cache x ≡ Some pair → HasPlace self.old.parts.log.log (identity_length (length pair.bytes)) }
         ensures { HasWritten O.meaning self.old self.new x result }
     {
+        self.objects.room_for(x)?;
         let logged = self.objects.value(x).to_vec(self.alloc)?;
         let kept = self.objects.value(x).to_vec(self.alloc)?;
         let number = self.log.next();

@@ -1,8 +1,9 @@
 // The record of a command, the values that it makes, and its entry in the graph.
-ghost use Rattle.std.specs.Prelude.{◌≡◌, false};
-ghost use Rattle.running_store.specs.Commands.{HasCommanded, HasPlaceBelow, IsReady, command_length};
+ghost use Rattle.std.specs.Prelude.{◌≡◌, ◌<◌, ◌^◌, false};
+ghost use Rattle.running_store.specs.Commands.{HasCommanded, IsReady, command_length};
+ghost use Rattle.running_store.specs.Logged.{HasPlace};
 ghost use Rattle.running_store.specs.Parts.{meaning_in};
-ghost use Rattle.running_store.specs.StoreView.{store_params};
+ghost use Rattle.running_store.specs.StoreView.{next_of, store_params};
 
 use crate::store::Store;
 use install_order::Entry;
@@ -13,7 +14,8 @@ impl<O: Oper> Store<O> {
     pub fn append_command(&mut self, op: O, values: Values) -> Result<(), Memory>
         requires unbroken { self.old.broken ≡ false }
         requires ready { IsReady O.meaning (store_params self.old) op values }
-        requires place { HasPlaceBelow (store_params self.old).limit self.old.parts.log (command_length (meaning_in O.meaning (store_params self.old)) op) }
+        requires number { next_of self.old < 2 ^ 62 }
+        requires place { HasPlace self.old.parts.log.log (command_length (meaning_in O.meaning (store_params self.old)) op) }
         ensures { HasCommanded O.meaning self.old self.new op values result }
     {
         let _params = self.objects.params();

@@ -6,6 +6,7 @@ use Rattle.log_records.specs.RecordLog.{RecordLogView}
 use Rattle.running_store.specs.AfterReads.{call_stopped}
 use Rattle.running_store.specs.CallLaws.{IsLogging, logging_none, logging_twice, unbroken_after}
 use Rattle.running_store.specs.Calls.{IsForcedOrNot, Never, call_as}
+use Rattle.running_store.specs.Commands.{left_call, left_takes}
 use Rattle.running_store.specs.Courses.{identity_length}
 use Rattle.cache_manager.specs.InstallCourses.{identity_course}
 use Rattle.running_store.specs.InUse.{dirty_cached}
@@ -13,12 +14,11 @@ use Rattle.running_store.specs.Keeping.{appended_longer}
 use Rattle.running_store.specs.Kept.{StopsAt}
 use Rattle.running_store.specs.Laid.{Laid}
 use Rattle.formats.specs.Limits.{log_limit}
-use Rattle.running_store.specs.Parts.{Parts}
 use Rattle.running_store.specs.StoreView.{StoreView, logged_since, next_of}
 use Rattle.running_store.specs.Taking.{Ending, Takes}
 use Rattle.running_store.specs.Taking.Ending.{Done, Stopped, Failed, Short}
 use Rattle.running_store.specs.TakesLaws.{takes_both, takes_first}
-use Rattle.running_store.specs.Writes.{unwritten_call, unwritten_takes, write_call, write_longer, write_takes}
+use Rattle.running_store.specs.Writes.{write_call, write_longer, write_takes}
 use Rattle.running_store.specs.Written.{room_is_place, value_cached}
 use Rattle.cache_manager.specs.Endings.{failed_ends, short_ends}
 use Rattle.cache_manager.specs.RecordPlace.{HasRecordPlace, LacksRecordPlace}
@@ -80,8 +80,10 @@ force-requires g c = record { unbroken = fine g (goal.at.force-requires g c).In_
 pub append_identity-requires-clause-unbroken : goal.append_identity-requires-clause-unbroken
 append_identity-requires-clause-unbroken g c = fine g (goal.at.append_identity-requires-clause-unbroken g c).In_ok-make_block_room
 
-pub append_identity-requires-clause-dirty : goal.append_identity-requires-clause-dirty
-append_identity-requires-clause-dirty g c = still_dirty c.args.x (same_objects c.args.store.now c.make_block_room.new.self c.in_ok-make_block_room.ensures.same) c.requires.dirty
+pub append_identity-requires-clause-cached : goal.append_identity-requires-clause-cached
+append_identity-requires-clause-cached g c =
+    let here = c.make_block_room.new.self in
+    dirty_cached here.parts.volatile.objects.cache c.args.x (still_dirty c.args.x (same_objects c.args.store.now here c.in_ok-make_block_room.ensures.same) c.requires.dirty)
 
 pub append_identity-requires-clause-place : goal.append_identity-requires-clause-place
 append_identity-requires-clause-place g c = λ pair had.
@@ -163,14 +165,14 @@ returns-in_err-append_identity-clause-call g c =
     let done = c.in_err-append_identity.ensures in
     subst (λ (k : Ending). IsLogging g.O.Oper.meaning (d g at) (mid g at) c.args.store.now after (StopsAt log_limit) k) (short_ends c.from_residual-in_err-append_identity.result c.from_residual-in_err-append_identity.ensures.1)
     (calls g at (mid g at) after Short
-    (logging_none g.O.Oper.meaning (mid g at) (mid g at) (here g at) after (StopsAt log_limit) Short (ap (λ (k : Parts). k.log.next) done.roomed) (unwritten_call g.O.Oper.meaning (here g at) after (fine g at) (mid g at) (lawful g at) done)))
+    (logging_none g.O.Oper.meaning (mid g at) (mid g at) (here g at) after (StopsAt log_limit) Short (ap (λ (r : RecordLogView). r.next) done.untaken.log) (left_call g.O.Oper.meaning (here g at) after (fine g at) (mid g at) (lawful g at) done)))
 
 pub returns-in_err-append_identity-clause-takes : goal.returns-in_err-append_identity-clause-takes
 returns-in_err-append_identity-clause-takes g c =
     let at = (goal.at.returns-in_err-append_identity-clause-takes g c).In_ok-make_block_room in
     let after = c.append_identity.new.self in
     subst (λ (k : Ending). Takes g.O.Oper.meaning (d g at) (mid g at) c.args.store.now.parts after.parts (λ m w used. identity_course m c.args.x w used) k) (short_ends c.from_residual-in_err-append_identity.result c.from_residual-in_err-append_identity.ensures.1)
-    (takes g at (mid g at) after Short (unwritten_takes g.O.Oper.meaning (here g at) after (fine g at) (mid g at) (lawful g at) c.in_err-append_identity.ensures (place g.O.Oper.meaning c.args.x (n g at))))
+    (takes g at (mid g at) after Short (left_takes g.O.Oper.meaning (here g at) after (fine g at) (mid g at) (lawful g at) c.in_err-append_identity.ensures (place g.O.Oper.meaning c.args.x (n g at))))
 
 -- it is logged
 pub returns-clause-call : goal.returns-clause-call
@@ -178,9 +180,10 @@ returns-clause-call g c =
     let at = (goal.at.returns-clause-call g c).In_ok-make_block_room in
     let after = c.append_identity.new.self in
     let done = c.in_ok-append_identity.ensures in
+    let dirty = still_dirty c.args.x (same_objects c.args.store.now (here g at) c.in_ok-make_block_room.ensures.same) c.requires.dirty in
     calls g at (mid g at) after Done
     (call_as g.O.Oper.meaning (mid g at) (mid g at) (here g at) after 1 (logged_since (here g at) after) Never (StopsAt log_limit) Done
-    (omega (arith, (write_longer g.O.Oper.meaning (here g at) after (fine g at) (mid g at) (lawful g at) c.args.x done g.met.O.Oper.bounded).next)) (λ stop ends none. absurd none)
+    (omega (arith, (write_longer g.O.Oper.meaning (here g at) after (fine g at) (mid g at) (lawful g at) c.args.x done g.met.O.Oper.bounded dirty).next)) (λ stop ends none. absurd none)
     (write_call g.O.Oper.meaning (here g at) after (fine g at) (mid g at) (lawful g at) c.args.x done g.met.O.Oper.bounded))
 
 pub returns-clause-takes : goal.returns-clause-takes
@@ -199,4 +202,4 @@ returns-clause-logged g c =
     let here = c.make_block_room.new.self.parts in
     let done = c.in_ok-append_identity.ensures in
     let same = c.in_ok-make_block_room.ensures.same in
-    appended_longer (g.O.Oper.meaning here.log.bounds) c.args.x done.pair here c.append_identity.new.self.parts done.had done.appended done.dirty c.args.store.now.parts same.long.next (ap (λ (s : StoreView). s.parts.volatile) same.same)
+    appended_longer (g.O.Oper.meaning here.log.bounds) c.args.x done.pair here c.append_identity.new.self.parts done.had done.appended (still_dirty c.args.x (same_objects c.args.store.now c.make_block_room.new.self same) c.requires.dirty) c.args.store.now.parts same.long.next (ap (λ (s : StoreView). s.parts.volatile) same.same)

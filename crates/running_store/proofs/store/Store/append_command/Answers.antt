@@ -10,8 +10,8 @@ use Rattle.log_records.specs.RecordLog.{RecordLogView}
 use Rattle.stable_objects.specs.SlotsView.{SlotsView}
 use Rattle.explain_core.specs.History.Member.{Command}
 use Rattle.running_store.specs.Among.{small_bounds}
-use Rattle.running_store.specs.Commands.{HasPlaceBelow, IsCommanded, IsLeft, IsReady, command_length}
-use Rattle.running_store.specs.Parts.{IsAppended, Parts, meaning_in, parts}
+use Rattle.running_store.specs.Commands.{IsCommanded, IsLeft, IsReady}
+use Rattle.running_store.specs.Parts.{IsAppended, Parts, parts}
 use Rattle.running_store.specs.StoreView.{IsUsable, StoreView, next_of, store_params, view_of}
 use Rattle.running_store.specs.Unchanged.{IsSameLog, IsUntaken}
 use Rattle.running_store.proofs.Commanded.{command_usable, left_usable}
@@ -103,7 +103,7 @@ invariant_of-self-2 g c = λ fine.
     let after = parts c.append_encoded.new.self c.set_values.new.self c.add.new.self.entries in
     let done : IsAppended (m g at) (before g at) after (Command c.args.op) made = search rules in
     command_usable (before g at) after c.self.inside.identities (used g at) (m g at) c.args.op made done
-    (λ k d within. omega (arith, below g at k d within, (g.met.O.Oper.bounded (bounds_of c.self.inside.objects.slots.params)).objects)) (omega (arith, ap (λ (s : StoreView). next_of s) c.self.view_is, c.requires.place.number))
+    (λ k d within. omega (arith, below g at k d within, (g.met.O.Oper.bounded (bounds_of c.self.inside.objects.slots.params)).objects)) (omega (arith, ap (λ (s : StoreView). next_of s) c.self.view_is, c.requires.number))
 
 pub returns : goal.returns
 returns g c =
@@ -112,7 +112,7 @@ returns g c =
     let done : IsAppended (m g at) (before g at) after (Command c.args.op) ((m g at).effect c.args.op c.args.values) = search rules in
     subst (λ (s : StoreView). IsCommanded g.O.Oper.meaning s (view_of c.append_encoded.new.self c.set_values.new.self c.add.new.self.entries c.self.inside.identities c.self.inside.broken) c.args.op c.args.values) c.self.view_is (record {
       ready = ready g at;
-      place = subst (λ (s : StoreView). HasPlaceBelow (store_params s).limit s.parts.log (command_length (meaning_in g.O.Oper.meaning (store_params s)) c.args.op)) (sym c.self.view_is) c.requires.place;
+      number = omega (arith, ap (λ (s : StoreView). next_of s) c.self.view_is, c.requires.number);
       bounds = (used g at).in_use.bounds;
       appended = done;
       laid = λ file laid. c.set_values.ensures.laid file (c.make_room.ensures.laid file laid);
