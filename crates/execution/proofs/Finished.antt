@@ -43,7 +43,7 @@ use Rattle.execution.proofs.Causes.{done_cause}
 use Rattle.execution.proofs.Placed.{done_is}
 
 -- the log is as long as it was to be
-done_long : {O : Type 0} (m : Meaning O) (op : O) (made : List (List ℕ)) (before after : Parts) → IsAppended m before after (Command op) made → used_of after.log.log ≡ length_with before.log (command_length m op)
+pub done_long : {O : Type 0} (m : Meaning O) (op : O) (made : List (List ℕ)) (before after : Parts) → IsAppended m before after (Command op) made → used_of after.log.log ≡ length_with before.log (command_length m op)
 done_long m op made before after done =
     let bytes = record_code m (record_of before.log.next (Command op)) in
     let long : length bytes ≡ command_length m op = code_length m before.log.next (Command op) in

@@ -51,13 +51,13 @@ module _ {O : Type 0} (meaning : Bounds → Meaning O) (grouped : Bool) (op : O)
   Fails e = IsAdmitFailure meaning p op old mid before.parts.volatile.objects e
 
   -- what its error says: of a fault, of a stop, which it is not, of why it is not done, and of the log
-  record Tells (e : ExecErr) : Type 0 where
+  pub record Tells (e : ExecErr) : Type 0 where
     pub rises : IsFailed (ending_of_error e) → Rises old.disk_faults mid.disk_faults
     pub stops : (most : ℕ) (log : RecordLogView) (stop : Stop) → ending_of_error e ≡ Ending.Stopped stop → StopsCommand grouped most log stop
     pub failure : IsExecFailure meaning grouped old mid before.parts op e
     pub log : LogWithout grouped before.parts.log before.parts.log e
 
-  tells : (e : ExecErr) → Fails e → Tells e
+  pub tells : (e : ExecErr) → Fails e → Tells e
   tells (Refused refusal) fails = record { rises = λ failed. absurd failed; stops = λ most log stop is. cc is; failure = fails; log = refl }
   tells DiskFault fails = record { rises = λ failed. fails; stops = λ most log stop is. cc is; failure = fails; log = refl }
   tells (Damaged file place) fails = record { rises = λ failed. absurd failed; stops = λ most log stop is. cc is; failure = fails; log = refl }

@@ -6,3 +6,6 @@ pub mod Done
 pub mod Stops
 pub mod Counted
 pub mod Taken
+pub mod Judged
+pub mod Following
+pub mod RecordFailures

@@ -6,6 +6,7 @@ ghost use Rattle.running_store.specs.Courses.Stop.{Through};
 ghost use Rattle.running_store.specs.StoreView.{store_params};
 ghost use Rattle.running_store.specs.Taking.{Takes};
 ghost use Rattle.running_store.specs.Commands.{HasPlaceBelow};
+ghost use Rattle.running_store.specs.Logged.{HasPlace};
 ghost use Rattle.execution.specs.Answers.{ending_of_exec, stop_of_exec};
 ghost use Rattle.execution.specs.Courses.{unplaced_steps};
 ghost use Rattle.execution.specs.Done.{IsForcedOutside, LogWithout};
@@ -58,6 +59,7 @@ pub(crate) fn require_place<O: Oper, M: Machine>(
     requires unbroken { store.old.broken ≡ false }
     requires range { (0 < length) × (length < 2 ^ 63 + 9) }
     ensures has { OnOk result (HasPlaceBelow (store_params store.old).limit store.old.parts.log length × (machine.new ≡ machine.old) × (store.new ≡ store.old)) }
+    ensures fits { OnOk result (HasPlace store.old.parts.log.log length) }
     ensures lacks { IfErr result (LacksPlace grouped (store_params store.old).limit store.old.parts.log length) }
     ensures left { IfErr result (λ e. LogWithout grouped store.old.parts.log store.new.parts.log e × (store.new.parts.volatile ≡ store.old.parts.volatile)) }
     ensures call { IsCall O.meaning (M.disk machine.old) (M.disk machine.new) store.old store.new 0 (StopsCommand grouped (store_params store.old).limit) (ending_of_exec result) }

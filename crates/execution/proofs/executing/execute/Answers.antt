@@ -1,4 +1,4 @@
-use Rattle.std.proofs.Common.{◌≡◌, ◌∙◌, ap, sym, subst, ℕ}
+use Rattle.std.proofs.Common.{◌≡◌, ◌∙◌, ap, sym, subst, ℕ, arith}
 use Rattle.std.specs.Prelude.{Err, None}
 use Rattle.disk_model.specs.Disk.{Disk}
 use Rattle.formats.specs.declared.params.Params.{Params}
@@ -9,8 +9,9 @@ use Rattle.running_store.specs.AfterReads.{fetch_unbroken}
 use Rattle.running_store.specs.Calls.{IsCall, IsFailed}
 use Rattle.running_store.specs.Commands.{HasPlaceBelow, IsReady, command_length}
 use Rattle.running_store.specs.Fetches.{IsFetch}
+use Rattle.running_store.specs.Logged.{HasPlace}
 use Rattle.running_store.specs.Parts.{Shows, meaning_in}
-use Rattle.running_store.specs.StoreView.{StoreView, log_length, store_params}
+use Rattle.running_store.specs.StoreView.{StoreView, log_length, next_of, store_params}
 use Rattle.running_store.specs.Taking.{Takes}
 use Rattle.execution.specs.Answers.{HasCauseIn, ending_of_error, ending_of_exec}
 use Rattle.execution.specs.Courses.{exec_course, refusal_in}
@@ -152,12 +153,20 @@ append_command-requires-clause-ready g c =
     let it = fetched g at.In_ok-require_place in
     subst (λ (q : Params). IsReady g.O.Oper.meaning q c.args.op c.in_ok-values.values) (sym (ap (λ (s : SlotsView). s.params) it.read.fetched.slots)) c.in_ok-values.ensures.ready
 
+pub append_command-requires-clause-number : goal.append_command-requires-clause-number
+append_command-requires-clause-number g c =
+    let has = c.in_ok-require_place.ensures.has in
+    let low = has.0.number in
+    omega (arith, low, ap (λ (s : StoreView). next_of s) has.2)
+
 pub append_command-requires-clause-place : goal.append_command-requires-clause-place
 append_command-requires-clause-place g c =
-    let at = goal.at.append_command-requires-clause-place g c in
-    let it = fetched g at.In_ok-require_place in
-    subst (λ (l : RecordLogView). HasPlaceBelow (store_params c.require_place.new.store).limit l (command_length (meaning_in g.O.Oper.meaning (store_params c.require_place.new.store)) c.args.op)) (sym it.log)
-    (subst (λ (q : Params). HasPlaceBelow q.limit c.args.store.now.parts.log (command_length (meaning_in g.O.Oper.meaning q) c.args.op)) (sym (ap (λ (s : SlotsView). s.params) it.read.fetched.slots)) (place g at.In_ok-require_place))
+    let meaning = g.O.Oper.meaning in
+    let read : StoreView = c.admit.new.store in
+    let range = c.in_ok-values.ensures.length in
+    subst (λ (s : StoreView). HasPlace s.parts.log.log (command_length (meaning_in meaning (store_params s)) c.args.op)) (sym c.in_ok-require_place.ensures.has.2)
+    (subst (λ (q : Params). HasPlace read.parts.log.log (command_length (meaning_in meaning q) c.args.op)) (sym (ap (λ (s : SlotsView). s.params) c.in_ok-values.ensures.call.read.fetched.slots))
+    (subst (λ (k : ℕ). HasPlace read.parts.log.log k) range.0 c.in_ok-require_place.ensures.fits))
 
 -- it lacks memory
 pub returns-in_err-append_command-clause-call : goal.returns-in_err-append_command-clause-call

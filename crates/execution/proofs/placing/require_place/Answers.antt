@@ -3,7 +3,7 @@ use Rattle.std.specs.Prelude.{◌^◌, IfErr}
 use Rattle.log_records.specs.RecordLog.{RecordLogView}
 use Rattle.running_store.specs.AfterReads.{call_stopped}
 use Rattle.running_store.specs.Calls.{IsCall, Never, call_as, call_none}
-use Rattle.running_store.specs.Commands.{length_with}
+use Rattle.running_store.specs.Commands.{has_place, length_with}
 use Rattle.running_store.specs.Courses.{course}
 use Rattle.running_store.specs.Courses.Stop.{Full, At_end}
 use Rattle.running_store.specs.StoreView.{StoreView, store_params}
@@ -130,6 +130,13 @@ returns-then-number-ge-NUMBERS_END-clause-takes g c =
 
 pub returns-clause-has : goal.returns-clause-has
 returns-clause-has g c = search rules
+
+pub returns-clause-fits : goal.returns-clause-fits
+returns-clause-fits g c =
+    let log : RecordLogView = c.args.store.now.parts.log in
+    let limit = (store_params c.args.store.now).limit in
+    let fits : length_with log c.args.length ≤ limit = search rules in
+    has_place limit log c.args.length (omega (arith, c.params-limit.ensures.range.limit)) fits
 
 pub returns-clause-call : goal.returns-clause-call
 returns-clause-call g c =
