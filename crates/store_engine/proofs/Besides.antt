@@ -1,6 +1,6 @@
 -- The courses of calls beside a copy of the slots, and what they leave of it.
-use Rattle.std.proofs.Common.{◌≡◌, ◌∙◌, subst, ℕ, ◌+◌, Bool, true, false, List, [], ◌∷◌, ◌++◌, inl, inr, ◌⊎◌, Option, None, Some}
-use Rattle.std.specs.Prelude.{◌^◌, nat_lt, nat_le, if◌then◌else◌}
+use Rattle.std.proofs.Common.{subst, ℕ, ◌+◌, Bool, List, [], ◌∷◌, ◌++◌, inl, inr, ◌⊎◌, Option, None, Some}
+use Rattle.std.specs.Prelude.{nat_lt, if◌then◌else◌}
 use Rattle.std.specs.List.{AllByRecursion}
 use Rattle.disk_model.specs.Disk.{Disk}
 use Rattle.oper_core.specs.Cell.{Cell}
@@ -11,15 +11,13 @@ use Rattle.formats.specs.Limits.{log_limit}
 use Rattle.formats.specs.Objects.{bounds_of}
 use Rattle.formats.specs.declared.params.Params.{Params}
 use Rattle.explain_core.specs.Backup.{AreBeside, IsCopied}
-use Rattle.explain_core.specs.History.Member.{Command}
 use Rattle.explain_core.specs.RunLaws.{Begins, allowed-append, begins-all, begins-allowed}
 use Rattle.explain_core.specs.Sound.{IsSound}
-use Rattle.explain_core.specs.World.{World, Step, step, run, end_of, AreAllowed}
-use Rattle.explain_core.specs.World.Step.{Begin, Append}
+use Rattle.explain_core.specs.World.{World, Step, step, run, AreAllowed}
+use Rattle.explain_core.specs.World.Step.{Begin}
 use Rattle.running_store.specs.Calls.{IsFailed}
-use Rattle.running_store.specs.Commands.{command_length}
 use Rattle.running_store.specs.Courses.{Course, course, force_steps, grown, is_through, room_steps}
-use Rattle.running_store.specs.Courses.Stop.{Through, Full, At_end}
+use Rattle.running_store.specs.Courses.Stop.{Through, Full}
 use Rattle.running_store.specs.Rewrites.{check_length}
 use Rattle.running_store.specs.Running.{IsRunning}
 use Rattle.running_store.specs.Taking.{Ending}
@@ -27,12 +25,13 @@ use Rattle.running_store.specs.Taking.Ending.{Done, Stopped, Short, Failed}
 use Rattle.cache_manager.specs.EachStep.{each_append, each_either, each_force, each_room, each_then}
 use Rattle.cache_manager.specs.FreeSteps.{IsFree}
 use Rattle.checkpointing.specs.Courses.{check_course, check_steps, checkpoint_course, logged_course}
-use Rattle.execution.specs.Courses.{append_course, exec_course, needed, refusal_in, unless_refused, unplaced_steps}
+use Rattle.execution.specs.Courses.{append_course, exec_course, refusal_in, unless_refused}
 use Rattle.store_engine.specs.Beside.{MayGoBeside, ShowsCopied}
 use Rattle.store_engine.specs.Engine.{EngineView, FollowsIn, ShowsIn}
 use Rattle.store_engine.specs.Grouping.{ungrouped}
 use Rattle.store_engine.specs.Store.{meaning_in}
 use Rattle.store_engine.proofs.Begins.{force_still}
+use Rattle.store_engine.proofs.CommandSteps.{each_placed}
 use Rattle.store_engine.proofs.Keeping.{small_shown}
 
 module _ {O : Type 0} (m : Meaning O) (copied : ℕ) where
@@ -68,23 +67,11 @@ module _ {O : Type 0} (m : Meaning O) (copied : ℕ) where
 
   -- ---- a command
 
-  free_unplaced : (grouped : Bool) (w : World O) → AreFree (unplaced_steps m grouped w)
-  free_unplaced true w = tt
-  free_unplaced false w = free_force w
-
-  free_placed : (grouped : Bool) (limit : ℕ) (op : O) (w : World O) (used : ℕ) → AreFree (append_course m grouped limit op w used).steps
-  free_placed grouped limit op w used =
-      let n = command_length m op in
-      let ends = course (unplaced_steps m grouped w) used (At_end (end_of w)) in
-      let fits = course (Append (Command op) ∷ []) (grown m w used n) Through in
-      free_either (nat_lt limit (grown m w used n)) (course (unplaced_steps m grouped w) used (Full used (needed m grouped w n) limit)) (if nat_le (2 ^ 62) (end_of w) then ends else fits) (free_unplaced grouped w)
-      (free_either (nat_le (2 ^ 62) (end_of w)) ends fits (free_unplaced grouped w) (λ v. tt, tt))
-
   pub free_exec : (grouped : Bool) (limit : ℕ) (op : O) (w : World O) (used : ℕ) → AllByRecursion (IsFree copied) (exec_course m grouped limit op w used).steps
   free_exec grouped limit op w used = unless (refusal_in m w op)
     where
       unless : (o : Option Refusal) → AreFree (unless_refused used (append_course m grouped limit op w used) o).steps
-      unless None = free_placed grouped limit op w used
+      unless None = each_placed m (IsFree copied) (λ member v. tt) (λ v. tt) grouped limit op w used
       unless (Some refusal) = tt
 
 module _ {O : Type 0} (m : Meaning O) where
@@ -113,13 +100,9 @@ module _ {O : Type 0} (m : Meaning O) where
   pub out_of_group : (w : World O) (copied : ℕ) (cells : ℕ → Cell) → IsCopied m w copied cells → IsCopied m (ungrouped w) copied cells
   out_of_group w copied cells is = record { origin = is.origin; since = is.since }
 
--- a store that is shown has small numbers, and outside groups calls may be made in the world
-module _ {O : Type 0} (meaning : Bounds → Meaning O) (p : Params) (d : Disk) (engine : EngineView) (w : World O) (shows : ShowsIn meaning p d engine w) where
-  pub small_of : IsSmall (bounds_of p)
-  small_of = small_shown (meaning_in meaning p) p d engine.parts (ungrouped w) shows.shows
-
-  pub running_in : engine.group ≡ None → IsRunning (meaning_in meaning p) w
-  running_in alone = record { sound = shows.sound; live = shows.shows.running.live; alone = shows.group ∙ alone }
+-- a store that is shown has small numbers
+small_of : {O : Type 0} (meaning : Bounds → Meaning O) (p : Params) (d : Disk) (engine : EngineView) (w : World O) → ShowsIn meaning p d engine w → IsSmall (bounds_of p)
+small_of meaning p d engine w shows = small_shown (meaning_in meaning p) p d engine.parts (ungrouped w) shows.shows
 
 -- the law of lists of steps beside a copy
 abbrev pub CopyStays : {O : Type 0} → (Bounds → Meaning O) → Type 0

@@ -49,14 +49,14 @@ use Rattle.store_engine.specs.Grouping.{AreInside, front_inside, stays_inside, u
 use Rattle.store_engine.specs.Store.{meaning_in, refusal_after}
 use Rattle.store_engine.specs.Commands.{HasRun}
 use Rattle.store_engine.proofs.Calls.{call_of, fine}
-use Rattle.store_engine.proofs.Counts.{forced_shown, commands-members_of}
+use Rattle.store_engine.specs.Counts.{forced_shown, commands-members_of}
 use Rattle.store_engine.proofs.Grouped.{waits_none}
 use Rattle.store_engine.proofs.Holding.{IsGroupCounted, IsLiveMap, Stand, holds_accepted, holds_forced}
 use Rattle.store_engine.proofs.Keeping.{KeepsRuns, between_front, small_shown}
 use Rattle.store_engine.proofs.Steps.{ArePlain, HasFront, are_plain, front_appended, front_extended, plain_front, same_commands, stable_inside, steps_extend}
 
 -- a list of one step begins with none, or with it
-one_begins : {O : Type 0} (s : Step O) (taken : List (Step O)) → Begins (s ∷ []) taken → (taken ≡ []) ⊎ (taken ≡ s ∷ [])
+pub one_begins : {O : Type 0} (s : Step O) (taken : List (Step O)) → Begins (s ∷ []) taken → (taken ≡ []) ⊎ (taken ≡ s ∷ [])
 one_begins s [] begins = inl refl
 one_begins {O} s (t ∷ []) begins = inr (sym (ap (λ (l : List (Step O)). take 1 l) begins.split))
 one_begins {O} s (t ∷ u ∷ rest) begins = absurd (omega (arith, ap (λ (l : List (Step O)). length l) begins.split))

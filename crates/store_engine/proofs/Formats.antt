@@ -12,7 +12,7 @@ use Rattle.formats.specs.declared.params.Params.{Params}
 use Rattle.log_records.specs.RecordLaws.{numbers_end}
 use Rattle.standing.specs.Shown.{next_held, next-stands}
 use Rattle.store_engine.specs.Store.{IsWellFormed, Stands, meaning_in}
-use Rattle.store_engine.proofs.Counts.{commands-members_of}
+use Rattle.store_engine.specs.Counts.{commands-members_of}
 
 module _ {O : Type 0} (meaning : Bounds → Meaning O) (p : Params) (files : Files) (commands : List O) (stands : Stands meaning p files commands) where
   pub well_formed : ((x s : ℕ) → x < p.objects → s < 2 → IsOpenAt (place_in (files Objects) x s) (files Objects) → identifier_at (place_in (files Objects) x s) (files Objects) < next_held (meaning_in meaning p) p files stands.parts stands.holds)

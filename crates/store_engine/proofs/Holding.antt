@@ -28,7 +28,7 @@ use Rattle.execution.specs.Counted.{accepted_shown}
 use Rattle.store_engine.specs.Grouping.{ungrouped}
 use Rattle.store_engine.specs.Engine.{EngineView, Holds, InEachImage, Says, accepted_in, commands_since, forced_in, group_size, used_in}
 use Rattle.store_engine.specs.Store.{meaning_in, state_of}
-use Rattle.store_engine.proofs.Counts.{forced_shown, take-commands, commands-fewer, commands-split}
+use Rattle.store_engine.specs.Counts.{forced_shown, take-commands, commands-fewer, commands-split}
 
 -- what reads give a settled machine's images have
 pub in_each : (d : Disk) (P : Files → Type 0) → IsSettled d → P d.reads → InEachImage d P

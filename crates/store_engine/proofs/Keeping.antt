@@ -25,7 +25,7 @@ use Rattle.running_store.specs.Taking.Ending.{Done, Stopped, Short, Failed}
 use Rattle.running_store.specs.Calls.{IsFailed}
 use Rattle.store_engine.specs.Engine.{EngineView, Between, Holds, Kept, KeepsCommands, accepted_in, forced_in}
 use Rattle.store_engine.specs.Store.{meaning_in}
-use Rattle.store_engine.proofs.Counts.{forced_shown}
+use Rattle.store_engine.specs.Counts.{forced_shown}
 use Rattle.store_engine.proofs.Grouped.{alone_shown, shown_alone}
 use Rattle.store_engine.proofs.Holding.{Stand, holds_accepted, holds_forced}
 use Rattle.store_engine.proofs.Stats.{small_in}
@@ -111,21 +111,25 @@ module _ {O : Type 0} (meaning : Bounds → Meaning O) (p : Params) (old new : D
       let sound = keeps (bounds_of p) w some.taken small holds.shows.sound (begins-allowed m w steps some.taken some.begins may) in
       between_front meaning p old before commands holds later files said (front_extended w later within e) (inl was) is.silent (stand files later sound some.holds)
 
-pub takes_keeps : {O : Type 0} (meaning : Bounds → Meaning O) (old new : Disk) (before after : EngineView) (course : Meaning O → World O → ℕ → Course O) (ending : Ending)
-    → Takes meaning old new before.parts after.parts course ending → before.group ≡ None → after.group ≡ None → IsFailed ending ⊎ (after.broken ≡ false)
-    → KeepsRuns meaning → ((p : Params) → Stand meaning p) → MayTake meaning course → IsPlainCourse course
-    → KeepsCommands meaning old new before after ending
-takes_keeps {O} meaning old new before after course ending takes was still unbroken keeps stand may plain = record {
-  holds = λ p commands holds.
+-- a call that takes a course without commands
+module _ {O : Type 0} (meaning : Bounds → Meaning O) (old new : Disk) (before after : EngineView) (course : Meaning O → World O → ℕ → Course O) (ending : Ending)
+    (takes : Takes meaning old new before.parts after.parts course ending) (was : before.group ≡ None) (still : after.group ≡ None) where
+  pub takes_holds : IsFailed ending ⊎ (after.broken ≡ false) → IsPlainCourse course → (p : Params) (commands : List O) → Holds meaning p old before commands → IsFailed ending ⊎ Kept meaning p before new after commands
+  takes_holds unbroken plain p commands holds =
       let m = meaning_in meaning p in
-      let c = course m holds.world (used_of before.parts.log.log) in
-      kept_by meaning p old new before after was still commands holds c (plain m holds.world (used_of before.parts.log.log)) ending unbroken (takes.follows p holds.world (alone_shown meaning p old before holds.world holds.shows was));
-  images = λ told p commands holds.
-      let m = meaning_in meaning p in
-      let w = holds.world in
       let used = used_of before.parts.log.log in
-      let shows = alone_shown meaning p old before w holds.shows was in
-      let allowed = (may (bounds_of p) w used (small_shown m p old before.parts w shows) shows.running).allowed in
-      weaker old new (IsSilent (ShowsSome m p w (course m w used).steps) old.said) (Between meaning p old before.group (forced_in before) (accepted_in before) commands) (takes.steps told p w shows)
-      (λ files said is. between_plainly meaning p old new before after was still commands holds keeps (stand p) (course m w used).steps (plain m w used) allowed files said is);
-}
+      let c = course m holds.world used in
+      kept_by meaning p old new before after was still commands holds c (plain m holds.world used) ending unbroken (takes.follows p holds.world (alone_shown meaning p old before holds.world holds.shows was))
+
+  pub takes_keeps : IsFailed ending ⊎ (after.broken ≡ false) → KeepsRuns meaning → ((p : Params) → Stand meaning p) → MayTake meaning course → IsPlainCourse course → KeepsCommands meaning old new before after ending
+  takes_keeps unbroken keeps stand may plain = record {
+    holds = takes_holds unbroken plain;
+    images = λ told p commands holds.
+        let m = meaning_in meaning p in
+        let w = holds.world in
+        let used = used_of before.parts.log.log in
+        let shows = alone_shown meaning p old before w holds.shows was in
+        let allowed = (may (bounds_of p) w used (small_shown m p old before.parts w shows) shows.running).allowed in
+        weaker old new (IsSilent (ShowsSome m p w (course m w used).steps) old.said) (Between meaning p old before.group (forced_in before) (accepted_in before) commands) (takes.steps told p w shows)
+        (λ files said is. between_plainly meaning p old new before after was still commands holds keeps (stand p) (course m w used).steps (plain m w used) allowed files said is);
+  }

@@ -1,4 +1,3 @@
-pub mod Counts
 pub mod Steps
 pub mod Grouped
 pub mod PlainCourses
@@ -13,6 +12,8 @@ pub mod Fetching
 pub mod SlotReads
 pub mod LogCopies
 pub mod CopiedLogs
+pub mod CommandSteps
+pub mod CommandCopies
 pub mod Besides
 pub mod Stats
 pub mod Logged
@@ -29,3 +30,7 @@ pub mod ListRuns
 pub mod ListFetches
 pub mod ListMachines
 pub mod Enlarged
+pub mod Shipped
+pub mod Judging
+pub mod ThinInstalls
+pub mod Followed

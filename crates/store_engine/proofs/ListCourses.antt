@@ -1,5 +1,5 @@
 -- Courses of commands: one of them, two lists, and the objects that they log.
-use Rattle.std.proofs.Common.{◌≡◌, ◌∙◌, sym, subst, ap, ℕ, ◌⊎◌, inl, inr, Bool, true, false, Option, None, Some, List, [], ◌∷◌, ◌++◌, length, length-append, take, refl, append_assoc, arith}
+use Rattle.std.proofs.Common.{◌≡◌, ◌∙◌, sym, subst, ap, ℕ, inl, inr, Bool, true, false, Option, None, Some, List, [], ◌∷◌, ◌++◌, length, length-append, refl, append_assoc, arith}
 use Rattle.std.specs.Prelude.{◌^◌, nat_le, nat_lt, IsTrue, IsFalse}
 use Rattle.std.specs.Option.{is_some}
 use Rattle.std.proofs.lemmas.Bool.{both_ways, cond_both}
@@ -22,20 +22,16 @@ use Rattle.running_store.specs.Commands.{command_length}
 use Rattle.cache_manager.specs.Upkeep.{upkeep_force}
 use Rattle.execution.specs.Courses.{append_course, needed, unplaced_steps}
 use Rattle.store_engine.specs.Lists.{EndsBy, IsBehind, commands_course}
+use Rattle.store_engine.proofs.Commands.{one_begins}
 
 logged-append : {O : Type 0} (xs ys : List (Step O)) → logged_in (xs ++ ys) ≡ logged_in xs ++ logged_in ys
 logged-append [] ys = refl
 logged-append (s ∷ xs) ys = ap (λ (l : List ℕ). logged_by s ++ l) (logged-append xs ys) ∙ sym (append_assoc (logged_by s) (logged_in xs) (logged_in ys))
 
--- some first steps of a list without one, and of a list of one
+-- a list without steps begins with none
 none_begins : {O : Type 0} (taken : List (Step O)) → Begins [] taken → taken ≡ []
 none_begins [] begins = refl
 none_begins {O} (s ∷ taken) begins = absurd (omega (arith, ap (λ (l : List (Step O)). length l) begins.split))
-
-one_begins : {O : Type 0} (s : Step O) (taken : List (Step O)) → Begins (s ∷ []) taken → (taken ≡ []) ⊎ (taken ≡ s ∷ [])
-one_begins s [] begins = inl refl
-one_begins {O} s (t ∷ []) begins = inr (sym (ap (λ (l : List (Step O)). take 1 l) begins.split))
-one_begins {O} s (t ∷ u ∷ rest) begins = absurd (omega (arith, ap (λ (l : List (Step O)). length l) begins.split))
 
 module _ {O : Type 0} (m : Meaning O) (limit : ℕ) (op : O) (w : World O) (used : ℕ) where
   abbrev one : Course O

@@ -6,12 +6,15 @@ use Rattle.std.specs.Result.{result_err}
 use Rattle.std.proofs.lemmas.Bool.{both_ways}
 use Rattle.disk_model.specs.Disk.{Disk, IsDisk, Rises, Stays}
 use Rattle.disk_model.specs.Moments.{passes_none, passes_twice}
+use Rattle.disk_model.specs.declared.machine.FileNo.{FileNo}
 use Rattle.oper_core.specs.Meaning.{Meaning}
 use Rattle.oper_core.specs.declared.bounds.Bounds.{Bounds}
 use Rattle.formats.specs.declared.params.Params.{Params}
 use Rattle.formats.specs.declared.read_err.ReadErr.{ReadErr}
 use Rattle.formats.specs.declared.read_err.ReadErr.TheVariants as of_read
+use Rattle.stable_objects.specs.SlotsView.{SlotsView, holder_in, place_of}
 use Rattle.running_store.specs.Courses.{Stop}
+use Rattle.running_store.specs.LongSlot.{IsLongSlot}
 use Rattle.running_store.specs.Taking.{Ending}
 use Rattle.running_store.specs.Taking.Ending.{Stopped}
 use Rattle.execution.specs.Answers.{ending_of_exec}
@@ -22,7 +25,7 @@ use Rattle.running_store.specs.Calls.{IsFailed}
 use Rattle.store_engine.specs.Engine.{EngineView, IsAttached, IsEngineCall, params_of}
 use Rattle.store_engine.specs.FailureLaws.{none_damaged, still_none_damaged}
 use Rattle.store_engine.specs.Failures.{IsFetchFailure}
-use Rattle.store_engine.specs.Lists.{AreCalls, IsUndamaged, as_exec, ending_of}
+use Rattle.store_engine.specs.Lists.{AreCalls, IsReadAsLong, IsUndamaged, as_exec, ending_of}
 use Rattle.store_engine.specs.Commands.{HasFetched, HasRun}
 
 -- a count that rises in a later call has risen since an earlier one
@@ -46,7 +49,12 @@ calls_none meaning d e fine = record {
     fault = λ failed. absurd failed;
   };
   undamaged = λ told attached. tt;
+  damaged = tt;
 }
+
+-- a value that is too long was read
+read_as_long : {new : Disk} {slots : SlotsView} {object : ℕ} {file : FileNo} {place : ℕ} → IsLongSlot new slots object file place → IsReadAsLong new slots.params.cap (Some (Damaged file place))
+read_as_long {slots = slots} {object = object} long = (long.file_is, place_of slots object (holder_in slots object), long.long)
 
 module _ {O : Type 0} (meaning : Bounds → Meaning O) (old new : Disk) (before after : EngineView) where
   -- ---- a command
@@ -65,10 +73,20 @@ module _ {O : Type 0} (meaning : Bounds → Meaning O) (old new : Disk) (before 
       still_none_damaged meaning before.parts after.parts lawful ran.call.time ran.outcome.0.objects.slots (⊎_elim (λ failed. absurd failed) (λ keeps. keeps) ran.call.attached) told attached ran.outcome.1.slot
   undamaged_run lawful op (Err Memory) ran told attached = tt
 
+  damaged_run : (op : O) (r : Result ℕ ExecErr) → HasRun meaning old new before after op r → IsReadAsLong new (params_of before).cap (result_err r)
+  damaged_run op (Ok n) ran = tt
+  damaged_run op (Err (Refused refusal)) ran = tt
+  damaged_run op (Err (LogFull used need limit)) ran = tt
+  damaged_run op (Err (LsnEnd number)) ran = tt
+  damaged_run op (Err DiskFault) ran = tt
+  damaged_run op (Err (Damaged file place)) ran = read_as_long ran.outcome.1.slot
+  damaged_run op (Err Memory) ran = tt
+
   pub calls_run : IsDisk new → (op : O) (r : Result ℕ ExecErr) → HasRun meaning old new before after op r → AreCalls meaning old new before after (result_err r)
   calls_run lawful op r ran = record {
     call = subst (λ (e : Ending). IsEngineCall meaning (params_of before).limit old new before after 0 e) (same_ending r) ran.call;
     undamaged = undamaged_run lawful op r ran;
+    damaged = damaged_run op r ran;
   }
 
   -- ---- an object
@@ -102,6 +120,12 @@ module _ {O : Type 0} (meaning : Bounds → Meaning O) (old new : Disk) (before 
     undamaged_fetch stays (Some (of_read.Damaged file place)) cause told attached = none_damaged meaning before.parts stays told attached cause.1
     undamaged_fetch stays (Some of_read.Memory) cause told attached = tt
 
+    damaged_fetch : (error : Option ReadErr) → Failure error → IsReadAsLong new (params_of before).cap (as_exec error)
+    damaged_fetch None cause = tt
+    damaged_fetch (Some of_read.DiskFault) cause = tt
+    damaged_fetch (Some (of_read.Damaged file place)) cause = read_as_long cause.1
+    damaged_fetch (Some of_read.Memory) cause = tt
+
     pub calls_fetched : (error : Option ReadErr) → HasFetched meaning old new before after object error → AreCalls meaning old new before after (as_exec error)
     calls_fetched error fetched = record {
       call = record {
@@ -117,6 +141,7 @@ module _ {O : Type 0} (meaning : Bounds → Meaning O) (old new : Disk) (before 
         fault = fault_of error fetched.cause;
       };
       undamaged = undamaged_fetch fetched.call.kept error fetched.cause;
+      damaged = damaged_fetch error fetched.cause;
     }
 
 -- ---- calls after calls
@@ -143,4 +168,5 @@ module _ {O : Type 0} (meaning : Bounds → Meaning O) (old mid new : Disk) (bef
       fault = λ failed. rises_later old.disk_faults mid.disk_faults new.disk_faults first.call.time.disk_faults (second.call.fault failed);
     };
     undamaged = λ told attached. second.undamaged (first.call.time.files_told.0 told) (still_attached attached);
+    damaged = subst (λ (q : Params). IsReadAsLong new q.cap error) first.call.params second.damaged;
   }

@@ -22,7 +22,7 @@ use Rattle.restart.specs.Opening.{OpensThrough}
 use Rattle.restart.specs.Starts.{OrAtStart, or_weaker}
 use Rattle.store_engine.specs.Engine.{EngineView, Between, Holds, forced_in}
 use Rattle.store_engine.specs.Store.{meaning_in}
-use Rattle.store_engine.proofs.Counts.{commands-fewer, forced_shown}
+use Rattle.store_engine.specs.Counts.{commands-fewer, forced_shown}
 use Rattle.store_engine.proofs.Grouped.{shown_alone}
 use Rattle.store_engine.proofs.Holding.{Stand}
 use Rattle.store_engine.proofs.Keeping.{KeepsRuns}

@@ -12,7 +12,7 @@ use Rattle.explain_core.specs.World.{World, Step, step, run}
 use Rattle.explain_core.specs.World.Step.{Begin, End, Append, Block_gate, Check, Slot_gate, Removal, Header_gate, Replay, Crash}
 use Rattle.running_store.specs.Running.{IsUpkeep, AreUpkeep}
 use Rattle.store_engine.specs.Grouping.{IsInside, AreInside}
-use Rattle.store_engine.proofs.Counts.{take-commands, commands-fewer}
+use Rattle.store_engine.specs.Counts.{take-commands, commands-fewer}
 
 -- a step that appends no command, and is no crash
 abbrev pub IsPlain : {O : Type 0} → Step O → Type 0

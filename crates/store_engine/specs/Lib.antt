@@ -1,4 +1,5 @@
 pub mod Store
+pub mod Counts
 pub mod Grouping
 pub mod Engine
 pub mod Calls
@@ -14,3 +15,5 @@ pub mod Lists
 pub mod Commands
 pub mod ListSteps
 pub mod ListLaws
+pub mod Following
+pub mod Shipping

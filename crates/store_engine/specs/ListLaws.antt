@@ -30,4 +30,4 @@ module _ {O : Type 0} (meaning : Bounds → Meaning O) (old new : Disk) (before 
 
   -- a call that is refused is one in which none failed
   pub refused_calls : (refusal : Refusal) → AreCalls meaning old new before after (Some (Refused refusal)) → AreCalls meaning old new before after None
-  refused_calls refusal calls = record { call = calls.call; undamaged = λ told attached. tt }
+  refused_calls refusal calls = record { call = calls.call; undamaged = λ told attached. tt; damaged = tt }

@@ -1,12 +1,14 @@
 -- Several commands, one after the other, on an engine that stands for commands.
 use Rattle.std.specs.Prelude.{◌≡◌, ◌⊎◌, ◌+◌, ◌≤◌, ⊤, ℕ, List, [], ◌∷◌, ◌++◌, length, take, drop, Option, None, Some}
 use Rattle.std.specs.Option.{is_some}
-use Rattle.disk_model.specs.Disk.{Disk, LeavesOnly, Passes}
+use Rattle.disk_model.specs.Disk.{Disk, Files, LeavesOnly, Passes}
+use Rattle.disk_model.specs.declared.machine.FileNo.TheVariants.{Objects}
 use Rattle.oper_core.specs.Meaning.{Meaning}
 use Rattle.oper_core.specs.declared.bounds.Bounds.{Bounds}
 use Rattle.oper_core.specs.declared.refusal.Refusal.{Refusal}
 use Rattle.formats.specs.declared.params.Params.{Params}
 use Rattle.formats.specs.declared.read_err.ReadErr.{ReadErr}
+use Rattle.stable_objects.specs.Reading.{IsLongValue}
 use Rattle.explain_core.specs.History.{commands_of}
 use Rattle.explain_core.specs.Taken.{IsAfterSome}
 use Rattle.explain_core.specs.World.{World, run}
@@ -63,6 +65,17 @@ IsUndamaged (Some DiskFault) = ⊤
 IsUndamaged (Some (Damaged file place)) = ⊥
 IsUndamaged (Some Memory) = ⊤
 
+-- Where the answer is that a file is damaged at a place, it is the objects file, and all files that agree with what was read have
+-- there the length of a value that is longer than so many bytes, or goes past the end of the file.
+abbrev pub IsReadAsLong : Disk → ℕ → Option ExecErr → Type 0
+IsReadAsLong new cap None = ⊤
+IsReadAsLong new cap (Some (Refused refusal)) = ⊤
+IsReadAsLong new cap (Some (LogFull used need limit)) = ⊤
+IsReadAsLong new cap (Some (LsnEnd number)) = ⊤
+IsReadAsLong new cap (Some DiskFault) = ⊤
+IsReadAsLong new cap (Some (Damaged file place)) = (file ≡ Objects) × (slot : ℕ) × ((files : Files) → new.agrees files → IsLongValue cap slot (files Objects) place)
+IsReadAsLong new cap (Some Memory) = ⊤
+
 module _ {O : Type 0} (m : Meaning O) where
   -- the course of commands that nothing refuses, one after the other, in a log with this limit: it ends where one of them
   -- is stopped; within a group nothing is forced then
@@ -85,10 +98,11 @@ module _ {O : Type 0} (m : Meaning O) where
 
 -- What holds on every machine of a call that runs commands and fetches objects, and answers this error or none: what holds
 -- of every call, and no identity write is logged; where the machine reports its files and the engine is attached to them,
--- none is damaged.
+-- none is damaged, and where one is called so, it was read so.
 pub record AreCalls {O : Type 0} (meaning : Bounds → Meaning O) (old new : Disk) (before after : EngineView) (error : Option ExecErr) : Type 0 where
   pub call : IsEngineCall meaning (params_of before).limit old new before after 0 (ending_of error)
   pub undamaged : old.tells_files → IsAttached meaning old before → IsUndamaged error
+  pub damaged : IsReadAsLong new (params_of before).cap error
 
 module _ {O : Type 0} (meaning : Bounds → Meaning O) (p : Params) where
   -- what is said of a command for which the log has no room: how many bytes it needs, with so many commands in the open

@@ -13,9 +13,10 @@ ghost use Rattle.running_store.specs.Running.{IsRunning};
 ghost use Rattle.cache_manager.specs.InstallCourses.{drain_course, install_course};
 ghost use Rattle.checkpointing.specs.Courses.{checkpoint_course};
 ghost use Rattle.execution.specs.Courses.{exec_course};
-ghost use Rattle.store_engine.specs.Beside.{BeginKeepsCopy, CheckKeepsCopy, CourseKeepsCopy, DrainKeepsCopy, EndKeepsCopy, ExecKeepsCopy, FetchKeepsCopy, ForceKeepsCopy, InstallKeepsCopy, MayGoBeside};
+ghost use Rattle.store_engine.specs.Beside.{CourseKeepsCopy, MayGoBeside};
 ghost use Rattle.store_engine.specs.Calls.{begin_course, end_course};
 ghost use Rattle.store_engine.specs.Grouping.{ungrouped};
+ghost use Rattle.store_engine.specs.Lists.{commands_course};
 ghost use Rattle.store_engine.specs.LogOf.{CopyHoldsLog, KeepsShown};
 
 use disk_model::Machine;
@@ -49,32 +50,17 @@ pub fn calls_go_beside_a_copy<O: Oper>()
 }
 
 /// What was copied of a world stays a copy under all first steps of a course that may go beside it, so also where a call on an
-/// engine that shows the world took that course, some of it or all.
+/// engine that shows the world took that course, some of it or all. Commands, one after the other, leave it whatever they are, since
+/// they set no slot and cut no log.
 pub fn a_copy_goes_on<O: Oper, M: Machine>()
     ensures some { (b : Bounds) (copied : ℕ) (cells : ℕ → Cell) (w : World O) (steps taken : List (Step O)) → IsSmall b → IsSound (O.meaning b) w →
         IsCopied (O.meaning b) (ungrouped w) copied cells → MayGoBeside (O.meaning b) copied w steps → Begins steps taken →
         IsCopied (O.meaning b) (ungrouped (run (O.meaning b) w taken)) copied cells }
     ensures course { CourseKeepsCopy O.meaning M.disk }
+    ensures commands { (b : Bounds) (copied limit : ℕ) (cells : ℕ → Cell) (ops : List O) (w : World O) (used : ℕ) → IsCopied (O.meaning b) (ungrouped w) copied cells →
+        IsCopied (O.meaning b) (ungrouped (run (O.meaning b) w (commands_course (O.meaning b) limit ops w used).steps)) copied cells }
 {
     explain_core::copy_stays::<O>();
-}
-
-/// So each call of an engine whose slots are copied keeps what has been copied, unless it fails with the disk: a command and a
-/// fetch at any time, a force, an install, a drain, a checkpoint and the beginning of a group where none is open, and its end.
-/// (A trim is refused.)
-pub fn calls_keep_a_copy<O: Oper, M: Machine>()
-    ensures exec { ExecKeepsCopy O.meaning M.disk }
-    ensures fetch { FetchKeepsCopy O.meaning M.disk }
-    ensures force { ForceKeepsCopy O.meaning M.disk }
-    ensures install { InstallKeepsCopy O.meaning M.disk }
-    ensures drain { DrainKeepsCopy O.meaning M.disk }
-    ensures checkpoint { CheckKeepsCopy O.meaning M.disk }
-    ensures begin { BeginKeepsCopy O.meaning M.disk }
-    ensures end { EndKeepsCopy O.meaning M.disk }
-{
-    calls_go_beside_a_copy::<O>();
-    a_copy_goes_on::<O, M>();
-    explain_core::end_keeps::<O>();
 }
 
 /// Where engine and files show a world, files to which the engine's log is copied have the log of that world.

@@ -12,14 +12,21 @@
 //! [`fetch_goes_on`] keep it going, and [`calls_go_on`] does so for what holds on every machine.
 //!
 //! While the slots are copied for a backup ([`Engine::set_copied`] says how far), installs and drains take the courses
-//! beside the copy, and a trim is refused. Every other call leaves a copy of the first slots of the world that engine and
-//! files then show ([`calls_keep_a_copy`]), so no call here knows where the backup goes.
+//! beside the copy, and a trim is refused. Every other call takes steps that may be taken beside the copy
+//! ([`calls_go_beside_a_copy`]), and these leave a copy of the first slots of the world that engine and files then show
+//! ([`a_copy_goes_on`]), so no call here knows where the backup goes.
+//!
+//! The log is read for whoever follows the store: [`Engine::frames`] says what its blocks have from a number on, a frame for
+//! each block, and [`Engine::ship`] and [`Engine::next_shipped`] do so one block at a time. [`Engine::follow`] takes a record
+//! of another log as the next one of this log, [`Engine::install_thin`] keeps few objects dirty meanwhile, and
+//! [`records_are_judged`] says what of a record is taken.
 #![tactic(auto)]
 
 mod beside;
 mod copying;
 mod engine;
 mod executing;
+mod following;
 mod grouping;
 mod init_err;
 mod laws;
@@ -27,6 +34,8 @@ mod lengths;
 mod lists;
 mod making;
 mod opening;
+mod ship_err;
+mod shipping;
 mod stat;
 mod uniqueness;
 mod upgrade_err;
@@ -34,13 +43,12 @@ mod upgrading;
 mod work_err;
 mod working;
 
-pub use beside::{
-    a_copied_log_is_of_the_world, a_copy_goes_on, calls_go_beside_a_copy, calls_keep_a_copy,
-};
+pub use beside::{a_copied_log_is_of_the_world, a_copy_goes_on, calls_go_beside_a_copy};
 pub use cache_manager::{Install, InstallErr};
 pub use checkpointing::CheckErr;
 pub use engine::Engine;
-pub use execution::ExecErr;
+pub use execution::{ExecErr, RecordErr};
+pub use following::records_are_judged;
 pub use formats::ReadErr;
 pub use grouping::NoGroup;
 pub use init_err::InitErr;
@@ -53,8 +61,10 @@ pub use lists::{
     calls_go_on, commands_log_no_identity, exec_goes_on, fetch_goes_on, fronts_are_joined,
     nothing_is_made,
 };
-pub use log_records::CopyErr;
+pub use log_records::{BlockReader, CopyErr};
 pub use restart::{Tuning, one_damage};
+pub use running_store::StoreErr;
+pub use ship_err::ShipErr;
 pub use stable_objects::OpenErr;
 pub use stat::Stat;
 pub use uniqueness::one_state;

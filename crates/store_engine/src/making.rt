@@ -1,6 +1,6 @@
 // A new store is laid out.
 ghost use Rattle.std.specs.Prelude.{◌≡◌, OnOk, IsErrOf};
-ghost use Rattle.disk_model.specs.Disk.{Rises, Passes, Stays, LeavesOnly, IsSettled};
+ghost use Rattle.disk_model.specs.Disk.{Files, Rises, Passes, Stays, LeavesOnly, IsSettled};
 ghost use Rattle.disk_model.specs.declared.machine.FileNo.TheVariants.{Objects};
 ghost use Rattle.formats.specs.Objects.{BeginsStore, IsInRange};
 ghost use Rattle.store_engine.specs.Engine.{InEachImage, IsNew, IsNewStore};
@@ -23,8 +23,9 @@ impl<O: Oper> Engine<O> {
         ensures quiet { (M.disk machine.old).tells_files → (M.disk machine.new).said ≡ (M.disk machine.old).said }
         ensures ok { (M.disk machine.old).tells_files → OnOk result (InEachImage (M.disk machine.new) (IsNewStore O.meaning params)) }
         ensures settled { OnOk result (IsSettled (M.disk machine.new)) }
-        // Where there is a store, each image then begins it.
-        ensures already { IsErrOf result InitErr.AlreadyStore → IsSettled (M.disk machine.new) × ((M.disk machine.old).tells_files → BeginsStore ((M.disk machine.old).reads Objects)) }
+        // Where there is a store, each image then begins it, and so do all files that may be there by what was read.
+        ensures already { IsErrOf result InitErr.AlreadyStore → IsSettled (M.disk machine.new) × ((M.disk machine.old).tells_files → BeginsStore ((M.disk machine.old).reads Objects))
+            × ((files : Files) → (M.disk machine.new).agrees files → BeginsStore (files Objects)) }
         ensures kept { (M.disk machine.old).tells_files → BeginsStore ((M.disk machine.old).reads Objects) → Stays (M.disk machine.old) (M.disk machine.new) }
         ensures images { (M.disk machine.old).tells_moments → (BeginsStore ((M.disk machine.old).reads Objects) → ⊥) →
             LeavesOnly (M.disk machine.old) (M.disk machine.new) (OrAtStart (M.disk machine.old) (λ files said. IsNew O.meaning params files × (said ≡ (M.disk machine.old).said))) }

@@ -1,4 +1,7 @@
+use Rattle.store_engine.specs.Lists.{commands_course}
 use Rattle.store_engine.proofs.Besides.{CopyStays, copy_course, copy_some}
+use Rattle.store_engine.proofs.CommandCopies.{IsOfCommands, copied_run}
+use Rattle.store_engine.proofs.CommandSteps.{each_command}
 use Rattle.store_engine.proofs.beside.a_copy_goes_on.Given.{Over}
 use Rattle.store_engine.proofs.beside.a_copy_goes_on.Goals.{After-copy_stays}
 use Rattle.store_engine.proofs.beside.a_copy_goes_on.Goals as goal
@@ -12,3 +15,8 @@ returns-clause-some g c = copy_some g.O.Oper.meaning (stays g (goal.at.returns-c
 pub returns-clause-course : goal.returns-clause-course
 returns-clause-course g c = λ p old new before after copied cells w taken ending shows is may follows.
     copy_course g.O.Oper.meaning (stays g (goal.at.returns-clause-course g c).After-copy_stays) p (g.M.Machine.disk old) (g.M.Machine.disk new) before after copied cells w taken ending shows is may follows
+
+pub returns-clause-commands : goal.returns-clause-commands
+returns-clause-commands g c = λ b copied limit cells ops w used is.
+    let m = g.O.Oper.meaning b in
+    copied_run m copied cells w (commands_course m limit ops w used).steps (each_command m IsOfCommands (λ member. tt) tt limit ops w used) is
