@@ -1,24 +1,31 @@
 -- How the copy of the log ends.
-use Rattle.std.proofs.Common.{◌≡◌, ◌⊎◌, ◌∙◌, inl, inr, ⊎_elim, ◌≤◌, ◌^◌, ℕ, refl, sym, ap, subst}
+use Rattle.std.proofs.Common.{◌≡◌, ◌⊎◌, ◌∙◌, inl, inr, ⊎_elim, ◌≤◌, ◌+◌, ◌^◌, ℕ, List, [], ◌∷◌, map, nat_le, arith, refl, sym, ap, subst}
 use Rattle.std.specs.Prelude.{◌≢◌, ◌↔◌, IfErr, OnErr, IsErrOf, Result, Ok, Err}
+use Rattle.std.proofs.lemmas.Bool.{cond-true, le-leb}
 use Rattle.disk_model.specs.Disk.{Disk}
 use Rattle.oper_core.specs.Meaning.{Meaning}
 use Rattle.oper_core.specs.declared.bounds.Bounds.{Bounds}
-use Rattle.formats.specs.Objects.{bounds_of}
-use Rattle.formats.specs.Records.{AreRecords}
+use Rattle.formats.specs.Records.{AreRecords, payload_of}
 use Rattle.formats.specs.declared.params.Params.{Params}
-use Rattle.log_records.specs.LogCopy.{CopyFails, IsCopyLength, IsCopyWithin, IsTooLong, copied_length}
+use Rattle.formats.specs.declared.record.Record.{Record}
+use Rattle.formats.specs.declared.record.Record.TheVariants as logged
+use Rattle.log_frames.specs.Rewriting.{file_length}
+use Rattle.log_records.specs.LogCopy.{CopyFails, IsCopyLength, IsCopyWithin, IsTooLong, copied_groups, copied_length, or_check}
 use Rattle.log_records.specs.Loading.{IsTailFault}
 use Rattle.log_records.specs.RecordLaws.{AreRecords-front}
 use Rattle.log_records.specs.RecordLog.{Keeps}
+use Rattle.log_records.specs.Rewriting.{in_full_blocks, numbered_from}
 use Rattle.log_records.specs.declared.copy_err.CopyErr.{CopyErr}
 use Rattle.log_records.specs.declared.copy_err.CopyErr.TheVariants as of_copy
+use Rattle.explain_core.specs.History.{Member}
 use Rattle.explain_core.specs.World.{World}
+use Rattle.standing.specs.Members.{members_of}
 use Rattle.running_store.specs.Parts.{Parts}
 use Rattle.store_engine.specs.Engine.{EngineView, ShowsIn}
 use Rattle.store_engine.specs.Store.{meaning_in}
-use Rattle.backup_copy.specs.Calls.{FinishFailsBy, HasLength, IsCopyLong, IsFault, TellsLength}
+use Rattle.backup_copy.specs.Calls.{FinishFailsBy, HasLength, IsFault, TellsLength}
 use Rattle.backup_copy.specs.Failures.{backup_from_copy}
+use Rattle.backup_copy.specs.Length.{backup_length, records_from}
 use Rattle.backup_copy.specs.declared.backup_err.BackupErr.{BackupErr}
 use Rattle.backup_copy.specs.declared.backup_err.BackupErr.TheVariants.{DiskFault}
 
@@ -53,6 +60,19 @@ pub refused_told : {T : Type 0} (r : Result T CopyErr) (Told Q : Type 0) → (To
 refused_told (Ok value) Told Q so = tt
 refused_told (Err e) Told Q so = λ other told. so told other
 
+-- the numbered records of a log are those of its members
+numbered_members : {O : Type 0} (m : Meaning O) (base next : ℕ) (records : List (Record O)) → base ≤ next → AreRecords m base next records → numbered_from base records ≡ records_from next (members_of records)
+numbered_members m base next [] low are = refl
+numbered_members {O} m base next (logged.Command number op ∷ records) low are =
+    let rest = numbered_members m base (next + 1) records (omega (arith, low)) are.2 in
+    cond-true (nat_le base number) (logged.Command number op ∷ numbered_from base records) (numbered_from base records) (le-leb base number (omega (arith, low, are.1.0)))
+    ∙ (λ i. logged.Command (are.1.0 i) op ∷ rest i)
+numbered_members {O} m base next (logged.Identity number x value ∷ records) low are =
+    let rest = numbered_members m base (next + 1) records (omega (arith, low)) are.2 in
+    cond-true (nat_le base number) (logged.Identity number x value ∷ numbered_from base records) (numbered_from base records) (le-leb base number (omega (arith, low, are.1.0)))
+    ∙ (λ i. logged.Identity (are.1.0 i) x value ∷ rest i)
+numbered_members m base next (logged.Check table ∷ records) low are = numbered_members m base next records low are.2
+
 module _ {O : Type 0} (meaning : Bounds → Meaning O) (old new : Disk) (rises target_rises : Type 0) where
   -- why the copy of the log of these parts fails
   abbrev pub LogFails : Parts → CopyErr → Type 0
@@ -71,34 +91,34 @@ module _ {O : Type 0} (meaning : Bounds → Meaning O) (old new : Disk) (rises t
       let here = subst (λ (it : Parts). LogFails it cause) (sym same) (subst (λ (x : Result T CopyErr). IfErr x (LogFails before.parts)) was fails) in
       subst (λ (x : Result A BackupErr). IfErr x (FinishFailsBy rises target_rises (IsTailFault (meaning after.parts.log.bounds) new after.parts.log.log) after)) (sym is) (fails_so after cause here)
 
-  module _ (p : Params) (w : World O) (before after : EngineView) (same : after.parts ≡ before.parts) (shows : ShowsIn meaning p old before w)
+  module _ (p : Params) (w : World O) (before : EngineView) (shows : ShowsIn meaning p old before w)
       (keeps : Keeps (meaning before.parts.log.bounds) old before.parts.log shows.shows.log.stable shows.shows.log.pending) where
     -- the copy of the log that is shown is so long
-    long_so : (need : ℕ) → need ≡ copied_length (meaning before.parts.log.bounds) before.parts.log.log shows.shows.log.stable → IsCopyLong (meaning_in meaning p) w after need
-    long_so need is = record {
-      stable = shows.shows.log.stable;
-      placed = subst (λ (it : Parts). AreRecords (meaning (bounds_of p)) it.log.log.header.base it.log.log.header.base shows.shows.log.stable) (sym same)
-          (subst (λ (b : Bounds). AreRecords (meaning b) before.parts.log.log.header.base before.parts.log.log.header.base shows.shows.log.stable) shows.shows.bounds
-          (AreRecords-front (meaning before.parts.log.bounds) before.parts.log.log.header.base before.parts.log.log.header.base shows.shows.log.stable shows.shows.log.pending keeps.placed));
-      members = shows.shows.log.forced;
-      long = is ∙ ap (λ (b : Bounds). copied_length (meaning b) before.parts.log.log shows.shows.log.stable) shows.shows.bounds ∙ ap (λ (it : Parts). copied_length (meaning (bounds_of p)) it.log.log shows.shows.log.stable) (sym same);
-    }
+    long_so : copied_length (meaning before.parts.log.bounds) before.parts.log.log shows.shows.log.stable ≡ backup_length (meaning_in meaning p) w
+    long_so =
+        let m = meaning_in meaning p in
+        let it = before.parts.log in
+        let stable = shows.shows.log.stable in
+        let placed : AreRecords m w.base w.base stable = subst (λ (k : ℕ). AreRecords m k k stable) shows.shows.log.base
+        (subst (λ (b : Bounds). AreRecords (meaning b) it.log.header.base it.log.header.base stable) shows.shows.bounds
+        (AreRecords-front (meaning it.bounds) it.log.header.base it.log.header.base stable shows.shows.log.pending keeps.placed)) in
+        let records = numbered_members m w.base w.base stable (omega arith) placed ∙ ap (λ (l : List (Member O)). records_from w.base l) shows.shows.log.forced in
+        ap (λ (b : Bounds). copied_length (meaning b) it.log stable) shows.shows.bounds
+        ∙ ap (λ (k : ℕ). file_length (map (payload_of m) (copied_groups m k stable))) shows.shows.log.base
+        ∙ ap (λ (l : List (Record O)). file_length (map (payload_of m) (in_full_blocks m (or_check w.base l)))) records
 
-    fails_long : (cause : CopyErr) → LogFails before.parts cause → TellsLength (meaning_in meaning p) w after (backup_from_copy cause)
-    fails_long (of_copy.LogFull used need limit) fails = long_so need (fails.need_is shows.shows.told shows.shows.log.stable shows.shows.log.pending keeps)
+    fails_long : (cause : CopyErr) → LogFails before.parts cause → TellsLength (backup_length (meaning_in meaning p) w) (backup_from_copy cause)
+    fails_long (of_copy.LogFull used need limit) fails = fails.need_is shows.shows.told shows.shows.log.stable shows.shows.log.pending keeps ∙ long_so
     fails_long of_copy.DiskFault fails = tt
     fails_long of_copy.TargetFault fails = tt
     fails_long (of_copy.Damaged file place) fails = tt
     fails_long of_copy.Memory fails = tt
 
-    pub copy_long : {T : Type 0} (r : Result T CopyErr) (cause : CopyErr) (result : Result (Unit {0}) BackupErr) → r ≡ Err cause → result ≡ Err (backup_from_copy cause) → IfErr r (LogFails before.parts) → HasLength (meaning_in meaning p) w after result
+    pub copy_long : {T : Type 0} (r : Result T CopyErr) (cause : CopyErr) (result : Result (Unit {0}) BackupErr) → r ≡ Err cause → result ≡ Err (backup_from_copy cause) → IfErr r (LogFails before.parts)
+        → HasLength (backup_length (meaning_in meaning p) w) result
     copy_long {T} r cause result was is fails =
-        subst (λ (x : Result (Unit {0}) BackupErr). HasLength (meaning_in meaning p) w after x) (sym is) (fails_long cause (subst (λ (x : Result T CopyErr). IfErr x (LogFails before.parts)) was fails))
+        subst (λ (x : Result (Unit {0}) BackupErr). HasLength (backup_length (meaning_in meaning p) w) x) (sym is) (fails_long cause (subst (λ (x : Result T CopyErr). IfErr x (LogFails before.parts)) was fails))
 
     -- and it is within the greatest length, where it was made
-    pub copy_within : IsCopyWithin (meaning before.parts.log.bounds) old before.parts.log → (need : ℕ) × IsCopyLong (meaning_in meaning p) w after need × (need ≤ 2 ^ 48)
-    copy_within within = (
-      copied_length (meaning before.parts.log.bounds) before.parts.log.log shows.shows.log.stable,
-      long_so (copied_length (meaning before.parts.log.bounds) before.parts.log.log shows.shows.log.stable) refl,
-      within shows.shows.told shows.shows.log.stable shows.shows.log.pending keeps,
-    )
+    pub copy_within : IsCopyWithin (meaning before.parts.log.bounds) old before.parts.log → backup_length (meaning_in meaning p) w ≤ 2 ^ 48
+    copy_within within = subst (λ (n : ℕ). n ≤ 2 ^ 48) long_so (within shows.shows.told shows.shows.log.stable shows.shows.log.pending keeps)

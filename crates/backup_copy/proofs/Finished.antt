@@ -9,10 +9,8 @@ use Rattle.disk_model.specs.declared.machine.FileNo.{FileNo}
 use Rattle.oper_core.specs.Meaning.{Meaning, IsSmall}
 use Rattle.oper_core.specs.declared.bounds.Bounds.{Bounds}
 use Rattle.formats.specs.Objects.{bounds_of}
-use Rattle.formats.specs.Records.{AreRecords}
 use Rattle.formats.specs.declared.params.Params.{Params}
 use Rattle.log_frames.specs.LogView.{used_of}
-use Rattle.log_records.specs.LogCopy.{copied_length}
 use Rattle.explain_core.specs.RunLaws.{begins-all}
 use Rattle.explain_core.specs.World.{World, run}
 use Rattle.running_store.specs.Courses.{force_course, force_steps}
@@ -23,7 +21,7 @@ use Rattle.store_engine.specs.Calls.{IsForcing}
 use Rattle.store_engine.specs.Engine.{EngineView, IsEngineRead, ShowsIn, commands_since, group_size, params_of, so_far}
 use Rattle.store_engine.specs.Grouping.{ungrouped_alone}
 use Rattle.store_engine.specs.Store.{meaning_in}
-use Rattle.backup_copy.specs.Calls.{FinishFailsBy, ForcedSo, IsCopyLong, IsFault, IsShutOrWhole, TellsLength, backup_of_force, but_copied, kept_copied}
+use Rattle.backup_copy.specs.Calls.{FinishFailsBy, ForcedSo, HasLength, IsFault, IsShutOrWhole, backup_of_force, but_copied, kept_copied}
 use Rattle.backup_copy.specs.Copies.{Copies}
 use Rattle.backup_copy.specs.Refusals.{judge_finish, whole}
 use Rattle.backup_copy.specs.declared.backup_err.BackupErr.{BackupErr}
@@ -199,24 +197,6 @@ cause_noted {A} {B} first mid last target_rises Fault after noted step e result 
 pub counted_so : {A : Type 0} (rises target_rises : Type 0) (fault : FileNo → ℕ → Type 0) (engine : EngineView) (step : Result A BackupErr) → step ≡ Err DiskFault → IfErr step (FinishFailsBy rises target_rises fault engine) → rises
 counted_so {A} rises target_rises fault engine step is fails = subst (λ (r : Result A BackupErr). IfErr r (FinishFailsBy rises target_rises fault engine)) is fails
 
--- how long the copy of the log is depends on the log alone
-module _ {O : Type 0} (m : Meaning O) (w : World O) (after noted : EngineView) (same : noted.parts ≡ after.parts) where
-  pub long_noted : (need : ℕ) → IsCopyLong m w after need → IsCopyLong m w noted need
-  long_noted need is = record {
-    stable = is.stable;
-    placed = subst (λ (it : Parts). AreRecords m it.log.log.header.base it.log.log.header.base is.stable) (sym same) is.placed;
-    members = is.members;
-    long = is.long ∙ ap (λ (it : Parts). copied_length m it.log.log is.stable) (sym same);
-  }
-
-  pub length_noted : (e : BackupErr) → TellsLength m w after e → TellsLength m w noted e
-  length_noted (LogFull used need limit) is = long_noted need is
-  length_noted DiskFault is = tt
-  length_noted TargetFault is = tt
-  length_noted (Damaged file place) is = tt
-  length_noted Memory is = tt
-  length_noted (InGroup size) is = tt
-  length_noted (InBackup copied) is = tt
-  length_noted NoBackup is = tt
-  length_noted AlreadyStore is = tt
-  length_noted (NotCopied copied) is = tt
+-- a finish whose last part fails says the length that this says
+pub length_later : {A B : Type 0} (length : ℕ) (step : Result A BackupErr) (e : BackupErr) (result : Result B BackupErr) → step ≡ Err e → result ≡ Err e → HasLength length step → HasLength length result
+length_later {A} {B} length step e result was is long = subst (λ (r : Result B BackupErr). HasLength length r) (sym is) (subst (λ (r : Result A BackupErr). HasLength length r) was long)

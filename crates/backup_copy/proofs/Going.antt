@@ -18,6 +18,11 @@ use Rattle.backup_copy.specs.Copies.{Copies}
 use Rattle.backup_copy.proofs.Shown.{small_shown}
 
 module _ {O : Type 0} (meaning : Bounds → Meaning O) where
+  -- where the cells are a copy of another world too, which engine and files show now, the copying stands as it stood
+  pub kept_copies : (p : Params) (old new t : Disk) (before after : EngineView) (w v : World O) → (is : Copies meaning p old before w t) → ShowsIn meaning p new after v → after.copied ≡ before.copied
+      → IsCopied (meaning_in meaning p) (ungrouped v) is.done is.cells → Copies meaning p new after v t
+  kept_copies p old new t before after w v is shows same copied = record { shows = shows; done = is.done; so_far = same ∙ is.so_far; within = is.within; cells = is.cells; copied = copied; target = is.target }
+
   -- what was copied of a world stays a copy under some first steps of a course that may go beside it
   abbrev pub CopyGoesOn : Type 0
   CopyGoesOn = (b : Bounds) (copied : ℕ) (cells : ℕ → Cell) (w : World O) (steps taken : List (Step O)) → IsSmall b → IsSound (meaning b) w
@@ -30,12 +35,5 @@ module _ {O : Type 0} (meaning : Bounds → Meaning O) where
       → Copies meaning p new after (run (meaning_in meaning p) w taken) t
   gone_on p old new t before after w steps taken goes is may begins shows same =
       let beside = subst (λ (c : Option ℕ). MayGoBeside (meaning_in meaning p) (so_far c) w steps) is.so_far may in
-      record {
-        shows = shows;
-        done = is.done;
-        so_far = same ∙ is.so_far;
-        within = is.within;
-        cells = is.cells;
-        copied = goes (bounds_of p) is.done is.cells w steps taken (small_shown meaning p old before w is.shows) is.shows.sound is.copied beside begins;
-        target = is.target;
-      }
+      kept_copies p old new t before after w (run (meaning_in meaning p) w taken) is shows same
+      (goes (bounds_of p) is.done is.cells w steps taken (small_shown meaning p old before w is.shows) is.shows.sound is.copied beside begins)

@@ -1,5 +1,5 @@
 -- What the calls of a backup leave, and why they fail.
-use Rattle.std.specs.Prelude.{◌≡◌, ◌⊎◌, ◌≤◌, ◌<◌, ◌-◌, ◌^◌, ⊤, ℕ, List, drop, take, Option, None, Some, Result, Ok, Err, IsErrOf}
+use Rattle.std.specs.Prelude.{◌≡◌, ◌⊎◌, ◌≤◌, ◌<◌, ◌^◌, ⊤, ℕ, List, Option, None, Some, Result, Ok, Err, IsErrOf}
 use Rattle.disk_model.specs.Disk.{Files, Disk, Passes}
 use Rattle.disk_model.specs.declared.machine.Failed.{Failed}
 use Rattle.disk_model.specs.declared.machine.FileNo.{FileNo}
@@ -7,12 +7,7 @@ use Rattle.disk_model.specs.declared.machine.FileNo.TheVariants.{Objects}
 use Rattle.oper_core.specs.Meaning.{Meaning}
 use Rattle.oper_core.specs.declared.bounds.Bounds.{Bounds}
 use Rattle.formats.specs.Objects.{BeginsStore}
-use Rattle.formats.specs.Records.{AreRecords}
 use Rattle.formats.specs.declared.params.Params.{Params}
-use Rattle.formats.specs.declared.record.Record.{Record}
-use Rattle.log_records.specs.LogCopy.{copied_length}
-use Rattle.explain_core.specs.World.{World}
-use Rattle.standing.specs.Members.{members_of}
 use Rattle.running_store.specs.LongSlot.{IsLongSlot}
 use Rattle.store_engine.specs.Calls.{IsForcing}
 use Rattle.store_engine.specs.Engine.{EngineView, params_of, used_in}
@@ -108,13 +103,14 @@ abbrev pub copied_by_finish : {A : Type 0} → Option ℕ → Result A BackupErr
 copied_by_finish before (Ok done) = None
 copied_by_finish before (Err e) = kept_copied before e
 
--- Why a copy fails that is not refused at once: which machine failed, or which object's slot is not right.
-abbrev pub CopyFailsBy : Disk → EngineView → Type 0 → Type 0 → BackupErr → Type 0
-CopyFailsBy new engine rises target_rises DiskFault = rises
-CopyFailsBy new engine rises target_rises TargetFault = target_rises
-CopyFailsBy new engine rises target_rises (Damaged file place) = (object : ℕ) × (object < (params_of engine).objects) × IsLongSlot new engine.parts.volatile.objects.slots object file place
-CopyFailsBy new engine rises target_rises Memory = ⊤
-CopyFailsBy new engine rises target_rises e = ⊥
+-- Why a copy fails that is not refused at once, and leaves so many objects copied: which machine failed, or that the slot of the
+-- object whose turn it is holds a value that is too long.
+abbrev pub CopyFailsBy : Disk → EngineView → Option ℕ → Type 0 → Type 0 → BackupErr → Type 0
+CopyFailsBy new engine copied rises target_rises DiskFault = rises
+CopyFailsBy new engine copied rises target_rises TargetFault = target_rises
+CopyFailsBy new engine copied rises target_rises (Damaged file place) = (object : ℕ) × (copied ≡ Some object) × IsLongSlot new engine.parts.volatile.objects.slots object file place
+CopyFailsBy new engine copied rises target_rises Memory = ⊤
+CopyFailsBy new engine copied rises target_rises e = ⊥
 
 -- Why a finish fails that is not refused at once: which machine failed, where the log of the store breaks its format, or that
 -- the target's log would be longer than 2^48 bytes, and the store's is of this length.
@@ -126,23 +122,15 @@ FinishFailsBy rises target_rises fault engine (LogFull used need limit) = (used 
 FinishFailsBy rises target_rises fault engine Memory = ⊤
 FinishFailsBy rises target_rises fault engine e = ⊥
 
-module _ {O : Type 0} (m : Meaning O) (w : World O) (engine : EngineView) where
-  -- so long is the copy of the engine's log, which has the stable members of the world, numbered from its base on
-  pub record IsCopyLong (need : ℕ) : Type 0 where
-    pub stable : List (Record O)
-    pub placed : AreRecords m engine.parts.log.log.header.base engine.parts.log.log.header.base stable
-    pub members : members_of stable ≡ drop (w.base - 1) (take w.forced w.history)
-    pub long : need ≡ copied_length m engine.parts.log.log stable
+-- A finish that is refused for its length says how long the log of the backup would be, where that has so many bytes.
+abbrev pub TellsLength : ℕ → BackupErr → Type 0
+TellsLength length (LogFull used need limit) = need ≡ length
+TellsLength length e = ⊤
 
-  -- a finish that is refused for its length says how long it is
-  abbrev pub TellsLength : BackupErr → Type 0
-  TellsLength (LogFull used need limit) = IsCopyLong need
-  TellsLength e = ⊤
-
-  -- and one that succeeds had room for it
-  abbrev pub HasLength : {A : Type 0} → Result A BackupErr → Type 0
-  HasLength (Ok done) = (need : ℕ) × IsCopyLong need × (need ≤ 2 ^ 48)
-  HasLength (Err e) = TellsLength e
+-- and one that succeeds had room for it
+abbrev pub HasLength : {A : Type 0} → ℕ → Result A BackupErr → Type 0
+HasLength length (Ok done) = length ≤ 2 ^ 48
+HasLength length (Err e) = TellsLength length e
 
 module _ {O : Type 0} (meaning : Bounds → Meaning O) where
   -- at a moment of a finish the objects gate of the target is closed, or its files stand for the commands; nothing more is said

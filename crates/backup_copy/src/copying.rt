@@ -65,7 +65,7 @@ fn copy_next<O: Oper, M: Machine, T: Machine>(
         IsFault result ⊎ Copies O.meaning p (M.disk machine.new) engine.new w (T.disk target.new) }
     ensures undamaged { (M.disk machine.old).tells_files → IsAttached O.meaning (M.disk machine.old) engine.old →
         (file : FileNo) (place : ℕ) → IsErrOf result (BackupErr.Damaged file place) → ⊥ }
-    ensures cause { IfErr result (CopyFailsBy (M.disk machine.new) engine.old (Rises (M.disk machine.old).disk_faults (M.disk machine.new).disk_faults)
+    ensures cause { IfErr result (CopyFailsBy (M.disk machine.new) engine.old engine.new.copied (Rises (M.disk machine.old).disk_faults (M.disk machine.new).disk_faults)
         (Rises (T.disk target.old).disk_faults (T.disk target.new).disk_faults)) }
 {
     explain_core::copying_goes_on::<O>();
@@ -102,7 +102,7 @@ fn copy_up_to<O: Oper, M: Machine, T: Machine>(
         IsFault result ⊎ Copies O.meaning p (M.disk machine.new) engine.new w (T.disk target.new) }
     ensures undamaged { (M.disk machine.old).tells_files → IsAttached O.meaning (M.disk machine.old) engine.old →
         (file : FileNo) (place : ℕ) → IsErrOf result (BackupErr.Damaged file place) → ⊥ }
-    ensures cause { IfErr result (CopyFailsBy (M.disk machine.new) engine.old (Rises (M.disk machine.old).disk_faults (M.disk machine.new).disk_faults)
+    ensures cause { IfErr result (CopyFailsBy (M.disk machine.new) engine.old engine.new.copied (Rises (M.disk machine.old).disk_faults (M.disk machine.new).disk_faults)
         (Rises (T.disk target.old).disk_faults (T.disk target.new).disk_faults)) }
 {
     let mut bytes = Vec::new(engine.alloc());
@@ -139,7 +139,7 @@ pub fn copy<O: Oper, M: Machine, T: Machine>(
         IsFault result ⊎ Copies O.meaning p (M.disk machine.new) engine.new w (T.disk target.new) }
     ensures undamaged { (M.disk machine.old).tells_files → IsAttached O.meaning (M.disk machine.old) engine.old →
         (file : FileNo) (place : ℕ) → IsErrOf result (BackupErr.Damaged file place) → ⊥ }
-    ensures cause { IfOk (judge_copy engine.old) (λ copied. IfErr result (CopyFailsBy (M.disk machine.new) engine.old (Rises (M.disk machine.old).disk_faults (M.disk machine.new).disk_faults)
+    ensures cause { IfOk (judge_copy engine.old) (λ copied. IfErr result (CopyFailsBy (M.disk machine.new) engine.old engine.new.copied (Rises (M.disk machine.old).disk_faults (M.disk machine.new).disk_faults)
         (Rises (T.disk target.old).disk_faults (T.disk target.new).disk_faults))) }
 {
     let copied = copied_in(engine)?;

@@ -8,10 +8,11 @@ ghost use Rattle.log_records.specs.Loading.{IsTailFault};
 ghost use Rattle.explain_core.specs.History.{commands_of};
 ghost use Rattle.explain_core.specs.World.{World, run};
 ghost use Rattle.running_store.specs.Courses.{force_steps};
-ghost use Rattle.store_engine.specs.Engine.{InEachImage, IsAttached, IsEngineRead};
+ghost use Rattle.store_engine.specs.Engine.{InEachImage, IsAttached, IsEngineRead, ShowsIn};
 ghost use Rattle.store_engine.specs.Store.{Stands, meaning_in};
 ghost use Rattle.backup_copy.specs.Calls.{FinishFailsBy, ForcesFirst, HasLength, IsFault, IsQuiet, IsShutOrWhole, copied_by_finish};
 ghost use Rattle.backup_copy.specs.Copies.{Copies};
+ghost use Rattle.backup_copy.specs.Length.{backup_length};
 ghost use Rattle.backup_copy.specs.Refusals.{IsRefusedSo, judge_finish};
 ghost use Rattle.backup_copy.specs.Target.{AreShut, IsShutOrOpened, open_files};
 
@@ -56,7 +57,7 @@ fn save<O: Oper, M: Machine, T: Machine>(
         (file : File) (place : ℕ) → IsErrOf result (BackupErr.Damaged file place) → ⊥ }
     ensures cause { IfErr result (FinishFailsBy (Rises (M.disk machine.old).disk_faults (M.disk machine.new).disk_faults) (Rises (T.disk target.old).disk_faults (T.disk target.new).disk_faults)
         (IsTailFault (O.meaning engine.new.parts.log.bounds) (M.disk machine.new) engine.new.parts.log.log) engine.new) }
-    ensures long { (p : Numbers) (w : World O) → Copies O.meaning p (M.disk machine.old) engine.old w (T.disk target.old) → HasLength (meaning_in O.meaning p) w engine.new result }
+    ensures long { (p : Numbers) (w : World O) → ShowsIn O.meaning p (M.disk machine.old) engine.old w → HasLength (backup_length (meaning_in O.meaning p) w) result }
 {
     standing::a_copy_stands::<O>();
     store_engine::a_copied_log_is_of_the_world::<O, M>();
@@ -113,8 +114,8 @@ pub fn finish<O: Oper, M: Machine, T: Machine>(
         (Rises (T.disk target.old).disk_faults (T.disk target.new).disk_faults) (IsTailFault (O.meaning engine.new.parts.log.bounds) (M.disk machine.new) engine.new.parts.log.log) engine.new)) }
 
     // The target's log is too long exactly where that is answered.
-    ensures long { (p : Numbers) (w : World O) → Copies O.meaning p (M.disk machine.old) engine.old w (T.disk target.old) →
-        HasLength (meaning_in O.meaning p) (run (meaning_in O.meaning p) w (force_steps (meaning_in O.meaning p) w)) engine.new result }
+    ensures long { (p : Numbers) (w : World O) → ShowsIn O.meaning p (M.disk machine.old) engine.old w →
+        HasLength (backup_length (meaning_in O.meaning p) (run (meaning_in O.meaning p) w (force_steps (meaning_in O.meaning p) w))) result }
 {
     store_engine::a_copy_goes_on::<O, M>();
     store_engine::calls_go_beside_a_copy::<O>();

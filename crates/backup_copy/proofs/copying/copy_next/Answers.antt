@@ -2,7 +2,7 @@ use Rattle.std.proofs.Common.{◌≡◌, ◌∙◌, ◌<◌, ◌+◌, ℕ, List,
 use Rattle.formats.specs.declared.params.Params.{Params}
 use Rattle.store_engine.specs.Engine.{EngineView}
 use Rattle.backup_copy.proofs.Copied.{PutsNext, copied_next, copied_still}
-use Rattle.backup_copy.proofs.Ends.{error_from, read_count, read_failed, read_fault}
+use Rattle.backup_copy.proofs.Ends.{error_from, read_cause, read_count, read_failed, read_fault}
 use Rattle.backup_copy.proofs.Passed.{read_after}
 use Rattle.backup_copy.proofs.copying.copy_next.Goals as goal
 
@@ -50,3 +50,8 @@ returns-in-Ok-clause-goes_on g c = λ p w is.
     inr (copied_next g.O.Oper.meaning p old new c.args.engine.now c.held.new.self c.set_copied.new.self w t t' c.args.object c.in_ok-id.id value
     (λ b w copied cells sound is. c.copying_goes_on.ensures.more b w copied cells sound is) below c.requires.next pair shows c.set_copied.ensures c.put_pair.ensures.runs
     (λ told. subst (λ (q : Params). PutsNext q t t' c.args.object c.in_ok-id.id value) params (λ cells pair may before. c.in-Ok.ensures.put told cells pair may before)) is)
+
+pub returns-in_err-id-clause-cause : goal.returns-in_err-id-clause-cause
+returns-in_err-id-clause-cause g c =
+    read_cause (g.M.Machine.disk c.args.machine.now) (g.M.Machine.disk c.held.new.machine) c.args.engine.now c.held.new.self.copied c.args.object (ap (λ (e : EngineView). e.copied) c.held.ensures.read.engine ∙ c.requires.next) _
+    c.held.result c.in_err-id.field-0.0 c.from_residual.result c.in_err-id.was (error_from c.from_residual.result _ c.from_residual.ensures.1) c.held.ensures.cause

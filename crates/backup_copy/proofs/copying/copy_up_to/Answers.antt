@@ -46,13 +46,13 @@ returns-in_err-copy_next-clause-goes_on g c = λ p w is.
 pub returns-in_err-copy_next-clause-cause : goal.returns-in_err-copy_next-clause-cause
 returns-in_err-copy_next-clause-cause g c =
     let passed = c.loop-object.invariant in
-    cause_later (g.M.Machine.disk c.copy_next.new.machine) c.args.engine.now c.loop-object.engine (g.M.Machine.disk c.args.machine.now).disk_faults (g.M.Machine.disk c.loop-object.machine).disk_faults (g.M.Machine.disk c.copy_next.new.machine).disk_faults
+    cause_later (g.M.Machine.disk c.copy_next.new.machine) c.args.engine.now c.loop-object.engine c.copy_next.new.engine.copied (g.M.Machine.disk c.args.machine.now).disk_faults (g.M.Machine.disk c.loop-object.machine).disk_faults (g.M.Machine.disk c.copy_next.new.machine).disk_faults
     (g.T.Machine.disk c.args.target.now).disk_faults (g.T.Machine.disk c.loop-object.target).disk_faults (g.T.Machine.disk c.copy_next.new.target).disk_faults
     c.copy_next.result c.in_err-copy_next.field-0.0 c.from_residual.result c.in_err-copy_next.was (error_from c.from_residual.result _ c.from_residual.ensures.1) (ap (λ (e : EngineView). e.parts) passed.engine) passed.kept.time.disk_faults passed.runs.time.disk_faults c.copy_next.ensures.cause
 
 pub returns-in_err-copy_next-clause-undamaged : goal.returns-in_err-copy_next-clause-undamaged
 returns-in_err-copy_next-clause-undamaged g c =
-    never_damaged g.O.Oper.meaning (g.M.Machine.disk c.args.machine.now) (g.M.Machine.disk c.copy_next.new.machine) c.args.engine.now _ _ c.from_residual.result (returns-in_err-copy_next-clause-read g c).kept (returns-in_err-copy_next-clause-cause g c)
+    never_damaged g.O.Oper.meaning (g.M.Machine.disk c.args.machine.now) (g.M.Machine.disk c.copy_next.new.machine) c.args.engine.now _ _ _ c.from_residual.result (returns-in_err-copy_next-clause-read g c).kept (returns-in_err-copy_next-clause-cause g c)
 
 pub loop-object-preserved : goal.loop-object-preserved
 loop-object-preserved g c =

@@ -12,12 +12,13 @@ use Rattle.store_engine.specs.Engine.{EngineView, InEachImage}
 use Rattle.store_engine.specs.Store.{Stands, meaning_in}
 use Rattle.backup_copy.specs.Calls.{ForcesFirst, HasLength, IsShutOrWhole, copied_by_finish}
 use Rattle.backup_copy.specs.Copies.{Copies}
+use Rattle.backup_copy.specs.Length.{backup_length}
 use Rattle.backup_copy.specs.Refusals.{judge_finish}
 use Rattle.backup_copy.specs.declared.backup_err.BackupErr.{BackupErr}
 use Rattle.backup_copy.specs.declared.backup_err.BackupErr.TheVariants.{DiskFault, Damaged}
 use Rattle.backup_copy.proofs.Begun.{if_judged}
 use Rattle.backup_copy.proofs.Ends.{error_from, same_error}
-use Rattle.backup_copy.proofs.Finished.{again_so, all_done, cause_noted, counted_so, errors_same, forced_copies, forced_ok, forced_so, forced_still, length_noted, long_noted, shut_first}
+use Rattle.backup_copy.proofs.Finished.{again_so, all_done, cause_noted, counted_so, errors_same, forced_copies, forced_ok, forced_so, forced_still, length_later, shut_first}
 use Rattle.backup_copy.proofs.Forced.{forced_commands}
 use Rattle.backup_copy.proofs.finishing.finish.Given.{Over}
 use Rattle.backup_copy.proofs.finishing.finish.Goals.{After-note}
@@ -114,13 +115,10 @@ returns-in_err-saved-clause-cause g c =
     (forced g at).call.time.disk_faults (ap (λ (v : EngineView). v.parts) c.note.ensures) c.save-saved.ensures.cause)
 
 pub returns-in_err-saved-clause-long : goal.returns-in_err-saved-clause-long
-returns-in_err-saved-clause-long g c = λ p w is.
+returns-in_err-saved-clause-long g c = λ p w shows.
     let at = (goal.at.returns-in_err-saved-clause-long g c).After-note in
-    let e = c.in_err-saved.field-0.0 in
-    let m = meaning_in g.O.Oper.meaning p in
-    let long = subst (λ (r : Result (Unit {0}) BackupErr). HasLength m (world g at p w) c.save-saved.new.engine r) c.in_err-saved.was (c.save-saved.ensures.long p (world g at p w) (copies g at p w is)) in
-    subst (λ (r : Result ℕ BackupErr). HasLength m (world g at p w) c.note.new.engine r) (sym (error_from c.from_residual-in_err-saved.result _ c.from_residual-in_err-saved.ensures.1))
-    (length_noted m (world g at p w) c.save-saved.new.engine c.note.new.engine (ap (λ (v : EngineView). v.parts) c.note.ensures) e long)
+    length_later (backup_length (meaning_in g.O.Oper.meaning p) (world g at p w)) c.save-saved.result c.in_err-saved.field-0.0 c.from_residual-in_err-saved.result c.in_err-saved.was (error_from c.from_residual-in_err-saved.result _ c.from_residual-in_err-saved.ensures.1)
+    (c.save-saved.ensures.long p (world g at p w) ((forced g at).takes.follows p w shows).1.shows)
 
 pub returns-clause-forces : goal.returns-clause-forces
 returns-clause-forces g c =
@@ -142,8 +140,6 @@ returns-clause-saved g c = λ p w is.
     )
 
 pub returns-clause-long : goal.returns-clause-long
-returns-clause-long g c = λ p w is.
+returns-clause-long g c = λ p w shows.
     let at = (goal.at.returns-clause-long g c).After-note in
-    let m = meaning_in g.O.Oper.meaning p in
-    let long = subst (λ (r : Result (Unit {0}) BackupErr). HasLength m (world g at p w) c.save-saved.new.engine r) c.in_ok-saved.was (c.save-saved.ensures.long p (world g at p w) (copies g at p w is)) in
-    (long.0, long_noted m (world g at p w) c.save-saved.new.engine c.note.new.engine (ap (λ (v : EngineView). v.parts) c.note.ensures) long.0 long.1, long.2)
+    subst (λ (r : Result (Unit {0}) BackupErr). HasLength (backup_length (meaning_in g.O.Oper.meaning p) (world g at p w)) r) c.in_ok-saved.was (c.save-saved.ensures.long p (world g at p w) ((forced g at).takes.follows p w shows).1.shows)

@@ -51,11 +51,11 @@ returns-in_err-copy_log-clause-cause g c =
     c.copy_log.result c.in_err-copy_log.field-0.0 c.from_residual.result (ap (λ (e : EngineView). e.parts) c.copy_log.ensures.read.engine) c.in_err-copy_log.was (error_from c.from_residual.result _ c.from_residual.ensures.1) c.copy_log.ensures.cause
 
 pub returns-in_err-copy_log-clause-long : goal.returns-in_err-copy_log-clause-long
-returns-in_err-copy_log-clause-long g c = λ p w is.
+returns-in_err-copy_log-clause-long g c = λ p w shows.
     let old = g.M.Machine.disk c.args.machine.now in
     let new = g.M.Machine.disk c.copy_log.new.machine in
-    copy_long g.O.Oper.meaning old new (Rises old.disk_faults new.disk_faults) (Rises (g.T.Machine.disk c.args.target.now).disk_faults (g.T.Machine.disk c.copy_log.new.target).disk_faults) p w c.args.engine.now c.copy_log.new.self
-    (ap (λ (e : EngineView). e.parts) c.copy_log.ensures.read.engine) is.shows (c.a_copied_log_is_of_the_world.ensures.keeps p c.args.machine.now c.args.engine.now w is.shows)
+    copy_long g.O.Oper.meaning old new (Rises old.disk_faults new.disk_faults) (Rises (g.T.Machine.disk c.args.target.now).disk_faults (g.T.Machine.disk c.copy_log.new.target).disk_faults) p w c.args.engine.now
+    shows (c.a_copied_log_is_of_the_world.ensures.keeps p c.args.machine.now c.args.engine.now w shows)
     c.copy_log.result c.in_err-copy_log.field-0.0 c.from_residual.result c.in_err-copy_log.was (error_from c.from_residual.result _ c.from_residual.ensures.1) c.copy_log.ensures.cause
 
 module _ (g : Over) (c : After-open g) where
@@ -109,7 +109,7 @@ pub returns-in-Err-clause-moments : goal.returns-in-Err-clause-moments
 returns-in-Err-clause-moments g c told = λ p w is all. moments g (goal.at.returns-in-Err-clause-moments g c).After-open told p w is all
 
 pub returns-in-Ok-clause-long : goal.returns-in-Ok-clause-long
-returns-in-Ok-clause-long g c = λ p w is.
+returns-in-Ok-clause-long g c = λ p w shows.
     let old = g.M.Machine.disk c.args.machine.now in
-    copy_within g.O.Oper.meaning old (g.M.Machine.disk c.copy_log.new.machine) ⊥ ⊥ p w c.args.engine.now c.copy_log.new.self (ap (λ (e : EngineView). e.parts) c.copy_log.ensures.read.engine) is.shows
-    (c.a_copied_log_is_of_the_world.ensures.keeps p c.args.machine.now c.args.engine.now w is.shows) c.in_ok-copy_log.ensures.within
+    copy_within g.O.Oper.meaning old (g.M.Machine.disk c.copy_log.new.machine) ⊥ ⊥ p w c.args.engine.now shows
+    (c.a_copied_log_is_of_the_world.ensures.keeps p c.args.machine.now c.args.engine.now w shows) c.in_ok-copy_log.ensures.within
