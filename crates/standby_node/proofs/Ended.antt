@@ -1,0 +1,395 @@
+-- The end of a frame that was followed: it is forced, thin nodes are installed, and it is passed.
+use Rattle.std.proofs.Common.{◌≡◌, ◌∙◌, sym, subst, ap, ℕ, ◌+◌, ◌-◌, ◌≤◌, Bool, true, false, List, [], ◌∷◌, ◌++◌, length, drop, refl, arith, inl, inr, ◌⊎◌, ⊎_elim, length-drop, Some}
+use Rattle.std.specs.Prelude.{◌↔◌, ◌&&◌, ⊤, nat_lt, Result, Ok, Err, IsErrOf, OnOk}
+use Rattle.std.proofs.lemmas.Bool.{cond-false, le-ltb}
+use Rattle.std.proofs.lemmas.List.{append-nil}
+use Rattle.disk_model.specs.Disk.{Disk, IsDisk, LeavesOnly}
+use Rattle.disk_model.specs.Moments.{weaker}
+use Rattle.disk_model.specs.declared.machine.FileNo.{FileNo}
+use Rattle.disk_model.specs.declared.machine.Failed.{Failed}
+use Rattle.oper_core.specs.Meaning.{Meaning}
+use Rattle.oper_core.specs.declared.bounds.Bounds.{Bounds}
+use Rattle.formats.specs.Log.{IsPayload}
+use Rattle.formats.specs.Records.{payload_of, records_of}
+use Rattle.formats.specs.declared.params.Params.{Params}
+use Rattle.formats.specs.declared.record.Record.{Record}
+use Rattle.frame_stream.specs.Frames.{frame}
+use Rattle.frame_stream.specs.FrameBuffer.{BeginsWith, FrameBufferView, HasPassed, taken_by}
+use Rattle.log_records.specs.RecordLog.{RecordLogView}
+use Rattle.explain_core.specs.History.{Member, commands_of}
+use Rattle.explain_core.specs.History.Member.{Command, Identity}
+use Rattle.explain_core.specs.Turns.{dirty_in, has_thin, must_install, thin_steps}
+use Rattle.explain_core.specs.World.{Step, World, run}
+use Rattle.execution.specs.Judged.{first_refused, follows}
+use Rattle.running_store.specs.Buffered.{buffered_shown}
+use Rattle.running_store.specs.Calls.{IsFailed, ending_of_store}
+use Rattle.running_store.specs.Courses.{force_steps, records_length}
+use Rattle.running_store.specs.declared.store_err.StoreErr.{StoreErr}
+use Rattle.running_store.specs.declared.store_err.StoreErr.TheVariants as of_store
+use Rattle.store_engine.specs.Calls.{IsForcing}
+use Rattle.store_engine.specs.Counts.{commands-fewer}
+use Rattle.store_engine.specs.Engine.{Between, EngineView, Holds, ShowsIn, accepted_in, forced_in, used_in}
+use Rattle.store_engine.specs.Following.{HasInstalledThin, thin_course}
+use Rattle.store_engine.specs.Grouping.{ungrouped}
+use Rattle.store_engine.specs.Store.{meaning_in}
+use Rattle.standby_node.specs.Failures.{follow_from_store}
+use Rattle.standby_node.specs.Feeding.{IsAtFrameEnd, dirty_limit}
+use Rattle.standby_node.specs.Standby.{BeginsWithFrameOf, IsAlone, IsFollowing, StandbyView}
+use Rattle.standby_node.specs.Steps.{AnyWorld, FollowsStep, GoesOn, HasPassedFrame, HasWholeFrame, IsLimited}
+use Rattle.standby_node.specs.declared.follow_err.FollowErr.{FollowErr}
+use Rattle.standby_node.specs.declared.follow_err.FollowErr.TheVariants.{DiskFault, Damaged}
+use Rattle.standby_node.proofs.Ends.{Stand, between_end, forced_is, frames_more, past, records_more}
+use Rattle.standby_node.proofs.Going.{goes_nowhere, goes_twice, not_failed, on_ok}
+use Rattle.standby_node.proofs.InHand.{whole_begun, whole_long}
+use Rattle.standby_node.proofs.Recorded.{same_world}
+use Rattle.standby_node.proofs.Settled.{IsSettledAt, calm_front, force_settled, run_settled, thin_course_calm}
+
+-- the frame in hand is left, and what was followed of it, and nothing waits
+abbrev pub IsForcedIn : StandbyView → StandbyView → Type 0
+IsForcedIn s left = (left.frames ≡ s.frames) × (left.done ≡ s.done) × (left.engine.parts.log.log.pending ≡ [])
+
+-- no records have no bytes
+none_long : {O : Type 0} (m : Meaning O) (h : List (Member O)) → records_length m h ≡ 0 → h ≡ []
+none_long m [] is = refl
+none_long m (Command op ∷ h) is = absurd (omega (arith, is))
+none_long m (Identity x value ∷ h) is = absurd (omega (arith, is))
+
+-- ---- a standby with another world
+
+module _ {O : Type 0} (meaning : Bounds → Meaning O) (p : Params) (first : List (Member O)) (bytes : List ℕ) (old : Disk) (before : StandbyView) (f : IsFollowing meaning p first bytes old before) where
+  abbrev m : Meaning O
+  m = meaning_in meaning p
+
+  abbrev w : World O
+  w = f.world
+
+  -- all of it is stable, and the frame in hand was followed to its end, or none of it was
+  abbrev pub MayBeForced : Type 0
+  MayBeForced = (w.history ≡ past meaning p first bytes old before f) ⊎ BeginsWithFrameOf m before.frames.kept f.begun
+
+  -- another world is shown, with the same members
+  abbrev pub other_world : (new : Disk) (after : EngineView) (v : World O) → ShowsIn meaning p new after v → v.history ≡ w.history → v.pending ≡ []
+      → (v.forced ≡ length (past meaning p first bytes old before f)) ⊎ (BeginsWithFrameOf m before.frames.kept f.begun × (v.forced ≡ length v.history)) → IsFollowing meaning p first bytes new (record before { engine = after })
+  other_world new after v there history no_check forced = record {
+    payloads = f.payloads;
+    groups = f.groups;
+    begun = f.begun;
+    passed = f.passed;
+    frames_are = f.frames_are;
+    in_hand = f.in_hand;
+    world = v;
+    shows = there;
+    fine = f.fine;
+    members = history ∙ f.members;
+    no_check = no_check;
+    forced = forced;
+  }
+
+  -- one that is settled
+  pub settled_world : (new : Disk) (after : EngineView) (v : World O) → MayBeForced → ShowsIn meaning p new after v → IsSettledAt w.history v → IsFollowing meaning p first bytes new (record before { engine = after })
+  settled_world new after v may there all =
+      other_world new after v there all.history all.none
+      (⊎_elim (λ (passed : w.history ≡ past meaning p first bytes old before f). inl (all.forced ∙ ap (λ (h : List (Member O)). length h) passed))
+      (λ (whole : BeginsWithFrameOf m before.frames.kept f.begun). inr (whole, all.forced ∙ ap (λ (h : List (Member O)). length h) (sym all.history))) may)
+
+  -- engine and files stand for the commands of its members
+  pub holds_all : Holds meaning p old before.engine (commands_of w.history)
+  holds_all = record { world = w; shows = f.shows; commands_are = refl }
+
+  -- where nothing waits all is stable
+  pub all_stable : before.engine.parts.log.log.pending ≡ [] → w.forced ≡ length w.history
+  all_stable none =
+      let counted = buffered_shown m old before.engine.parts.log (ungrouped w) f.shows.shows.log in
+      let behind : drop w.forced w.history ≡ [] = none_long m (drop w.forced w.history) (omega (arith, counted, ap (λ (l : List ℕ). length l) none)) in
+      omega (arith, ap (λ (h : List (Member O)). length h) behind, length-drop w.forced w.history, f.shows.sound.forced)
+
+  pub settled_here : before.engine.parts.log.log.pending ≡ [] → IsSettledAt w.history w
+  settled_here none = record { history = refl; forced = all_stable none; none = f.no_check }
+
+-- ---- a thin node is installed
+
+-- the answer of the step that an install of a thin node is
+abbrev pub thin_result : Result Bool StoreErr → Result (Unit {0}) FollowErr
+thin_result (Ok some) = Ok tt
+thin_result (Err e) = Err (follow_from_store e)
+
+-- the world that it leaves
+abbrev pub LeftThin : {O : Type 0} → Result Bool StoreErr → Meaning O → World O → Type 0
+LeftThin (Ok true) m w = ⊤
+LeftThin (Ok false) m w = must_install m dirty_limit w ≡ false
+LeftThin (Err e) m w = ⊤
+
+no_error : {T E : Type 0} (value : T) (e : E) → Ok value ≡ Err e → ⊥
+no_error value e same = cc
+
+memory_is_no_fault : IsErrOf {T = Bool} (Err of_store.Memory) of_store.DiskFault → ⊥
+memory_is_no_fault same = cc
+
+module _ {O : Type 0} (meaning : Bounds → Meaning O) (old new : Disk) (before : StandbyView) (after : EngineView) where
+  abbrev pub with_engine : StandbyView
+  with_engine = record before { engine = after }
+
+  -- a node is installed where all is stable
+  pub installed_following : (p : Params) (first : List (Member O)) (bytes : List ℕ) (f : IsFollowing meaning p first bytes old before) → MayBeForced meaning p first bytes old before f → before.engine.parts.log.log.pending ≡ []
+      → (answer : Result Bool StoreErr) → HasInstalledThin meaning old new before.engine after answer → IsErrOf answer of_store.DiskFault ⊎ IsFollowing meaning p first bytes new with_engine
+  installed_following p first bytes f may none (Ok some) it =
+      let m = meaning_in meaning p in
+      let steps = (thin_course m f.world (used_in before.engine)).steps in
+      inr (settled_world meaning p first bytes old before f new after (run m f.world steps) may (it.takes.follows p f.world f.shows).1.shows
+      (run_settled m f.world.history f.world steps (thin_course_calm m f.world (used_in before.engine)) (settled_here meaning p first bytes old before f none)))
+  installed_following p first bytes f may none (Err of_store.DiskFault) it = inl refl
+  installed_following p first bytes f may none (Err of_store.Memory) it =
+      let m = meaning_in meaning p in
+      let steps = (thin_course m f.world (used_in before.engine)).steps in
+      let is = it.takes.follows p f.world f.shows in
+      inr (settled_world meaning p first bytes old before f new after (run m f.world is.taken) may is.holds
+      (run_settled m f.world.history f.world is.taken (calm_front steps is.taken is.begins (thin_course_calm m f.world (used_in before.engine))) (settled_here meaning p first bytes old before f none)))
+
+  -- where none was left none has to be installed
+  pub none_left : (p : Params) (first : List (Member O)) (bytes : List ℕ) (f : IsFollowing meaning p first bytes old before) → HasInstalledThin meaning old new before.engine after (Ok false)
+      → (g : IsFollowing meaning p first bytes new with_engine) × (must_install (meaning_in meaning p) dirty_limit g.world ≡ false)
+  unfolding run
+  none_left p first bytes f it =
+      let m = meaning_in meaning p in
+      let none : has_thin m f.world ≡ false = sym (it.told p f.world f.shows) in
+      let no_steps : (thin_course m f.world (used_in before.engine)).steps ≡ [] = cond-false (has_thin m f.world) (thin_steps m f.world) [] none in
+      let there : ShowsIn meaning p new after f.world = subst (λ (l : List (Step O)). ShowsIn meaning p new after (run m f.world l)) no_steps (it.takes.follows p f.world f.shows).1.shows in
+      (same_world meaning p first bytes old new before after f there, no_need (nat_lt dirty_limit (dirty_in m f.world)) (has_thin m f.world) none)
+    where
+      no_need : (a b : Bool) → b ≡ false → (a && b) ≡ false
+      no_need true b is = is
+      no_need false b is = refl
+
+  thin_failed : (answer : Result Bool StoreErr) → IsFailed (ending_of_store answer) ↔ IsErrOf (thin_result answer) DiskFault
+  thin_failed (Ok some) = (λ failed. absurd failed, λ same. cc)
+  thin_failed (Err of_store.DiskFault) = (λ failed. refl, λ same. tt)
+  thin_failed (Err of_store.Memory) = (λ failed. absurd failed, λ same. cc)
+
+  thin_undamaged : (answer : Result Bool StoreErr) (file : FileNo) (place : ℕ) → IsErrOf (thin_result answer) (Damaged file place) → ⊥
+  thin_undamaged (Ok some) file place same = cc
+  thin_undamaged (Err of_store.DiskFault) file place same = cc
+  thin_undamaged (Err of_store.Memory) file place same = cc
+
+  thin_follows : (p : Params) (first : List (Member O)) (bytes : List ℕ) (f : IsFollowing meaning p first bytes old before) → MayBeForced meaning p first bytes old before f → before.engine.parts.log.log.pending ≡ [] → (answer : Result Bool StoreErr) → HasInstalledThin meaning old new before.engine after answer
+      → FollowsStep meaning (LeftThin answer) p first bytes new with_engine (thin_result answer)
+  thin_follows p first bytes f may none (Ok true) it = ⊎_elim (λ same. absurd (no_error true of_store.DiskFault same)) (λ (is : IsFollowing meaning p first bytes new with_engine). (is, tt)) (installed_following p first bytes f may none (Ok true) it)
+  thin_follows p first bytes f may none (Ok false) it = none_left p first bytes f it
+  thin_follows p first bytes f may none (Err of_store.DiskFault) it = tt
+  thin_follows p first bytes f may none (Err of_store.Memory) it = ⊎_elim (λ same. absurd (memory_is_no_fault same)) (λ (is : IsFollowing meaning p first bytes new with_engine). is) (installed_following p first bytes f may none (Err of_store.Memory) it)
+
+  -- the frame in hand was followed to its end, so an image stands for a frame's end
+  abbrev pub IsThrough : Type 0
+  IsThrough = HasWholeFrame before before.done
+
+  through_images : IsThrough → Stand meaning → (told : old.tells_moments) (p : Params) (first : List (Member O)) (bytes : List ℕ) (f : IsFollowing meaning p first bytes old before)
+      → LeavesOnly old new (Between meaning p old before.engine.group (forced_in before.engine) (accepted_in before.engine) (commands_of f.world.history)) → LeavesOnly old new (IsAtFrameEnd meaning p old (forced_in before.engine) first bytes)
+  through_images through stand told p first bytes f leaves =
+      let whole = whole_begun (meaning_in meaning p) before f.begun f.in_hand before.done through refl in
+      weaker old new (Between meaning p old before.engine.group (forced_in before.engine) (accepted_in before.engine) (commands_of f.world.history)) (IsAtFrameEnd meaning p old (forced_in before.engine) first bytes) leaves
+      (λ files said is. between_end meaning p first bytes old before f whole before.engine.group files said is)
+
+  pub thin_goes : IsThrough → before.engine.parts.log.log.pending ≡ [] → Stand meaning → (answer : Result Bool StoreErr) → HasInstalledThin meaning old new before.engine after answer
+      → GoesOn meaning old new before with_engine (IsForcedIn before with_engine) (LeftThin answer) (thin_result answer)
+  thin_goes through none stand answer it = record {
+    time = it.call.time;
+    quiet = it.call.quiet;
+    params = it.call.params;
+    attached = ⊎_elim (λ failed. inl ((thin_failed answer).0 failed)) (λ kept. inr kept) it.call.attached;
+    broken = (λ set. (thin_failed answer).0 (it.call.broken.0 set), λ failed. it.call.broken.1 ((thin_failed answer).1 failed));
+    fault = λ failed. it.call.fault ((thin_failed answer).1 failed);
+    stopped = refl;
+    taken = refl;
+    done = on_ok (thin_result answer) (refl, refl, ap (λ (l : RecordLogView). l.log.pending) it.log ∙ none);
+    rising = λ p first bytes f. inr (omega (arith, ap (λ (l : RecordLogView). l.forced) it.log));
+    follows_it = λ p first bytes f. thin_follows p first bytes f (inr (whole_begun (meaning_in meaning p) before f.begun f.in_hand before.done through refl)) none answer it;
+    images = λ told p first bytes f. through_images through stand told p first bytes f (it.commands.images told p (commands_of f.world.history) (holds_all meaning p first bytes old before f));
+    undamaged = λ told attached file place same. thin_undamaged answer file place same;
+  }
+
+  -- ---- a force
+
+  pub forced_following : (p : Params) (first : List (Member O)) (bytes : List ℕ) (f : IsFollowing meaning p first bytes old before) → MayBeForced meaning p first bytes old before f → (n : ℕ) → IsForcing meaning old new before.engine after (Ok n)
+      → IsFollowing meaning p first bytes new with_engine
+  forced_following p first bytes f may n it =
+      let m = meaning_in meaning p in
+      settled_world meaning p first bytes old before f new after (run m f.world (force_steps m f.world)) may (it.takes.follows p f.world f.shows).1.shows (force_settled m f.world f.shows.sound.forced)
+
+  pub force_goes : IsThrough → Stand meaning → (n : ℕ) → IsForcing meaning old new before.engine after (Ok n)
+      → GoesOn meaning old new before with_engine (IsForcedIn before with_engine) AnyWorld (Ok tt)
+  force_goes through stand n it = record {
+    time = it.call.time;
+    quiet = it.call.quiet;
+    params = it.call.params;
+    attached = ⊎_elim (λ failed. absurd failed) (λ kept. inr kept) it.call.attached;
+    broken = (λ set. absurd (it.call.broken.0 set), λ failed. absurd (not_failed failed));
+    fault = λ failed. absurd (not_failed failed);
+    stopped = refl;
+    taken = refl;
+    done = (refl, refl, it.empty);
+    rising = λ p first bytes f.
+        let w = f.world in
+        let all = (it.forced p (commands_of w.history) (holds_all meaning p first bytes old before f)).1 in
+        inr (omega (arith, all, forced_is meaning p first bytes old before f, commands-fewer w.forced w.history));
+    follows_it = λ p first bytes f. (forced_following p first bytes f (inr (whole_begun (meaning_in meaning p) before f.begun f.in_hand before.done through refl)) n it, tt);
+    images = λ told p first bytes f. through_images through stand told p first bytes f (it.commands.images told p (commands_of f.world.history) (holds_all meaning p first bytes old before f));
+    undamaged = λ told attached file place same. absurd (not_failed same);
+  }
+
+  -- which failed
+  pub force_fails : IsThrough → Stand meaning → (Reached : Type 0) (Left : Meaning O → World O → Type 0) (e : Failed) → IsForcing meaning old new before.engine after (Err e) → GoesOn meaning old new before with_engine Reached Left (Err DiskFault)
+  force_fails through stand Reached Left e it = record {
+    time = it.call.time;
+    quiet = it.call.quiet;
+    params = it.call.params;
+    attached = inl refl;
+    broken = (λ set. refl, λ failed. it.call.broken.1 tt);
+    fault = λ failed. it.call.fault tt;
+    stopped = refl;
+    taken = refl;
+    done = tt;
+    rising = λ p first bytes f. inl refl;
+    follows_it = λ p first bytes f. tt;
+    images = λ told p first bytes f. through_images through stand told p first bytes f (it.commands.images told p (commands_of f.world.history) (holds_all meaning p first bytes old before f));
+    undamaged = λ told attached file place same. cc;
+  }
+
+-- What the loop over thin nodes has left of a standby: it was forced, and goes on.
+pub record LimitsSo {O : Type 0} (meaning : Bounds → Meaning O) (old now : Disk) (before here : StandbyView) : Type 0 where
+  pub alone : IsAlone here.engine
+  pub through : HasWholeFrame here here.done
+  pub goes : GoesOn meaning old now before here (IsForcedIn before here) AnyWorld (Ok tt)
+
+-- it begins
+pub limits_begin : {O : Type 0} (meaning : Bounds → Meaning O) (d : Disk) → IsDisk d → (now parts : StandbyView) → parts ≡ now → IsAlone parts.engine → now.engine.broken ≡ false → HasWholeFrame now now.done → now.engine.parts.log.log.pending ≡ [] → Stand meaning
+    → LimitsSo meaning d d now parts
+limits_begin meaning d lawful now parts same alone unbroken through none stand = record {
+  alone = alone;
+  through = subst (λ (s : StandbyView). HasWholeFrame s s.done) (sym same) through;
+  goes = subst (λ (s : StandbyView). GoesOn meaning d d now s (IsForcedIn now s) AnyWorld (Ok tt)) (sym same)
+      (goes_nowhere meaning d lawful now unbroken stand _ AnyWorld (Ok tt) (λ failed. not_failed failed) (λ file place failed. not_failed failed) (refl, refl, none) (λ p first bytes f. (f, tt)));
+}
+
+-- a node more was installed, or none, or the call failed
+module _ {O : Type 0} (meaning : Bounds → Meaning O) (old mid new : Disk) (begins : IsDisk old) (lawful : IsDisk new) (before here : StandbyView) (so_far : LimitsSo meaning old mid before here) (after : EngineView) (stand : Stand meaning) where
+  abbrev next : StandbyView
+  next = record here { engine = after }
+
+  pub installed_then : (answer : Result Bool StoreErr) (Left : Meaning O → World O → Type 0) → OnOk (thin_result answer) ((m : Meaning O) (w : World O) → LeftThin answer m w → Left m w) → HasInstalledThin meaning mid new here.engine after answer
+      → GoesOn meaning old new before next (IsForcedIn before next) Left (thin_result answer)
+  installed_then answer Left so it =
+      goes_twice meaning old mid new begins lawful before here next (IsForcedIn before here) (IsForcedIn here next) (IsForcedIn before next) AnyWorld (LeftThin answer) Left (thin_result answer)
+      (joined (thin_result answer)) so so_far.goes (thin_goes meaning mid new here after so_far.through so_far.goes.done.2 stand answer it)
+    where
+      joined : (result : Result (Unit {0}) FollowErr) → IsForcedIn before here → OnOk result (IsForcedIn here next) → OnOk result (IsForcedIn before next)
+      joined (Ok done) start reached = (reached.0 ∙ start.0, reached.1 ∙ start.1, reached.2)
+      joined (Err e) start reached = tt
+
+  pub alone_then : (answer : Result Bool StoreErr) → HasInstalledThin meaning mid new here.engine after answer → IsAlone after
+  alone_then answer it = record { group = it.call.group ∙ so_far.alone.group; copied = it.call.copied ∙ so_far.alone.copied }
+
+  pub limits_more : HasInstalledThin meaning mid new here.engine after (Ok true) → LimitsSo meaning old new before next
+  limits_more it = record { alone = alone_then (Ok true) it; through = so_far.through; goes = installed_then (Ok true) AnyWorld (λ m w any. any) it }
+
+-- where few objects are dirty, or no node is thin, it has gone on to the end
+pub limited_by : {O : Type 0} (meaning : Bounds → Meaning O) (old now : Disk) (before here : StandbyView) → LimitsSo meaning old now before here
+    → ((p : Params) (first : List (Member O)) (bytes : List ℕ) (f : IsFollowing meaning p first bytes now here) → must_install (meaning_in meaning p) dirty_limit f.world ≡ false) → IsLimited meaning old now before here (Ok tt)
+limited_by meaning old now before here it none = record {
+  time = it.goes.time;
+  quiet = it.goes.quiet;
+  params = it.goes.params;
+  attached = it.goes.attached;
+  broken = it.goes.broken;
+  fault = it.goes.fault;
+  stopped = it.goes.stopped;
+  taken = it.goes.taken;
+  done = it.goes.done;
+  rising = it.goes.rising;
+  follows_it = λ p first bytes f. let g = (it.goes.follows_it p first bytes f).0 in (g, none p first bytes g);
+  images = it.goes.images;
+  undamaged = it.goes.undamaged;
+}
+
+-- few are
+pub few_dirty : {O : Type 0} (m : Meaning O) (w : World O) (n : ℕ) → n ≡ dirty_in m w → n ≤ dirty_limit → must_install m dirty_limit w ≡ false
+few_dirty m w n is few = ap (λ (b : Bool). b && has_thin m w) (le-ltb dirty_limit (dirty_in m w) (omega (arith, is, few)))
+
+-- The same of a standby that is told apart into its parts.
+module _ {O : Type 0} (meaning : Bounds → Meaning O) (old new : Disk) (now parts : StandbyView) (same : parts ≡ now) (after : EngineView) (through : HasWholeFrame now now.done) (stand : Stand meaning) where
+  abbrev then : StandbyView
+  then = record parts { engine = after }
+
+  pub force_from : (n : ℕ) → IsForcing meaning old new parts.engine after (Ok n) → GoesOn meaning old new now then (IsForcedIn now then) AnyWorld (Ok tt)
+  force_from n it =
+      subst (λ (s : StandbyView). HasWholeFrame s s.done → GoesOn meaning old new s then (IsForcedIn s then) AnyWorld (Ok tt)) same (λ through. force_goes meaning old new parts after through stand n it) through
+
+  pub force_fails_from : (Left : Meaning O → World O → Type 0) (size : ℕ) (e : Failed) → IsForcing meaning old new parts.engine after (Err e) → GoesOn meaning old new now then (HasPassedFrame meaning old new now then size) Left (Err DiskFault)
+  force_fails_from Left size e it =
+      subst (λ (s : StandbyView). HasWholeFrame s s.done → GoesOn meaning old new s then (HasPassedFrame meaning old new s then size) Left (Err DiskFault)) same
+      (λ through. force_fails meaning old new parts after through stand (HasPassedFrame meaning old new parts then size) Left e it) through
+
+-- ---- the frame is passed
+
+module _ {O : Type 0} (meaning : Bounds → Meaning O) (d : Disk) (before : StandbyView) (frames : FrameBufferView) (size : ℕ) (whole : HasWholeFrame before size) (through : before.done ≡ size) (none : before.engine.parts.log.log.pending ≡ [])
+    (passes : (bytes payload later : List ℕ) (payloads : List (List ℕ)) → HasPassed bytes payloads before.frames → IsPayload payload → size ≡ length payload → before.frames.kept ≡ frame payload ++ later → HasPassed bytes (payloads ++ payload ∷ []) frames) where
+  abbrev pub passed_frame : StandbyView
+  passed_frame = record before { frames = frames; done = 0 }
+
+  pub frame_passed : (p : Params) (first : List (Member O)) (bytes : List ℕ) (f : IsFollowing meaning p first bytes d before) → (g : IsFollowing meaning p first bytes d passed_frame) × (g.world ≡ f.world)
+  frame_passed p first bytes f =
+      let m = meaning_in meaning p in
+      let is = whole_begun m before f.begun f.in_hand size whole through in
+      let all : records_of (f.groups ++ f.begun ∷ []) ≡ records_of f.groups ++ f.begun = records_more f.groups f.begun in
+      let every : records_of (f.groups ++ f.begun ∷ []) ++ [] ≡ records_of f.groups ++ f.begun = append-nil (records_of (f.groups ++ f.begun ∷ [])) ∙ all in
+      let members : f.world.history ≡ follows m first (records_of (f.groups ++ f.begun ∷ [])) = f.members ∙ ap (λ (rs : List (Record O)). follows m first rs) (sym all) in (
+        record {
+          payloads = f.payloads ++ payload_of m f.begun ∷ [];
+          groups = f.groups ++ f.begun ∷ [];
+          begun = [];
+          passed = passes bytes (payload_of m f.begun) is.0 f.payloads f.passed is.1 (sym through ∙ f.in_hand.count) is.2;
+          frames_are = frames_more m f.payloads f.groups f.begun f.frames_are f.in_hand.shipped;
+          in_hand = record { count = refl; within = inl refl; front = λ some. absurd (omega (arith, some)); shipped = tt };
+          world = f.world;
+          shows = f.shows;
+          fine = ap (λ (rs : List (Record O)). first_refused m first rs) every ∙ f.fine;
+          members = f.members ∙ ap (λ (rs : List (Record O)). follows m first rs) (sym every);
+          no_check = f.no_check;
+          forced = inl (all_stable meaning p first bytes d before f none ∙ ap (λ (h : List (Member O)). length h) members);
+        },
+        refl,
+      )
+
+-- the frame's end was reached, and it is passed
+pub passed_then : {O : Type 0} (meaning : Bounds → Meaning O) (old new : Disk) (before here : StandbyView) (frames : FrameBufferView) (size : ℕ) (whole : HasWholeFrame before size) (through : before.done ≡ size)
+    (Left : Meaning O → World O → Type 0) → GoesOn meaning old new before here (IsForcedIn before here) Left (Ok tt)
+    → frames ≡ record { passed = here.frames.passed + (4 + size); kept = drop (4 + size) here.frames.kept }
+    → ((bytes payload later : List ℕ) (payloads : List (List ℕ)) → HasPassed bytes payloads here.frames → IsPayload payload → size ≡ length payload → here.frames.kept ≡ frame payload ++ later → HasPassed bytes (payloads ++ payload ∷ []) frames)
+    → GoesOn meaning old new before (record here { frames = frames; done = 0 }) (HasPassedFrame meaning old new before (record here { frames = frames; done = 0 }) size) Left (Ok tt)
+passed_then {O} meaning old new before here frames size whole through Left it is passes =
+    let reached = it.done in
+    let whole_here : HasWholeFrame here size = subst (λ (b : FrameBufferView). BeginsWith b.kept (Ok (Some size))) (sym reached.0) whole in
+    let through_here : here.done ≡ size = reached.1 ∙ through in
+    let none = reached.2 in
+    let long : 4 + size ≤ length before.frames.kept = whole_long before size whole in
+    record {
+      time = it.time;
+      quiet = it.quiet;
+      params = it.params;
+      attached = it.attached;
+      broken = it.broken;
+      fault = it.fault;
+      stopped = it.stopped;
+      taken = ap taken_by is ∙ omega (arith, length-drop (4 + size) here.frames.kept, long, ap (λ (b : FrameBufferView). length b.kept) reached.0, ap (λ (b : FrameBufferView). b.passed) reached.0);
+      done = record {
+        passed = ap (λ (b : FrameBufferView). b.passed) is ∙ ap (λ (b : FrameBufferView). b.passed + (4 + size)) reached.0;
+        kept = ap (λ (b : FrameBufferView). b.kept) is ∙ ap (λ (b : FrameBufferView). drop (4 + size) b.kept) reached.0;
+        none_done = refl;
+        none_waits = none;
+      };
+      rising = it.rising;
+      follows_it = λ p first bytes f.
+          let g = it.follows_it p first bytes f in
+          let h = frame_passed meaning new here frames size whole_here through_here none passes p first bytes g.0 in
+          (h.0, subst (λ (v : World O). Left (meaning_in meaning p) v) (sym h.1) g.1);
+      images = it.images;
+      undamaged = it.undamaged;
+    }

@@ -1,0 +1,14 @@
+mod Judging
+mod InHand
+mod Ends
+mod Going
+mod Recorded
+mod Settled
+mod Ended
+mod Fed
+mod KeptUp
+mod Attached
+mod OneWay
+mod Primary
+mod Refusals
+mod Shipped

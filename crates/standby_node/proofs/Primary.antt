@@ -1,0 +1,154 @@
+-- The records of a history are followed by whoever has a first part of it.
+use Rattle.std.proofs.Common.{◌≡◌, ◌∙◌, sym, subst, ap, ℕ, zero, suc, ◌+◌, ◌-◌, ◌<◌, ◌≤◌, Bool, true, false, Option, Some, None, List, [], ◌∷◌, ◌++◌, length, take, drop, max, refl, arith, inl, inr, length-take}
+use Rattle.std.specs.Prelude.{◌==◌, nat_lt, slice_get, IfSome, IsTrue}
+use Rattle.std.proofs.lemmas.Bool.{cases_lt, cond-true, cond-false, eq-eqb, eqb-true, lt-ltb, le-ltb}
+use Rattle.oper_core.specs.Meaning.{Meaning}
+use Rattle.oper_core.specs.State.{State}
+use Rattle.formats.specs.Records.{AreRecords}
+use Rattle.formats.specs.declared.record.Record.{Record}
+use Rattle.formats.specs.declared.record.Record.TheVariants.{Command as Logged_command, Identity as Logged_identity, Check as Logged_check}
+use Rattle.explain_core.specs.GraphLaws.{slice_get-take}
+use Rattle.explain_core.specs.History.{IsHistory, IsMember, Member, made_by, value_at}
+use Rattle.explain_core.specs.History.Member.{Command, Identity}
+use Rattle.explain_core.specs.Stable.{IsStableOf, Stable}
+use Rattle.execution.specs.Judged.{Judged, first_refused, follows, is_refused, judge_behind, judge_member, may_follow, with_judged}
+use Rattle.execution.specs.Judged.Judged.{Passed, Taken, Gap, Differs}
+use Rattle.standing.specs.Members.{members_of}
+
+-- ---- a history is what is stable of a store that has installed none of it
+
+abbrev first_installed : ℕ → Bool
+first_installed n = n == 0
+
+abbrev pub parts_of : {O : Type 0} → List (Member O) → Stable O
+parts_of h = record { slots = λ x. record { id = 0; value = [] }; tables = []; base = 1; commands_before = 0; records = h }
+
+pub stable_parts : {O : Type 0} (m : Meaning O) (h : List (Member O)) → IsHistory m h → IsStableOf m (parts_of h) h first_installed
+stable_parts m h is = record {
+  base = omega arith;
+  reached = omega arith;
+  records = refl;
+  counted = refl;
+  members = is;
+  within = λ n installed. omega (arith, eqb-true n 0 installed);
+  below = λ n few. eq-eqb n 0 (omega (arith, few));
+  slots = record {
+    closed = λ o p x out installed later writes. absurd (omega (arith, eqb-true p 0 installed, later));
+    origin = λ x. inl (refl, refl);
+    last = λ x exposed n later installed. absurd (omega (arith, eqb-true n 0 installed, later));
+    right = λ x exposed. refl;
+  };
+  tables = tt;
+}
+
+-- ---- the members of a history, one after the other
+
+module _ {O : Type 0} where
+  -- one member more of a list, where there is one
+  record IsNext (h : List (Member O)) (k : ℕ) (member : Member O) : Type 0 where
+    pub below : k < length h
+    pub there : slice_get h k ≡ Some member
+    pub more : take (suc k) h ≡ take k h ++ member ∷ []
+
+  next_of : (h : List (Member O)) (k : ℕ) (member : Member O) (rest : List (Member O)) → member ∷ rest ≡ drop k h → IsNext h k member
+  next_of [] zero member rest is = cc
+  next_of (x ∷ h) zero member rest is = let same : member ≡ x = cc in record { below = omega arith; there = ap (λ (t : Member O). Some t) (sym same); more = ap (λ (t : Member O). t ∷ []) (sym same) }
+  next_of [] (suc k) member rest is = cc
+  next_of (x ∷ h) (suc k) member rest is =
+      let it = next_of h k member rest is in
+      record { below = omega (arith, it.below); there = it.there; more = ap (λ (l : List (Member O)). x ∷ l) it.more }
+
+  -- the rest of a list begins with them
+  rest_is : (h : List (Member O)) (j n : ℕ) (member : Member O) (rest : List (Member O)) → member ∷ rest ≡ take (suc n) (drop j h) → (member ∷ drop (suc j) h ≡ drop j h) × (rest ≡ take n (drop (suc j) h))
+  rest_is [] zero n member rest is = cc
+  rest_is (x ∷ h) zero n member rest is = let same : member ≡ x = cc in (ap (λ (t : Member O). t ∷ h) same, cc)
+  rest_is [] (suc j) n member rest is = cc
+  rest_is (x ∷ h) (suc j) n member rest is = rest_is h j n member rest is
+
+module _ {O : Type 0} (m : Meaning O) (h : List (Member O)) where
+  -- the values after first members are those of the whole
+  value_of_front : (k n : ℕ) → n ≤ k → (x : ℕ) → value_at m (take k h) n x ≡ value_at m h n x
+  value_of_front k zero few x = refl
+  value_of_front k (suc n) few x =
+      let before : (λ y. value_at m (take k h) n y) ≡ (λ y. value_at m h n y) = λ i y. value_of_front k n (omega (arith, few)) y i in
+      (λ i. made_by m (slice_get-take h k n (omega (arith, few)) i) (before i) x)
+
+  module _ (is : IsHistory m h) (may : (s : State) (member : Member O) → IsMember m s member → IsTrue (may_follow m s member)) where
+    -- what is made of a member of it behind first members
+    taken_next : (k : ℕ) (member : Member O) → IsNext h k member → judge_member m (λ x. value_at m (take k h) (length (take k h)) x) (length (take k h) + 1) (k + 1) member ≡ Taken member
+    taken_next k member next =
+        let count : length (take k h) ≡ k = omega (arith, length-take k h, next.below) in
+        let s : State = λ x. value_at m (take k h) (length (take k h)) x in
+        let after : State = λ x. value_at m h k x in
+        let values : s ≡ after = λ i x. (ap (λ (n : ℕ). value_at m (take k h) n x) count ∙ value_of_front k k (omega arith) x) i in
+        let member_is : IsMember m after member = subst (λ (o : Option (Member O)). IfSome o (λ (t : Member O). IsMember m after t)) next.there (is k) in
+        let allowed : may_follow m s member ≡ true = subst (λ (v : State). may_follow m v member ≡ true) (sym values) (may after member member_is) in
+        let end = length (take k h) + 1 in
+        cond-false (nat_lt (k + 1) end) Passed _ (le-ltb (k + 1) end (omega (arith, count))) ∙ cond-false (nat_lt end (k + 1)) (Gap end (k + 1)) _ (le-ltb end (k + 1) (omega (arith, count)))
+        ∙ cond-true (may_follow m s member) (Taken member) (Differs (k + 1)) allowed
+
+    passed_before : (k number : ℕ) (member : Member O) → number ≤ k → k ≤ length h → judge_member m (λ x. value_at m (take k h) (length (take k h)) x) (length (take k h) + 1) number member ≡ Passed
+    passed_before k number member old within = cond-true (nat_lt number (length (take k h) + 1)) Passed _ (lt-ltb number (length (take k h) + 1) (omega (arith, old, within, length-take k h)))
+
+    -- ---- all records
+
+    -- what records make of the first k members: they are refused nowhere, and lead to this many
+    pub record LeadTo (k n : ℕ) (records : List (Record O)) : Type 0 where
+      pub fine : first_refused m (take k h) records ≡ None
+      pub followed : follows m (take k h) records ≡ take n h
+
+    -- a record that is judged so in front
+    in_front : (k later n : ℕ) (r : Record O) (records : List (Record O)) (j : Judged O) → judge_behind m (take k h) r ≡ j → is_refused j ≡ false → with_judged (take k h) j ≡ take later h → LeadTo later n records → LeadTo k n (r ∷ records)
+    in_front k later n r records j is fine leads it =
+        let not : is_refused (judge_behind m (take k h) r) ≡ false = ap is_refused is ∙ fine in
+        let next : with_judged (take k h) (judge_behind m (take k h) r) ≡ take later h = ap (λ (t : Judged O). with_judged (take k h) t) is ∙ leads in
+        record {
+          fine = cond-false (is_refused (judge_behind m (take k h) r)) _ _ not ∙ ap (λ (l : List (Member O)). first_refused m l records) next ∙ it.fine;
+          followed = cond-false (is_refused (judge_behind m (take k h) r)) _ _ not ∙ ap (λ (l : List (Member O)). follows m l records) next ∙ it.followed;
+        }
+
+    -- a member's record, with its number
+    one_in_front : (k j : ℕ) (member : Member O) (r : Record O) (records : List (Record O)) → judge_behind m (take k h) r ≡ judge_member m (λ x. value_at m (take k h) (length (take k h)) x) (length (take k h) + 1) j member → k ≤ length h → 1 ≤ j → j ≤ k + 1
+        → member ∷ members_of records ≡ take (suc (length (members_of records))) (drop (j - 1) h)
+        → ((later : ℕ) → later ≤ length h → j ≤ later → LeadTo later (max later (j + length (members_of records))) records) → LeadTo k (max k (j - 1 + suc (length (members_of records)))) (r ∷ records)
+    one_in_front k j member r records is within low high members leads =
+        let n = length (members_of records) in
+        let split = rest_is h (j - 1) n member (members_of records) members in
+        elim (cases_lt k j) [
+          | inl next ↦
+              let at : j ≡ k + 1 = omega (arith, next, high) in
+              let before : j - 1 ≡ k = omega (arith, at) in
+              let here = next_of h k member (drop (suc (j - 1)) h) (split.0 ∙ ap (λ (i : ℕ). drop i h) before) in
+              let one : suc k ≡ k + 1 = omega arith in
+              let judged : judge_behind m (take k h) r ≡ Taken member = is ∙ ap (λ (i : ℕ). judge_member m (λ x. value_at m (take k h) (length (take k h)) x) (length (take k h) + 1) i member) at ∙ taken_next k member here in
+              let total : max (k + 1) (j + n) ≡ max k (j - 1 + suc n) = omega (arith, at, low) in
+              subst (λ (t : ℕ). LeadTo k t (r ∷ records)) total (in_front k (k + 1) (max (k + 1) (j + n)) r records (Taken member) judged refl (sym here.more ∙ ap (λ (i : ℕ). take i h) one) (leads (k + 1) (omega (arith, here.below)) (omega (arith, at))))
+          | inr old ↦
+              let judged : judge_behind m (take k h) r ≡ Passed = is ∙ passed_before k j member old within in
+              let total : max k (j + n) ≡ max k (j - 1 + suc n) = omega (arith, low) in
+              subst (λ (t : ℕ). LeadTo k t (r ∷ records)) total (in_front k k (max k (j + n)) r records Passed judged refl refl (leads k within old))
+        ]
+
+    pub all_lead : (narrow : Meaning O) (from k j : ℕ) (records : List (Record O)) → AreRecords narrow from j records → k ≤ length h → 1 ≤ j → j ≤ k + 1 → members_of records ≡ take (length (members_of records)) (drop (j - 1) h) → LeadTo k (max k (j - 1 + length (members_of records))) records
+    all_lead narrow from k j [] are within low high members = let total : k ≡ max k (j - 1 + 0) = omega (arith, high) in record { fine = refl; followed = ap (λ (n : ℕ). take n h) total }
+    all_lead narrow from k j (Logged_check table ∷ records) are within low high members = in_front k k (max k (j - 1 + length (members_of records))) (Logged_check table) records Passed refl refl refl (all_lead narrow from k j records are.2 within low high members)
+    all_lead narrow from k j (Logged_command number op ∷ records) are within low high members =
+        let at : number ≡ j = are.1.0 in
+        let so = ap (λ (i : ℕ). judge_member m (λ x. value_at m (take k h) (length (take k h)) x) (length (take k h) + 1) i (Command op)) at in
+        let split = rest_is h (j - 1) (length (members_of records)) (Command op) (members_of records) members in
+        let n = length (members_of records) in
+        let after : suc (j - 1) ≡ j + 1 - 1 = omega (arith, low) in
+        let behind = split.1 ∙ ap (λ (i : ℕ). take n (drop i h)) after in
+        let total : (later : ℕ) → max later (j + 1 - 1 + n) ≡ max later (j + n) = λ later. omega arith in
+        one_in_front k j (Command op) (Logged_command number op) records so within low high members (λ later few old.
+        subst (λ (t : ℕ). LeadTo later t records) (total later) (all_lead narrow from later (j + 1) records are.2 few (omega arith) (omega (arith, old)) behind))
+    all_lead narrow from k j (Logged_identity number x value ∷ records) are within low high members =
+        let at : number ≡ j = are.1.0 in
+        let so = ap (λ (i : ℕ). judge_member m (λ x. value_at m (take k h) (length (take k h)) x) (length (take k h) + 1) i (Identity x value)) at in
+        let split = rest_is h (j - 1) (length (members_of records)) (Identity x value) (members_of records) members in
+        let n = length (members_of records) in
+        let after : suc (j - 1) ≡ j + 1 - 1 = omega (arith, low) in
+        let behind = split.1 ∙ ap (λ (i : ℕ). take n (drop i h)) after in
+        let total : (later : ℕ) → max later (j + 1 - 1 + n) ≡ max later (j + n) = λ later. omega arith in
+        one_in_front k j (Identity x value) (Logged_identity number x value) records so within low high members (λ later few old.
+        subst (λ (t : ℕ). LeadTo later t records) (total later) (all_lead narrow from later (j + 1) records are.2 few (omega arith) (omega (arith, old)) behind))

@@ -1,0 +1,198 @@
+-- A stream without fault is not refused.
+use Rattle.std.proofs.Common.{◌≡◌, ◌∙◌, sym, subst, ap, ℕ, ◌<◌, ◌+◌, List, [], ◌∷◌, ◌++◌, length, refl, arith, true, ⊎_elim, append_assoc, length-append, length-drop, None, Some}
+use Rattle.std.specs.List.{AllByRecursion}
+use Rattle.std.proofs.lemmas.Bool.{cond-true}
+use Rattle.std.proofs.lemmas.List.{append_cancel_left}
+use Rattle.byteorder.specs.Endian.{little_number}
+use Rattle.disk_model.specs.Disk.{Disk}
+use Rattle.oper_core.specs.Meaning.{Meaning}
+use Rattle.oper_core.specs.declared.bounds.Bounds.{Bounds}
+use Rattle.formats.specs.Log.{IsPayload}
+use Rattle.formats.specs.Records.{payload_of, record_code, records_of}
+use Rattle.formats.specs.declared.params.Params.{Params}
+use Rattle.formats.specs.declared.record.Record.{Record}
+use Rattle.frame_stream.specs.Frames.{HasBadLength, IsFrameLength, IsUnfinished, Splits, frame, frames}
+use Rattle.frame_stream.specs.Laws.{frame_cancel, length_stands}
+use Rattle.log_records.specs.Codec.{StartsWithRecord}
+use Rattle.explain_core.specs.History.{Member}
+use Rattle.execution.specs.Judged.{Judged, first_refused, follows, is_refused, judge_behind, with_judged}
+use Rattle.execution.specs.Judged.Judged.{Gap as Leaves_gap, Differs as Is_different}
+use Rattle.store_engine.specs.Store.{meaning_in}
+use Rattle.standby_node.specs.Feeding.{BeginsNoRecord, ComeNext, HasRefused, IsJudgedNext, IsOfStream}
+use Rattle.standby_node.specs.Standby.{AreFramesOf, IsFollowing, IsFrameOf, MayBeShipped, StandbyView}
+use Rattle.standby_node.specs.declared.follow_err.FollowErr.{FollowErr}
+use Rattle.standby_node.specs.declared.follow_err.FollowErr.TheVariants.{BadFrame, Gap, Differs, LogFull, DiskFault, Damaged, Memory, Stopped}
+use Rattle.standby_node.proofs.InHand.{no_code, payload_is}
+use Rattle.standby_node.proofs.Judging.{refused_append, refused_front}
+use Rattle.standby_node.proofs.OneWay.{one_grouping}
+
+-- ---- frames, and first ones of them
+
+-- the frames behind the first ones, and what was kept of them
+record IsBehind (ps qs : List (List ℕ)) (x y : List ℕ) : Type 0 where
+  pub more : List (List ℕ)
+  pub are : ps ≡ qs ++ more
+  pub kept : y ≡ frames more ++ x
+
+behind : (ps qs : List (List ℕ)) (x y : List ℕ) → AllByRecursion IsPayload ps → AllByRecursion IsPayload qs → IsUnfinished x → frames ps ++ x ≡ frames qs ++ y → IsBehind ps qs x y
+behind ps [] x y all_p all_q none same = record { more = ps; are = refl; kept = sym same }
+behind [] (q ∷ qs) x y all_p all_q none same = absurd (none q (frames qs ++ y) all_q.0 (same ∙ append_assoc (frame q) (frames qs) y))
+behind (p ∷ ps) (q ∷ qs) x y all_p all_q none same =
+    let first = frame_cancel p q (frames ps ++ x) (frames qs ++ y) all_p.0 all_q.0 (sym (append_assoc (frame p) (frames ps) x) ∙ same ∙ append_assoc (frame q) (frames qs) y) in
+    let rest = behind ps qs x y all_p.1 all_q.1 none first.1 in
+    record { more = rest.more; are = λ i. first.0 i ∷ rest.are i; kept = rest.kept }
+
+all_behind : (ps qs : List (List ℕ)) → AllByRecursion IsPayload (ps ++ qs) → AllByRecursion IsPayload qs
+all_behind [] qs all = all
+all_behind (p ∷ ps) qs all = all_behind ps qs all.1
+
+-- frames have no bad length in front
+right_length : (p rest kept : List ℕ) → IsPayload p → kept ≡ frame p ++ rest → HasBadLength kept → ⊥
+right_length p rest kept is stands bad =
+    let long : little_number 4 kept ≡ length p = ap (λ (l : List ℕ). little_number 4 l) stands ∙ length_stands p rest is in
+    bad.1 (subst IsFrameLength (sym long) (is.some, is.short))
+
+module _ {O : Type 0} (m : Meaning O) (one_record : (bytes : List ℕ) (first second : Record O) → StartsWithRecord m bytes first → StartsWithRecord m bytes second → first ≡ second) where
+  -- the groups of the first payloads, that of the next one, and those behind it
+  record HasGroup (qs : List (List ℕ)) (p : List ℕ) (gs : List (List (Record O))) : Type 0 where
+    pub front : List (List (Record O))
+    pub group : List (Record O)
+    pub later : List (List (Record O))
+    pub are : gs ≡ front ++ group ∷ later
+    pub of_front : AreFramesOf m qs front
+    pub of_group : IsFrameOf m p group
+
+  group_of : (qs : List (List ℕ)) (p : List ℕ) (ps : List (List ℕ)) (gs : List (List (Record O))) → AreFramesOf m (qs ++ p ∷ ps) gs → HasGroup qs p gs
+  group_of [] p ps [] are = absurd are
+  group_of [] p ps (g ∷ gs) are = record { front = []; group = g; later = gs; are = refl; of_front = tt; of_group = are.0 }
+  group_of (q ∷ qs) p ps [] are = absurd are
+  group_of (q ∷ qs) p ps (g ∷ gs) are =
+      let rest = group_of qs p ps gs are.1 in
+      record { front = g ∷ rest.front; group = rest.group; later = rest.later; are = ap (λ (l : List (List (Record O))). g ∷ l) rest.are; of_front = (are.0, rest.of_front); of_group = rest.of_group }
+
+  -- the record of a group behind its first ones, where bytes are left
+  record HasNext (begun group : List (Record O)) (rest : List ℕ) : Type 0 where
+    pub next : Record O
+    pub later : List (Record O)
+    pub are : group ≡ begun ++ next ∷ later
+    pub shipped : MayBeShipped m next
+    pub starts : StartsWithRecord m rest next
+
+  next_of : (begun group : List (Record O)) (rest : List ℕ) → AllByRecursion (MayBeShipped m) begun → AllByRecursion (MayBeShipped m) group → payload_of m group ≡ payload_of m begun ++ rest → 0 < length rest → HasNext begun group rest
+  next_of [] [] rest all_b all_g same some = absurd (omega (arith, some, ap (λ (l : List ℕ). length l) same))
+  next_of [] (r ∷ group) rest all_b all_g same some = record { next = r; later = group; are = refl; shipped = all_g.0; starts = record { rest = payload_of m group; split = sym same; in_grammar = all_g.0.0 } }
+  next_of (b ∷ begun) [] rest all_b all_g same some = absurd (no_code m b begun (no_front (payload_of m (b ∷ begun)) rest (sym same)))
+    where
+      no_front : (xs ys : List ℕ) → xs ++ ys ≡ [] → xs ≡ []
+      no_front [] ys is = refl
+      no_front (x ∷ xs) ys is = cc
+  next_of (b ∷ begun) (r ∷ group) rest all_b all_g same some =
+      let split = same ∙ append_assoc (record_code m b) (payload_of m begun) rest in
+      let head = one_record (payload_of m (r ∷ group)) r b (record { rest = payload_of m group; split = refl; in_grammar = all_g.0.0 }) (record { rest = payload_of m begun ++ rest; split = split; in_grammar = all_b.0.0 }) in
+      let tail = append_cancel_left (record_code m r) (payload_of m group) (payload_of m begun ++ rest) (split ∙ ap (λ (t : Record O). record_code m t ++ (payload_of m begun ++ rest)) (sym head)) in
+      let it = next_of begun group rest all_b.1 all_g.1 tail some in
+      record { next = it.next; later = it.later; are = λ i. head i ∷ it.are i; shipped = it.shipped; starts = it.starts }
+
+  -- a record that is refused is not among records of which none is
+  not_refused : (first : List (Member O)) (before : List (Record O)) (r : Record O) (later : List (Record O)) (j : Judged O) → first_refused m first (before ++ r ∷ later) ≡ None → judge_behind m (follows m first before) r ≡ j → is_refused j ≡ true → ⊥
+  not_refused first before r later j fine is refused =
+      let front = refused_front m first before (r ∷ later) fine in
+      let h = follows m first before in
+      let told : is_refused (judge_behind m h r) ≡ true = ap is_refused is ∙ refused in
+      let some : first_refused m h (r ∷ later) ≡ Some (judge_behind m h r) = cond-true (is_refused (judge_behind m h r)) (Some (judge_behind m h r)) (first_refused m (with_judged h (judge_behind m h r)) later) told in
+      none_is_some (judge_behind m h r) (sym some ∙ sym (refused_append m first before (r ∷ later) front) ∙ fine)
+    where
+      none_is_some : (j : Judged O) → Some j ≡ None → ⊥
+      none_is_some j same = cc
+
+-- records of groups, told apart at one of them
+joined : {O : Type 0} (front : List (List (Record O))) (group : List (Record O)) (later : List (List (Record O))) → records_of (front ++ group ∷ later) ≡ records_of front ++ (group ++ records_of later)
+joined [] group later = refl
+joined {O} (g ∷ front) group later = ap (λ (l : List (Record O)). g ++ l) (joined front group later) ∙ sym (append_assoc g (records_of front) (group ++ records_of later))
+
+regroup : {O : Type 0} (xs begun : List (Record O)) (r : Record O) (later last : List (Record O)) → xs ++ ((begun ++ r ∷ later) ++ last) ≡ (xs ++ begun) ++ r ∷ (later ++ last)
+regroup {O} xs begun r later last = ap (λ (l : List (Record O)). xs ++ l) (append_assoc begun (r ∷ later) last) ∙ sym (append_assoc xs begun (r ∷ (later ++ last)))
+
+-- a bad length stays one where more comes
+bad_more : (kept more : List ℕ) → HasBadLength kept → HasBadLength (kept ++ more)
+bad_more [] more bad = absurd (omega (arith, bad.0))
+bad_more (a ∷ []) more bad = absurd (omega (arith, bad.0))
+bad_more (a ∷ b ∷ []) more bad = absurd (omega (arith, bad.0))
+bad_more (a ∷ b ∷ c ∷ []) more bad = absurd (omega (arith, bad.0))
+bad_more (a ∷ b ∷ c ∷ d ∷ kept) more bad = (omega (arith, length-append kept more), bad.1)
+
+module _ {O : Type 0} (meaning : Bounds → Meaning O) (p : Params) (first : List (Member O)) (bytes more : List ℕ) (payloads : List (List ℕ)) (groups : List (List (Record O))) (rest : List ℕ) (splits : Splits (bytes ++ more) payloads rest) (right : HasBadLength rest → ⊥)
+    (frames_are : AreFramesOf (meaning_in meaning p) payloads groups) (fine : first_refused (meaning_in meaning p) first (records_of groups) ≡ None) (then : Disk) (other : StandbyView) (b : IsFollowing meaning p first bytes then other)
+    (one_record : (bytes : List ℕ) (first second : Record O) → StartsWithRecord (meaning_in meaning p) bytes first → StartsWithRecord (meaning_in meaning p) bytes second → first ≡ second) where
+  abbrev m : Meaning O
+  m = meaning_in meaning p
+
+  abbrev all_kept : List ℕ
+  all_kept = other.frames.kept ++ more
+
+  rest_of : IsBehind payloads b.payloads rest all_kept
+  rest_of =
+      let split : bytes ++ more ≡ frames b.payloads ++ all_kept = ap (λ (l : List ℕ). l ++ more) b.passed.is ∙ append_assoc (frames b.payloads) other.frames.kept more in
+      behind payloads b.payloads rest all_kept splits.whole b.passed.whole splits.unfinished (sym splits.is ∙ split)
+
+  -- no length is bad
+  no_bad_length : HasBadLength other.frames.kept → ⊥
+  no_bad_length bad = by_more rest_of.more rest_of.are rest_of.kept
+    where
+      by_more : (others : List (List ℕ)) → payloads ≡ b.payloads ++ others → all_kept ≡ frames others ++ rest → ⊥
+      by_more [] are kept = right (subst HasBadLength kept (bad_more other.frames.kept more bad))
+      by_more (q ∷ others) are kept =
+          let all = all_behind b.payloads (q ∷ others) (subst (λ (l : List (List ℕ)). AllByRecursion IsPayload l) are splits.whole) in
+          right_length q (frames others ++ rest) all_kept all.0 (kept ∙ append_assoc (frame q) (frames others) rest) (bad_more other.frames.kept more bad)
+
+  -- the next record of the frame in hand is one of the stream's
+  record IsFollowedNext (left : List ℕ) : Type 0 where
+    pub next : Record O
+    pub later : List (Record O)
+    pub shipped : MayBeShipped m next
+    pub starts : StartsWithRecord m left next
+    pub fine_with : first_refused m first ((records_of b.groups ++ b.begun) ++ next ∷ later) ≡ None
+
+  followed_next : (left : List ℕ) → ComeNext other left → IsFollowedNext left
+  followed_next left come = by_more rest_of.more rest_of.are rest_of.kept
+    where
+      by_more : (others : List (List ℕ)) → payloads ≡ b.payloads ++ others → all_kept ≡ frames others ++ rest → IsFollowedNext left
+      by_more [] are kept =
+          let stands : all_kept ≡ frame come.payload ++ (come.later ++ more) = ap (λ (l : List ℕ). l ++ more) come.stands ∙ append_assoc (frame come.payload) come.later more in
+          absurd (splits.unfinished come.payload (come.later ++ more) come.is_payload (sym kept ∙ stands))
+      by_more (q ∷ others) are kept =
+          let stands : all_kept ≡ frame come.payload ++ (come.later ++ more) = ap (λ (l : List ℕ). l ++ more) come.stands ∙ append_assoc (frame come.payload) come.later more in
+          let all = all_behind b.payloads (q ∷ others) (subst (λ (l : List (List ℕ)). AllByRecursion IsPayload l) are splits.whole) in
+          let same : q ≡ come.payload = (frame_cancel q come.payload (frames others ++ rest) (come.later ++ more) all.0 come.is_payload (sym (append_assoc (frame q) (frames others) rest) ∙ sym kept ∙ stands)).0 in
+          let of = group_of m one_record b.payloads q others groups (subst (λ (l : List (List ℕ)). AreFramesOf m l groups) are frames_are) in
+          let fronts : of.front ≡ b.groups = one_grouping m one_record b.payloads of.front b.groups of.of_front b.frames_are in
+          let whole = payload_is m other b.begun b.in_hand (length come.payload) (come.payload, come.later, come.is_payload, refl, come.stands) in
+          let codes : payload_of m of.group ≡ payload_of m b.begun ++ left = sym of.of_group.is ∙ same ∙ whole ∙ ap (λ (l : List ℕ). payload_of m b.begun ++ l) (sym come.rest_is) in
+          let some : 0 < length left = omega (arith, come.left, ap (λ (l : List ℕ). length l) come.rest_is, length-drop other.done come.payload) in
+          let it = next_of m one_record b.begun of.group left b.in_hand.shipped of.of_group.shipped codes some in
+          let records : records_of groups ≡ (records_of b.groups ++ b.begun) ++ it.next ∷ (it.later ++ records_of of.later) =
+          ap (λ (gs : List (List (Record O))). records_of gs) of.are ∙ joined of.front of.group of.later ∙ (λ i. records_of (fronts i) ++ (it.are i ++ records_of of.later)) ∙ regroup (records_of b.groups) b.begun it.next it.later (records_of of.later) in
+          record { next = it.next; later = it.later ++ records_of of.later; shipped = it.shipped; starts = it.starts; fine_with = ap (λ (rs : List (Record O)). first_refused m first rs) (sym records) ∙ fine }
+
+  -- so it is not refused
+  no_judged : (j : Judged O) → is_refused j ≡ true → IsJudgedNext m b.world.history other j → ⊥
+  no_judged j refused is =
+      let it = followed_next is.rest is.next in
+      let same : is.logged ≡ it.next = one_record is.rest is.logged it.next is.starts it.starts in
+      let judged : judge_behind m (follows m first (records_of b.groups ++ b.begun)) it.next ≡ j = (λ i. judge_behind m (sym b.members i) (sym same i)) ∙ is.judged_so in
+      not_refused m one_record first (records_of b.groups ++ b.begun) it.next it.later j it.fine_with judged refused
+
+  no_fault : (left : List ℕ) → ComeNext other left → BeginsNoRecord m left → ⊥
+  no_fault left come none = let it = followed_next left come in none it.next it.starts it.shipped.1
+
+  -- no answer of a stream is one that it gets
+  pub not_answered : (e : FollowErr) → HasRefused m b.world.history other e → IsOfStream e → ⊥
+  not_answered (BadFrame place) refused stream = ⊎_elim (λ (bad : HasBadLength other.frames.kept × (place ≡ other.frames.passed)). no_bad_length bad.0)
+      (λ (none : (left : List ℕ) × ComeNext other left × BeginsNoRecord m left × (place ≡ other.frames.passed + (4 + other.done))). no_fault none.0 none.1 none.2) refused
+  not_answered (Gap expected got) refused stream = no_judged (Leaves_gap expected got) refl refused
+  not_answered (Differs lsn) refused stream = no_judged (Is_different lsn) refl refused
+  not_answered (LogFull used need limit) refused stream = absurd stream
+  not_answered DiskFault refused stream = absurd stream
+  not_answered (Damaged file place) refused stream = absurd stream
+  not_answered Memory refused stream = absurd stream
+  not_answered (Stopped place) refused stream = absurd stream

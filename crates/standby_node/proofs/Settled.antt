@@ -1,0 +1,164 @@
+-- Worlds of which all members are stable and no check waits, and the calls that leave such ones.
+use Rattle.std.proofs.Common.{◌≡◌, sym, subst, ap, ℕ, zero, suc, ◌≤◌, Bool, false, ◌+◌, List, [], ◌∷◌, ◌++◌, length, take, refl, arith, length-take}
+use Rattle.std.specs.Prelude.{⊤, ◌^◌, nat_lt, nat_le, if◌then◌else◌}
+use Rattle.std.proofs.lemmas.Bool.{cond_both, ltb-false, or_parts}
+use Rattle.oper_core.specs.Meaning.{Meaning}
+use Rattle.formats.specs.Limits.{log_limit, numbers_end}
+use Rattle.install_order.specs.Computed.{least_below, some_below}
+use Rattle.explain_core.specs.History.{Member}
+use Rattle.explain_core.specs.RunLaws.{Begins, run-append}
+use Rattle.explain_core.specs.Turns.{has_thin, has_work, must_install, thin_name, thin_steps, turn, turns}
+use Rattle.explain_core.specs.World.{Starts, Step, World, node_named, run, step}
+use Rattle.explain_core.specs.World.Step.{Begin, End, Append, Block_gate, Check, Slot_gate, Removal, Header_gate, Replay, Crash}
+use Rattle.running_store.specs.Courses.{Course, buffered, course, force_steps, grown, is_through, room_steps, waits}
+use Rattle.running_store.specs.Courses.Stop.{Full, Through, Worn}
+use Rattle.running_store.specs.Rewrites.{check_length, new_base, rewrite_course, trimmed, trimmed_file}
+use Rattle.checkpointing.specs.Courses.{check_course, check_steps, checkpoint_course, logged_course, trim_course}
+use Rattle.redo_pass.specs.Redo.{redo_steps}
+use Rattle.restart.specs.Courses.{redo_course, restart_course}
+use Rattle.store_engine.specs.Following.{thin_course}
+
+-- the world has these members, all of them stable, and no check waits
+pub record IsSettledAt {O : Type 0} (h : List (Member O)) (w : World O) : Type 0 where
+  pub history : w.history ≡ h
+  pub forced : w.forced ≡ length h
+  pub none : w.pending ≡ []
+
+-- a step that leaves it so
+abbrev pub IsCalm : {O : Type 0} → Step O → Type 0
+IsCalm Begin = ⊥
+IsCalm End = ⊥
+IsCalm (Append member) = ⊥
+IsCalm Block_gate = ⊤
+IsCalm Check = ⊥
+IsCalm (Slot_gate node x) = ⊤
+IsCalm (Removal node) = ⊤
+IsCalm (Header_gate base) = ⊤
+IsCalm Replay = ⊤
+IsCalm Crash = ⊥
+
+abbrev pub AreCalm : {O : Type 0} → List (Step O) → Type 0
+AreCalm [] = ⊤
+AreCalm (s ∷ steps) = IsCalm s × AreCalm steps
+
+module _ {O : Type 0} where
+  calm_append : (xs ys : List (Step O)) → AreCalm xs → AreCalm ys → AreCalm (xs ++ ys)
+  calm_append [] ys one two = two
+  calm_append (x ∷ xs) ys one two = (one.0, calm_append xs ys one.1 two)
+
+  calm_part : (xs ys : List (Step O)) → AreCalm (xs ++ ys) → AreCalm xs
+  calm_part [] ys are = tt
+  calm_part (x ∷ xs) ys are = (are.0, calm_part xs ys are.1)
+
+  pub calm_front : (steps taken : List (Step O)) → Begins steps taken → AreCalm steps → AreCalm taken
+  calm_front steps taken begins are = calm_part taken begins.rest (subst (λ (l : List (Step O)). AreCalm l) begins.split are)
+
+module _ {O : Type 0} (m : Meaning O) where
+  step_settled : (h : List (Member O)) (w : World O) (s : Step O) → IsCalm s → IsSettledAt h w → IsSettledAt h (step m w s)
+  unfolding step
+  step_settled h w Begin calm is = absurd calm
+  step_settled h w End calm is = absurd calm
+  step_settled h w (Append member) calm is = absurd calm
+  step_settled h w Block_gate calm is = record { history = is.history; forced = ap (λ (l : List (Member O)). length l) is.history; none = refl }
+  step_settled h w Check calm is = absurd calm
+  step_settled h w (Slot_gate node x) calm is = record { history = is.history; forced = is.forced; none = is.none }
+  step_settled h w (Removal node) calm is = record { history = is.history; forced = is.forced; none = is.none }
+  step_settled h w (Header_gate base) calm is = record { history = is.history; forced = is.forced; none = refl }
+  step_settled h w Replay calm is = record { history = is.history; forced = is.forced; none = is.none }
+  step_settled h w Crash calm is = absurd calm
+
+  pub run_settled : (h : List (Member O)) (w : World O) (steps : List (Step O)) → AreCalm steps → IsSettledAt h w → IsSettledAt h (run m w steps)
+  unfolding run
+  run_settled h w [] are is = is
+  run_settled h w (s ∷ steps) are is = run_settled h (step m w s) steps are.1 (step_settled h w s are.0 is)
+
+  -- ---- a thin node, and a force
+
+  thin_calm : (w : World O) → AreCalm (thin_steps m w)
+  thin_calm w =
+      let node = node_named m w (thin_name m w) in
+      let some : Bool = some_below m.objects (has_work m w node) in
+      cond_both some (Slot_gate node (least_below m.objects (has_work m w node)) ∷ Removal node ∷ []) (Removal node ∷ []) (λ (l : List (Step O)). AreCalm l) (λ is. (tt, (tt, tt))) (λ is. (tt, tt))
+
+  pub thin_course_calm : (w : World O) (used : ℕ) → AreCalm (thin_course m w used).steps
+  thin_course_calm w used = cond_both (has_thin m w) (thin_steps m w) [] (λ (l : List (Step O)). AreCalm l) (λ is. thin_calm w) (λ is. tt)
+
+  pub force_calm : (w : World O) → AreCalm (force_steps m w)
+  force_calm w = cond_both (waits m w) (Block_gate ∷ []) [] (λ (l : List (Step O)). AreCalm l) (λ is. (tt, tt)) (λ is. tt)
+
+  no_tables : (l : List Starts) → nat_lt 0 (length l) ≡ false → l ≡ []
+  no_tables [] is = refl
+  no_tables (t ∷ l) is = absurd (omega (arith, ltb-false _ _ is))
+
+  -- after it all is stable
+  pub force_settled : (w : World O) → w.forced ≤ length w.history → IsSettledAt w.history (run m w (force_steps m w))
+  unfolding run step
+  force_settled w within =
+      cond_both (waits m w) (Block_gate ∷ []) [] (λ (l : List (Step O)). IsSettledAt w.history (run m w l)) (λ some. record { history = refl; forced = refl; none = refl }) (λ none.
+      let parts = or_parts (nat_lt w.forced (length w.history)) (nat_lt 0 (length w.pending)) none in
+      record { history = refl; forced = omega (arith, within, ltb-false _ _ parts.0); none = no_tables w.pending parts.1 })
+
+  -- ---- a check
+
+  room_calm : (w : World O) (n : ℕ) → AreCalm (room_steps m w n)
+  room_calm w n = cond_both (nat_lt (2 ^ 30) (buffered m w + n)) (force_steps m w) [] (λ (l : List (Step O)). AreCalm l) (λ is. force_calm w) (λ is. tt)
+
+  logged_settled : (h : List (Member O)) (w : World O) (used : ℕ) → IsSettledAt h w → IsSettledAt h (run m w (logged_course m w used).steps)
+  unfolding run step
+  logged_settled h w used is =
+      let n = check_length m w in
+      cond_both (nat_lt log_limit (grown m w used n)) (course [] used (Full used (n + 5) log_limit)) (course check_steps (grown m w used n) Through) (λ (c : Course O). IsSettledAt h (run m w c.steps)) (λ full. is)
+      (λ room. record { history = is.history; forced = ap (λ (l : List (Member O)). length l) is.history; none = refl })
+
+  pub check_settled : (h : List (Member O)) (w : World O) (used : ℕ) → IsSettledAt h w → IsSettledAt h (run m w (check_course m w used).steps)
+  check_settled h w used is =
+      let room : List (Step O) = room_steps m w (check_length m w) in
+      let v : World O = run m w room in
+      subst (λ (u : World O). IsSettledAt h u) (sym (run-append m w room (logged_course m v used).steps)) (logged_settled h v used (run_settled h w room (room_calm w (check_length m w)) is))
+
+  pub checkpoint_settled : (h : List (Member O)) (w : World O) (used : ℕ) → IsSettledAt h w → IsSettledAt h (run m w (checkpoint_course m w used).steps)
+  checkpoint_settled h w used is =
+      let c : Course O = check_course m w used in
+      let v : World O = run m w c.steps in
+      let checked = check_settled h w used is in
+      cond_both (is_through c.stop) c (course (c.steps ++ force_steps m v) c.used c.stop) (λ (k : Course O). IsSettledAt h (run m w k.steps)) (λ through. checked)
+      (λ stopped. subst (λ (u : World O). IsSettledAt h u) (sym (run-append m w c.steps (force_steps m v))) (run_settled h v (force_steps m v) (force_calm v) checked))
+
+  -- ---- a trim
+
+  rewrite_calm : (w : World O) (used : ℕ) → AreCalm (rewrite_course m w used).steps
+  rewrite_calm w used =
+      cond_both (nat_lt log_limit (trimmed_file m w)) (course [] used (Full used (trimmed_file m w) log_limit)) (course (Header_gate (new_base m w) ∷ []) (trimmed m w) Through) (λ (c : Course O). AreCalm c.steps) (λ is. tt) (λ is. (tt, tt))
+
+  pub trim_calm : (epoch : ℕ) (w : World O) (used : ℕ) → AreCalm (trim_course m epoch w used).steps
+  trim_calm epoch w used =
+      let v : World O = run m w (force_steps m w) in
+      cond_both (nat_le numbers_end epoch) (course [] used (Worn epoch)) (course (force_steps m w ++ (rewrite_course m v used).steps) (rewrite_course m v used).used (rewrite_course m v used).stop) (λ (c : Course O). AreCalm c.steps) (λ is. tt)
+      (λ is. calm_append (force_steps m w) (rewrite_course m v used).steps (force_calm w) (rewrite_calm v used))
+
+  -- ---- a restart
+
+  turn_calm : (limit : ℕ) (w : World O) → AreCalm (turn m limit w)
+  turn_calm limit w =
+      cond_both (must_install m limit w) (thin_steps m w) (if nat_le w.next (length w.history) then Replay ∷ [] else []) (λ (l : List (Step O)). AreCalm l) (λ is. thin_calm w)
+      (λ is. cond_both (nat_le w.next (length w.history)) (Replay ∷ []) [] (λ (l : List (Step O)). AreCalm l) (λ more. (tt, tt)) (λ done. tt))
+
+  turns_calm : (limit n : ℕ) (w : World O) → AreCalm (turns m limit n w)
+  unfolding turns
+  turns_calm limit zero w = tt
+  turns_calm limit (suc n) w = calm_append (turn m limit w) (turns m limit n (run m w (turn m limit w))) (turn_calm limit w) (turns_calm limit n (run m w (turn m limit w)))
+
+  -- after a crash what was stable is all
+  crash_settled : (w : World O) → w.forced ≤ length w.history → IsSettledAt (take w.forced w.history) (step m w Crash)
+  unfolding step
+  crash_settled w within = record { history = refl; forced = omega (arith, within, length-take w.forced w.history); none = refl }
+
+  -- and so it is after a restart
+  pub restart_settled : (w : World O) → w.forced ≤ length w.history → (limit used : ℕ) → IsSettledAt (take w.forced w.history) (run m w (restart_course m limit w used).steps)
+  unfolding run
+  restart_settled w within limit used =
+      let h = take w.forced w.history in
+      let first : List (Step O) = (redo_course m limit w used).steps in
+      let v : World O = run m w first in
+      let begun = run_settled h (step m w Crash) (redo_steps m limit (step m w Crash)) (turns_calm limit _ (step m w Crash)) (crash_settled w within) in
+      subst (λ (u : World O). IsSettledAt h u) (sym (run-append m w first (check_course m v used).steps)) (check_settled h v used begun)

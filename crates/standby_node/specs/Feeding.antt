@@ -1,0 +1,144 @@
+-- What a piece of a stream makes of a standby.
+use Rattle.std.specs.Prelude.{◌≡◌, ◌⊎◌, ◌↔◌, ◌<◌, ◌≤◌, ◌+◌, ⊤, ℕ, true, false, List, ◌++◌, drop, length, Option, None, Some, Result, Ok, Err, IsErrOf}
+use Rattle.disk_model.specs.Disk.{Disk, Files, LeavesOnly, Passes, Rises}
+use Rattle.disk_model.specs.declared.machine.FileNo.{FileNo}
+use Rattle.oper_core.specs.Meaning.{Meaning}
+use Rattle.oper_core.specs.declared.bounds.Bounds.{Bounds}
+use Rattle.formats.specs.Limits.{log_limit}
+use Rattle.formats.specs.Log.{IsPayload}
+use Rattle.formats.specs.Records.{records_of}
+use Rattle.formats.specs.declared.params.Params.{Params}
+use Rattle.formats.specs.declared.record.Record.{Record}
+use Rattle.frame_stream.specs.Frames.{frame, frames, HasBadLength}
+use Rattle.frame_stream.specs.FrameBuffer.{taken_by}
+use Rattle.log_frames.specs.LogView.{growth_of}
+use Rattle.log_records.specs.Codec.{StartsWithRecord}
+use Rattle.explain_core.specs.History.{Member, commands_of}
+use Rattle.explain_core.specs.Turns.{must_install}
+use Rattle.execution.specs.Following.{IsNumbered}
+use Rattle.execution.specs.Judged.{Judged, first_refused, follows, judge_behind}
+use Rattle.execution.specs.Judged.Judged.{Taken, Gap as Leaves_gap, Differs as Is_different}
+use Rattle.running_store.specs.Courses.{record_length}
+use Rattle.store_engine.specs.Engine.{IsAttached, accepted_in, forced_in, params_of, used_in}
+use Rattle.store_engine.specs.Store.{Stands, meaning_in}
+use Rattle.standby_node.specs.Standby.{AreFramesOf, IsBetweenPieces, IsFollowing, StandbyView}
+use Rattle.standby_node.specs.declared.follow_err.FollowErr.{FollowErr}
+use Rattle.standby_node.specs.declared.follow_err.FollowErr.TheVariants.{BadFrame, Gap, Differs, LogFull, DiskFault, Damaged, Memory, Stopped}
+
+-- at a frame's end no more objects are left dirty than so many, unless each node has two or more to flush
+abbrev pub dirty_limit : ℕ
+dirty_limit = 64
+
+-- the place of the frame in which a refusal came, where this is the answer
+abbrev pub stopped_by : {T : Type 0} → ℕ → Result T FollowErr → Option ℕ
+stopped_by passed (Ok value) = None
+stopped_by passed (Err Memory) = None
+stopped_by passed (Err e) = Some passed
+
+-- the bytes of a whole frame's payload that come next, of which there are some
+pub record ComeNext (s : StandbyView) (rest : List ℕ) : Type 0 where
+  pub payload : List ℕ
+  pub later : List ℕ
+  pub is_payload : IsPayload payload
+  pub stands : s.frames.kept ≡ frame payload ++ later
+  pub left : s.done < length payload
+  pub rest_is : rest ≡ drop s.done payload
+
+-- no record of a frame begins the bytes: they break the grammar, run past their frame, or are a check
+abbrev pub BeginsNoRecord : {O : Type 0} → Meaning O → List ℕ → Type 0
+BeginsNoRecord {O} m bytes = (r : Record O) → StartsWithRecord m bytes r → IsNumbered r → ⊥
+
+-- it is the stream that is refused
+abbrev pub IsOfStream : FollowErr → Type 0
+IsOfStream (BadFrame place) = ⊤
+IsOfStream (Gap expected got) = ⊤
+IsOfStream (Differs lsn) = ⊤
+IsOfStream (LogFull used need limit) = ⊥
+IsOfStream DiskFault = ⊥
+IsOfStream (Damaged file place) = ⊥
+IsOfStream Memory = ⊥
+IsOfStream (Stopped place) = ⊥
+
+module _ {O : Type 0} (m : Meaning O) (h : List (Member O)) (s : StandbyView) where
+  -- this record comes next, and is judged so behind the history
+  pub record IsJudgedNext (judged : Judged O) : Type 0 where
+    pub rest : List ℕ
+    pub next : ComeNext s rest
+    pub logged : Record O
+    pub starts : StartsWithRecord m rest logged
+    pub numbered : IsNumbered logged
+    pub judged_so : judge_behind m h logged ≡ judged
+
+  -- it is taken, but for want of room: so many bytes are needed behind those that wait
+  pub record LacksLogRoom (used need limit : ℕ) : Type 0 where
+    pub member : Member O
+    pub next : IsJudgedNext (Taken member)
+    pub used_is : used ≡ used_in s.engine
+    pub need_is : need ≡ growth_of s.engine.parts.log.log.pending (record_length m member)
+    pub limit_is : limit ≡ log_limit
+    pub over : limit < used + need
+
+  -- why the standby, which was left so behind this history, refuses the stream: what comes next is of no frame, or no record, or is
+  -- judged so
+  abbrev pub HasRefused : FollowErr → Type 0
+  HasRefused (BadFrame place) = (HasBadLength s.frames.kept × (place ≡ s.frames.passed))
+      ⊎ ((rest : List ℕ) × ComeNext s rest × BeginsNoRecord m rest × (place ≡ s.frames.passed + (4 + s.done)))
+  HasRefused (Gap expected got) = IsJudgedNext (Leaves_gap expected got)
+  HasRefused (Differs lsn) = IsJudgedNext (Is_different lsn)
+  HasRefused (LogFull used need limit) = LacksLogRoom used need limit
+  HasRefused DiskFault = ⊤
+  HasRefused (Damaged file place) = ⊥
+  HasRefused Memory = ⊤
+  HasRefused (Stopped place) = ⊥
+
+module _ {O : Type 0} (meaning : Bounds → Meaning O) where
+  -- what the bytes leave that came, where this is the answer, or a fault of the disk
+  pub record HasRefusedIn (p : Params) (first : List (Member O)) (bytes : List ℕ) (d : Disk) (s : StandbyView) (e : FollowErr) : Type 0 where
+    pub following : IsFollowing meaning p first bytes d s
+    pub refused : HasRefused (meaning_in meaning p) following.world.history s e
+
+  -- after a piece that was followed: no whole frame is left, all is stable, and so many commands were accepted; where a frame
+  -- ended no thin node is left to install
+  pub record HasFollowedPiece (p : Params) (first : List (Member O)) (bytes : List ℕ) (d : Disk) (before s : StandbyView) (n : ℕ) : Type 0 where
+    pub following : IsFollowing meaning p first bytes d s
+    pub between : IsBetweenPieces s
+    pub stable : forced_in s.engine ≡ accepted_in s.engine
+    pub count : n ≡ length (commands_of following.world.history)
+    pub limited : (s.frames.passed ≡ before.frames.passed) ⊎ (must_install (meaning_in meaning p) dirty_limit following.world ≡ false)
+
+  -- What a piece makes of a standby that follows, by its answer: it is followed, it was refused at its first refusal, or
+  -- memory ran out: before any of it was taken, or later, and then it is kept.
+  abbrev pub FollowsPiece : Params → List (Member O) → List ℕ → List ℕ → Disk → StandbyView → StandbyView → Result ℕ FollowErr → Type 0
+  FollowsPiece p first bytes piece new before after (Ok n) = HasFollowedPiece p first (bytes ++ piece) new before after n
+  FollowsPiece p first bytes piece new before after (Err DiskFault) = ⊤
+  FollowsPiece p first bytes piece new before after (Err Memory) = ((after ≡ before) × IsFollowing meaning p first bytes new after) ⊎ IsFollowing meaning p first (bytes ++ piece) new after
+  FollowsPiece p first bytes piece new before after (Err e) = HasRefusedIn p first (bytes ++ piece) new after e
+
+  -- An image at a moment of a piece: nothing more is said, and it stands for what some first whole frames make of the first list,
+  -- at least those that were stable as the piece came.
+  pub record IsAtFrameEnd (p : Params) (old : Disk) (least : ℕ) (first : List (Member O)) (bytes : List ℕ) (files : Files) (said : List ℕ) : Type 0 where
+    pub quiet : said ≡ old.said
+    pub payloads : List (List ℕ)
+    pub groups : List (List (Record O))
+    pub rest : List ℕ
+    pub split : bytes ≡ frames payloads ++ rest
+    pub frames_are : AreFramesOf (meaning_in meaning p) payloads groups
+    pub fine : first_refused (meaning_in meaning p) first (records_of groups) ≡ None
+    pub enough : least ≤ length (commands_of (follows (meaning_in meaning p) first (records_of groups)))
+    pub stands : Stands meaning p files (commands_of (follows (meaning_in meaning p) first (records_of groups)))
+
+  -- What a piece makes of a standby that was not stopped.
+  pub record IsFed (old new : Disk) (before after : StandbyView) (piece : List ℕ) (result : Result ℕ FollowErr) : Type 0 where
+    pub time : Passes old new
+    pub quiet : old.tells_files → new.said ≡ old.said
+    pub params : params_of after.engine ≡ params_of before.engine
+    pub attached : IsErrOf result DiskFault ⊎ (IsAttached meaning old before.engine → IsAttached meaning new after.engine)
+    pub broken : (after.engine.broken ≡ true) ↔ IsErrOf result DiskFault
+    pub fault : IsErrOf result DiskFault → Rises old.disk_faults new.disk_faults
+    pub stopped : after.stopped ≡ stopped_by after.frames.passed result
+    -- the piece is kept, but where memory ran out before any of it was taken
+    pub taken : ((after ≡ before) × IsErrOf result Memory) ⊎ (taken_by after.frames ≡ taken_by before.frames + length piece)
+    pub follows_it : (p : Params) (first : List (Member O)) (bytes : List ℕ) → IsFollowing meaning p first bytes old before → FollowsPiece p first bytes piece new before after result
+    pub images : old.tells_moments → (p : Params) (first : List (Member O)) (bytes : List ℕ) → IsFollowing meaning p first bytes old before
+        → LeavesOnly old new (IsAtFrameEnd p old (forced_in before.engine) first (bytes ++ piece))
+    pub undamaged : old.tells_files → IsAttached meaning old before.engine → (file : FileNo) (place : ℕ) → IsErrOf result (Damaged file place) → ⊥

@@ -1,0 +1,6 @@
+pub mod Failures
+pub mod Standby
+pub mod Feeding
+pub mod Attaching
+pub mod Upkeep
+pub mod Steps

@@ -1,0 +1,50 @@
+// What may be done between two frames.
+ghost use Rattle.std.specs.Prelude.{◌≡◌, ◌⊎◌, Result, IsErrOf};
+ghost use Rattle.log_records.specs.declared.rewrite_err.RewriteErr.{RewriteErr as RewriteFailure};
+ghost use Rattle.checkpointing.specs.declared.check_err.CheckErr.{CheckErr as CheckFailure};
+ghost use Rattle.store_engine.specs.Calls.{IsChecking, IsTrimming, work_of_check, work_of_trim};
+ghost use Rattle.standby_node.specs.Standby.{MayBeKeptUp, StillFollows};
+ghost use Rattle.standby_node.specs.Upkeep.{HasForcedAndInstalled};
+
+use crate::Standby;
+use disk_model::Machine;
+use oper_core::Oper;
+use store_engine::{StoreErr, WorkErr};
+
+impl<O: Oper> Standby<O> {
+    /// Installs the minimal node of the least name that has at most one object to flush; nothing is logged. It answers whether
+    /// there is one.
+    pub fn install_thin<M: Machine>(&mut self, machine: &mut M) -> Result<bool, StoreErr>
+        requires ready { MayBeKeptUp self.old }
+        ensures installed { HasForcedAndInstalled O.meaning M.disk machine.old machine.new self.old.engine self.new.engine result }
+        ensures rest { self.new ≡ record self.old { engine = self.new.engine } }
+        ensures kept { StillFollows O.meaning (M.disk machine.old) (M.disk machine.new) self.old self.new (IsErrOf result StoreErr.DiskFault) }
+    {
+        if self.engine.force(machine).is_err() {
+            return Err(StoreErr::DiskFault);
+        }
+        self.engine.install_thin(machine)
+    }
+
+    /// Takes a check of where a redo begins now, and forces it, as [`store_engine::Engine::checkpoint`] does. After `Memory` the
+    /// check may wait for a force, so nothing is said of what is followed then: a new standby is to be attached.
+    pub fn checkpoint<M: Machine>(&mut self, machine: &mut M) -> Result<(), WorkErr>
+        requires ready { MayBeKeptUp self.old }
+        ensures checked { (answer : Result _ CheckFailure) × (result ≡ work_of_check answer) × IsChecking O.meaning (M.disk machine.old) (M.disk machine.new) self.old.engine self.new.engine answer }
+        ensures rest { self.new ≡ record self.old { engine = self.new.engine } }
+        ensures kept { StillFollows O.meaning (M.disk machine.old) (M.disk machine.new) self.old self.new (IsErrOf result WorkErr.DiskFault ⊎ IsErrOf result WorkErr.Memory) }
+    {
+        self.engine.checkpoint(machine)
+    }
+
+    /// Puts a log in the place of this one that begins with the least number in the write graph, as [`store_engine::Engine::trim`]
+    /// does. It is how the log stays short: no store's limit stops what is followed.
+    pub fn trim<M: Machine>(&mut self, machine: &mut M) -> Result<(), WorkErr>
+        requires ready { MayBeKeptUp self.old }
+        ensures trimmed { (answer : Result _ RewriteFailure) × (result ≡ work_of_trim answer) × IsTrimming O.meaning (M.disk machine.old) (M.disk machine.new) self.old.engine self.new.engine answer }
+        ensures rest { self.new ≡ record self.old { engine = self.new.engine } }
+        ensures kept { StillFollows O.meaning (M.disk machine.old) (M.disk machine.new) self.old self.new (IsErrOf result WorkErr.DiskFault) }
+    {
+        self.engine.trim(machine)
+    }
+}
