@@ -64,6 +64,7 @@ reads_short disk short old now before after reads = record {
       fault = reads.calls.call.fault;
     };
     undamaged = λ told attached. tt;
+    damaged = tt;
   };
   adds = λ p w shows rest ended. short old now before after p w (commands_of w.history) [] rest (reads.adds p w shows [] (λ done. refl));
 }
