@@ -1,0 +1,21 @@
+//! A store in use and its machine as one value, for a program that keeps a store within itself.
+//!
+//! The one contract is [`Store`]. Each of its calls says of the store and its machine what the engine's call says: what values
+//! the objects have, what a crash may leave at each moment, what is durable. After a fault of the disk each call answers that
+//! again and does nothing. Over [`write_queue::QueueMem`] the store touches no file: the caller takes what was written and
+//! makes it on its files, and [`real_files_keep_what_is_forced`] says what a crash leaves of them meanwhile.
+#![tactic(auto)]
+
+mod apps;
+mod calls;
+mod hashes;
+mod laws;
+mod opening;
+mod queued;
+mod store;
+mod trees;
+mod upkeep;
+
+pub use laws::real_files_keep_what_is_forced;
+pub use opening::lay_out;
+pub use store::Store;
