@@ -1,40 +1,36 @@
 -- Names of subcommands, and what words name.
-use Rattle.std.proofs.Common.{◌≡◌, ◌∙◌, ◌+◌, ℕ, List, [], Option, Some, None, arith, ap, sym, codes, get_or}
+use Rattle.std.proofs.Common.{◌≡◌, ◌∙◌, ◌+◌, ℕ, List, [], Option, Some, None, ap, sym, codes, get_or}
 use Rattle.clap.specs.Words.{Row, Text}
+use Rattle.command_words.specs.declared.asked.Asked.{Asked}
+use Rattle.command_words.specs.declared.asked.Asked.TheVariants.{Init, Run, Dump, Demo, Upgrade, Ship, Follow}
+use Rattle.command_words.specs.Words.{IsFor}
+
+-- the name of the subcommand for this
+abbrev pub name_for : Asked → Text
+name_for Run = codes "run"
+name_for Dump = codes "dump"
+name_for (Init p) = codes "init"
+name_for (Upgrade p) = codes "upgrade"
+name_for (Demo seed steps) = codes "demo"
+name_for (Ship from) = codes "ship"
+name_for Follow = codes "follow"
+
+pub named_for : (asked : Asked) (name : Text) (rows : List Row) → IsFor asked name rows → name ≡ name_for asked
+named_for Run name rows is = is
+named_for Dump name rows is = is
+named_for (Init p) name rows is = is.0
+named_for (Upgrade p) name rows is = is.0
+named_for (Demo seed steps) name rows is = is.0
+named_for (Ship from) name rows is = is.0
+named_for Follow name rows is = is
 
 -- two letters tell the names apart
-abbrev mark : Text → ℕ
+abbrev pub mark : Text → ℕ
 mark name = get_or name 0 0 + get_or name 1 0
 
-pub run_or_dump : (name : Text) → name ≡ codes "run" → name ≡ codes "dump" → ⊥
-run_or_dump name x y = omega (arith, ap mark (sym x ∙ y))
-
-pub run_or_init : (name : Text) → name ≡ codes "run" → name ≡ codes "init" → ⊥
-run_or_init name x y = omega (arith, ap mark (sym x ∙ y))
-
-pub run_or_demo : (name : Text) → name ≡ codes "run" → name ≡ codes "demo" → ⊥
-run_or_demo name x y = omega (arith, ap mark (sym x ∙ y))
-
-pub dump_or_init : (name : Text) → name ≡ codes "dump" → name ≡ codes "init" → ⊥
-dump_or_init name x y = omega (arith, ap mark (sym x ∙ y))
-
-pub dump_or_demo : (name : Text) → name ≡ codes "dump" → name ≡ codes "demo" → ⊥
-dump_or_demo name x y = omega (arith, ap mark (sym x ∙ y))
-
-pub init_or_demo : (name : Text) → name ≡ codes "init" → name ≡ codes "demo" → ⊥
-init_or_demo name x y = omega (arith, ap mark (sym x ∙ y))
-
-pub run_or_upgrade : (name : Text) → name ≡ codes "run" → name ≡ codes "upgrade" → ⊥
-run_or_upgrade name x y = omega (arith, ap mark (sym x ∙ y))
-
-pub dump_or_upgrade : (name : Text) → name ≡ codes "dump" → name ≡ codes "upgrade" → ⊥
-dump_or_upgrade name x y = omega (arith, ap mark (sym x ∙ y))
-
-pub init_or_upgrade : (name : Text) → name ≡ codes "init" → name ≡ codes "upgrade" → ⊥
-init_or_upgrade name x y = omega (arith, ap mark (sym x ∙ y))
-
-pub demo_or_upgrade : (name : Text) → name ≡ codes "demo" → name ≡ codes "upgrade" → ⊥
-demo_or_upgrade name x y = omega (arith, ap mark (sym x ∙ y))
+-- a subcommand that is for two things has both marks
+pub same_mark : (a b : Asked) (name : Text) (rows : List Row) → IsFor a name rows → IsFor b name rows → mark (name_for a) ≡ mark (name_for b)
+same_mark a b name rows x y = ap mark (sym (named_for a name rows x) ∙ named_for b name rows y)
 
 abbrev name_in : Option (Text × List Row) → Text
 name_in None = []

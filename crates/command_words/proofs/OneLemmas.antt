@@ -1,12 +1,12 @@
 -- Words ask one thing.
-use Rattle.std.proofs.Common.{◌≡◌, ◌∙◌, ℕ, List, Option, Some, None, [], refl, sym, ap, subst, codes}
+use Rattle.std.proofs.Common.{◌≡◌, ◌∙◌, ℕ, List, Option, Some, None, [], refl, sym, ap, subst, arith, codes}
 use Rattle.std.specs.Str.Parse.{digits_value, without_leading_plus}
 use Rattle.clap.specs.Words.{Row, Text}
 use Rattle.command_words.specs.declared.asked.Asked.{Asked}
-use Rattle.command_words.specs.declared.asked.Asked.TheVariants.{Init, Run, Dump, Demo, Upgrade}
+use Rattle.command_words.specs.declared.asked.Asked.TheVariants.{Init, Run, Dump, Demo, Upgrade, Ship, Follow}
 use Rattle.formats.specs.declared.params.Params.{Params}
 use Rattle.command_words.specs.Words.{Asks, Gives, GivesParams, IsFor}
-use Rattle.command_words.proofs.NameLemmas.{run_or_dump, run_or_init, run_or_demo, run_or_upgrade, dump_or_init, dump_or_demo, dump_or_upgrade, init_or_demo, init_or_upgrade, demo_or_upgrade, one_name, one_rows}
+use Rattle.command_words.proofs.NameLemmas.{same_mark, one_name, one_rows}
 
 abbrev text_in : Option Text → Text
 text_in None = []
@@ -29,33 +29,16 @@ one_params rows p q x y =
 -- a subcommand of one name is for one thing
 for_one : (name : Text) (rows : List Row) (a b : Asked) → IsFor a name rows → IsFor b name rows → a ≡ b
 for_one name rows Run Run x y = refl
-for_one name rows Run Dump x y = absurd (run_or_dump name x y)
-for_one name rows Run (Init q) x y = absurd (run_or_init name x y.0)
-for_one name rows Run (Demo k l) x y = absurd (run_or_demo name x y.0)
-for_one name rows Run (Upgrade q) x y = absurd (run_or_upgrade name x y.0)
-for_one name rows Dump Run x y = absurd (run_or_dump name y x)
 for_one name rows Dump Dump x y = refl
-for_one name rows Dump (Init q) x y = absurd (dump_or_init name x y.0)
-for_one name rows Dump (Demo k l) x y = absurd (dump_or_demo name x y.0)
-for_one name rows Dump (Upgrade q) x y = absurd (dump_or_upgrade name x y.0)
-for_one name rows (Init p) Run x y = absurd (run_or_init name y x.0)
-for_one name rows (Init p) Dump x y = absurd (dump_or_init name y x.0)
 for_one name rows (Init p) (Init q) x y = ap Init (one_params rows p q x.1 y.1)
-for_one name rows (Init p) (Demo k l) x y = absurd (init_or_demo name x.0 y.0)
-for_one name rows (Init p) (Upgrade q) x y = absurd (init_or_upgrade name x.0 y.0)
-for_one name rows (Demo m n) Run x y = absurd (run_or_demo name y x.0)
-for_one name rows (Demo m n) Dump x y = absurd (dump_or_demo name y x.0)
-for_one name rows (Demo m n) (Init q) x y = absurd (init_or_demo name y.0 x.0)
-for_one name rows (Demo m n) (Upgrade q) x y = absurd (demo_or_upgrade name x.0 y.0)
-for_one name rows (Upgrade p) Run x y = absurd (run_or_upgrade name y x.0)
-for_one name rows (Upgrade p) Dump x y = absurd (dump_or_upgrade name y x.0)
-for_one name rows (Upgrade p) (Init q) x y = absurd (init_or_upgrade name y.0 x.0)
-for_one name rows (Upgrade p) (Demo k l) x y = absurd (demo_or_upgrade name y.0 x.0)
 for_one name rows (Upgrade p) (Upgrade q) x y = ap Upgrade (one_params rows p q x.1 y.1)
 for_one name rows (Demo m n) (Demo k l) x y =
     let a = one_number rows (codes "seed") m k x.1.0 y.1.0 in
     let b = one_number rows (codes "steps") n l x.1.1 y.1.1 in
     cc (a, b)
+for_one name rows (Ship m) (Ship n) x y = ap Ship (one_number rows (codes "FROM") m n x.1 y.1)
+for_one name rows Follow Follow x y = refl
+for_one name rows a b x y = absurd (omega (arith, same_mark a b name rows x y))
 
 pub words_one : (words : List Text) (a b : Asked) → Asks words a → Asks words b → a ≡ b
 words_one words a b x y =

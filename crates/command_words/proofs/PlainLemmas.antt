@@ -10,13 +10,13 @@ use Rattle.clap.specs.Simple.{Shape, built, built_leaf, entered, inherited, mark
 use Rattle.clap.specs.Faults.{check_fault, defaults_fault, entered_fault, fault_of, level_fault, settle_fault, turn_fault, walk_fault}
 use Rattle.clap.specs.ValueTests.{accepts}
 use Rattle.clap.proofs.OnLiterals.{clap_on_literals}
-use Rattle.command_words.specs.Commands.{any, between, sized, demo, redo}
+use Rattle.command_words.specs.Commands.{any, between, sized, demo, ship, numbers_from_one, redo}
 use Rattle.formats.specs.Objects.{IsInRange}
 use Rattle.command_words.specs.Words.{Asks, Gives, GivesParams, IsAllowed, IsFor}
 use Rattle.formats.specs.declared.params.Params.{Params}
 use Rattle.command_words.specs.declared.asked.Asked.{Asked}
-use Rattle.command_words.specs.declared.asked.Asked.TheVariants.{Init, Run, Dump, Demo, Upgrade}
-use Rattle.command_words.proofs.WordLemmas.{IsNumeralOf, decimal_word, in_any, in_range, option_turn, option_walked, read_signed, value_turn, value_walked, walk_at}
+use Rattle.command_words.specs.declared.asked.Asked.TheVariants.{Init, Run, Dump, Demo, Upgrade, Ship, Follow}
+use Rattle.command_words.proofs.WordLemmas.{IsNumeralOf, decimal_word, in_numbers, in_range, option_turn, option_walked, read_signed, value_turn, value_walked, walk_at}
 
 -- ---- the first level
 
@@ -65,7 +65,7 @@ abbrev level_end : Shape → Walk → Kinds → Kinds
 level_end s w faults = or_else faults (or_else [] (or_else (settle_fault s.rules s.args_override_self w.held)
     (or_else (defaults_fault (settled s.rules w.held).rows s.rules) (check_fault s (finished s.rules w.held) false))))
 
--- ---- run and dump
+-- ---- run, dump and follow
 
 pub run_asks : (program : Text) → Asks (program ∷ codes "run" ∷ []) Run
 unfolding clap_on_literals
@@ -74,6 +74,10 @@ run_asks program = record { faultless = refl; named = record { name = codes "run
 pub dump_asks : (program : Text) → Asks (program ∷ codes "dump" ∷ []) Dump
 unfolding clap_on_literals
 dump_asks program = record { faultless = refl; named = record { name = codes "dump"; rows = []; is = refl; for = refl; allowed = tt } }
+
+pub follow_asks : (program : Text) → Asks (program ∷ codes "follow" ∷ []) Follow
+unfolding clap_on_literals
+follow_asks program = record { faultless = refl; named = record { name = codes "follow"; rows = []; is = refl; for = refl; allowed = tt } }
 
 -- ---- init and upgrade
 
@@ -352,7 +356,7 @@ demo_asks program seed steps small few =
     let t = decimal steps in
     let is_s = decimal_word seed small in
     let is_t = decimal_word steps (omega (arith, few)) in
-    let in_s = in_any seed s is_s small in
+    let in_s = in_numbers 0 18446744073709551615 seed s is_s small (omega arith) (omega (arith, small)) in
     let in_t = in_range 0 1000000 steps t is_t (omega (arith, few)) (omega arith) few in
     let rows = s_rows s t in
     record {
@@ -372,7 +376,7 @@ demo_asks_steps_first program seed steps small few =
     let t = decimal steps in
     let is_s = decimal_word seed small in
     let is_t = decimal_word steps (omega (arith, few)) in
-    let in_s = in_any seed s is_s small in
+    let in_s = in_numbers 0 18446744073709551615 seed s is_s small (omega arith) (omega (arith, small)) in
     let in_t = in_range 0 1000000 steps t is_t (omega (arith, few)) (omega arith) few in
     let rows = t_rows t s in
     record {
@@ -383,5 +387,59 @@ demo_asks_steps_first program seed steps small few =
         is = taken_as program (codes "demo") (t_demo_words t s) demo_shape (t_stops t s) ∙ ap (λ rs. Some (codes "demo", rs)) (t_rows_are t s is_t is_s in_t in_s);
         for = (refl, (gives (codes "seed") seed s rows is_s refl, gives (codes "steps") steps t rows is_t (read_signed t is_t)));
         allowed = (small, few);
+      };
+    }
+
+-- ---- ship
+
+abbrev ship_shape : Shape
+ship_shape = sub ship
+
+abbrev ship_rules : List Rule
+ship_rules = ship_shape.rules
+
+abbrev from_row : Text → Row
+from_row word = record { id = codes "FROM"; values = word ∷ []; count = None; source = Some CommandLine; reading = AsWritten }
+
+module _ (a : Text) where
+  abbrev from_held : Walk
+  from_held = walk_at (pending [] (codes "FROM") (a ∷ [])) idle 2
+
+  ship_stops : walk top.rules (names_of (built redo)) nothing_held (codes "ship" ∷ a ∷ []) ≡ stopped_at (codes "ship") (a ∷ [])
+  unfolding clap_on_literals
+  ship_stops = refl
+
+  ship_named : walk_fault top (names_of (built redo)) (walk_from nothing_held) (codes "ship" ∷ a ∷ []) ≡ []
+  unfolding clap_on_literals
+  ship_named = refl
+
+  module _ {n : ℕ} (is_a : IsNumeralOf n a) (in_a : accepts false numbers_from_one a ≡ true) where
+    ship_walk : walk ship_rules [] nothing_held (a ∷ []) ≡ from_held
+    ship_walk = value_walked a is_a ship_rules 1 nothing_held
+
+    ship_rows : rows_after ship_rules [] (a ∷ []) ≡ from_row a ∷ []
+    ship_rows = ap (λ (w : Walk). finished ship_rules w.held) ship_walk
+
+    ship_turns : walk_fault ship_shape [] (walk_from nothing_held) (a ∷ []) ≡ []
+    unfolding walk_fault
+    ship_turns = ap (λ k. or_else k []) (value_turn a is_a ship_shape 1 nothing_held)
+
+    ship_faultless : level_fault ship_shape [] nothing_held (a ∷ []) false [] ≡ []
+    unfolding defaults_fault
+    ship_faultless = ap (λ w. level_end ship_shape w (walk_fault ship_shape [] (walk_from nothing_held) (a ∷ []))) ship_walk ∙ ap (level_end ship_shape from_held) ship_turns ∙ rw in_a refl
+
+pub ship_asks : (program : Text) (from : ℕ) → 1 ≤ from → from < 2 ^ 62 → Asks (program ∷ codes "ship" ∷ decimal from ∷ []) (Ship from)
+ship_asks program from positive small =
+    let a = decimal from in
+    let is_a = decimal_word from (omega (arith, small)) in
+    let in_a = in_numbers 1 4611686018427387903 from a is_a (omega (arith, small)) positive (omega (arith, small)) in
+    record {
+      faultless = taken program (codes "ship") (a ∷ []) ship_shape (ship_stops a) (ship_named a) refl refl (ship_faultless a is_a in_a);
+      named = record {
+        name = codes "ship";
+        rows = from_row a ∷ [];
+        is = taken_as program (codes "ship") (a ∷ []) ship_shape (ship_stops a) ∙ ap (λ rs. Some (codes "ship", rs)) (ship_rows a is_a in_a);
+        for = (refl, gives (codes "FROM") from a (from_row a ∷ []) is_a refl);
+        allowed = (positive, small);
       };
     }

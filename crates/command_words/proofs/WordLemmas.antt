@@ -15,7 +15,8 @@ use Rattle.clap.specs.Simple.{Shape}
 use Rattle.clap.specs.Faults.{bundle_fault, flag_word_fault, other_fault, step_fault, turn_fault}
 use Rattle.clap.specs.ValueTests.{accepts}
 use Rattle.clap.proofs.ValueTestLemmas.{Accepts-accepts}
-use Rattle.command_words.specs.Commands.{any, between}
+use Rattle.clap.specs.declared.builder.value_parser.ValueParser.TheVariants.{Unsigned}
+use Rattle.command_words.specs.Commands.{between}
 
 -- The word is the numeral of n: it begins with no sign.
 pub record IsNumeralOf (n : ℕ) (word : Text) : Type 0 where
@@ -45,9 +46,11 @@ pub decimal_word : (n : ℕ) → n < 2 ^ 64 → IsNumeralOf n (decimal n)
 decimal_word n small = let both = decimal_is_IsNumeral n small in numeral_of n (decimal n) both.0 both.1
 
 -- it passes a parser of numbers
-pub in_any : (n : ℕ) (word : Text) → IsNumeralOf n word → n < 2 ^ 64 → accepts false any word ≡ true
-in_any n word is small = Accepts-accepts false any word
-    (subst (IsNumeral 10) (sym is.no_plus) is.numeral, rw (is.no_plus, is.number) small, omega arith, rw (is.no_plus, is.number) (omega (arith, small)))
+pub in_numbers : (least most n : ℕ) (word : Text) → IsNumeralOf n word → n < 2 ^ 64 → least ≤ n → n ≤ most → accepts false (Unsigned least most) word ≡ true
+in_numbers least most n word is small low high =
+    let plus : without_leading_plus word ≡ word = is.no_plus in
+    let number : digits_value 10 word ≡ n = is.number in
+    Accepts-accepts false (Unsigned least most) word (subst (IsNumeral 10) (sym plus) is.numeral, rw (plus, number) small, rw (plus, number) low, rw (plus, number) high)
 
 pub in_range : (least most n : ℕ) (word : Text) → IsNumeralOf n word → n < 2 ^ 63 → least ≤ n → n ≤ most → accepts false (between least most) word ≡ true
 in_range least most n word is small low high =

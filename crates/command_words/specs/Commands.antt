@@ -31,9 +31,16 @@ demo = record (new_shape (codes "demo")) {
   rules = option (codes "seed") any ∷ option (codes "steps") (between 0 1000000) ∷ [];
 }
 
--- five subcommands, of which one has to be named; where nothing is said at all, help is the answer
+-- the numbers that a record may have
+abbrev pub numbers_from_one : ValueParser
+numbers_from_one = Unsigned 1 4611686018427387903
+
+abbrev pub ship : Shape
+ship = record (new_shape (codes "ship")) { rules = number (codes "FROM") numbers_from_one ∷ [] }
+
+-- seven subcommands, of which one has to be named; where nothing is said at all, help is the answer
 abbrev pub redo : App
 redo = record {
   top = record (new_shape (codes "redo")) { is_leaf = false; subcommand_required = true; arg_required_else_help = true };
-  subs = sized (codes "init") ∷ new_shape (codes "run") ∷ new_shape (codes "dump") ∷ demo ∷ sized (codes "upgrade") ∷ [];
+  subs = sized (codes "init") ∷ new_shape (codes "run") ∷ new_shape (codes "dump") ∷ demo ∷ sized (codes "upgrade") ∷ ship ∷ new_shape (codes "follow") ∷ [];
 }

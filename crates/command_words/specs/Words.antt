@@ -6,7 +6,7 @@ use Rattle.clap.specs.Words.{Row, Text, fault_of, one_of, subcommand_of}
 use Rattle.command_words.specs.Commands.{redo}
 use Rattle.formats.specs.declared.params.Params.{Params}
 use Rattle.command_words.specs.declared.asked.Asked.{Asked}
-use Rattle.command_words.specs.declared.asked.Asked.TheVariants.{Init, Run, Dump, Demo, Upgrade}
+use Rattle.command_words.specs.declared.asked.Asked.TheVariants.{Init, Run, Dump, Demo, Upgrade, Ship, Follow}
 
 -- the value of the argument of this name is a numeral of n, perhaps after a plus
 pub record Gives (rows : List Row) (id : Text) (n : ℕ) : Type 0 where
@@ -29,6 +29,8 @@ IsFor Dump name rows = name ≡ codes "dump"
 IsFor (Init params) name rows = (name ≡ codes "init") × GivesParams rows params
 IsFor (Upgrade params) name rows = (name ≡ codes "upgrade") × GivesParams rows params
 IsFor (Demo seed steps) name rows = (name ≡ codes "demo") × GivesDemo rows seed steps
+IsFor (Ship from) name rows = (name ≡ codes "ship") × Gives rows (codes "FROM") from
+IsFor Follow name rows = name ≡ codes "follow"
 
 -- the numbers are in their ranges
 abbrev pub IsAllowed : Asked → Type 0
@@ -37,6 +39,8 @@ IsAllowed Dump = ⊤
 IsAllowed (Init params) = IsInRange params
 IsAllowed (Upgrade params) = IsInRange params
 IsAllowed (Demo seed steps) = (seed < 2 ^ 64) × (steps ≤ 1000000)
+IsAllowed (Ship from) = (1 ≤ from) × (from < 2 ^ 62)
+IsAllowed Follow = ⊤
 
 -- the subcommand that was named asks this
 pub record NamesForm (named : Option (Text × List Row)) (asked : Asked) : Type 0 where

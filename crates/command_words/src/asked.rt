@@ -13,4 +13,8 @@ pub enum Asked {
     Demo { seed: u64, steps: u32 },
     /// `upgrade N CAP LIMIT`: the store gets these limits, where it stands.
     Upgrade(Params),
+    /// `ship FROM`: the records of the log from this number on are said, as frames for a standby.
+    Ship { from: u64 },
+    /// `follow`: the frames of the input are taken in, as a standby.
+    Follow,
 }

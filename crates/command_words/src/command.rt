@@ -2,7 +2,7 @@
 ghost use Rattle.std.specs.Prelude.{◌≡◌, IfOk, false};
 ghost use Rattle.clap.specs.Words.{app_of, rule_of, shape_of};
 ghost use Rattle.clap.specs.declared.builder.command.Command.TheViews.{out-Command};
-ghost use Rattle.command_words.specs.Commands.{number, option, sized, demo, redo};
+ghost use Rattle.command_words.specs.Commands.{number, option, sized, demo, ship, redo};
 
 use clap::builder::ValueParser;
 use clap::{Arg, Command, value_parser};
@@ -76,6 +76,21 @@ fn demo<'a>(alloc: Global) -> Result<Command<'a>, AllocError>
         .arg(steps)
 }
 
+/// `ship FROM`.
+fn ship<'a>(alloc: Global) -> Result<Command<'a>, AllocError>
+    ensures { IfOk result (λ c. (shape_of c ≡ ship) × ((out-Command c).has_globals ≡ false)) }
+{
+    let from = number(
+        alloc,
+        "FROM",
+        value_parser!(u64).range(1..=4611686018427387903),
+    )
+    .help("The number of the first record, 1 to 2^62 - 1");
+    Command::new(alloc, "ship")
+        .about("Writes the records of the log from this number on, for a standby")
+        .arg(from)
+}
+
 /// The command set.
 pub fn redo<'a>(alloc: Global) -> Result<Command<'a>, AllocError>
     ensures { IfOk result (λ c. app_of c ≡ redo) }
@@ -84,6 +99,7 @@ pub fn redo<'a>(alloc: Global) -> Result<Command<'a>, AllocError>
         .after_help(LINES)
         .about("Answers the lines of standard input");
     let dump = Command::new(alloc, "dump").about("Reports the objects that are not empty");
+    let follow = Command::new(alloc, "follow").about("Takes in the records that `ship` wrote");
     let init = sized(alloc, "init", "Makes a new store in this folder")?;
     let upgrade = sized(
         alloc,
@@ -100,5 +116,7 @@ pub fn redo<'a>(alloc: Global) -> Result<Command<'a>, AllocError>
         .subcommand(run)?
         .subcommand(dump)?
         .subcommand(demo(alloc)?)?
-        .subcommand(upgrade)
+        .subcommand(upgrade)?
+        .subcommand(ship(alloc)?)?
+        .subcommand(follow)
 }

@@ -1,5 +1,5 @@
 //! Reading the words.
-ghost use Rattle.std.specs.Prelude.{◌≡◌, ◌↔◌, ◌<◌, ◌≤◌, ◌^◌, ℕ, map, string_bytes, IfSome, IfNone, IfOk, IfErr, IsTrue, false};
+ghost use Rattle.std.specs.Prelude.{◌≡◌, ◌↔◌, ◌<◌, ◌≤◌, ◌^◌, ℕ, codes, map, string_bytes, IfSome, IfNone, IfOk, IfErr, IsTrue, false};
 ghost use Rattle.clap.specs.Words.{found_of, kind_of, rows_of, subcommand_rows_of};
 ghost use Rattle.command_words.specs.declared.asked.Asked.{Asked};
 ghost use Rattle.formats.specs.declared.params.Params.{Params};
@@ -71,6 +71,19 @@ fn demo(values: &ArgMatches<'_>) -> Option<(u64, u32)>
     }
 }
 
+/// `ship FROM`, by the value of the argument.
+fn first(values: &ArgMatches<'_>) -> Option<u64>
+    ensures some { IfSome result (λ from. (1 ≤ from) × (from < 2 ^ 62) × Gives (rows_of (found_of values.now)) (codes "FROM") from) }
+    ensures none { IfNone result ((from : ℕ) → 1 ≤ from → from < 2 ^ 62 → Gives (rows_of (found_of values.now)) (codes "FROM") from → ⊥) }
+{
+    let from = long(values, "FROM")?;
+    if 1 <= from && from < 1 << 62 {
+        Some(from)
+    } else {
+        None
+    }
+}
+
 /// What the subcommand asks that was named. `None` exactly where it asks nothing: where its numbers are not those of a
 /// store.
 fn asked(matches: &ArgMatches<'_>) -> Option<Asked>
@@ -87,6 +100,10 @@ fn asked(matches: &ArgMatches<'_>) -> Option<Asked>
             Some(Asked::Demo { seed, steps })
         }
         "upgrade" => Some(Asked::Upgrade(params(values)?)),
+        "ship" => Some(Asked::Ship {
+            from: first(values)?,
+        }),
+        "follow" => Some(Asked::Follow),
         _ => None,
     }
 }
