@@ -26,6 +26,26 @@ fn of_the_store(status: Status) -> Option<&'static str> {
     }
 }
 
+/// The same for a status that tells of a log that is shipped, or of a stream that is followed.
+fn of_a_stream(status: Status) -> Option<&'static str> {
+    match status {
+        Status::Gone => Some(
+            "the log begins with the number printed, and what came before is gone from it. Ship from that number: a standby \
+             passes over what it has. If it then says `stream Gap`, make it anew from a backup of this store.",
+        ),
+        Status::BadStream => Some(
+            "the input cannot be followed from the place or the record printed on. What came before stays: `redo dump` says how \
+             many commands there are. After `Short` or `Gap` ship again, from an earlier number. After `BadFrame` or `Differs` \
+             the stream is damaged, or of another store, or this one took commands of its own: make it anew from a backup.",
+        ),
+        Status::StandbyFull => Some(
+            "the log has no room for what comes next, as printed. Make the standby anew from a backup of the store that it \
+             follows.",
+        ),
+        _ => of_the_store(status),
+    }
+}
+
 /// The same for any status that reports trouble.
 pub fn advice(status: Status) -> Option<&'static str> {
     match status {
@@ -54,6 +74,6 @@ pub fn advice(status: Status) -> Option<&'static str> {
         Status::TooLong => Some(
             "the input has 2^40 bytes or more. Run again with the rest of it: `redo dump` says how many commands are done.",
         ),
-        _ => of_the_store(status),
+        _ => of_a_stream(status),
     }
 }

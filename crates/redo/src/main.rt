@@ -1,16 +1,18 @@
 //! The program `redo`: it gives the words of the command line, the files of the store's folder, those of a backup beside them,
 //! and standard input and output to `redo_shell::top`, and ends with the number of the status. The folder is the current one,
-//! or that of `-C`, and it is locked meanwhile. Standard error says why words are refused, and, where the status is one of trouble, what happened
-//! and what to do next.
+//! or that of `-C`, and it is locked meanwhile. Standard error says why words are refused, and, where the status is one of trouble,
+//! which call on which file failed, what happened, and what to do next.
 #![tactic(auto)]
 
 mod advice;
+mod fault;
 mod folder;
 mod unstarted;
 
 use advice::advice;
 use command_words::{Asked, Unread, read_words};
 use disk_model::{FileMachine, StdSource};
+use fault::tell_fault;
 use folder::{enter, lacks_folder, lock};
 use redo_shell::{Status, top};
 use std::alloc::AllocError;
@@ -35,7 +37,9 @@ fn run(rt: HostRuntime, words: &[String]) -> Status {
     let mut input = StdSource::new(&rt);
     let mut machine = FileMachine::new(rt);
     let mut backup = FileMachine::backup(rt);
-    top(rt.alloc(), words, &mut machine, &mut backup, &mut input)
+    let status = top(rt.alloc(), words, &mut machine, &mut backup, &mut input);
+    tell_fault(rt, status, &machine, &backup);
+    status
 }
 
 // The same with the lock of the folder.

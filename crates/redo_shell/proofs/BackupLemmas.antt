@@ -18,7 +18,7 @@ use Rattle.redo_shell.specs.Stages.{Stage, stage_of}
 use Rattle.redo_shell.specs.Store.{Between, Command, Holds}
 use Rattle.redo_shell.specs.declared.stop.Stop.{Stop}
 use Rattle.redo_shell.proofs.GroupLemmas.{AsksOnce}
-use Rattle.redo_shell.proofs.RunLemmas.{AreFew, IsTold, gone_on, opened, told_begun, told_finish, told_here, told_quiet}
+use Rattle.redo_shell.proofs.RunLemmas.{AreFew, IsTold, gone_on, opened, told_begun, told_finish, told_here, told_quiet, with_next}
 
 -- an answer beside a backup is an answer
 pub answering_of : {p : Params} {start old new : Disk} {before after : EngineView} {w : World Command} {commands : List Command} {line : List ℕ} {backup backed : Disk} (result : Result Bool Stop)
@@ -157,3 +157,7 @@ module _ {T : Type 0} (disk : T → Disk) {before mid : T} {p : Params} {first :
   -- the lines that are left
   pub goes_to_beside : {todo : List (List ℕ)} (rest : List (List ℕ)) → GoingBeside disk before mid p first start now engine commands script todo refusing → todo ≡ rest → GoingBeside disk before mid p first start now engine commands script rest refusing
   goes_to_beside rest b is = subst (λ (l : List (List ℕ)). GoingBeside disk before mid p first start now engine commands script l refusing) is b
+
+  -- a run that has answered all its lines has one more
+  pub next_beside : (line : List ℕ) → GoingBeside disk before mid p first start now engine commands script [] refusing → GoingBeside disk before mid p first start now engine commands (script ++ line ∷ []) (line ∷ []) refusing
+  next_beside line b = record { going = with_next line b.going; passes = b.passes; backup = b.backup }

@@ -1,5 +1,6 @@
 -- What holds of a call for any words, from what holds of one that was asked one thing.
-use Rattle.std.proofs.Common.{◌≡◌, ◌≢◌, ◌⊎◌, ◌^◌, ⊎_elim, List, ℕ, inl, inr, refl, subst}
+use Rattle.std.proofs.Common.{◌≡◌, ◌≢◌, ◌⊎◌, ◌^◌, ⊎_elim, List, [], ℕ, inl, inr, refl, subst}
+use Rattle.std.specs.Prelude.{⊤}
 use Rattle.disk_model.specs.Disk.{Disk, IsDisk, Passes, Rises}
 use Rattle.disk_model.specs.Moments.{passes_none}
 use Rattle.formats.specs.declared.params.Params.{Params}
@@ -7,22 +8,26 @@ use Rattle.script_lines.specs.Grammar.{lines_of}
 use Rattle.script_lines.specs.Reading.{ReadsOn}
 use Rattle.command_words.specs.Words.{Asks}
 use Rattle.command_words.specs.declared.asked.Asked.{Asked}
-use Rattle.command_words.specs.declared.asked.Asked.TheVariants.{Init, Run, Dump, Demo, Upgrade}
+use Rattle.command_words.specs.declared.asked.Asked.TheVariants.{Init, Run, Dump, Demo, Upgrade, Ship, Follow}
 use Rattle.redo_shell.specs.Calls.{IsCallFor, GoesOn}
 use Rattle.redo_shell.specs.Causes.{CountsFaults, IsCutUpgrade, IsUnread, JudgesFiles, JudgesUpgrade, SaysCut, SaysNoStore, SaysDamage, SaysStore, ComesByCause}
 use Rattle.redo_shell.specs.Demo.{IsOfDemo}
 use Rattle.redo_shell.specs.Exactly.{IsFaultless, IsUpgradeEnd, ComesExactly}
+use Rattle.redo_shell.specs.Following.{StandbyMoment, StreamMoment}
 use Rattle.redo_shell.specs.Keeps.{KeepsFiles}
+use Rattle.redo_shell.proofs.FollowingLemmas.{standby_moment}
 use Rattle.redo_shell.specs.Saving.{IsBackupCall, IsBackupFor, IsBesideRun}
-use Rattle.redo_shell.specs.Sessions.{run, init, dump, upgrade}
-use Rattle.redo_shell.specs.Status.{IsOfRun, IsOfDump, IsOfInit, IsOfUpgrade}
-use Rattle.redo_shell.specs.Store.{Command, IsWellFormed, Opens}
+use Rattle.redo_shell.specs.Sessions.{run, init, reads, upgrade, follow}
+use Rattle.redo_shell.specs.Shipping.{ShipMoment}
+use Rattle.redo_shell.specs.Status.{IsOfRun, IsOfDump, IsOfInit, IsOfUpgrade, IsOfShip, IsOfFollow}
+use Rattle.redo_shell.specs.Store.{Command, IsWellFormed, Opens, Stands}
 use Rattle.redo_shell.specs.declared.status.Status.{Status}
-use Rattle.redo_shell.specs.declared.status.Status.TheVariants.{Done, DoneWithRefusals, Usage, NotAStore, AlreadyStore, Damaged, DiskFault, ReadFault, SayFault, Memory, TooLong, AlreadyTwo, Smaller, BackupFault}
-use Rattle.restart.specs.Starts.{at_start}
+use Rattle.redo_shell.specs.declared.status.Status.TheVariants.{Done, Usage, NotAStore, AlreadyStore, Damaged, DiskFault, ReadFault, SayFault, Memory, TooLong, AlreadyTwo, Smaller, BackupFault, Gone, BadStream, StandbyFull}
+use Rattle.restart.specs.Starts.{at_start, or_weaker}
+use Rattle.redo_shell.specs.Dump.{DumpMoment}
 use Rattle.redo_shell.proofs.KeepLemmas.{keeps_once}
 use Rattle.redo_shell.proofs.DamageLemmas.{HasOneDamage}
-use Rattle.redo_shell.proofs.ExactLemmas.{calm_run, calm_told, calm_dump, opens_exactly, runs_exactly, makes_exactly}
+use Rattle.redo_shell.proofs.ExactLemmas.{calm_run, calm_told, calm_dump, calm_shipped, calm_followed, whole_ship, whole_follow, opens_exactly, runs_exactly, makes_exactly}
 use Rattle.redo_shell.proofs.OpenLemmas.{none_backed}
 use Rattle.redo_shell.proofs.RunLemmas.{AreFew}
 use Rattle.redo_shell.proofs.SavedLemmas.{printed_backed}
@@ -39,6 +44,8 @@ module _ (told : Type 0) (left rest : List ℕ) (old new : Disk) (status : Statu
   not_usage (Init p) call is = subst IsOfInit is call.ends
   not_usage (Demo seed steps) call is = subst IsOfDemo is call.ends
   not_usage (Upgrade q) call is = subst IsOfUpgrade is call.ends
+  not_usage (Ship from) call is = subst IsOfShip is call.ends
+  not_usage Follow call is = subst IsOfFollow is call.ends
 
   -- of a store that was opened, and not called damaged but where it is cut, nothing is said as of none
   no_store_judged : JudgesUpgrade old new status → status ≡ NotAStore → SaysNoStore old new
@@ -50,6 +57,8 @@ module _ (told : Type 0) (left rest : List ℕ) (old new : Disk) (status : Statu
   no_store_said (Init p) call files is = absurd (subst IsOfInit is call.ends)
   no_store_said (Demo seed steps) call files is = absurd (subst IsOfDemo is call.ends)
   no_store_said (Upgrade q) call files is = no_store_judged (call.judged files) is
+  no_store_said (Ship from) call files is = (call.judged files).no_store is
+  no_store_said Follow call files is = (call.judged files).no_store is
 
   damage_said : (words : List (List ℕ)) (asked : Asked) → Asks words asked → IsCallFor asked told left rest old new status → old.tells_files → status ≡ Damaged → SaysDamage old new ⊎ IsCutUpgrade words old new
   damage_said words Run asks call files is = inl ((call.judged files).damaged is)
@@ -57,6 +66,8 @@ module _ (told : Type 0) (left rest : List ℕ) (old new : Disk) (status : Statu
   damage_said words (Init p) asks call files is = absurd (subst IsOfInit is call.ends)
   damage_said words (Demo seed steps) asks call files is = absurd (subst IsOfDemo is call.ends)
   damage_said words (Upgrade q) asks call files is = ⊎_elim (λ (judged : JudgesFiles old new status). inl (judged.damaged is)) (λ (cut : (status ≡ Damaged) × SaysCut old new). inr (q, asks, cut.1)) (call.judged files)
+  damage_said words (Ship from) asks call files is = inl ((call.judged files).damaged is)
+  damage_said words Follow asks call files is = inl ((call.judged files).damaged is)
 
   store_said : (asked : Asked) → IsCallFor asked told left rest old new status → old.tells_files → status ≡ AlreadyStore → SaysStore old new
   store_said Run call files is = absurd (subst IsOfRun is call.ends)
@@ -64,23 +75,47 @@ module _ (told : Type 0) (left rest : List ℕ) (old new : Disk) (status : Statu
   store_said (Init p) call files is = call.already files is
   store_said (Demo seed steps) call files is = absurd (subst IsOfDemo is call.ends)
   store_said (Upgrade q) call files is = absurd (subst IsOfUpgrade is call.ends)
+  store_said (Ship from) call files is = absurd (subst IsOfShip is call.ends)
+  store_said Follow call files is = absurd (subst IsOfFollow is call.ends)
+
+  -- the statuses of a shipment and of the following of a stream come of these alone
+  gone_asked : (words : List (List ℕ)) (asked : Asked) → Asks words asked → IsCallFor asked told left rest old new status → status ≡ Gone → (from : ℕ) × Asks words (Ship from)
+  gone_asked words Run asks call is = absurd (subst IsOfRun is call.ends)
+  gone_asked words Dump asks call is = absurd (subst IsOfDump is call.ends)
+  gone_asked words (Init p) asks call is = absurd (subst IsOfInit is call.ends)
+  gone_asked words (Demo seed steps) asks call is = absurd (subst IsOfDemo is call.ends)
+  gone_asked words (Upgrade q) asks call is = absurd (subst IsOfUpgrade is call.ends)
+  gone_asked words (Ship from) asks call is = (from, asks)
+  gone_asked words Follow asks call is = absurd (subst IsOfFollow is call.ends)
+
+  -- the two of a stream
+  abbrev IsOfFrames : Status → Type 0
+  IsOfFrames BadStream = ⊤
+  IsOfFrames StandbyFull = ⊤
+  IsOfFrames status = ⊥
+
+  stream_asked : (words : List (List ℕ)) (asked : Asked) (is_of : Status) → IsOfFrames is_of → Asks words asked → IsCallFor asked told left rest old new status → status ≡ is_of → Asks words Follow
+  stream_asked words Run BadStream of asks call is = absurd (subst IsOfRun is call.ends)
+  stream_asked words Run StandbyFull of asks call is = absurd (subst IsOfRun is call.ends)
+  stream_asked words Dump BadStream of asks call is = absurd (subst IsOfDump is call.ends)
+  stream_asked words Dump StandbyFull of asks call is = absurd (subst IsOfDump is call.ends)
+  stream_asked words (Init p) BadStream of asks call is = absurd (subst IsOfInit is call.ends)
+  stream_asked words (Init p) StandbyFull of asks call is = absurd (subst IsOfInit is call.ends)
+  stream_asked words (Demo seed steps) BadStream of asks call is = absurd (subst IsOfDemo is call.ends)
+  stream_asked words (Demo seed steps) StandbyFull of asks call is = absurd (subst IsOfDemo is call.ends)
+  stream_asked words (Upgrade q) BadStream of asks call is = absurd (subst IsOfUpgrade is call.ends)
+  stream_asked words (Upgrade q) StandbyFull of asks call is = absurd (subst IsOfUpgrade is call.ends)
+  stream_asked words (Ship from) BadStream of asks call is = absurd (subst IsOfShip is call.ends)
+  stream_asked words (Ship from) StandbyFull of asks call is = absurd (subst IsOfShip is call.ends)
+  stream_asked words Follow is_of of asks call is = asks
+  stream_asked words asked is_of of asks call is = absurd of
 
 -- a demo that finds memory, in which no count of faults rises
 calm_demo : {old new : Disk} {before now : ℕ} {backup backed : Disk} (status : Status) → IsFaultless old new before now backup backed → status ≢ Memory → IsOfDemo status → CountsFaults old new status → status ≡ Done
 calm_demo Done calm memory of faults = refl
 calm_demo SayFault calm memory of faults = absurd (calm.output (faults.output refl))
 calm_demo Memory calm memory of faults = absurd (memory refl)
-calm_demo DoneWithRefusals calm memory of faults = absurd of
-calm_demo Usage calm memory of faults = absurd of
-calm_demo NotAStore calm memory of faults = absurd of
-calm_demo AlreadyStore calm memory of faults = absurd of
-calm_demo Damaged calm memory of faults = absurd of
-calm_demo DiskFault calm memory of faults = absurd of
-calm_demo ReadFault calm memory of faults = absurd of
-calm_demo TooLong calm memory of faults = absurd of
-calm_demo AlreadyTwo calm memory of faults = absurd of
-calm_demo Smaller calm memory of faults = absurd of
-calm_demo BackupFault calm memory of faults = absurd of
+calm_demo status calm memory of faults = absurd of
 
 -- an upgrade of a store, with memory, in which no count of faults rises
 calm_upgrade : {old new : Disk} {before now : ℕ} {backup backed : Disk} (status : Status) → IsFaultless old new before now backup backed → status ≢ Memory → IsOfUpgrade status → CountsFaults old new status → status ≢ NotAStore → IsUpgradeEnd status
@@ -92,12 +127,7 @@ calm_upgrade NotAStore calm memory of faults store = absurd (store refl)
 calm_upgrade DiskFault calm memory of faults store = absurd (calm.disk (faults.disk refl))
 calm_upgrade SayFault calm memory of faults store = absurd (calm.output (faults.output refl))
 calm_upgrade Memory calm memory of faults store = absurd (memory refl)
-calm_upgrade DoneWithRefusals calm memory of faults store = absurd of
-calm_upgrade Usage calm memory of faults store = absurd of
-calm_upgrade AlreadyStore calm memory of faults store = absurd of
-calm_upgrade ReadFault calm memory of faults store = absurd of
-calm_upgrade TooLong calm memory of faults store = absurd of
-calm_upgrade BackupFault calm memory of faults store = absurd of
+calm_upgrade status calm memory of faults store = absurd of
 
 module _ {words : List (List ℕ)} {told : Type 0} {left rest : List ℕ} {before now : ℕ} {old new backup backed : Disk} {status : Status} (asked : Asked) (call : IsCallFor asked told left rest old new status)
     (faults : CountsFaults old new status) (read_fault : status ≡ ReadFault → Rises before now) (beside : IsBesideRun backup backed status) (too_long : told → status ≡ TooLong → ReadsOn left rest 0 (2 ^ 40)) where
@@ -114,6 +144,9 @@ module _ {words : List (List ℕ)} {told : Type 0} {left rest : List ℕ} {befor
     read_fault = read_fault;
     backup_fault = beside.fault;
     too_long = too_long;
+    gone = gone_asked told left rest old new status words asked asks call;
+    stream = stream_asked told left rest old new status words asked BadStream tt asks call;
+    full = stream_asked told left rest old new status words asked StandbyFull tt asks call;
   }
 
   -- and where no count of faults rises, exactly there
@@ -137,6 +170,18 @@ module _ {words : List (List ℕ)} {told : Type 0} {left rest : List ℕ} {befor
     upgrades = λ q is memory p commands opens.
         let it = call_for told left rest old new status (one (Upgrade q) is) call in
         calm_upgrade status faultless memory it.ends faults (it.stands p commands opens).store;
+    ship = λ from is files.
+        let it = call_for told left rest old new status (one (Ship from) is) call in
+        inl (opens_exactly status (calm_shipped status faultless it.ends faults) damage (it.judged files));
+    ships = λ from is memory p commands opens.
+        let it = call_for told left rest old new status (one (Ship from) is) call in
+        whole_ship status (calm_shipped status faultless it.ends faults) it.ends memory ((it.judged opens.told).store (format p commands opens));
+    follow = λ is files.
+        let it = call_for told left rest old new status (one Follow is) call in
+        inl (opens_exactly status (calm_followed status faultless it.ends faults read_fault) damage (it.judged files));
+    follows = λ is memory p commands opens.
+        let it = call_for told left rest old new status (one Follow is) call in
+        whole_follow status (calm_followed status faultless it.ends faults read_fault) it.ends memory ((it.judged opens.told).store (format p commands opens));
     demos = λ seed steps is memory. calm_demo status faultless memory (call_for told left rest old new status (one (Demo seed steps) is) call).ends faults;
   }
 
@@ -146,7 +191,7 @@ keeps_judged {old} {new} {status} judged broken = ⊎_elim (λ (files : JudgesFi
 
 -- what it does goes on any calls before it
 pub call_goes_on : {T : Type 0} (disk : T → Disk) {words : List (List ℕ)} {told : Type 0} {left rest : List ℕ} {status : Status} (old new : T) → IsDisk (disk old) → Passes (disk old) (disk new)
-    → ((other : Asked) → Asks words other → IsCallFor other told left rest (disk old) (disk new) status) → GoesOn disk words told (lines_of left) old new
+    → ((other : Asked) → Asks words other → IsCallFor other told left rest (disk old) (disk new) status) → GoesOn disk words told left rest old new
 call_goes_on disk {words} {told} {left} old new lawful time call = record {
   time = time;
   run = λ first next sizes runs bytes asks told begins before follows.
@@ -158,27 +203,53 @@ call_goes_on disk {words} {told} {left} old new lawful time call = record {
       );
   init = λ p first next sizes runs said asks none before follows. init old new next p said before none (λ telling. (call (Init p) asks).images telling none) follows;
   dump = λ first next sizes runs said asks before follows.
-      dump old new next said before (λ none telling. ((call Dump asks).judged (lawful.telling telling)).keeps (λ image. none (image_begins image)))
-      (λ p commands opens. ((call Dump asks).table p commands opens).images) follows;
+      reads old new next said before (λ none telling. ((call Dump asks).judged (lawful.telling telling)).keeps (λ image. none (image_begins image)))
+      (λ p commands opens telling. or_weaker (disk old) (disk new) (DumpMoment p commands (disk old).said) (λ files bytes. Stands p files commands) (((call Dump asks).table p commands opens).images telling) (λ files bytes moment. moment.stands)) follows;
+  ship = λ from first next sizes runs said asks before follows.
+      reads old new next said before (λ none telling. ((call (Ship from) asks).judged (lawful.telling telling)).keeps (λ image. none (image_begins image)))
+      (λ p commands opens telling. or_weaker (disk old) (disk new) (ShipMoment p commands from (disk old).said) (λ files bytes. Stands p files commands) (((call (Ship from) asks).log p commands opens).images telling) (λ files bytes moment. moment.0)) follows;
+  follow = λ asks. (
+    (call Follow asks).bytes,
+    (call Follow asks).taken,
+    λ first next sizes runs said before follows.
+        follow old new next (call Follow asks).bytes said before (λ none telling. ((call Follow asks).judged (lawful.telling telling)).keeps (λ image. none (image_begins image)))
+        (λ p commands opens telling.
+        let on = (call Follow asks).stream p commands opens in
+        let history = on.first.0.world.history in
+        let bytes = (call Follow asks).bytes in (
+          history,
+          on.first.2,
+          or_weaker (disk old) (disk new) (StandbyMoment p commands history bytes (disk old) (disk new)) (λ files taken. StreamMoment p history bytes files) (on.images telling on.first.0 on.first.1) (λ files taken moment. standby_moment (disk old) (disk new) on.first.2 moment),
+        )) follows,
+  );
   upgrade = λ q first next sizes runs said asks before follows.
       upgrade old new next q said before (λ none telling. keeps_judged ((call (Upgrade q) asks).judged (lawful.telling telling)) (λ image. none (image_begins image)))
       (λ p commands opens. ((call (Upgrade q) asks).stands p commands opens).images) follows;
 }
 
 -- where there was no memory to read the words, it goes on them too
-pub unread_goes_on : {T : Type 0} (disk : T → Disk) {words script : List (List ℕ)} {told : Type 0} {status : Status} (old new : T) → IsUnread (disk old) (disk new) status
-    → GoesOn disk words told script old new
-unread_goes_on disk {words} {script} old new unread = record {
+pub unread_goes_on : {T : Type 0} (disk : T → Disk) {words : List (List ℕ)} {told : Type 0} {left : List ℕ} {status : Status} (old new : T) → IsUnread (disk old) (disk new) status
+    → GoesOn disk words told left left old new
+unread_goes_on disk {words} {left = left} old new unread = record {
   time = unread.stays.time;
   run = λ first next sizes runs bytes asks told begins before follows.
-      run old new next (record { script = script; bytes = bytes }) before begins (λ p commands opens telling. at_start (disk old) (disk new) _ unread.stays telling) follows;
+      run old new next (record { script = lines_of left; bytes = bytes }) before begins (λ p commands opens telling. at_start (disk old) (disk new) _ unread.stays telling) follows;
   run_untold = λ asks. (
-    script,
-    λ first next sizes runs bytes begins before follows. run old new next (record { script = script; bytes = bytes }) before begins (λ p commands opens telling. at_start (disk old) (disk new) _ unread.stays telling) follows,
+    [],
+    λ first next sizes runs bytes begins before follows. run old new next (record { script = []; bytes = bytes }) before begins (λ p commands opens telling. at_start (disk old) (disk new) _ unread.stays telling) follows,
   );
   init = λ p first next sizes runs said asks none before follows. init old new next p said before none (λ telling. at_start (disk old) (disk new) _ unread.stays telling) follows;
   dump = λ first next sizes runs said asks before follows.
-      dump old new next said before (λ none telling. keeps_once (disk old) (disk new) unread.stays) (λ p commands opens telling. at_start (disk old) (disk new) _ unread.stays telling) follows;
+      reads old new next said before (λ none telling. keeps_once (disk old) (disk new) unread.stays) (λ p commands opens telling. at_start (disk old) (disk new) _ unread.stays telling) follows;
+  ship = λ from first next sizes runs said asks before follows.
+      reads old new next said before (λ none telling. keeps_once (disk old) (disk new) unread.stays) (λ p commands opens telling. at_start (disk old) (disk new) _ unread.stays telling) follows;
+  follow = λ asks. (
+    [],
+    λ reports. refl,
+    λ first next sizes runs said before follows.
+        follow old new next [] said before (λ none telling. keeps_once (disk old) (disk new) unread.stays)
+        (λ p commands opens telling. (opens.stands.history, opens.stands.commands_are, at_start (disk old) (disk new) _ unread.stays telling)) follows,
+  );
   upgrade = λ q first next sizes runs said asks before follows.
       upgrade old new next q said before (λ none telling. keeps_once (disk old) (disk new) unread.stays) (λ p commands opens telling. at_start (disk old) (disk new) _ unread.stays telling) follows;
 }
@@ -194,6 +265,8 @@ module _ {T : Type 0} (disk : T → Disk) (told : Type 0) (script : List (List �
   unless_run (Init p) asks here other = here
   unless_run (Demo seed steps) asks here other = here
   unless_run (Upgrade q) asks here other = here
+  unless_run (Ship from) asks here other = here
+  unless_run Follow asks here other = here
 
   pub backup_called : {words : List (List ℕ)} {status : Status} (asked : Asked) → Asks words asked → ((other : Asked) → Asks words other → asked ≡ other) → IsBesideRun (disk before) (disk after) status → IsBackupFor disk asked told script old new before after
       → IsBackupCall disk words told script old new before after
@@ -211,7 +284,11 @@ backup_idle disk backup none = record { time = passes_none (disk backup); run = 
 pub backup_unread : AreFew → {T : Type 0} (disk : T → Disk) {words script : List (List ℕ)} {told : Type 0} (old : Disk) (backup : T) → IsBackupCall disk words told script old old backup backup
 backup_unread few disk old backup = record {
   time = passes_none (disk backup);
-  run = λ asks. record { opened = λ p commands opens tells first is. printed_backed few disk (none_backed disk first (passes_none old) refl); unopened = λ tells broken. refl };
+  run = λ asks. record {
+    opened = λ p commands opens tells first is. printed_backed few disk (none_backed disk first (passes_none old) refl);
+    untold = ([], λ p commands opens first is. printed_backed few disk (none_backed disk first (passes_none old) refl));
+    unopened = λ tells broken. refl;
+  };
   other = λ none. refl;
 }
 

@@ -576,7 +576,7 @@ module _ (p : Params) (group : Option ℕ) (commands : List Command) (line : Lis
     full_exactly (full used need limit) added op before after is goes same asks none = (
       λ f. ⊎_elim
           (λ (ends : Ends p before line (Full used need limit) after). full_over (meaning_in p) (is_some before.world.group) p.limit op before.world before.used used need limit (own_course op before after (Full used need limit) same none asks ends))
-          (λ (saves : IsBackupFull p.objects before line used (forced_stage p before) after). absurd (command_clash op bfinish (λ e. omega (arith, e)) asks saves.0))
+          (λ (saves : IsBackupFull p before line used need (forced_stage p before) after). absurd (command_clash op bfinish (λ e. omega (arith, e)) asks saves.0))
           goes,
       λ over. tt,
     )

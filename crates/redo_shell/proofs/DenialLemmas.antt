@@ -16,7 +16,7 @@ use Rattle.redo_shell.specs.Groups.{open_in, size_of}
 use Rattle.redo_shell.specs.Made.{Made, AsksMade, AsksBehind}
 use Rattle.redo_shell.specs.Replies.{Replies, IsDenied, IsGranted, IsLogged, IsOver}
 use Rattle.redo_shell.specs.Saving.{FindsStore}
-use Rattle.redo_shell.specs.Stages.{Stage, Ends, GoesBy, IsBackupFull, IsBesideBackup, IsDeniedAt, IsQuestion, StartsBackup, forced_stage, upkeep_course, with_copied}
+use Rattle.redo_shell.specs.Stages.{Stage, Ends, GoesBy, IsBackupFull, IsBesideBackup, IsDeniedAt, IsQuestion, StartsBackup, backup_bytes, forced_stage, upkeep_course, with_copied}
 use Rattle.redo_shell.specs.Store.{Command, meaning_in, record_length}
 use Rattle.redo_shell.proofs.CauseLemmas.{class, denied_class, fits, made_clash, not_both, question_class}
 
@@ -110,7 +110,7 @@ module _ (p : Params) (line : List ℕ) (one : (a b : Request) → AsksFor line 
       goes)
   denied_here why r is asks none at (full used need limit) added replies goes unstarted = absurd (⊎_elim
       (λ (ends : Ends p before line (Full used need limit) after). no_course r asks (omega (arith, (denied_class why r is).0)) (none_granted p.objects before.copied group why r is at) (Full used need limit) ends)
-      (λ (long : IsBackupFull p.objects before line used (forced_stage p before) after).
+      (λ (long : IsBackupFull p before line used need (forced_stage p before) after).
       not_finished p.objects before.copied why (subst (λ (x : Request). IsDenied why x) (one r bfinish asks long.0) is) at long.1)
       goes)
   denied_here why r is asks none at (end number) added replies goes unstarted = absurd (⊎_elim
@@ -187,21 +187,21 @@ module _ (p : Params) (line : List ℕ) (one : (a b : Request) → AsksFor line 
   -- where all is copied a backup ends, or its log is too long
   pub saves_exactly : (reply : Reply) (added : List Command) → Replies p group commands line reply added → GoesBy p before line reply after
       → AsksFor line bfinish → group ≡ None → before.copied ≡ Some p.objects
-      → ((reply ≡ saved (length commands)) × (after ≡ with_copied None (forced_stage p before)))
-      ⊎ ((need : ℕ) × (2 ^ 48 < need) × (reply ≡ full (forced_stage p before).used need (2 ^ 48)) × (after ≡ forced_stage p before))
+      → ((reply ≡ saved (length commands)) × (backup_bytes p (forced_stage p before) ≤ 2 ^ 48) × (after ≡ with_copied None (forced_stage p before)))
+      ⊎ ((reply ≡ full (forced_stage p before).used (backup_bytes p (forced_stage p before)) (2 ^ 48)) × (2 ^ 48 < backup_bytes p (forced_stage p before)) × (after ≡ forced_stage p before))
   saves_exactly ok added replies goes asks alone some = absurd (⊎_elim
       (λ (ends : Ends p before line Through after). no_course bfinish asks (omega arith) (λ may beside. may.0) Through ends)
       (λ (starts : StartsBackup before line (forced_stage p before) after). let e : bstart ≡ bfinish = one bstart bfinish starts.0 asks in cc e)
       goes)
-  saves_exactly (saved n) added replies goes asks alone some = inl (ap (λ (k : ℕ). saved k) replies.2, goes.1)
+  saves_exactly (saved n) added replies goes asks alone some = inl (ap (λ (k : ℕ). saved k) replies.2, goes.1, goes.2)
   saves_exactly (full used need limit) added replies goes asks alone some = ⊎_elim
       (λ (ends : Ends p before line (Full used need limit) after). absurd (no_course bfinish asks (omega arith) (λ may beside. may.0) (Full used need limit) ends))
-      (λ (long : IsBackupFull p.objects before line used (forced_stage p before) after). ⊎_elim
+      (λ (long : IsBackupFull p before line used need (forced_stage p before) after). ⊎_elim
       (λ (b : (op : Command) × AsksBehind p commands line added op × (need ≡ needed_in (size_of group (commands ++ added)) (record_length p op)) × (limit ≡ p.limit) × (limit < used + need)).
       absurd (made_clash p group commands line one bfinish asks (λ e. omega (arith, e)) b.1.asks))
       (λ (u : (request : Request) × IsLogged request × AsksFor line request × (group ≡ None) × (limit ≡ 2 ^ 48) × IsOver request used need limit × (added ≡ [])).
       let over : limit < need = subst (λ (x : Request). IsOver x used need limit) (one u.0 bfinish u.2 asks) u.5 in
-      inr (need, subst (λ (k : ℕ). k < need) u.4 over, ap (λ (k : ℕ). full k need limit) long.2 ∙ ap (λ (k : ℕ). full (forced_stage p before).used need k) u.4, long.3))
+      inr (λ i. full (long.2 i) (long.3 i) (u.4 i), subst (λ (k : ℕ). k < backup_bytes p (forced_stage p before)) u.4 (subst (λ (k : ℕ). limit < k) long.3 over), long.4))
       replies)
       goes
   saves_exactly (end number) added replies goes asks alone some = absurd (⊎_elim

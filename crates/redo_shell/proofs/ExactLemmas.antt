@@ -10,11 +10,13 @@ use Rattle.redo_shell.specs.Calls.{IsRunCall, IsMaking}
 use Rattle.redo_shell.specs.Causes.{CountsFaults, JudgesFiles}
 use Rattle.redo_shell.specs.Store.{Command, IsWellFormed, Opens}
 use Rattle.redo_shell.specs.declared.status.Status.{Status}
-use Rattle.redo_shell.specs.declared.status.Status.TheVariants.{Done, DoneWithRefusals, Usage, NotAStore, AlreadyStore, Damaged, DiskFault, ReadFault, SayFault, Memory, TooLong, AlreadyTwo, Smaller, BackupFault}
+use Rattle.redo_shell.specs.declared.status.Status.TheVariants.{Done, DoneWithRefusals, Usage, NotAStore, AlreadyStore, Damaged, DiskFault, ReadFault, SayFault, Memory, TooLong, AlreadyTwo, Smaller, BackupFault, Gone, BadStream, StandbyFull}
+use Rattle.redo_shell.specs.Following.{IsFollowEnd}
+use Rattle.redo_shell.specs.Shipping.{IsShipEnd}
 use Rattle.redo_shell.specs.Exactly.{IsFaultless, OpensExactly, MakesExactly, RunsExactly}
 use Rattle.redo_shell.proofs.DamageLemmas.{HasOneDamage, first_said}
 use Rattle.redo_shell.proofs.ScriptLemmas.{enough_taken, not_so_few}
-use Rattle.redo_shell.specs.Status.{IsOfRun, IsOfInit, IsOfDump, IsOfStore, IsOfUnopened}
+use Rattle.redo_shell.specs.Status.{IsOfRun, IsOfInit, IsOfDump, IsOfShip, IsOfFollow, IsOfStore, IsOfUnopened}
 
 -- where no store was opened the script is not read, and a run or a dump may end so
 pub unopened_reads_none : (status : Status) → IsOfUnopened status → IsOfStore status → ⊥
@@ -25,6 +27,9 @@ unopened_reads_none TooLong of is = of
 unopened_reads_none AlreadyTwo of is = of
 unopened_reads_none Smaller of is = of
 unopened_reads_none BackupFault of is = of
+unopened_reads_none Gone of is = of
+unopened_reads_none BadStream of is = of
+unopened_reads_none StandbyFull of is = of
 unopened_reads_none status of is = is
 
 pub unopened_run : (status : Status) → IsOfUnopened status → IsOfRun status
@@ -32,6 +37,9 @@ unopened_run Usage of = of
 unopened_run AlreadyStore of = of
 unopened_run AlreadyTwo of = of
 unopened_run Smaller of = of
+unopened_run Gone of = of
+unopened_run BadStream of = of
+unopened_run StandbyFull of = of
 unopened_run status of = tt
 
 pub unopened_dump : (status : Status) → IsOfUnopened status → IsOfDump status
@@ -42,7 +50,7 @@ unopened_dump SayFault of = tt
 unopened_dump Memory of = tt
 unopened_dump status of = absurd of
 
--- a run in which no count of faults rises ends with one of these
+-- a call that opens the store, in which no count of faults rises, ends with one of these
 abbrev IsCalm : Status → Type 0
 IsCalm Done = ⊤
 IsCalm DoneWithRefusals = ⊤
@@ -50,23 +58,23 @@ IsCalm NotAStore = ⊤
 IsCalm Damaged = ⊤
 IsCalm Memory = ⊤
 IsCalm TooLong = ⊤
+IsCalm Gone = ⊤
+IsCalm BadStream = ⊤
+IsCalm StandbyFull = ⊤
 IsCalm status = ⊥
 
 pub calm_run : {old new : Disk} {before now : ℕ} {backup backed : Disk} (status : Status) → IsFaultless old new before now backup backed → IsOfRun status → CountsFaults old new status → (status ≡ ReadFault → Rises before now) → (status ≡ BackupFault → Rises backup.disk_faults backed.disk_faults) → IsCalm status
 calm_run Done calm of faults input beside = tt
 calm_run DoneWithRefusals calm of faults input beside = tt
-calm_run Usage calm of faults input beside = absurd of
 calm_run NotAStore calm of faults input beside = tt
-calm_run AlreadyStore calm of faults input beside = absurd of
 calm_run Damaged calm of faults input beside = tt
 calm_run DiskFault calm of faults input beside = absurd (calm.disk (faults.disk refl))
 calm_run ReadFault calm of faults input beside = absurd (calm.input (input refl))
 calm_run SayFault calm of faults input beside = absurd (calm.output (faults.output refl))
 calm_run Memory calm of faults input beside = tt
 calm_run TooLong calm of faults input beside = tt
-calm_run AlreadyTwo calm of faults input beside = absurd of
-calm_run Smaller calm of faults input beside = absurd of
 calm_run BackupFault calm of faults input beside = absurd (calm.backup (beside refl))
+calm_run status calm of faults input beside = absurd of
 
 pub no_store_exactly : {gate image : Type 0} (status : Status) → IsCalm status → (status ≡ NotAStore → gate → ⊥) → (status ≡ Damaged → gate) → (status ≡ Memory → gate) → (IsOfStore status → image) → (image → gate)
     → (status ≡ NotAStore) ↔ (gate → ⊥)
@@ -75,15 +83,11 @@ no_store_exactly DoneWithRefusals calm closed broken refused opened open_gate = 
 no_store_exactly NotAStore calm closed broken refused opened open_gate = (λ e. closed refl, λ closed. refl)
 no_store_exactly Damaged calm closed broken refused opened open_gate = (λ e. cc, λ closed. absurd (closed (broken refl)))
 no_store_exactly TooLong calm closed broken refused opened open_gate = (λ e. cc, λ closed. absurd (closed (open_gate (opened tt))))
-no_store_exactly Usage calm closed broken refused opened open_gate = absurd calm
-no_store_exactly AlreadyStore calm closed broken refused opened open_gate = absurd calm
-no_store_exactly DiskFault calm closed broken refused opened open_gate = absurd calm
-no_store_exactly ReadFault calm closed broken refused opened open_gate = absurd calm
-no_store_exactly SayFault calm closed broken refused opened open_gate = absurd calm
+no_store_exactly Gone calm closed broken refused opened open_gate = (λ e. cc, λ closed. absurd (closed (open_gate (opened tt))))
+no_store_exactly BadStream calm closed broken refused opened open_gate = (λ e. cc, λ closed. absurd (closed (open_gate (opened tt))))
+no_store_exactly StandbyFull calm closed broken refused opened open_gate = (λ e. cc, λ closed. absurd (closed (open_gate (opened tt))))
 no_store_exactly Memory calm closed broken refused opened open_gate = (λ e. cc, λ closed. absurd (closed (refused refl)))
-no_store_exactly AlreadyTwo calm closed broken refused opened open_gate = absurd calm
-no_store_exactly Smaller calm closed broken refused opened open_gate = absurd calm
-no_store_exactly BackupFault calm closed broken refused opened open_gate = absurd calm
+no_store_exactly status calm closed broken refused opened open_gate = absurd calm
 
 pub damaged_exactly : {gate image : Type 0} (status : Status) → IsCalm status → status ≢ Memory → (status ≡ NotAStore → gate → ⊥) → (status ≡ Damaged → gate) → (IsOfStore status → image) → (image → status ≢ Damaged)
     → (status ≡ Damaged) ↔ (gate × (image → ⊥))
@@ -92,32 +96,24 @@ damaged_exactly DoneWithRefusals calm memory closed broken opened whole = (λ e.
 damaged_exactly NotAStore calm memory closed broken opened whole = (λ e. cc, λ is. absurd (closed refl is.0))
 damaged_exactly Damaged calm memory closed broken opened whole = (λ e. (broken refl, λ image. whole image refl), λ is. refl)
 damaged_exactly TooLong calm memory closed broken opened whole = (λ e. cc, λ is. absurd (is.1 (opened tt)))
-damaged_exactly Usage calm memory closed broken opened whole = absurd calm
-damaged_exactly AlreadyStore calm memory closed broken opened whole = absurd calm
-damaged_exactly DiskFault calm memory closed broken opened whole = absurd calm
-damaged_exactly ReadFault calm memory closed broken opened whole = absurd calm
-damaged_exactly SayFault calm memory closed broken opened whole = absurd calm
+damaged_exactly Gone calm memory closed broken opened whole = (λ e. cc, λ is. absurd (is.1 (opened tt)))
+damaged_exactly BadStream calm memory closed broken opened whole = (λ e. cc, λ is. absurd (is.1 (opened tt)))
+damaged_exactly StandbyFull calm memory closed broken opened whole = (λ e. cc, λ is. absurd (is.1 (opened tt)))
 damaged_exactly Memory calm memory closed broken opened whole = absurd (memory refl)
-damaged_exactly AlreadyTwo calm memory closed broken opened whole = absurd calm
-damaged_exactly Smaller calm memory closed broken opened whole = absurd calm
-damaged_exactly BackupFault calm memory closed broken opened whole = absurd calm
+damaged_exactly status calm memory closed broken opened whole = absurd calm
 
 -- on a store that is whole
-pub whole_run : (status : Status) → IsCalm status → status ≢ Memory → (status ≢ NotAStore) × (status ≢ Damaged) → (status ≡ TooLong) ⊎ ((status ≡ Done) ⊎ (status ≡ DoneWithRefusals))
-whole_run Done calm memory store = inr (inl refl)
-whole_run DoneWithRefusals calm memory store = inr (inr refl)
-whole_run NotAStore calm memory store = absurd (store.0 refl)
-whole_run Damaged calm memory store = absurd (store.1 refl)
-whole_run TooLong calm memory store = inl refl
-whole_run Usage calm memory store = absurd calm
-whole_run AlreadyStore calm memory store = absurd calm
-whole_run DiskFault calm memory store = absurd calm
-whole_run ReadFault calm memory store = absurd calm
-whole_run SayFault calm memory store = absurd calm
-whole_run Memory calm memory store = absurd (memory refl)
-whole_run AlreadyTwo calm memory store = absurd calm
-whole_run Smaller calm memory store = absurd calm
-whole_run BackupFault calm memory store = absurd calm
+pub whole_run : (status : Status) → IsCalm status → IsOfRun status → status ≢ Memory → (status ≢ NotAStore) × (status ≢ Damaged) → (status ≡ TooLong) ⊎ ((status ≡ Done) ⊎ (status ≡ DoneWithRefusals))
+whole_run Done calm of memory store = inr (inl refl)
+whole_run DoneWithRefusals calm of memory store = inr (inr refl)
+whole_run NotAStore calm of memory store = absurd (store.0 refl)
+whole_run Damaged calm of memory store = absurd (store.1 refl)
+whole_run TooLong calm of memory store = inl refl
+whole_run Memory calm of memory store = absurd (memory refl)
+whole_run Gone calm of memory store = absurd of
+whole_run BadStream calm of memory store = absurd of
+whole_run StandbyFull calm of memory store = absurd of
+whole_run status calm of memory store = absurd calm
 
 -- so does a dump
 pub calm_told : {old new : Disk} {before now : ℕ} {backup backed : Disk} (status : Status) → IsFaultless old new before now backup backed → IsOfDump status → CountsFaults old new status → IsCalm status
@@ -127,14 +123,7 @@ calm_told Damaged calm of faults = tt
 calm_told DiskFault calm of faults = absurd (calm.disk (faults.disk refl))
 calm_told SayFault calm of faults = absurd (calm.output (faults.output refl))
 calm_told Memory calm of faults = tt
-calm_told DoneWithRefusals calm of faults = absurd of
-calm_told Usage calm of faults = absurd of
-calm_told AlreadyStore calm of faults = absurd of
-calm_told ReadFault calm of faults = absurd of
-calm_told TooLong calm of faults = absurd of
-calm_told AlreadyTwo calm of faults = absurd of
-calm_told Smaller calm of faults = absurd of
-calm_told BackupFault calm of faults = absurd of
+calm_told status calm of faults = absurd of
 
 -- a dump of a store that is whole, which nothing disturbs
 pub calm_dump : {old new : Disk} {before now : ℕ} {backup backed : Disk} (status : Status) → IsFaultless old new before now backup backed → status ≢ Memory → IsOfDump status → CountsFaults old new status → (status ≢ NotAStore) × (status ≢ Damaged) → status ≡ Done
@@ -144,14 +133,55 @@ calm_dump Damaged calm memory of faults store = absurd (store.1 refl)
 calm_dump DiskFault calm memory of faults store = absurd (calm.disk (faults.disk refl))
 calm_dump SayFault calm memory of faults store = absurd (calm.output (faults.output refl))
 calm_dump Memory calm memory of faults store = absurd (memory refl)
-calm_dump DoneWithRefusals calm memory of faults store = absurd of
-calm_dump Usage calm memory of faults store = absurd of
-calm_dump AlreadyStore calm memory of faults store = absurd of
-calm_dump ReadFault calm memory of faults store = absurd of
-calm_dump TooLong calm memory of faults store = absurd of
-calm_dump AlreadyTwo calm memory of faults store = absurd of
-calm_dump Smaller calm memory of faults store = absurd of
-calm_dump BackupFault calm memory of faults store = absurd of
+calm_dump status calm memory of faults store = absurd of
+
+-- so does a shipment, and the following of a stream
+pub calm_shipped : {old new : Disk} {before now : ℕ} {backup backed : Disk} (status : Status) → IsFaultless old new before now backup backed → IsOfShip status → CountsFaults old new status → IsCalm status
+calm_shipped Done calm of faults = tt
+calm_shipped NotAStore calm of faults = tt
+calm_shipped Damaged calm of faults = tt
+calm_shipped DiskFault calm of faults = absurd (calm.disk (faults.disk refl))
+calm_shipped SayFault calm of faults = absurd (calm.output (faults.output refl))
+calm_shipped Memory calm of faults = tt
+calm_shipped Gone calm of faults = tt
+calm_shipped status calm of faults = absurd of
+
+pub calm_followed : {old new : Disk} {before now : ℕ} {backup backed : Disk} (status : Status) → IsFaultless old new before now backup backed → IsOfFollow status → CountsFaults old new status → (status ≡ ReadFault → Rises before now) → IsCalm status
+calm_followed Done calm of faults input = tt
+calm_followed NotAStore calm of faults input = tt
+calm_followed Damaged calm of faults input = tt
+calm_followed DiskFault calm of faults input = absurd (calm.disk (faults.disk refl))
+calm_followed ReadFault calm of faults input = absurd (calm.input (input refl))
+calm_followed SayFault calm of faults input = absurd (calm.output (faults.output refl))
+calm_followed Memory calm of faults input = tt
+calm_followed TooLong calm of faults input = tt
+calm_followed BadStream calm of faults input = tt
+calm_followed StandbyFull calm of faults input = tt
+calm_followed status calm of faults input = absurd of
+
+-- either of a store that is whole, with memory
+pub whole_ship : (status : Status) → IsCalm status → IsOfShip status → status ≢ Memory → (status ≢ NotAStore) × (status ≢ Damaged) → IsShipEnd status
+whole_ship Done calm of memory store = inl refl
+whole_ship NotAStore calm of memory store = absurd (store.0 refl)
+whole_ship Damaged calm of memory store = absurd (store.1 refl)
+whole_ship Memory calm of memory store = absurd (memory refl)
+whole_ship Gone calm of memory store = inr refl
+whole_ship DiskFault calm of memory store = absurd calm
+whole_ship SayFault calm of memory store = absurd calm
+whole_ship status calm of memory store = absurd of
+
+pub whole_follow : (status : Status) → IsCalm status → IsOfFollow status → status ≢ Memory → (status ≢ NotAStore) × (status ≢ Damaged) → IsFollowEnd status
+whole_follow Done calm of memory store = inl refl
+whole_follow NotAStore calm of memory store = absurd (store.0 refl)
+whole_follow Damaged calm of memory store = absurd (store.1 refl)
+whole_follow Memory calm of memory store = absurd (memory refl)
+whole_follow TooLong calm of memory store = inr (inl refl)
+whole_follow BadStream calm of memory store = inr (inr (inl refl))
+whole_follow StandbyFull calm of memory store = inr (inr (inr refl))
+whole_follow DiskFault calm of memory store = absurd calm
+whole_follow ReadFault calm of memory store = absurd calm
+whole_follow SayFault calm of memory store = absurd calm
+whole_follow status calm of memory store = absurd of
 
 -- the making of a store in which no count of faults rises
 pub calm_init : {old new : Disk} {before now : ℕ} {backup backed : Disk} (status : Status) → IsFaultless old new before now backup backed → IsOfInit status → CountsFaults old new status → (status ≡ Done) ⊎ (status ≡ AlreadyStore)
@@ -159,16 +189,7 @@ calm_init Done calm of faults = inl refl
 calm_init AlreadyStore calm of faults = inr refl
 calm_init DiskFault calm of faults = absurd (calm.disk (faults.disk refl))
 calm_init SayFault calm of faults = absurd (calm.output (faults.output refl))
-calm_init DoneWithRefusals calm of faults = absurd of
-calm_init Usage calm of faults = absurd of
-calm_init NotAStore calm of faults = absurd of
-calm_init Damaged calm of faults = absurd of
-calm_init ReadFault calm of faults = absurd of
-calm_init Memory calm of faults = absurd of
-calm_init TooLong calm of faults = absurd of
-calm_init AlreadyTwo calm of faults = absurd of
-calm_init Smaller calm of faults = absurd of
-calm_init BackupFault calm of faults = absurd of
+calm_init status calm of faults = absurd of
 
 -- where a store is there already, or the output fails to say so
 pub in_made : (status : Status) → (status ≡ AlreadyStore) ⊎ (status ≡ SayFault) → IsOfInit status
@@ -190,10 +211,10 @@ opens_exactly {old} {new} status calm one judged =
 pub runs_exactly : {told : Type 0} {left rest : List ℕ} {old new : Disk} (status : Status) → IsCalm status → status ≢ Memory → IsRunCall told left rest old new status → (told → status ≡ TooLong → ReadsOn left rest 0 (2 ^ 40))
     → ((p : Params) (commands : List Command) → Opens p old commands → IsWellFormed old.reads) → RunsExactly told left old status
 runs_exactly status calm memory call taken image = record {
-  succeeds = λ p commands opens told few. ⊎_elim (λ e. absurd (not_so_few few (enough_taken (taken told e)))) (λ e. e) (whole_run status calm memory ((call.judged opens.told).store (image p commands opens)));
+  succeeds = λ p commands opens told few. ⊎_elim (λ e. absurd (not_so_few few (enough_taken (taken told e)))) (λ e. e) (whole_run status calm call.ends memory ((call.judged opens.told).store (image p commands opens)));
   too_long = λ files whole told. (
     λ is. enough_taken (taken told is),
-    λ enough. ⊎_elim (λ e. e) (λ e. absurd (not_so_few (call.input told e).1 enough)) (whole_run status calm memory ((call.judged files).store whole)),
+    λ enough. ⊎_elim (λ e. e) (λ e. absurd (not_so_few (call.input told e).1 enough)) (whole_run status calm call.ends memory ((call.judged files).store whole)),
   );
 }
 

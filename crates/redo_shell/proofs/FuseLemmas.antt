@@ -6,7 +6,7 @@ use Rattle.disk_model.specs.declared.fuse.Fuse.{Fuse}
 use Rattle.formats.specs.declared.params.Params.{Params}
 use Rattle.redo_shell.specs.Store.{Command, Opens}
 use Rattle.redo_shell.specs.Keeps.{KeepsFiles}
-use Rattle.redo_shell.specs.Sessions.{Ran, Sizing, Follows, Sessions, start, run, init, dump, upgrade, other}
+use Rattle.redo_shell.specs.Sessions.{Ran, Sizing, Follows, Sessions, start, run, init, reads, upgrade, follow, other}
 
 module _ {M : Type 0} (disk : M → Disk) where
   -- a fuse around a machine
@@ -46,12 +46,15 @@ module _ {M : Type 0} (disk : M → Disk) where
       (λ p commands opens told. leaves_inside old new _ (leaves p commands (opens_around p old commands opens) told)) (follows_inside old new next ((disk old.inner).said ++ ran.bytes) follows)
   inside (init old new next p said before no_store leaves follows) =
       init old.inner new.inner next.inner p said (inside before) no_store (λ told. leaves_inside old new _ (leaves told)) (follows_inside old new next said follows)
-  inside (dump old new next said before keeps leaves follows) =
-      dump old.inner new.inner next.inner said (inside before) (λ none told. keeps_inside old new (keeps none told))
+  inside (reads old new next said before keeps leaves follows) =
+      reads old.inner new.inner next.inner said (inside before) (λ none told. keeps_inside old new (keeps none told))
       (λ p commands opens told. leaves_inside old new _ (leaves p commands (opens_around p old commands opens) told)) (follows_inside old new next said follows)
   inside (upgrade old new next q said before keeps leaves follows) =
       upgrade old.inner new.inner next.inner q said (inside before) (λ none told. keeps_inside old new (keeps none told))
       (λ p commands opens told. leaves_inside old new _ (leaves p commands (opens_around p old commands opens) told)) (follows_inside old new next said follows)
+  inside (follow old new next bytes said before keeps leaves follows) =
+      follow old.inner new.inner next.inner bytes said (inside before) (λ none told. keeps_inside old new (keeps none told))
+      (λ p commands opens told. let its = leaves p commands (opens_around p old commands opens) told in (its.0, its.1, leaves_inside old new _ its.2)) (follows_inside old new next said follows)
   inside (other old new next said before kept follows) =
       other old.inner new.inner next.inner said (inside before) (keeps_inside old new kept) (follows_inside old new next said follows)
 
@@ -82,13 +85,13 @@ module _ {M : Type 0} (disk : M → Disk) where
         begins = so_far.begins;
         calls = init (fresh old) (fresh new) end p said so_far.calls no_store (λ told. leaves_around (fresh old) (fresh new) _ (leaves told)) (follows_around (fresh old) (fresh new) end said here);
       }
-  around (dump old new next said before keeps leaves follows) end is =
+  around (reads old new next said before keeps leaves follows) end is =
       let so_far = around before (fresh old) refl in
       let here : Follows (disk old) (disk new) (disk end.inner) said = subst (λ (m : M). Follows (disk old) (disk new) (disk m) said) (sym is) follows in
       record {
         begin = so_far.begin;
         begins = so_far.begins;
-        calls = dump (fresh old) (fresh new) end said so_far.calls (λ none told. keeps_around (fresh old) (fresh new) (keeps none told))
+        calls = reads (fresh old) (fresh new) end said so_far.calls (λ none told. keeps_around (fresh old) (fresh new) (keeps none told))
             (λ p commands opens told. leaves_around (fresh old) (fresh new) _ (leaves p commands (opens_inside p (fresh old) commands opens) told)) (follows_around (fresh old) (fresh new) end said here);
       }
   around (upgrade old new next q said before keeps leaves follows) end is =
@@ -99,6 +102,15 @@ module _ {M : Type 0} (disk : M → Disk) where
         begins = so_far.begins;
         calls = upgrade (fresh old) (fresh new) end q said so_far.calls (λ none told. keeps_around (fresh old) (fresh new) (keeps none told))
             (λ p commands opens told. leaves_around (fresh old) (fresh new) _ (leaves p commands (opens_inside p (fresh old) commands opens) told)) (follows_around (fresh old) (fresh new) end said here);
+      }
+  around (follow old new next bytes said before keeps leaves follows) end is =
+      let so_far = around before (fresh old) refl in
+      let here : Follows (disk old) (disk new) (disk end.inner) said = subst (λ (m : M). Follows (disk old) (disk new) (disk m) said) (sym is) follows in
+      record {
+        begin = so_far.begin;
+        begins = so_far.begins;
+        calls = follow (fresh old) (fresh new) end bytes said so_far.calls (λ none told. keeps_around (fresh old) (fresh new) (keeps none told))
+            (λ p commands opens told. let its = leaves p commands (opens_inside p (fresh old) commands opens) told in (its.0, its.1, leaves_around (fresh old) (fresh new) _ its.2)) (follows_around (fresh old) (fresh new) end said here);
       }
   around (other old new next said before kept follows) end is =
       let so_far = around before (fresh old) refl in

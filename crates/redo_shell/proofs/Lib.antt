@@ -14,6 +14,8 @@ pub mod OpenLemmas
 pub mod CallLemmas
 pub mod ExactLemmas
 pub mod DumpLemmas
+pub mod ShippingLemmas
+pub mod FollowingLemmas
 pub mod UpgradeLemmas
 pub mod KeepLemmas
 pub mod CauseLemmas

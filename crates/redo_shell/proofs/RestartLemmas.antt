@@ -1,8 +1,8 @@
 -- What the opening of a store says of the files.
-use Rattle.std.proofs.Common.{◌≡◌, ◌≢◌, ◌⊎◌, ⊎_elim, ◌∙◌, ◌++◌, List, [], ◌∷◌, ℕ, refl, ap, sym, subst, arith, length, take, drop, false, Option, None}
+use Rattle.std.proofs.Common.{◌≡◌, ◌≢◌, ◌⊎◌, Err, ⊎_elim, ◌∙◌, ◌++◌, List, [], ◌∷◌, ℕ, refl, ap, sym, subst, arith, length, take, drop, false, Option, None}
 use Rattle.std.specs.Prelude.{IfSome}
 use Rattle.std.proofs.lemmas.List.{append-nil, length-append, take-append-drop}
-use Rattle.disk_model.specs.Disk.{Files, Disk, Stays}
+use Rattle.disk_model.specs.Disk.{Files, Disk, Passes, Rises, Stays}
 use Rattle.disk_model.specs.declared.machine.FileNo.TheVariants.{Objects}
 use Rattle.stable_objects.specs.Laws.{begins_store}
 use Rattle.disk_model.specs.declared.machine.FileNo.{FileNo}
@@ -12,35 +12,51 @@ use Rattle.formats.specs.declared.params.Params.{Params}
 use Rattle.op_codec.specs.AllOps.{all_meaning}
 use Rattle.explain_core.specs.History.{Member, commands_of}
 use Rattle.explain_core.specs.StableLaws.{commands_of-append}
-use Rattle.explain_core.specs.World.{World, run}
+use Rattle.explain_core.specs.World.{World, run, step}
 use Rattle.running_store.specs.Parts.{Shows}
 use Rattle.running_store.specs.Taking.{IsAfter}
 use Rattle.stable_objects.specs.Reading.{IsNoDamage}
 use Rattle.restart.specs.Courses.{restart_course}
-use Rattle.restart.specs.Opening.{OpensOn}
+use Rattle.restart.specs.Opening.{IsJudged, IsOpening, OpensOn}
 use Rattle.restart.specs.Reopened.{IsReopened}
 use Rattle.stable_objects.specs.declared.open_err.OpenErr.{OpenErr}
-use Rattle.stable_objects.specs.declared.open_err.OpenErr.TheVariants.{NotAStore, Damaged}
+use Rattle.stable_objects.specs.declared.open_err.OpenErr.TheVariants.{NotAStore, Damaged, DiskFault, Memory}
 use Rattle.standing.specs.Standing.{IsFound}
 use Rattle.store_engine.specs.Engine.{EngineView}
 use Rattle.store_engine.specs.Engine as of_engine
 use Rattle.store_engine.specs.Grouping.{ungrouped_alone}
+use Rattle.redo_shell.specs.Keeps.{KeepsFiles}
+use Rattle.redo_shell.specs.Notices.{damaged, not_a_store}
+use Rattle.redo_shell.specs.Open.{IsUnopened}
+use Rattle.redo_shell.specs.Status.{IsOfUnopened}
+use Rattle.redo_shell.specs.declared.status.Status.{Status}
+use Rattle.redo_shell.specs.declared.status.Status.TheVariants.{NotAStore as NoStore, Damaged as FilesDamaged, DiskFault as DiskFailed, SayFault, Memory as OutOfMemory}
 use Rattle.redo_shell.specs.Stages.{Stage, IsFirst, redo_dirty, stage_of}
 use Rattle.redo_shell.specs.Store.{Command, meaning_in, IsWellFormed, Opens, Holds, Says, ShowsIn}
-use Rattle.redo_shell.proofs.HoldLemmas.{holds_of}
+use Rattle.redo_shell.proofs.ExactLemmas.{unopened_reads_none}
+use Rattle.redo_shell.proofs.HoldLemmas.{holds_of, rises_within}
+use Rattle.redo_shell.proofs.KeepLemmas.{keeps_behind}
 
 -- a world that the files show, with these commands, and the length of their log
 abbrev pub Starts : Params → Disk → List Command → Type 0
 Starts p old commands = (used : ℕ) × (w : World Command) × IsFound (meaning_in p) p old.reads commands w × EndsAt old.reads used
 
 -- the stage that a restart makes of it
-pub first_of : {p : Params} {old : Disk} {commands : List Command} → Opens p old commands → Starts p old commands → (first : Stage) × IsFirst p commands old first
+abbrev pub first_of : {p : Params} {old : Disk} {commands : List Command} → Opens p old commands → Starts p old commands → (first : Stage) × IsFirst p commands old first
 first_of {p} {old} {commands} opens starts =
     let course = restart_course (meaning_in p) (redo_dirty p) starts.1 starts.0 in
     let found : OpensOn (meaning_in p) p old starts.0 starts.1 = record { told = opens.told; sound = starts.2.sound; shows = starts.2.shows; ends = starts.3 } in (
       record { world = run (meaning_in p) starts.1 course.steps; used = course.used; identities = 0; copied = None },
       record { used = starts.0; world = starts.1; found = found; commands_are = starts.2.commands_are; world_is = refl; used_is = refl; none_logged = refl; none_copied = refl },
     )
+
+-- its commands are those of the files
+pub first_commands : {p : Params} {old : Disk} {commands : List Command} (opens : Opens p old commands) (starts : Starts p old commands) → IsReopened (meaning_in p) starts.1 (run (meaning_in p) starts.1 (restart_course (meaning_in p) (redo_dirty p) starts.1 starts.0).steps)
+    → (first : Stage) × IsFirst p commands old first × (commands_of first.world.history ≡ commands)
+unfolding step
+first_commands opens starts reopened =
+    let first = first_of opens starts in
+    (first.0, first.1, reopened.commands ∙ ap (λ (w : World Command). commands_of w.history) starts.2.crashed ∙ starts.2.commands_are)
 
 -- a front that is as long as the whole is the whole
 whole_front : (a b whole : List Command) → a ++ b ≡ whole → length a ≡ length whole → a ≡ whole
@@ -99,3 +115,50 @@ not_damaged cause is none = subst (λ (e : OpenErr). IsNoDamage e) is none
 -- files that meet their format begin a store
 pub image_begins : {files : Files} → IsWellFormed files → BeginsStore (files Objects)
 image_begins {files} image = begins_store image.params (files Objects) image.objects
+
+-- How a call ends that found no store to open for this cause.
+pub record EndsUnopened (old new : Disk) (cause : OpenErr) (status : Status) : Type 0 where
+  pub time : Passes old new
+  pub keeps : KeepsFiles old new
+  pub no_store : old.tells_files → status ≡ NoStore → (cause ≡ NotAStore) × (new.said ≡ old.said ++ not_a_store)
+  pub damaged : old.tells_files → status ≡ FilesDamaged → (file : FileNo) × (place : ℕ) × (cause ≡ Damaged file place) × (new.said ≡ old.said ++ damaged file place)
+  pub quiet : cause ≢ NotAStore → IsNoDamage cause → (new.said ≡ old.said) × (status ≢ NoStore) × (status ≢ FilesDamaged) × (status ≢ SayFault)
+  pub silent : (status ≡ DiskFailed) ⊎ (status ≡ OutOfMemory) → new.said ≡ old.said
+  pub ends : IsOfUnopened status
+  pub disk_fault : status ≡ DiskFailed → cause ≡ DiskFault
+  pub say_fault : status ≡ SayFault → Rises old.say_faults new.say_faults
+  pub memory : status ≡ OutOfMemory → (cause ≡ Memory) ⊎ ((file : FileNo) × (place : ℕ) × (cause ≡ Damaged file place))
+
+-- why no store was opened
+pub unopened_so : {old mid new : Disk} {cause : OpenErr} {status : Status} → IsOpening all_meaning old mid (Err cause) → (old.tells_files → IsJudged all_meaning old mid (Err cause)) → EndsUnopened mid new cause status → IsUnopened old new status
+unopened_so {old} {mid} {new} {cause} {status} opening judges it = record {
+  ends = it.ends;
+  judged = λ told.
+      let told_mid = opening.time.files_told.0 told in
+      let judged = judges told in
+      record {
+        no_store = λ is.
+            let said = it.no_store told_mid is in
+            let stays = stays_unless judged.kept (λ image. no_damage cause (judged.whole image) said.0) in
+            (judged.no_store (cc (said.0)), it.keeps.reads told_mid ∙ stays.reads told, said.1 ∙ ap (λ (l : List ℕ). l ++ not_a_store) (opening.quiet told));
+        damaged = λ is.
+            let said = it.damaged told_mid is in
+            let stays = stays_unless judged.kept (λ image. not_damaged cause said.2 (judged.whole image)) in (
+              said.0,
+              said.1,
+              judged.damaged said.0 said.1 (cc (said.2)),
+              it.keeps.reads told_mid ∙ stays.reads told,
+              said.3 ∙ ap (λ (l : List ℕ). l ++ damaged said.0 said.1) (opening.quiet told),
+            );
+        store = λ image. let whole = judged.whole image in let quiet = it.quiet (no_damage cause whole) whole in (quiet.1, quiet.2);
+        opened = λ of. absurd (unopened_reads_none status it.ends of);
+        keeps = λ broken. keeps_behind old mid new (stays_unless judged.kept broken) it.keeps;
+        memory = λ is. ⊎_elim (λ e. judged.memory (cc e)) (λ broken. (judged.damaged broken.0 broken.1 (cc (broken.2))).gate) (it.memory is);
+        silent = λ broken is. it.silent is ∙ opening.quiet told;
+      };
+  quiet = λ told image. let whole = (judges told).whole image in (it.quiet (no_damage cause whole) whole).3;
+  faults = record {
+    disk = λ is. rises_within _ _ _ _ (omega arith) it.time.disk_faults (opening.fault (cc (it.disk_fault is)));
+    output = λ is. rises_within _ _ _ _ opening.time.say_faults (omega arith) (it.say_fault is);
+  };
+}

@@ -245,7 +245,7 @@ module _ {M T : Type 0} (disk : M → Disk) (other : T → Disk) (old new : M) (
   never_damaged (Err errors.Memory) done none = tt
 
   -- why a copy fails is why the run ends
-  copy_cause : (e : BackupErr) → CopyFailsBy (disk new) before (Rises (disk old).disk_faults (disk new).disk_faults) (Rises (other t).disk_faults (other u).disk_faults) e
+  copy_cause : (e : BackupErr) → CopyFailsBy (disk new) before after.copied (Rises (disk old).disk_faults (disk new).disk_faults) (Rises (other t).disk_faults (other u).disk_faults) e
       → IfErr (answer_of_backup_error e) (λ stop. IsCausedBeside stop (disk old) (disk new) (other t) (other u))
   copy_cause errors.DiskFault cause = cause
   copy_cause errors.TargetFault cause = cause
@@ -258,7 +258,7 @@ module _ {M T : Type 0} (disk : M → Disk) (other : T → Disk) (old new : M) (
   copy_cause (errors.NotCopied n) cause = tt
   copy_cause (errors.LogFull used need limit) cause = tt
 
-  copy_caused : (call : Result ℕ BackupErr) → IfErr call (CopyFailsBy (disk new) before (Rises (disk old).disk_faults (disk new).disk_faults) (Rises (other t).disk_faults (other u).disk_faults))
+  copy_caused : (call : Result ℕ BackupErr) → IfErr call (CopyFailsBy (disk new) before after.copied (Rises (disk old).disk_faults (disk new).disk_faults) (Rises (other t).disk_faults (other u).disk_faults))
       → IfErr (answer_of_call answers.Copied call) (λ stop. IsCausedBeside stop (disk old) (disk new) (other t) (other u))
   copy_caused (Ok n) cause = tt
   copy_caused (Err e) cause = copy_cause e cause
@@ -280,14 +280,14 @@ module _ {M T : Type 0} (disk : M → Disk) (other : T → Disk) (old new : M) (
   -- a copy only reads
   pub copy_saving : (count : ℕ) (call : Result ℕ BackupErr) → IfErr (judge_copy before) (λ why. IsRefusedSo why old new t u before after call) → IsEngineRead all_meaning (disk old) (disk new) before (but_copied before after) (IsErrOf call errors.DiskFault)
       → ((disk old).tells_files → IsAttached (disk old) before → (file : FileNo) (place : ℕ) → IsErrOf call (errors.Damaged file place) → ⊥)
-      → IfOk (judge_copy before) (λ copied. IfErr call (CopyFailsBy (disk new) before (Rises (disk old).disk_faults (disk new).disk_faults) (Rises (other t).disk_faults (other u).disk_faults))) → Saves (bcopy count) (answer_of_call answers.Copied call)
+      → IfOk (judge_copy before) (λ copied. IfErr call (CopyFailsBy (disk new) before after.copied (Rises (disk old).disk_faults (disk new).disk_faults) (Rises (other t).disk_faults (other u).disk_faults))) → Saves (bcopy count) (answer_of_call answers.Copied call)
   copy_saving count call refused read none cause = judged (copy_judged before)
     where
       judged : CopyJudged before → Saves (bcopy count) (answer_of_call answers.Copied call)
       judged (copy_barred size some is) = refused_saving (bcopy count) call answers.Copied (errors.InGroup size) tt (subst (λ (r : Result ℕ BackupErr). IfErr r (λ why. IsRefusedSo why old new t u before after call)) is refused)
       judged (copy_denied alone copies is) = refused_saving (bcopy count) call answers.Copied errors.NoBackup tt (subst (λ (r : Result ℕ BackupErr). IfErr r (λ why. IsRefusedSo why old new t u before after call)) is refused)
       judged (copy_allowed n alone copies is) = read_saving (bcopy count) (other t) (other u) (answer_of_call answers.Copied call) read (copy_works call) time
-          (copy_caused call (subst (λ (r : Result ℕ BackupErr). IfOk r (λ copied. IfErr call (CopyFailsBy (disk new) before (Rises (disk old).disk_faults (disk new).disk_faults) (Rises (other t).disk_faults (other u).disk_faults)))) is cause))
+          (copy_caused call (subst (λ (r : Result ℕ BackupErr). IfOk r (λ copied. IfErr call (CopyFailsBy (disk new) before after.copied (Rises (disk old).disk_faults (disk new).disk_faults) (Rises (other t).disk_faults (other u).disk_faults)))) is cause))
           (λ told attached. never_damaged call answers.Copied (none told attached))
 
   -- a finish that is allowed forces the log first

@@ -30,8 +30,9 @@ use Rattle.script_lines.specs.declared.answer.Answer.TheVariants as answers
 use Rattle.script_lines.specs.declared.backup_denial.BackupDenial.TheVariants as denials
 use Rattle.store_engine.specs.Engine as of_engine
 use Rattle.store_engine.specs.Engine.{EngineView, InEachImage, IsEngineRead, forced_in, params_of, used_in}
-use Rattle.backup_copy.specs.Calls.{BeginsNone, CopiesUpTo, CopyFailsBy, FinishFailsBy, ForcesFirst, HasForced, HasStartCause, IsFault, IsShutOrWhole, IsUntouched, LooksFirst, NoneIn, but_copied, copied_by_finish, copied_by_start}
+use Rattle.backup_copy.specs.Calls.{BeginsNone, CopiesUpTo, CopyFailsBy, FinishFailsBy, ForcesFirst, HasForced, HasLength, HasStartCause, IsFault, IsShutOrWhole, IsUntouched, LooksFirst, NoneIn, but_copied, copied_by_finish, copied_by_start}
 use Rattle.backup_copy.specs.Copies.{Copies}
+use Rattle.backup_copy.specs.Length.{backup_length}
 use Rattle.backup_copy.specs.Refusals.{IsRefusedSo, judge_copy, judge_finish, judge_start}
 use Rattle.backup_copy.specs.Target.{AreShut}
 use Rattle.backup_copy.specs.declared.backup_err.BackupErr.{BackupErr}
@@ -455,7 +456,7 @@ module _ {M T : Type 0} (disk : M → Disk) (other : T → Disk) (old new : M) (
     copy_goes k alone is (Err (errors.NotCopied n)) read end now on cause = absurd cause
     copy_goes k alone is (Err (errors.LogFull used need limit)) read end now on cause = absurd cause
 
-    failure_of : (rises target_rises : Type 0) (e : BackupErr) → CopyFailsBy (disk new) before rises target_rises e → IsFailure e
+    failure_of : (rises target_rises : Type 0) (e : BackupErr) → CopyFailsBy (disk new) before after.copied rises target_rises e → IsFailure e
     failure_of rises target_rises errors.DiskFault cause = tt
     failure_of rises target_rises errors.TargetFault cause = tt
     failure_of rises target_rises (errors.Damaged file place) cause = tt
@@ -467,14 +468,14 @@ module _ {M T : Type 0} (disk : M → Disk) (other : T → Disk) (old new : M) (
     failure_of rises target_rises (errors.NotCopied n) cause = cause
     failure_of rises target_rises (errors.LogFull used need limit) cause = cause
 
-    failure_in : (rises target_rises : Type 0) (call : Result ℕ BackupErr) → IfErr call (CopyFailsBy (disk new) before rises target_rises) → IfErr call IsFailure
+    failure_in : (rises target_rises : Type 0) (call : Result ℕ BackupErr) → IfErr call (CopyFailsBy (disk new) before after.copied rises target_rises) → IfErr call IsFailure
     failure_in rises target_rises (Ok n) cause = tt
     failure_in rises target_rises (Err e) cause = failure_of rises target_rises e cause
 
     pub copy_done : (call : Result ℕ BackupErr) → IfErr (judge_copy before) (λ why. IsRefusedSo why old new t u before after call) → IsEngineRead all_meaning (disk old) (disk new) before (but_copied before after) (IsErrOf call errors.DiskFault)
         → IfOk (judge_copy before) (λ k. CopiesUpTo k (min (k + count) (params_of before).objects) after.copied call) → IfOk call (λ n. after.copied ≡ Some n)
         → ((p : Params) (w : World Command) → Copies all_meaning p (disk old) before w (other t) → IsFault call ⊎ Copies all_meaning p (disk new) after w (other u))
-        → (rises target_rises : Type 0) → IfOk (judge_copy before) (λ k. IfErr call (CopyFailsBy (disk new) before rises target_rises)) → Answers (answer_of_call answers.Copied call)
+        → (rises target_rises : Type 0) → IfOk (judge_copy before) (λ k. IfErr call (CopyFailsBy (disk new) before after.copied rises target_rises)) → Answers (answer_of_call answers.Copied call)
     copy_done call refused read end now on rises target_rises cause = judged (copy_judged before)
       where
         judged : CopyJudged before → Answers (answer_of_call answers.Copied call)
@@ -483,7 +484,7 @@ module _ {M T : Type 0} (disk : M → Disk) (other : T → Disk) (old new : M) (
         judged (copy_denied alone none judge) = refused_done call answers.Copied errors.NoBackup (subst (λ (r : Result ℕ BackupErr). IfErr r (λ why. IsRefusedSo why old new t u before after call)) judge refused)
             (denied_so p start (disk old) (other t) before commands line holds denials.NoBackup (bcopy count) tt asks alone none (λ there. tt))
         judged (copy_allowed k alone is judge) = copy_goes k alone is call read (subst (λ (r : Result ℕ BackupErr). IfOk r (λ k. CopiesUpTo k (min (k + count) (params_of before).objects) after.copied call)) judge end) now on
-            (failure_in rises target_rises call (subst (λ (r : Result ℕ BackupErr). IfOk r (λ k. IfErr call (CopyFailsBy (disk new) before rises target_rises))) judge cause))
+            (failure_in rises target_rises call (subst (λ (r : Result ℕ BackupErr). IfOk r (λ k. IfErr call (CopyFailsBy (disk new) before after.copied rises target_rises))) judge cause))
 
   -- a finish
   module _ (asks : AsksFor line bfinish) (within : IfSome before.copied (λ n. n ≤ (params_of before).objects))
@@ -501,47 +502,51 @@ module _ {M T : Type 0} (disk : M → Disk) (other : T → Disk) (old new : M) (
     abbrev Again : Result ℕ BackupErr → Type 0
     Again call = (p : Params) (w : World Command) → Copies all_meaning p (disk old) before w (other t) → OnErr call (IsFault call ⊎ Copies all_meaning p (disk new) after (run (meaning_in p) w (force_steps (meaning_in p) w)) (other u))
 
+    -- how long the log of the backup is, after the force
+    abbrev TellsLong : Result ℕ BackupErr → Type 0
+    TellsLong call = HasLength (backup_length (meaning_in p) (run (meaning_in p) holds.world (force_steps (meaning_in p) holds.world))) call
+
     abbrev HasSaved : Result ℕ BackupErr → Type 0
     HasSaved call = (p : Params) (w : World Command) → Copies all_meaning p (disk old) before w (other t)
         → IfOk call (λ n. (n ≡ length (commands_of w.history)) × ((other t).tells_files → InEachImage (other u) (λ files. Stands p files (commands_of w.history))))
 
     finish_goes : (k : ℕ) → before.group ≡ None → before.copied ≡ Some k → (params_of before).objects ≤ k → (call : Result ℕ BackupErr) → ForcesFirst all_meaning (disk old) (disk new) before after call → after.copied ≡ copied_by_finish before.copied call
-        → HasSaved call → Again call → (rises target_rises : Type 0) (fault : FileNo → ℕ → Type 0) → IfErr call (FinishFailsBy rises target_rises fault after) → Answers (answer_of_call answers.Saved call)
-    finish_goes k alone is high (Ok n) forced copies stands again rises target_rises fault cause =
+        → HasSaved call → Again call → TellsLong call → (rises target_rises : Type 0) (fault : FileNo → ℕ → Type 0) → IfErr call (FinishFailsBy rises target_rises fault after) → Answers (answer_of_call answers.Saved call)
+    finish_goes k alone is high (Ok n) forced copies stands again long rises target_rises fault cause =
         let f = forced_so holds alone forced in
         let count : n ≡ length commands = (forced.forced p commands (in_engine holds)).0 in
         record {
           whole = (
-            forced_done (forced.call.quiet holds.shows.shows.told) (saved n) holds f (asks, none_open holds.shows alone, count, refl) f.group (all_copied k is high, forced_stage_is None f copies) tt,
+            forced_done (forced.call.quiet holds.shows.shows.told) (saved n) holds f (asks, none_open holds.shows alone, count, refl) f.group (all_copied k is high, long, forced_stage_is None f copies) tt,
             saved_goes p start (disk old) (disk new) (other t) (other u) before after holds.world (run (meaning_in p) holds.world (force_steps (meaning_in p) holds.world)) commands line lawful ends time n k is copies count holds.commands_are (λ c told. (stands p holds.world c).1 told) (λ telling c. moments telling p holds.world c),
           );
           stopped = tt;
         }
-    finish_goes k alone is high (Err (errors.LogFull used need limit)) forced copies stands again rises target_rises fault cause =
+    finish_goes k alone is high (Err (errors.LogFull used need limit)) forced copies stands again long rises target_rises fault cause =
         let f = forced_so holds alone forced.1 in
         record {
           whole = (
             forced_done (forced.1.call.quiet holds.shows.shows.told) (full used need limit) holds f (inr (bfinish, tt, asks, none_open holds.shows alone, cause.1, cause.2, refl)) f.group
-                (inr (asks, all_copied k is high, cause.0 ∙ f.used, forced_stage_is before.copied f copies)) (inr (record { none_waits = f.none_waits; alone = f.alone; used_is = cause.0 })),
+                (inr (asks, all_copied k is high, cause.0 ∙ f.used, long, forced_stage_is before.copied f copies)) (inr (record { none_waits = f.none_waits; alone = f.alone; used_is = cause.0 })),
             full_goes p start (disk old) (disk new) (other t) (other u) before after holds.world (run (meaning_in p) holds.world (force_steps (meaning_in p) holds.world)) commands line lawful ends time used need limit k is holds.commands_are (λ c. ⊎_elim (λ failed. absurd (full_no_fault (Err (errors.LogFull used need limit)) used need limit refl failed)) (λ c. c) (again p holds.world c)) (λ telling c. moments telling p holds.world c),
           );
           stopped = tt;
         }
-    finish_goes k alone is high (Err errors.DiskFault) forced copies stands again rises target_rises fault cause = finish_fails k is DiskFault
-    finish_goes k alone is high (Err errors.TargetFault) forced copies stands again rises target_rises fault cause = finish_fails k is BackupFault
-    finish_goes k alone is high (Err (errors.Damaged file place)) forced copies stands again rises target_rises fault cause = finish_fails k is (Damaged file place)
-    finish_goes k alone is high (Err errors.Memory) forced copies stands again rises target_rises fault cause = finish_fails k is Memory
-    finish_goes k alone is high (Err (errors.InGroup size)) forced copies stands again rises target_rises fault cause = absurd cause
-    finish_goes k alone is high (Err (errors.InBackup n)) forced copies stands again rises target_rises fault cause = absurd cause
-    finish_goes k alone is high (Err errors.NoBackup) forced copies stands again rises target_rises fault cause = absurd cause
-    finish_goes k alone is high (Err errors.AlreadyStore) forced copies stands again rises target_rises fault cause = absurd cause
-    finish_goes k alone is high (Err (errors.NotCopied n)) forced copies stands again rises target_rises fault cause = absurd cause
+    finish_goes k alone is high (Err errors.DiskFault) forced copies stands again long rises target_rises fault cause = finish_fails k is DiskFault
+    finish_goes k alone is high (Err errors.TargetFault) forced copies stands again long rises target_rises fault cause = finish_fails k is BackupFault
+    finish_goes k alone is high (Err (errors.Damaged file place)) forced copies stands again long rises target_rises fault cause = finish_fails k is (Damaged file place)
+    finish_goes k alone is high (Err errors.Memory) forced copies stands again long rises target_rises fault cause = finish_fails k is Memory
+    finish_goes k alone is high (Err (errors.InGroup size)) forced copies stands again long rises target_rises fault cause = absurd cause
+    finish_goes k alone is high (Err (errors.InBackup n)) forced copies stands again long rises target_rises fault cause = absurd cause
+    finish_goes k alone is high (Err errors.NoBackup) forced copies stands again long rises target_rises fault cause = absurd cause
+    finish_goes k alone is high (Err errors.AlreadyStore) forced copies stands again long rises target_rises fault cause = absurd cause
+    finish_goes k alone is high (Err (errors.NotCopied n)) forced copies stands again long rises target_rises fault cause = absurd cause
 
     pub finish_done : (call : Result ℕ BackupErr) → IfErr (judge_finish before) (λ why. IsRefusedSo why old new t u before after call) → IfOk (judge_finish before) (λ done. ForcesFirst all_meaning (disk old) (disk new) before after call)
         → after.copied ≡ copied_by_finish before.copied call → HasSaved call
         → ((p : Params) (w : World Command) → Copies all_meaning p (disk old) before w (other t) → IfOk (judge_finish before) (λ done. OnErr call (IsFault call ⊎ Copies all_meaning p (disk new) after (run (meaning_in p) w (force_steps (meaning_in p) w)) (other u))))
-        → (rises target_rises : Type 0) (fault : FileNo → ℕ → Type 0) → IfOk (judge_finish before) (λ done. IfErr call (FinishFailsBy rises target_rises fault after)) → Answers (answer_of_call answers.Saved call)
-    finish_done call refused forces copies stands again rises target_rises fault cause = judged (finish_judged before)
+        → TellsLong call → (rises target_rises : Type 0) (fault : FileNo → ℕ → Type 0) → IfOk (judge_finish before) (λ done. IfErr call (FinishFailsBy rises target_rises fault after)) → Answers (answer_of_call answers.Saved call)
+    finish_done call refused forces copies stands again long rises target_rises fault cause = judged (finish_judged before)
       where
         judged : FinishJudged before → Answers (answer_of_call answers.Saved call)
         judged (finish_barred size some judge) = refused_done call answers.Saved (errors.InGroup size) (subst (λ (r : Result (Unit {0}) BackupErr). IfErr r (λ why. IsRefusedSo why old new t u before after call)) judge refused)
@@ -552,4 +557,4 @@ module _ {M T : Type 0} (disk : M → Disk) (other : T → Disk) (old new : M) (
             (denied_so p start (disk old) (other t) before commands line holds denials.NotCopied bfinish tt asks alone (n, is, subst (λ (q : Params). n < q.objects) holds.shows.shows.store.params low) (λ there. tt))
         judged (finish_allowed k alone is high judge) = finish_goes k alone is high call (subst (λ (r : Result (Unit {0}) BackupErr). IfOk r (λ done. ForcesFirst all_meaning (disk old) (disk new) before after call)) judge forces) copies stands
             (λ p w c. subst (λ (r : Result (Unit {0}) BackupErr). IfOk r (λ done. OnErr call (IsFault call ⊎ Copies all_meaning p (disk new) after (run (meaning_in p) w (force_steps (meaning_in p) w)) (other u)))) judge (again p w c))
-            rises target_rises fault (subst (λ (r : Result (Unit {0}) BackupErr). IfOk r (λ done. IfErr call (FinishFailsBy rises target_rises fault after))) judge cause)
+            long rises target_rises fault (subst (λ (r : Result (Unit {0}) BackupErr). IfOk r (λ done. IfErr call (FinishFailsBy rises target_rises fault after))) judge cause)

@@ -2,16 +2,25 @@
 use Rattle.std.proofs.Common.{◌≡◌, ◌↔◌, ◌⊎◌, inl, inr, ⊎_elim, ◌+◌, ◌-◌, ◌++◌, List, ℕ, [], ◌∷◌, length, take, append_assoc, refl, ap, ◌∙◌, sym, subst, arith}
 use Rattle.std.specs.Prelude.{⊤}
 use Rattle.std.proofs.Math.Seq.{take-append-add}
-use Rattle.std.proofs.lemmas.List.{append-nil, append_cancel_left, length-take-le, take_all}
+use Rattle.std.specs.Prelude.{if◌then◌else◌}
+use Rattle.std.proofs.lemmas.List.{append-nil, append_cancel_left, length-append, length-take-le, take_all}
 use Rattle.disk_model.specs.Disk.{Files, Disk, IsDisk, Passes, IsSettled}
+use Rattle.oper_core.specs.Meaning.{Meaning}
+use Rattle.formats.specs.Records.{records_of}
 use Rattle.formats.specs.declared.params.Params.{Params}
+use Rattle.formats.specs.declared.record.Record.{Record}
+use Rattle.explain_core.specs.History.{Member, commands_of}
+use Rattle.explain_core.specs.StableLaws.{commands_of-append}
+use Rattle.execution.specs.Judged.{Judged, follows, is_refused, judge_behind, with_judged}
+use Rattle.execution.specs.Judged.Judged.{Passed, Taken, Gap, Differs}
 use Rattle.op_codec.specs.AllOps.{all_meaning}
 use Rattle.store_engine.specs.ImageLaws.{stands_begins}
 use Rattle.script_lines.specs.Replies.{Reply}
-use Rattle.redo_shell.specs.Store.{Command, Stands, StandsInEither, IsNew, IsUpgraded}
+use Rattle.redo_shell.specs.Store.{Command, Stands, StandsInEither, IsNew, IsUpgraded, meaning_in}
 use Rattle.redo_shell.specs.Groups.{account_of}
 use Rattle.redo_shell.specs.Answers.{Said, Begun, Moment}
-use Rattle.redo_shell.specs.Sessions.{Ran, Sizing, by_init, by_upgrade, Adds, Grows, Survives, Follows, Sessions, AllSilent, WereAskedFor, WereGrownTo, IsThere, Arises, none, more, larger, start, run, init, dump, upgrade, other}
+use Rattle.redo_shell.specs.Sessions.{Ran, Sizing, by_init, by_upgrade, by_follow, Adds, Grows, Survives, Follows, Sessions, AllSilent, WereAskedFor, WereGrownTo, WereFollowed, IsThere, Arises, none, more, larger, followed, start, run, init, reads, upgrade, follow, other}
+use Rattle.redo_shell.specs.Following.{StreamMoment}
 use Rattle.redo_shell.proofs.PrintedLemmas.{nothing_printed}
 use Rattle.redo_shell.proofs.StoryLemmas.{answers_grow, ended_whole, story_start, told_whole}
 
@@ -84,11 +93,19 @@ survives_as s stands = record { numbers = s.numbers; now = s.now; later = s.late
 grown_more : (size : Sizing) (sizes : List Sizing) (p : Params) → WereGrownTo sizes p → WereGrownTo (size ∷ sizes) p
 grown_more (by_init q) sizes p were = were
 grown_more (by_upgrade q) sizes p were = inr were
+grown_more (by_follow bytes) sizes p were = were
+
+-- and nothing takes away a stream
+followed_more : (size : Sizing) (sizes : List Sizing) (bytes : List ℕ) → WereFollowed sizes bytes → WereFollowed (size ∷ sizes) bytes
+followed_more (by_init q) sizes bytes were = were
+followed_more (by_upgrade q) sizes bytes were = were
+followed_more (by_follow others) sizes bytes were = inr were
 
 grows_more : (size : Sizing) {sizes : List Sizing} {p : Params} {commands : List Command} {runs : List Ran} {q : Params} {now : List Command} → Grows sizes p commands runs q now → Grows (size ∷ sizes) p commands runs q now
 grows_more size none = none
 grows_more size (more ran before adds) = more ran (grows_more size before) adds
 grows_more size {sizes} (larger r before were) = larger r (grows_more size before) (grown_more size sizes r were)
+grows_more size {sizes} (followed bytes before were adds) = followed bytes (grows_more size before) (followed_more size sizes bytes were) adds
 
 survives_more : (size : Sizing) {sizes : List Sizing} {p : Params} {commands : List Command} {runs : List Ran} {files : Files} → Survives sizes p commands runs files → Survives (size ∷ sizes) p commands runs files
 survives_more size s = record { numbers = s.numbers; now = s.now; later = s.later; now_is = s.now_is; grows = grows_more size s.grows; stands = s.stands; acked = s.acked }
@@ -111,6 +128,37 @@ survives_upgrade {files = files} q s either = ⊎_elim
     (λ (stands : Stands s.numbers files s.now). survives_more (by_upgrade q) (survives_as s stands))
     (λ (upgraded : IsUpgraded q s.now files). survives_grown q s upgraded.stands)
     either
+
+-- what is judged of a record, and then of others, leaves a history that goes on, or stays
+goes_by : {O : Type 0} (m : Meaning O) (h : List (Member O)) (records : List (Record O)) → ((k : List (Member O)) → (more : List (Member O)) × (follows m k records ≡ k ++ more)) → (judged : Judged O)
+    → (more : List (Member O)) × ((if is_refused judged then h else follows m (with_judged h judged) records) ≡ h ++ more)
+goes_by m h records rest Passed = rest h
+goes_by m h records rest (Taken member) = let behind = rest (h ++ member ∷ []) in (member ∷ behind.0, behind.1 ∙ append_assoc h (member ∷ []) behind.0)
+goes_by m h records rest (Gap expected got) = ([], sym (append-nil h))
+goes_by m h records rest (Differs number) = ([], sym (append-nil h))
+
+follows_on : {O : Type 0} (m : Meaning O) (h : List (Member O)) (records : List (Record O)) → (more : List (Member O)) × (follows m h records ≡ h ++ more)
+follows_on m h [] = ([], sym (append-nil h))
+follows_on m h (r ∷ records) = goes_by m h records (λ k. follows_on m k records) (judge_behind m h r)
+
+-- so have files at a moment of the following of a stream what some frames of it make of the commands
+survives_follow : {sizes : List Sizing} {p : Params} {commands : List Command} {runs : List Ran} {was files : Files} (bytes : List ℕ) (s : Survives sizes p commands runs was) (first : List (Member Command)) → commands_of first ≡ s.now
+    → StreamMoment s.numbers first bytes files → Survives (by_follow bytes ∷ sizes) p commands runs files
+survives_follow {sizes} {p} {commands} {runs} bytes s first are moment =
+    let records = records_of moment.follows_to.groups in
+    let grown = follows_on (meaning_in s.numbers) first records in
+    let added = commands_of grown.0 in
+    let whole : moment.commands ≡ s.now ++ added = moment.follows_to.commands_are ∙ ap (λ (h : List (Member Command)). commands_of h) grown.1 ∙ commands_of-append first grown.0 ∙ ap (λ (l : List Command). l ++ added) are in
+    let long = ap (λ (l : List Command). length l) whole ∙ length-append s.now added in
+    record {
+      numbers = s.numbers;
+      now = moment.commands;
+      later = s.later ++ added;
+      now_is = whole ∙ ap (λ (l : List Command). l ++ added) s.now_is ∙ append_assoc commands s.later added;
+      grows = followed bytes (grows_more (by_follow bytes) s.grows) (inl refl) (first, moment.rest, are, moment.follows_to);
+      stands = moment.stands;
+      acked = λ n said. let enough = s.acked n said in omega (arith, enough, long);
+    }
 
 -- before the first run
 abbrev survives_start : (sizes : List Sizing) (p : Params) (commands : List Command) (files : Files) → Stands p files commands → Survives sizes p commands [] files
@@ -150,13 +198,13 @@ module _ {T : Type 0} (disk : T → Disk) (lawful : (m : T) → IsDisk (disk m))
       let (told_old, each_old) = survive before in
       let read = each_old (disk old).reads (disk old).said ((lawful old).as_read told_old) in
       absurd (no_store (stands_begins all_meaning read.stands))
-  survive (dump old new next bytes before keeps leaves follows) =
+  survive (reads old new next bytes before keeps leaves follows) =
       let (told_old, each_old) = survive before in
       let read = each_old (disk old).reads (disk old).said ((lawful old).as_read told_old) in
       let images = leaves read.numbers read.now (record { told = (lawful old).telling told_old; stands = read.stands }) told_old in
       let told_next = follows.told told_old in (
         told_next,
-        λ files said left. ⊎_elim (λ was. each_old files bytes was) (λ m. survives_as read m.stands) (images.each files bytes (follows.within told_next files said left)),
+        λ files said left. ⊎_elim (λ was. each_old files bytes was) (λ stands. survives_as read stands) (images.each files bytes (follows.within told_next files said left)),
       )
   survive (upgrade old new next q bytes before keeps leaves follows) =
       let (told_old, each_old) = survive before in
@@ -165,6 +213,14 @@ module _ {T : Type 0} (disk : T → Disk) (lawful : (m : T) → IsDisk (disk m))
       let told_next = follows.told told_old in (
         told_next,
         λ files said left. ⊎_elim (λ was. survives_more (by_upgrade q) (each_old files bytes was)) (λ either. survives_upgrade q read either) (images.each files bytes (follows.within told_next files said left)),
+      )
+  survive (follow old new next stream bytes before keeps leaves follows) =
+      let (told_old, each_old) = survive before in
+      let read = each_old (disk old).reads (disk old).said ((lawful old).as_read told_old) in
+      let (first_of, are, images) = leaves read.numbers read.now (record { told = (lawful old).telling told_old; stands = read.stands }) told_old in
+      let told_next = follows.told told_old in (
+        told_next,
+        λ files said left. ⊎_elim (λ was. survives_more (by_follow stream) (each_old files bytes was)) (λ moment. survives_follow stream read first_of are moment) (images.each files bytes (follows.within told_next files said left)),
       )
   survive (other old new next bytes before kept follows) =
       let (told_old, each_old) = survive before in
@@ -177,6 +233,7 @@ module _ {T : Type 0} (disk : T → Disk) (lawful : (m : T) → IsDisk (disk m))
 asked_more : (size : Sizing) (sizes : List Sizing) (p : Params) → WereAskedFor sizes p → WereAskedFor (size ∷ sizes) p
 asked_more (by_init q) sizes p were = inr were
 asked_more (by_upgrade q) sizes p were = were
+asked_more (by_follow bytes) sizes p were = were
 
 from_more : (first : Disk) (size : Sizing) (sizes : List Sizing) (p : Params) → WereAskedFor sizes p ⊎ IsThere first p → WereAskedFor (size ∷ sizes) p ⊎ IsThere first p
 from_more first size sizes p from = ⊎_elim (λ (asked : WereAskedFor sizes p). inl (asked_more size sizes p asked)) (λ (there : IsThere first p). inr there) from
@@ -232,7 +289,7 @@ module _ {T : Type 0} (disk : T → Disk) (lawful : (m : T) → IsDisk (disk m))
             (λ (is_read : (q : Params) × (WereAskedFor sizes q ⊎ IsThere (disk first) q) × Survives sizes q [] runs (disk old).reads). absurd (no_store (stands_begins all_meaning is_read.2.stands)))
             read_or,
       )
-  arise (dump {sizes} {runs} old new next bytes before keeps leaves follows) =
+  arise (reads {sizes} {runs} old new next bytes before keeps leaves follows) =
       let (told_old, each_old) = arise before in
       let read_or = each_old (disk old).reads (disk old).said ((lawful old).as_read told_old) in
       let told_next = follows.told told_old in (
@@ -242,7 +299,7 @@ module _ {T : Type 0} (disk : T → Disk) (lawful : (m : T) → IsDisk (disk m))
             (λ (is_read : (p : Params) × (WereAskedFor sizes p ⊎ IsThere (disk first) p) × Survives sizes p [] runs (disk old).reads).
             let (p, from, read) = is_read in
             let images = leaves read.numbers read.now (record { told = (lawful old).telling told_old; stands = read.stands }) told_old in
-            ⊎_elim (λ was. each_old files bytes was) (λ m. inr (p, from, survives_as read m.stands)) (images.each files bytes (follows.within told_next files said left)))
+            ⊎_elim (λ was. each_old files bytes was) (λ stands. inr (p, from, survives_as read stands)) (images.each files bytes (follows.within told_next files said left)))
             read_or,
       )
   arise (upgrade {sizes} {runs} old new next q bytes before keeps leaves follows) =
@@ -256,6 +313,20 @@ module _ {T : Type 0} (disk : T → Disk) (lawful : (m : T) → IsDisk (disk m))
             let (p, from, read) = is_read in
             let images = leaves read.numbers read.now (record { told = (lawful old).telling told_old; stands = read.stands }) told_old in
             ⊎_elim (λ was. arises_more (disk first) sizes runs files (by_upgrade q) (each_old files bytes was)) (λ either. inr (p, from_more (disk first) (by_upgrade q) sizes p from, survives_upgrade q read either))
+            (images.each files bytes (follows.within told_next files said left)))
+            read_or,
+      )
+  arise (follow {sizes} {runs} old new next stream bytes before keeps leaves follows) =
+      let (told_old, each_old) = arise before in
+      let read_or = each_old (disk old).reads (disk old).said ((lawful old).as_read told_old) in
+      let told_next = follows.told told_old in (
+        told_next,
+        λ files said left. ⊎_elim
+            (λ no_store. arises_more (disk first) sizes runs files (by_follow stream) (each_old files (disk old).said (((keeps no_store.0 told_old).images told_old).each files bytes (follows.within told_next files said left))))
+            (λ (is_read : (p : Params) × (WereAskedFor sizes p ⊎ IsThere (disk first) p) × Survives sizes p [] runs (disk old).reads).
+            let (p, from, read) = is_read in
+            let (first_of, are, images) = leaves read.numbers read.now (record { told = (lawful old).telling told_old; stands = read.stands }) told_old in
+            ⊎_elim (λ was. arises_more (disk first) sizes runs files (by_follow stream) (each_old files bytes was)) (λ moment. inr (p, from_more (disk first) (by_follow stream) sizes p from, survives_follow stream read first_of are moment))
             (images.each files bytes (follows.within told_next files said left)))
             read_or,
       )

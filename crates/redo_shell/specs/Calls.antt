@@ -8,7 +8,7 @@ use Rattle.standing.specs.Standing.{FilesShow}
 use Rattle.script_lines.specs.Grammar.{lines_of}
 use Rattle.command_words.specs.Words.{Asks}
 use Rattle.command_words.specs.declared.asked.Asked.{Asked}
-use Rattle.command_words.specs.declared.asked.Asked.TheVariants.{Init, Run, Dump, Demo, Upgrade}
+use Rattle.command_words.specs.declared.asked.Asked.TheVariants.{Init, Run, Dump, Demo, Upgrade, Ship, Follow}
 use Rattle.store_engine.specs.Engine.{InEachImage}
 use Rattle.store_engine.specs.Upgrading.{IsSecond}
 use Rattle.stable_objects.specs.Larger.{IsLarger}
@@ -23,7 +23,9 @@ use Rattle.redo_shell.specs.Notices as notices
 use Rattle.redo_shell.specs.Run.{IsComplete, MomentSoFar}
 use Rattle.redo_shell.specs.Stages.{Stage, IsFirst}
 use Rattle.redo_shell.specs.Courses.{RunMoment, TableMoment}
-use Rattle.redo_shell.specs.Sessions.{Ran, Sizing, by_init, by_upgrade, Follows, Sessions}
+use Rattle.redo_shell.specs.Sessions.{Ran, Sizing, by_init, by_upgrade, by_follow, Follows, Sessions}
+use Rattle.redo_shell.specs.Shipping.{IsShipCall}
+use Rattle.redo_shell.specs.Following.{IsFollowCall}
 use Rattle.redo_shell.specs.Status.{IsCut, IsOfRun, IsOfSecond, IsOfDump, IsOfInit, IsOfUpgrade}
 use Rattle.redo_shell.specs.declared.status.Status.{Status}
 use Rattle.redo_shell.specs.declared.status.Status.TheVariants.{Done, DoneWithRefusals, NotAStore, AlreadyStore, Damaged, DiskFault, Memory, AlreadyTwo, Smaller}
@@ -144,13 +146,15 @@ IsCallFor Dump told left rest old new status = IsDumpCall old new status
 IsCallFor (Init p) told left rest old new status = IsMaking p old new status
 IsCallFor (Upgrade q) told left rest old new status = IsUpgradeCall q old new status
 IsCallFor (Demo seed steps) told left rest old new status = IsDemo seed steps old new status
+IsCallFor (Ship from) told left rest old new status = IsShipCall from old new status
+IsCallFor Follow told left rest old new status = IsFollowCall told left rest old new status
 
--- A call with these words, and this script where its source reports it, or some script where it does not, goes on any calls
+-- A call with these words, whose input had `left` at its start and has `rest` at its end where its source reports it, goes on any calls
 -- before it, whatever follows it: nothing, a kill at one of its moments, or a crash.
-pub record GoesOn {T : Type 0} (disk : T → Disk) (words : List (List ℕ)) (told : Type 0) (script : List (List ℕ)) (old new : T) : Type 0 where
+pub record GoesOn {T : Type 0} (disk : T → Disk) (words : List (List ℕ)) (told : Type 0) (left rest : List ℕ) (old new : T) : Type 0 where
   pub time : Passes (disk old) (disk new)
   pub run : (first next : T) (sizes : List Sizing) (runs : List Ran) (bytes : List ℕ) → Asks words Run → told → BeginsStore ((disk old).reads Objects) → Sessions disk first sizes runs old
-      → Follows (disk old) (disk new) (disk next) ((disk old).said ++ bytes) → Sessions disk first sizes (record { script = script; bytes = bytes } ∷ runs) next
+      → Follows (disk old) (disk new) (disk next) ((disk old).said ++ bytes) → Sessions disk first sizes (record { script = lines_of left; bytes = bytes } ∷ runs) next
   pub run_untold : Asks words Run → (script : List (List ℕ)) × ((first next : T) (sizes : List Sizing) (runs : List Ran) (bytes : List ℕ) → BeginsStore ((disk old).reads Objects) → Sessions disk first sizes runs old
       → Follows (disk old) (disk new) (disk next) ((disk old).said ++ bytes) → Sessions disk first sizes (record { script = script; bytes = bytes } ∷ runs) next)
   pub init : (p : Params) (first next : T) (sizes : List Sizing) (runs : List Ran) (said : List ℕ) → Asks words (Init p) → (BeginsStore ((disk old).reads Objects) → ⊥) → Sessions disk first sizes runs old
@@ -158,3 +162,8 @@ pub record GoesOn {T : Type 0} (disk : T → Disk) (words : List (List ℕ)) (to
   pub dump : (first next : T) (sizes : List Sizing) (runs : List Ran) (said : List ℕ) → Asks words Dump → Sessions disk first sizes runs old → Follows (disk old) (disk new) (disk next) said → Sessions disk first sizes runs next
   pub upgrade : (q : Params) (first next : T) (sizes : List Sizing) (runs : List Ran) (said : List ℕ) → Asks words (Upgrade q) → Sessions disk first sizes runs old → Follows (disk old) (disk new) (disk next) said
       → Sessions disk first (by_upgrade q ∷ sizes) runs next
+  pub ship : (from : ℕ) (first next : T) (sizes : List Sizing) (runs : List Ran) (said : List ℕ) → Asks words (Ship from) → Sessions disk first sizes runs old → Follows (disk old) (disk new) (disk next) said
+      → Sessions disk first sizes runs next
+  -- of some bytes, which the input had in front where its source reports them
+  pub follow : Asks words Follow → (bytes : List ℕ) × (told → left ≡ bytes ++ rest) × ((first next : T) (sizes : List Sizing) (runs : List Ran) (said : List ℕ) → Sessions disk first sizes runs old → Follows (disk old) (disk new) (disk next) said
+      → Sessions disk first (by_follow bytes ∷ sizes) runs next)

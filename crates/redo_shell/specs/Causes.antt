@@ -11,7 +11,7 @@ use Rattle.op_codec.specs.AllOps.{all_meaning}
 use Rattle.script_lines.specs.Reading.{ReadsOn}
 use Rattle.command_words.specs.Words.{Asks}
 use Rattle.command_words.specs.declared.asked.Asked.{Asked}
-use Rattle.command_words.specs.declared.asked.Asked.TheVariants.{Upgrade}
+use Rattle.command_words.specs.declared.asked.Asked.TheVariants.{Upgrade, Ship, Follow}
 use Rattle.store_engine.specs.Engine.{InEachImage}
 use Rattle.stable_objects.specs.Larger.{HasLastHead}
 use Rattle.stable_objects.specs.SlotsView.{SlotsView, AreOf}
@@ -20,7 +20,7 @@ use Rattle.redo_shell.specs.Notices as notices
 use Rattle.redo_shell.specs.Status.{IsOfStore}
 use Rattle.redo_shell.specs.Store.{IsWellFormed}
 use Rattle.redo_shell.specs.declared.status.Status.{Status}
-use Rattle.redo_shell.specs.declared.status.Status.TheVariants.{Usage, NotAStore, AlreadyStore, Damaged, DiskFault, ReadFault, SayFault, BackupFault, Memory, TooLong}
+use Rattle.redo_shell.specs.declared.status.Status.TheVariants.{Usage, NotAStore, AlreadyStore, Damaged, DiskFault, ReadFault, SayFault, BackupFault, Memory, TooLong, Gone, BadStream, StandbyFull}
 
 -- the words ask for nothing that the program does
 abbrev pub AsksNothing : List (List ℕ) → Type 0
@@ -116,3 +116,7 @@ pub record ComesByCause (words : List (List ℕ)) (told : Type 0) (left rest : L
   pub backup_fault : status ≡ BackupFault → Rises backup.disk_faults backed.disk_faults
   -- so many bytes were taken, and the end was not yet read
   pub too_long : told → status ≡ TooLong → ReadsOn left rest 0 (2 ^ 40)
+  -- the words ask for a shipment, or for the following of a stream; `IsCallFor` tells what was said
+  pub gone : status ≡ Gone → (from : ℕ) × Asks words (Ship from)
+  pub stream : status ≡ BadStream → Asks words Follow
+  pub full : status ≡ StandbyFull → Asks words Follow

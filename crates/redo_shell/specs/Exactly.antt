@@ -9,9 +9,11 @@ use Rattle.formats.specs.Objects.{BeginsStore}
 use Rattle.formats.specs.declared.params.Params.{Params}
 use Rattle.op_codec.specs.AllOps.{all_meaning}
 use Rattle.command_words.specs.Words.{Asks}
-use Rattle.command_words.specs.declared.asked.Asked.TheVariants.{Init, Run, Dump, Demo, Upgrade}
+use Rattle.command_words.specs.declared.asked.Asked.TheVariants.{Init, Run, Dump, Demo, Upgrade, Ship, Follow}
 use Rattle.redo_shell.specs.Causes.{AsksNothing, OrUnread}
+use Rattle.redo_shell.specs.Following.{IsFollowEnd}
 use Rattle.redo_shell.specs.Notices as notices
+use Rattle.redo_shell.specs.Shipping.{IsShipEnd}
 use Rattle.redo_shell.specs.Store.{Command, IsWellFormed, Opens}
 use Rattle.redo_shell.specs.declared.status.Status.{Status}
 use Rattle.redo_shell.specs.declared.status.Status.TheVariants.{Done, DoneWithRefusals, Usage, NotAStore, AlreadyStore, Damaged, Memory, TooLong, AlreadyTwo, Smaller}
@@ -57,3 +59,7 @@ pub record ComesExactly (words : List (List ℕ)) (told : Type 0) (left : List �
   -- a demo that finds memory succeeds
   pub demos : (seed steps : ℕ) → Asks words (Demo seed steps) → status ≢ Memory → status ≡ Done
   pub upgrades : (q : Params) → Asks words (Upgrade q) → status ≢ Memory → (p : Params) (commands : List Command) → Opens p old commands → IsUpgradeEnd status
+  pub ship : (from : ℕ) → Asks words (Ship from) → old.tells_files → OrUnread (OpensExactly old new status) old new status
+  pub ships : (from : ℕ) → Asks words (Ship from) → status ≢ Memory → (p : Params) (commands : List Command) → Opens p old commands → IsShipEnd status
+  pub follow : Asks words Follow → old.tells_files → OrUnread (OpensExactly old new status) old new status
+  pub follows : Asks words Follow → status ≢ Memory → (p : Params) (commands : List Command) → Opens p old commands → IsFollowEnd status

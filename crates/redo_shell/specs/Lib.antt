@@ -17,6 +17,8 @@ pub mod Causes
 pub mod Exactly
 pub mod Dump
 pub mod Keeps
+pub mod Shipping
+pub mod Following
 pub mod Sessions
 pub mod Demo
 pub mod Calls

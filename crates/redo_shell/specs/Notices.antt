@@ -1,6 +1,7 @@
 -- What the program says besides answers: one line before it ends.
 use Rattle.std.specs.Prelude.{ℕ, List, [], ◌∷◌, ◌++◌, codes}
 use Rattle.std.specs.Fmt.{decimal}
+use Rattle.std.specs.List.{flat_map}
 use Rattle.disk_model.specs.declared.machine.FileNo.{FileNo}
 use Rattle.disk_model.specs.declared.machine.FileNo.TheVariants.{Objects, LogA, LogB}
 
@@ -26,7 +27,7 @@ smaller objects cap = with_newline (codes "smaller " ++ decimal objects ++ 32 �
 
 -- the words ask nothing
 abbrev pub usage : List ℕ
-usage = with_newline (codes "usage: redo init N CAP LIMIT | run | dump | demo --seed S --steps T | upgrade N CAP LIMIT")
+usage = with_newline (codes "usage: redo init N CAP LIMIT | run | dump | demo --seed S --steps T | upgrade N CAP LIMIT | ship FROM | follow")
 
 -- the name of a file
 abbrev pub name_of_file : FileNo → List ℕ
@@ -37,3 +38,38 @@ name_of_file LogB = codes "log_b"
 -- a file breaks its format at a place
 abbrev pub damaged : FileNo → ℕ → List ℕ
 damaged file place = with_newline (codes "damaged " ++ name_of_file file ++ 32 ∷ decimal place)
+
+-- a text, and numbers after it, each behind a space
+abbrev pub spaced : ℕ → List ℕ
+spaced n = 32 ∷ decimal n
+
+abbrev pub numbered : List ℕ → List ℕ → List ℕ
+numbered text numbers = with_newline (text ++ flat_map spaced numbers)
+
+-- the log begins with this number
+abbrev pub gone : ℕ → List ℕ
+gone base = numbered (codes "gone") (base ∷ [])
+
+-- so many commands were accepted since the store was made
+abbrev pub followed : ℕ → List ℕ
+followed commands = numbered (codes "followed") (commands ∷ [])
+
+-- the stream has no frame, or no record, at this place
+abbrev pub bad_frame : ℕ → List ℕ
+bad_frame place = numbered (codes "stream BadFrame") (place ∷ [])
+
+-- a record has this number where that one is next
+abbrev pub gap : ℕ → ℕ → List ℕ
+gap expected got = numbered (codes "stream Gap") (expected ∷ got ∷ [])
+
+-- the record of this number is not what may come next
+abbrev pub differs : ℕ → List ℕ
+differs number = numbered (codes "stream Differs") (number ∷ [])
+
+-- the stream ends within the frame at this place
+abbrev pub short : ℕ → List ℕ
+short place = numbered (codes "stream Short") (place ∷ [])
+
+-- of the log so many bytes are used, so many more are needed, and so many it may have
+abbrev pub full : ℕ → ℕ → ℕ → List ℕ
+full used need limit = numbered (codes "full") (used ∷ need ∷ limit ∷ [])

@@ -173,6 +173,8 @@ pub record IsSavedAsSaid {T : Type 0} (disk : T → Disk) (p : Params) (first : 
 -- What a run makes of the backup, where the source reports that it has this script.
 pub record IsBackupOfRun {T : Type 0} (disk : T → Disk) (told : Type 0) (script : List (List ℕ)) (old new : Disk) (before after : T) : Type 0 where
   pub opened : (p : Params) (commands : List Command) → Opens p old commands → told → (first : Stage) → IsFirst p commands old first → IsSavedAsSaid disk p first commands script old new before after
+  -- of a source that reports nothing the same holds with some script
+  pub untold : (some : List (List ℕ)) × ((p : Params) (commands : List Command) → Opens p old commands → (first : Stage) → IsFirst p commands old first → IsSavedAsSaid disk p first commands some old new before after)
   -- no store is opened in files that break their format, and then nothing is done with the backup
   pub unopened : old.tells_files → (IsWellFormed old.reads → ⊥) → after ≡ before
 

@@ -4,30 +4,46 @@ use Rattle.disk_model.specs.Disk.{Files, Disk, LeavesOnly}
 use Rattle.disk_model.specs.declared.machine.FileNo.TheVariants.{Objects}
 use Rattle.formats.specs.Objects.{BeginsStore}
 use Rattle.formats.specs.declared.params.Params.{Params}
+use Rattle.explain_core.specs.History.{Member, commands_of}
 use Rattle.restart.specs.Starts.{OrAtStart}
 use Rattle.redo_shell.specs.Store.{Command, Stands, StandsInEither, Opens, IsNew}
 use Rattle.redo_shell.specs.Groups.{AreWhole, account_before}
 use Rattle.redo_shell.specs.Printed.{SaysForced}
 use Rattle.redo_shell.specs.Answers.{Said, Moment}
-use Rattle.redo_shell.specs.Dump.{DumpMoment}
+use Rattle.redo_shell.specs.Following.{FollowsFrames, StreamMoment}
 use Rattle.redo_shell.specs.Keeps.{KeepsFiles}
 
--- a store was made with these numbers, or an upgrade gave it these
+-- What was done to a store beside the runs: it was made with these numbers, an upgrade gave it these, or it followed a stream of
+-- these bytes.
 pub data Sizing : Type 0 where
   by_init : Params → Sizing
   by_upgrade : Params → Sizing
+  by_follow : List ℕ → Sizing
 
 -- an `init` has asked for a store with these numbers
 abbrev pub WereAskedFor : List Sizing → Params → Type 0
 WereAskedFor [] p = ⊥
 WereAskedFor (by_init q ∷ sizes) p = (p ≡ q) ⊎ WereAskedFor sizes p
 WereAskedFor (by_upgrade q ∷ sizes) p = WereAskedFor sizes p
+WereAskedFor (by_follow bytes ∷ sizes) p = WereAskedFor sizes p
 
 -- an `upgrade` has
 abbrev pub WereGrownTo : List Sizing → Params → Type 0
 WereGrownTo [] p = ⊥
 WereGrownTo (by_init q ∷ sizes) p = WereGrownTo sizes p
 WereGrownTo (by_upgrade q ∷ sizes) p = (p ≡ q) ⊎ WereGrownTo sizes p
+WereGrownTo (by_follow bytes ∷ sizes) p = WereGrownTo sizes p
+
+-- a `follow` was given these bytes
+abbrev pub WereFollowed : List Sizing → List ℕ → Type 0
+WereFollowed [] bytes = ⊥
+WereFollowed (by_init q ∷ sizes) bytes = WereFollowed sizes bytes
+WereFollowed (by_upgrade q ∷ sizes) bytes = WereFollowed sizes bytes
+WereFollowed (by_follow others ∷ sizes) bytes = (bytes ≡ others) ⊎ WereFollowed sizes bytes
+
+-- some whole frames of these bytes, one after the other, make these commands of those of a store
+abbrev pub StreamAdds : Params → List Command → List ℕ → List Command → Type 0
+StreamAdds p commands bytes now = (first : List (Member Command)) × (rest : List ℕ) × (commands_of first ≡ commands) × FollowsFrames p first bytes rest now
 
 -- a run: the lines of its script, and the bytes that it said
 pub record Ran : Type 0 where
@@ -46,11 +62,12 @@ pub record Adds (p : Params) (commands : List Command) (ran : Ran) (now : List C
   pub acked : (n : ℕ) → SaysForced ran.bytes n → n ≤ kept
 
 -- What several runs make of it, one after the other, the latest first, and the numbers of the store then: those of the start, or
--- those that an upgrade gave it between two runs.
+-- those that an upgrade gave it between two runs. Between two runs it may have followed a stream too.
 pub data Grows (sizes : List Sizing) (p : Params) (commands : List Command) : List Ran → Params → List Command → Type 0 where
   none : Grows sizes p commands [] p commands
   more : {runs : List Ran} {q : Params} {before now : List Command} → (ran : Ran) → Grows sizes p commands runs q before → Adds q before ran now → Grows sizes p commands (ran ∷ runs) q now
   larger : {runs : List Ran} {q : Params} {now : List Command} → (r : Params) → Grows sizes p commands runs q now → WereGrownTo sizes r → Grows sizes p commands runs r now
+  followed : {runs : List Ran} {q : Params} {before now : List Command} → (bytes : List ℕ) → Grows sizes p commands runs q before → WereFollowed sizes bytes → StreamAdds q before bytes now → Grows sizes p commands runs q now
 
 -- the bytes of one of the runs say that so many are forced
 abbrev pub SaidForced : List Ran → ℕ → Type 0
@@ -83,19 +100,24 @@ pub data Sessions {T : Type 0} (disk : T → Disk) (first : T) : List Sizing →
   run : {sizes : List Sizing} {runs : List Ran} → (old new next : T) (ran : Ran) → Sessions disk first sizes runs old → BeginsStore ((disk old).reads Objects)
       → ((p : Params) (commands : List Command) → Opens p (disk old) commands → (disk old).tells_moments → LeavesOnly (disk old) (disk new) (OrAtStart (disk old) (Moment p commands ran.script (disk old).said)))
       → Follows (disk old) (disk new) (disk next) ((disk old).said ++ ran.bytes) → Sessions disk first sizes (ran ∷ runs) next
-  -- the making of a store with these numbers where there is none, by `init`, its part `images`
+  -- the making of a store with these numbers where there is none, by `call`, its part `images`
   init : {sizes : List Sizing} {runs : List Ran} → (old new next : T) (p : Params) (said : List ℕ) → Sessions disk first sizes runs old → (BeginsStore ((disk old).reads Objects) → ⊥)
       → ((disk old).tells_moments → LeavesOnly (disk old) (disk new) (OrAtStart (disk old) (λ files bytes. IsNew p files × (bytes ≡ (disk old).said))))
       → Follows (disk old) (disk new) (disk next) said → Sessions disk first (by_init p ∷ sizes) runs next
-  -- a dump, by `dump`: of a store by `images` of its `table`, where there is none by `keeps` of its `judged`
-  dump : {sizes : List Sizing} {runs : List Ran} → (old new next : T) (said : List ℕ) → Sessions disk first sizes runs old → ((BeginsStore ((disk old).reads Objects) → ⊥) → (disk old).tells_moments → KeepsFiles (disk old) (disk new))
-      → ((p : Params) (commands : List Command) → Opens p (disk old) commands → (disk old).tells_moments → LeavesOnly (disk old) (disk new) (OrAtStart (disk old) (DumpMoment p commands (disk old).said)))
+  -- a dump or a shipment, by `call`: of a store by `images` of its `table` or `log`, where there is none by `keeps` of its `judged`
+  reads : {sizes : List Sizing} {runs : List Ran} → (old new next : T) (said : List ℕ) → Sessions disk first sizes runs old → ((BeginsStore ((disk old).reads Objects) → ⊥) → (disk old).tells_moments → KeepsFiles (disk old) (disk new))
+      → ((p : Params) (commands : List Command) → Opens p (disk old) commands → (disk old).tells_moments → LeavesOnly (disk old) (disk new) (OrAtStart (disk old) (λ files bytes. Stands p files commands)))
       → Follows (disk old) (disk new) (disk next) said → Sessions disk first sizes runs next
-  -- an upgrade, by `upgrade`: of a store by `images`, where there is none by `keeps`, a part of what is `judged`
+  -- an upgrade, by `call`: of a store by `images`, where there is none by `keeps`, a part of what is `judged`
   upgrade : {sizes : List Sizing} {runs : List Ran} → (old new next : T) (q : Params) (said : List ℕ) → Sessions disk first sizes runs old → ((BeginsStore ((disk old).reads Objects) → ⊥) → (disk old).tells_moments → KeepsFiles (disk old) (disk new))
       → ((p : Params) (commands : List Command) → Opens p (disk old) commands → (disk old).tells_moments → LeavesOnly (disk old) (disk new) (OrAtStart (disk old) (λ files bytes. StandsInEither p q commands files)))
       → Follows (disk old) (disk new) (disk next) said → Sessions disk first (by_upgrade q ∷ sizes) runs next
-  -- any other call, by `keeps`, a part of `demo`, of `init`, of `nothing` in `cause`, and of `judged` in `run`
+  -- the following of a stream, by `call`: of a store by `images` of its `stream`, where there is none by `keeps` of its `judged`
+  follow : {sizes : List Sizing} {runs : List Ran} → (old new next : T) (bytes said : List ℕ) → Sessions disk first sizes runs old → ((BeginsStore ((disk old).reads Objects) → ⊥) → (disk old).tells_moments → KeepsFiles (disk old) (disk new))
+      → ((p : Params) (commands : List Command) → Opens p (disk old) commands → (disk old).tells_moments
+      → (first : List (Member Command)) × (commands_of first ≡ commands) × LeavesOnly (disk old) (disk new) (OrAtStart (disk old) (λ files bytes_said. StreamMoment p first bytes files)))
+      → Follows (disk old) (disk new) (disk next) said → Sessions disk first (by_follow bytes ∷ sizes) runs next
+  -- any other call, by `keeps`, a part of a demo, of an `init`, of `nothing` in `cause`, and of `judged` in `run`
   other : {sizes : List Sizing} {runs : List Ran} → (old new next : T) (said : List ℕ) → Sessions disk first sizes runs old → KeepsFiles (disk old) (disk new)
       → Follows (disk old) (disk new) (disk next) said → Sessions disk first sizes runs next
 

@@ -1,5 +1,5 @@
 -- What the answers of a run go by: the world that engine and files show, the length of the log, and how far a backup is.
-use Rattle.std.specs.Prelude.{◌≡◌, ◌⊎◌, ◌+◌, ◌/◌, ◌^◌, ◌++◌, ◌<◌, ⊤, ℕ, IsTrue, List, [], ◌∷◌, length, max, min, take, Option, None, Some}
+use Rattle.std.specs.Prelude.{◌≡◌, ◌⊎◌, ◌+◌, ◌/◌, ◌^◌, ◌++◌, ◌<◌, ◌≤◌, ⊤, ℕ, IsTrue, List, [], ◌∷◌, length, max, min, take, Option, None, Some}
 use Rattle.std.specs.Option.{is_some}
 use Rattle.disk_model.specs.Disk.{Disk}
 use Rattle.oper_core.specs.Meaning.{Meaning}
@@ -23,6 +23,7 @@ use Rattle.restart.specs.Courses.{restart_course}
 use Rattle.restart.specs.Opening.{OpensOn}
 use Rattle.store_engine.specs.Calls.{begin_course, end_course}
 use Rattle.store_engine.specs.Engine.{EngineView, is_name, so_far, used_in}
+use Rattle.backup_copy.specs.Length.{backup_length}
 use Rattle.redo_shell.specs.Store.{Command, meaning_in}
 use Rattle.store_engine.specs.Lists.{commands_course}
 use Rattle.redo_shell.specs.Made.{Made, AsksMade}
@@ -116,9 +117,18 @@ StartsBackup old line mid new = AsksFor line bstart × (old.copied ≡ None) × 
 abbrev pub CopiesMore : ℕ → Stage → List ℕ → ℕ → Stage → Type 0
 CopiesMore objects old line now new = (before count : ℕ) × AsksFor line (bcopy count) × (old.copied ≡ Some before) × (now ≡ min (before + count) objects) × (new ≡ with_copied (Some now) old)
 
--- a backup of so many objects, all of which are copied, has a log that is too long, after a force: it goes on
-abbrev pub IsBackupFull : ℕ → Stage → List ℕ → ℕ → Stage → Stage → Type 0
-IsBackupFull objects old line used mid new = AsksFor line bfinish × (old.copied ≡ Some objects) × (used ≡ mid.used) × (new ≡ mid)
+-- so many bytes has the log of a backup that is taken in this stage
+abbrev pub backup_bytes : Params → Stage → ℕ
+backup_bytes p s = backup_length (meaning_in p) s.world
+
+-- The log of a backup, all of whose objects are copied, would be too long after a force: the store's own log has so many bytes
+-- then, and the backup's so many. It goes on.
+abbrev pub IsBackupFull : Params → Stage → List ℕ → ℕ → ℕ → Stage → Stage → Type 0
+IsBackupFull p old line used need mid new = AsksFor line bfinish × (old.copied ≡ Some p.objects) × (used ≡ mid.used) × (need ≡ backup_bytes p mid) × (new ≡ mid)
+
+-- one whose log has room ends after a force
+abbrev pub EndsBackup : Params → Stage → Stage → Stage → Type 0
+EndsBackup p old mid new = (old.copied ≡ Some p.objects) × (backup_bytes p mid ≤ 2 ^ 48) × (new ≡ with_copied None mid)
 
 -- a line is refused so where so many objects are copied, of so many, or where no backup is made
 abbrev pub IsDeniedAt : ℕ → Option ℕ → BackupDenial → Type 0
@@ -130,7 +140,7 @@ IsDeniedAt objects copies NotCopied = (n : ℕ) × (copies ≡ Some n) × (n < o
 -- What an answer says of the old stage, and the new one: where nothing stops the course it is `ok`, `ran` or a refusal, `full`
 -- comes where its next record or log has no room, with these numbers, and `end` where no number is left for a record, or no
 -- epoch for a log; `forced` comes after a force; `stat` counts. A backup starts with an `ok` too, `copied` says how far it is,
--- it ends with `saved`, after a force, and its lines are denied by how far it is. No other answer changes anything.
+-- it ends with `saved`, after a force, where its log has at most 2^48 bytes, and its lines are denied by how far it is. No other answer changes anything.
 abbrev pub GoesBy : Params → Stage → List ℕ → Reply → Stage → Type 0
 GoesBy p old line ok new = Ends p old line Through new ⊎ StartsBackup old line (forced_stage p old) new
 GoesBy p old line (ran k) new = Ends p old line Through new
@@ -138,12 +148,12 @@ GoesBy p old line (refused why) new = Ends p old line Through new
 GoesBy p old line bad_tree new = Ends p old line Through new
 GoesBy p old line tree_full new = Ends p old line Through new
 GoesBy p old line (denied why) new = Ends p old line Through new
-GoesBy p old line (full used need limit) new = Ends p old line (Full used need limit) new ⊎ IsBackupFull p.objects old line used (forced_stage p old) new
+GoesBy p old line (full used need limit) new = Ends p old line (Full used need limit) new ⊎ IsBackupFull p old line used need (forced_stage p old) new
 GoesBy p old line (end number) new = Ends p old line (At_end number) new ⊎ Ends p old line (Worn number) new
 GoesBy p old line (forced n) new = new ≡ forced_stage p old
 GoesBy p old line (stat counts) new = IsCounted p old counts × (new ≡ old)
 GoesBy p old line (copied now) new = CopiesMore p.objects old line now new
-GoesBy p old line (saved n) new = (old.copied ≡ Some p.objects) × (new ≡ with_copied None (forced_stage p old))
+GoesBy p old line (saved n) new = EndsBackup p old (forced_stage p old) new
 GoesBy p old line (backup_denied why) new = IsDeniedAt p.objects old.copied why × (new ≡ old)
 GoesBy p old line reply new = new ≡ old
 

@@ -7,7 +7,7 @@ use Rattle.script_lines.specs.declared.read_error.ReadError.TheVariants.{ReadFau
 use Rattle.redo_shell.specs.declared.stop.Stop.{Stop}
 use Rattle.redo_shell.specs.declared.stop.Stop.TheVariants.{DiskFault, Damaged as SlotDamaged, ReadFault, SayFault, BackupFault, Memory, TooLong}
 use Rattle.redo_shell.specs.declared.status.Status.{Status}
-use Rattle.redo_shell.specs.declared.status.Status.TheVariants.{Done, DoneWithRefusals, Usage, NotAStore, AlreadyStore, Damaged, DiskFault as DiskFailed, ReadFault as InputFailed, SayFault as OutputFailed, Memory as OutOfMemory, TooLong as InputTooLong, AlreadyTwo, Smaller, BackupFault as BackupFailed}
+use Rattle.redo_shell.specs.declared.status.Status.TheVariants.{Done, DoneWithRefusals, Usage, NotAStore, AlreadyStore, Damaged, DiskFault as DiskFailed, ReadFault as InputFailed, SayFault as OutputFailed, Memory as OutOfMemory, TooLong as InputTooLong, AlreadyTwo, Smaller, BackupFault as BackupFailed, Gone, BadStream, StandbyFull}
 
 -- the number that the process ends with
 abbrev pub number_of : Status → ℕ
@@ -25,6 +25,9 @@ number_of InputTooLong = 9
 number_of AlreadyTwo = 3
 number_of Smaller = 10
 number_of BackupFailed = 11
+number_of Gone = 12
+number_of BadStream = 13
+number_of StandbyFull = 14
 
 -- why a run ends where no line could be read
 abbrev pub stop_of_input : ReadError → Stop
@@ -70,6 +73,9 @@ IsOfRun Usage = ⊥
 IsOfRun AlreadyStore = ⊥
 IsOfRun AlreadyTwo = ⊥
 IsOfRun Smaller = ⊥
+IsOfRun Gone = ⊥
+IsOfRun BadStream = ⊥
+IsOfRun StandbyFull = ⊥
 IsOfRun status = ⊤
 
 -- a dump may end with this status
@@ -82,6 +88,9 @@ IsOfDump InputTooLong = ⊥
 IsOfDump AlreadyTwo = ⊥
 IsOfDump Smaller = ⊥
 IsOfDump BackupFailed = ⊥
+IsOfDump Gone = ⊥
+IsOfDump BadStream = ⊥
+IsOfDump StandbyFull = ⊥
 IsOfDump status = ⊤
 
 -- a layout may end with this status
@@ -112,7 +121,32 @@ IsOfSecond OutputFailed = ⊤
 IsOfSecond OutOfMemory = ⊤
 IsOfSecond status = ⊥
 
--- a run, or an upgrade, ends with this status only where it has opened the store
+-- a shipment may end with this status
+abbrev pub IsOfShip : Status → Type 0
+IsOfShip Done = ⊤
+IsOfShip NotAStore = ⊤
+IsOfShip Damaged = ⊤
+IsOfShip DiskFailed = ⊤
+IsOfShip OutputFailed = ⊤
+IsOfShip OutOfMemory = ⊤
+IsOfShip Gone = ⊤
+IsOfShip status = ⊥
+
+-- the following of a stream may end with this status
+abbrev pub IsOfFollow : Status → Type 0
+IsOfFollow Done = ⊤
+IsOfFollow NotAStore = ⊤
+IsOfFollow Damaged = ⊤
+IsOfFollow DiskFailed = ⊤
+IsOfFollow InputFailed = ⊤
+IsOfFollow OutputFailed = ⊤
+IsOfFollow OutOfMemory = ⊤
+IsOfFollow InputTooLong = ⊤
+IsOfFollow BadStream = ⊤
+IsOfFollow StandbyFull = ⊤
+IsOfFollow status = ⊥
+
+-- a call ends with this status only where it has opened the store
 abbrev pub IsOfStore : Status → Type 0
 IsOfStore Done = ⊤
 IsOfStore DoneWithRefusals = ⊤
@@ -121,6 +155,9 @@ IsOfStore InputTooLong = ⊤
 IsOfStore AlreadyTwo = ⊤
 IsOfStore Smaller = ⊤
 IsOfStore BackupFailed = ⊤
+IsOfStore Gone = ⊤
+IsOfStore BadStream = ⊤
+IsOfStore StandbyFull = ⊤
 IsOfStore status = ⊥
 
 -- where a store is not opened, the program ends with this status

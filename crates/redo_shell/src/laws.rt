@@ -23,7 +23,7 @@ ghost use Rattle.redo_shell.specs.Store.{Command, Stands, IsNew, meaning_in, ref
 ghost use Rattle.redo_shell.specs.Printed.{whole_lines, texts_of};
 ghost use Rattle.redo_shell.specs.Sessions.{Ran, Sizing, Follows, Survives, Arises, Sessions};
 ghost use Rattle.redo_shell.specs.Replies.{AsksCommand, Replies, IsBarred, IsDenied, IsFull};
-ghost use Rattle.redo_shell.specs.Stages.{Stage, GoesBy, IsDeniedAt, Leads, forced_stage, with_copied};
+ghost use Rattle.redo_shell.specs.Stages.{Stage, GoesBy, IsDeniedAt, Leads, backup_bytes, forced_stage, with_copied};
 ghost use Rattle.redo_shell.specs.Groups.{open_in};
 ghost use Rattle.redo_shell.specs.Saving.{FindsStore, store_behind};
 
@@ -77,11 +77,11 @@ pub fn a_backup_line_gets_the_answer_of_its_cause()
     ensures copies { (p : Params) (before after : Stage) (line : List ℕ) (reply : Reply) (count n : ℕ) → Leads p before line reply after →
         AsksFor line (bcopy count) → open_in before.world ≡ None → before.copied ≡ Some n →
         (reply ≡ copied (min (n + count) p.objects)) × (after ≡ with_copied (Some (min (n + count) p.objects)) before) }
-    // The log of the backup, which may have 2^48 bytes, is too long where the answer is `full`.
+    // It is `full` exactly where the log of the backup would have more than 2^48 bytes.
     ensures saves { (p : Params) (before after : Stage) (line : List ℕ) (reply : Reply) → Leads p before line reply after →
         AsksFor line bfinish → open_in before.world ≡ None → before.copied ≡ Some p.objects →
-        ((reply ≡ saved (length (commands_of before.world.history))) × (after ≡ with_copied None (forced_stage p before)))
-        ⊎ ((need : ℕ) × (2 ^ 48 < need) × (reply ≡ full (forced_stage p before).used need (2 ^ 48)) × (after ≡ forced_stage p before)) }
+        ((reply ≡ saved (length (commands_of before.world.history))) × (backup_bytes p (forced_stage p before) ≤ 2 ^ 48) × (after ≡ with_copied None (forced_stage p before)))
+        ⊎ ((reply ≡ full (forced_stage p before).used (backup_bytes p (forced_stage p before)) (2 ^ 48)) × (2 ^ 48 < backup_bytes p (forced_stage p before)) × (after ≡ forced_stage p before)) }
 {
     a_line_asks_one_thing();
 }
@@ -97,8 +97,9 @@ pub fn the_lines_said_are_the_answers()
 
 /// Any calls of the program, one after the other, each ended in any way and followed by nothing, a kill or a crash: what
 /// is left stands for the commands of the start and those that the runs have added, which split no group of any run, and no
-/// fewer than any run has printed to be forced. From files that are no store the same holds from the first `init` on that has
-/// made one, with the numbers that an `init` has asked for. Only an `upgrade` gives a store others.
+/// fewer than any run has printed to be forced; and those that some whole frames of each stream that was followed have added.
+/// From files that are no store the same holds from the first `init` on that has made one, with the numbers that an
+/// `init` has asked for. Only an `upgrade` gives a store others.
 pub fn sessions_keep_what_was_forced<M: Machine>()
     ensures from_store { (p : Params) (commands : List Command) (first last : M) (sizes : List Sizing) (runs : List Ran) → (M.disk first).tells_moments →
         InEachImage (M.disk first) (λ files. Stands p files commands) → Sessions M.disk first sizes runs last →

@@ -14,25 +14,32 @@
 //! counts. Until that answer a crash leaves no store there or a whole one, only the lines of a backup do anything with the
 //! second machine, and a store that was there as the run began stays as it is. What is said of the first machine holds
 //! whatever the second one does.
+//!
+//! The log of a store is shipped as frames, one for each of its blocks, from a number on. A store that follows a stream of
+//! frames stands at every moment for what some first whole frames make of its commands, and says why the rest is refused.
 #![tactic(auto)]
 
 mod answers;
 mod asking;
+mod cut;
 mod damage;
 mod demo;
 mod dump;
 mod fetching;
+mod following;
 mod grouping;
 mod init;
 mod laws;
 mod line;
 mod making;
+mod notice;
 mod opening;
 mod program;
 mod run;
 mod saving;
 mod say;
 mod script;
+mod shipping;
 mod status;
 mod stop;
 mod tally;

@@ -22,13 +22,14 @@ use crate::say::say_answer;
 use crate::stop::Stop;
 use crate::upkeep::{counts_answer, upkeep_answer};
 use crate::work::{Grouping, Making, Upkeep, Work};
+use backup_copy::copies_go_on;
 use disk_model::Machine;
 use op_codec::AllOps;
 use oper_core::Refusal;
 use script_lines::{Answer, Next, a_line_asks_one_thing};
 use std::alloc::Global;
 use store_engine::{
-    Engine, a_copy_goes_on, calls_go_beside_a_copy, commands_log_no_identity, engine_stands,
+    Engine, calls_go_beside_a_copy, commands_log_no_identity, engine_stands,
     identities_are_counted, stop_is_said,
 };
 
@@ -209,7 +210,7 @@ fn answer_request<M: Machine, T: Machine>(
 {
     a_line_asks_one_thing();
     calls_go_beside_a_copy::<AllOps>();
-    a_copy_goes_on::<AllOps, M>();
+    copies_go_on::<AllOps, M, T>();
     let work = Work::of_line(alloc, line)?;
     match work {
         Work::Run(op) => run_command(alloc, engine, machine, op),
@@ -242,15 +243,16 @@ pub fn answer_next<M: Machine, T: Machine>(
         AnsweringBeside p (T.disk start) (M.disk machine.old) (M.disk machine.new) engine.old engine.new holds.world commands line (T.disk backup.old) (T.disk backup.new) result }
     ensures idle { (line : List ℕ) → IsLine next bytes.now line → (AsksBackup line → ⊥) → backup.new ≡ backup.old }
     // Whatever a source that reports nothing gave, it is the answer to some line.
-    ensures some { next ≢ Next.End → (line : List ℕ) × ((p : Params) (commands : List Command) → (holds : Holds p (M.disk machine.old) engine.old commands) →
-        Answering p (M.disk machine.old) (M.disk machine.new) engine.old engine.new holds.world commands line result) }
+    ensures some { next ≢ Next.End → (line : List ℕ) × ((start : T) (p : Params) (commands : List Command) → (holds : Holds p (M.disk machine.old) engine.old commands) →
+        AnsweringBeside p (T.disk start) (M.disk machine.old) (M.disk machine.new) engine.old engine.new holds.world commands line (T.disk backup.old) (T.disk backup.new) result)
+        × ((AsksBackup line → ⊥) → backup.new ≡ backup.old) }
     ensures cause { IfErr result (λ stop. IsCausedBeside stop (M.disk machine.old) (M.disk machine.new) (T.disk backup.old) (T.disk backup.new)) }
     ensures undamaged { (M.disk machine.old).tells_files → IsAttached (M.disk machine.old) engine.old → IfErr result IsUndamaged }
     ensures attached { IsAttached (M.disk machine.old) engine.old → OnOk result (IsAttached (M.disk machine.new) engine.new) }
     ensures unbroken { OnOk result (engine.new.broken ≡ false) }
 {
     calls_go_beside_a_copy::<AllOps>();
-    a_copy_goes_on::<AllOps, M>();
+    copies_go_on::<AllOps, M, T>();
     match next {
         Next::Line => answer_request(alloc, engine, machine, backup, bytes),
         Next::Long => say_answer(alloc, machine, &Answer::Bad),

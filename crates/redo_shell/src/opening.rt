@@ -27,7 +27,7 @@ use store_engine::{
 // How much of a store the program keeps in memory: 16 MiB of clean values, and in a redo 64 MiB of dirty ones, but 64 values
 // of each, however long they are. While more are dirty a redo installs, and each install waits for three syncs. A store of
 // version 1 has at most 4,096 objects of at most 16,384 bytes, 64 MiB in all: so its redo installs nothing.
-const TUNING: Tuning = Tuning {
+pub const TUNING: Tuning = Tuning {
     clean: 64,
     clean_bytes: 1 << 24,
     redo_dirty: 64,
@@ -36,7 +36,7 @@ const TUNING: Tuning = Tuning {
 
 /// Says why a store was not opened, where there is a line for that, and ends with the status that reports it. Without memory
 /// for the line it ends with `Memory`, and where the output fails with `SayFault`.
-fn end_unopened<M: Machine>(alloc: Global, machine: &mut M, cause: OpenErr) -> Status
+pub fn end_unopened<M: Machine>(alloc: Global, machine: &mut M, cause: OpenErr) -> Status
     ensures time { Passes (M.disk machine.old) (M.disk machine.new) }
     ensures keeps { KeepsFiles (M.disk machine.old) (M.disk machine.new) }
     ensures no_store { (M.disk machine.old).tells_files → result ≡ Status.NotAStore →

@@ -1,25 +1,27 @@
 // The program.
-ghost use Rattle.std.specs.Prelude.{◌≡◌, ◌^◌, List, ℕ, map, string_bytes};
+ghost use Rattle.std.specs.Prelude.{◌≡◌, ◌^◌, List, map, string_bytes};
 ghost use Rattle.disk_model.specs.Disk.{LeavesOnly, Passes, Rises};
 ghost use Rattle.formats.specs.declared.params.Params.{Params};
 ghost use Rattle.restart.specs.Starts.{OrAtStart};
 ghost use Rattle.script_lines.specs.Grammar.{lines_of};
 ghost use Rattle.script_lines.specs.Reading.{ReadsOn};
 ghost use Rattle.command_words.specs.Words.{Asks, IsAllowed};
-ghost use Rattle.command_words.specs.declared.asked.Asked.TheVariants.{Init, Run, Dump, Demo, Upgrade};
+ghost use Rattle.command_words.specs.declared.asked.Asked.{Asked as AskedFor};
+ghost use Rattle.command_words.specs.declared.asked.Asked.TheVariants.{Run};
 ghost use Rattle.redo_shell.specs.Answers.{Moment};
-ghost use Rattle.redo_shell.specs.Calls.{IsRunCall, IsDumpCall, IsMaking, IsUpgradeCall, IsCallFor, GoesOn};
+ghost use Rattle.redo_shell.specs.Calls.{IsRunCall, IsCallFor, GoesOn};
 ghost use Rattle.redo_shell.specs.Causes.{CountsFaults, OrUnread, ComesByCause};
-ghost use Rattle.redo_shell.specs.Demo.{IsDemo};
 ghost use Rattle.redo_shell.specs.Exactly.{IsFaultless, ComesExactly};
 ghost use Rattle.redo_shell.specs.Saving.{IsBackupCall, IsBackupFor, IsBesideRun};
 ghost use Rattle.redo_shell.specs.Store.{Command, Opens};
 
 use crate::demo::demo;
 use crate::dump::dump;
+use crate::following::follow;
 use crate::init::init;
 use crate::run::run;
 use crate::say::end_with;
+use crate::shipping::ship;
 use crate::status::Status;
 use crate::upgrade::upgrade;
 use command_words::{Asked, Unread, read_words, words_ask_one_thing};
@@ -30,7 +32,7 @@ use store_engine::{one_damage, standing_files_meet_their_format};
 
 /// What is printed where the words ask nothing.
 const USAGE: &[u8] =
-    b"usage: redo init N CAP LIMIT | run | dump | demo --seed S --steps T | upgrade N CAP LIMIT\n";
+    b"usage: redo init N CAP LIMIT | run | dump | demo --seed S --steps T | upgrade N CAP LIMIT | ship FROM | follow\n";
 
 /// Does what was asked, with the files of the machine, its output, and the script that the source gives.
 fn serve<M: Machine, T: Machine, S: Source>(
@@ -55,6 +57,8 @@ fn serve<M: Machine, T: Machine, S: Source>(
         Asked::Init(params) => init(machine, params),
         Asked::Demo { seed, steps } => demo(alloc, machine, seed, steps),
         Asked::Upgrade(params) => upgrade(alloc, machine, params),
+        Asked::Ship { from } => ship(alloc, machine, from),
+        Asked::Follow => follow(alloc, machine, input),
     }
 }
 
@@ -72,14 +76,16 @@ pub fn top<M: Machine, T: Machine, S: Source>(
     // and is no shorter than any number that was printed to be forced.
     ensures images { (p : Params) (commands : List Command) → Asks (map string_bytes words.now) Run → Opens p (M.disk machine.old) commands → S.tells input.old → (M.disk machine.old).tells_moments →
         LeavesOnly (M.disk machine.old) (M.disk machine.new) (OrAtStart (M.disk machine.old) (Moment p commands (lines_of (S.left input.old)) (M.disk machine.old).said)) }
+    // What a run does, as `call` has it too.
     ensures run { Asks (map string_bytes words.now) Run →
         OrUnread (IsRunCall (S.tells input.old) (S.left input.old) (S.left input.new) (M.disk machine.old) (M.disk machine.new) result) (M.disk machine.old) (M.disk machine.new) result }
-    ensures dump { Asks (map string_bytes words.now) Dump → OrUnread (IsDumpCall (M.disk machine.old) (M.disk machine.new) result) (M.disk machine.old) (M.disk machine.new) result }
-    ensures init { (p : Params) → Asks (map string_bytes words.now) (Init p) → OrUnread (IsMaking p (M.disk machine.old) (M.disk machine.new) result) (M.disk machine.old) (M.disk machine.new) result }
-    // An upgrade leaves files that stand for the same commands at every moment, and with status 0 those of the larger store.
-    ensures upgrade { (q : Params) → Asks (map string_bytes words.now) (Upgrade q) → OrUnread (IsUpgradeCall q (M.disk machine.old) (M.disk machine.new) result) (M.disk machine.old) (M.disk machine.new) result }
-    // A demo leaves the files alone, and says what the plain map's answers to the generated script count to.
-    ensures demo { (seed steps : ℕ) → Asks (map string_bytes words.now) (Demo seed steps) → OrUnread (IsDemo seed steps (M.disk machine.old) (M.disk machine.new) result) (M.disk machine.old) (M.disk machine.new) result }
+    // Any call, by what it was asked. A dump and a shipment say what they find and change nothing but for the restart; an `init`
+    // makes a store where there is none; an upgrade leaves files that stand for the same commands at every moment, and with status
+    // 0 those of the larger store; a standby's files stand at every moment for what some first whole frames of the stream make of
+    // its commands, and with status 0 for what all of it makes; a demo leaves the files alone, and says what the plain map's
+    // answers to the generated script count to.
+    ensures call { (asked : AskedFor) → Asks (map string_bytes words.now) asked →
+        OrUnread (IsCallFor asked (S.tells input.old) (S.left input.old) (S.left input.new) (M.disk machine.old) (M.disk machine.new) result) (M.disk machine.old) (M.disk machine.new) result }
     // What the answers of a run say of the backup is true of its files: where a line `saved n` was said, they stand for the n
     // commands that were accepted up to it. No other call does anything with them, nor does a run without such lines.
     ensures backup { IsBackupCall T.disk (map string_bytes words.now) (S.tells input.old) (lines_of (S.left input.old)) (M.disk machine.old) (M.disk machine.new) backup.old backup.new }
@@ -89,7 +95,7 @@ pub fn top<M: Machine, T: Machine, S: Source>(
     ensures exactly { IsFaultless (M.disk machine.old) (M.disk machine.new) (S.faults input.old) (S.faults input.new) (T.disk backup.old) (T.disk backup.new) →
         ComesExactly (map string_bytes words.now) (S.tells input.old) (S.left input.old) (M.disk machine.old) (M.disk machine.new) result }
     // The machine goes on through the call, and what the call does goes on any calls of the program before it.
-    ensures session { GoesOn M.disk (map string_bytes words.now) (S.tells input.old) (lines_of (S.left input.old)) machine.old machine.new }
+    ensures session { GoesOn M.disk (map string_bytes words.now) (S.tells input.old) (S.left input.old) (S.left input.new) machine.old machine.new }
 {
     standing_files_meet_their_format::<AllOps>();
     one_damage::<AllOps>();

@@ -46,7 +46,9 @@ fn run_open<M: Machine, T: Machine, S: Source>(
     // Whatever a source that reports nothing gave, it is some script.
     ensures some { (script : List (List ℕ)) × ((p : Params) (commands : List Command) → (holds : Holds p (M.disk machine.old) engine.old commands) → forced_in engine.old ≡ length commands → engine.old.group ≡ None →
         IsRun p (stage_of engine.old holds.world) (M.disk machine.old) (M.disk machine.new) commands script result
-        × ((result ≡ Status.Done) ⊎ (result ≡ Status.DoneWithRefusals) → IsComplete p (stage_of engine.old holds.world) (M.disk machine.old) (M.disk machine.new) commands script result)) }
+        × ((result ≡ Status.Done) ⊎ (result ≡ Status.DoneWithRefusals) → IsComplete p (stage_of engine.old holds.world) (M.disk machine.old) (M.disk machine.new) commands script result))
+        × ((p : Params) (commands : List Command) → (holds : Holds p (M.disk machine.old) engine.old commands) → forced_in engine.old ≡ length commands → engine.old.group ≡ None → engine.old.copied ≡ None →
+        IsBackedUp T.disk p (stage_of engine.old holds.world) commands script (M.disk machine.old) (M.disk machine.new) backup.old backup.new) }
     ensures input { S.tells input.old → (result ≡ Status.Done) ⊎ (result ≡ Status.DoneWithRefusals) → (S.left input.new ≡ []) × (length (S.left input.old) < 2 ^ 40) }
     // No slot of the files that were opened is damaged.
     ensures store { (M.disk machine.old).tells_files → IsAttached (M.disk machine.old) engine.old → (result ≢ Status.NotAStore) × (result ≢ Status.Damaged) }

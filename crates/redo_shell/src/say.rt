@@ -52,8 +52,8 @@ pub fn say_answer<M: Machine>(
     Ok(refuses(answer))
 }
 
-/// Says a line. Fails where the output does.
-fn say_line<M: Machine>(machine: &mut M, line: &[u8]) -> Result<(), Stop>
+/// Says a line, or other bytes. Fails where the output does.
+pub fn say_line<M: Machine>(machine: &mut M, line: &[u8]) -> Result<(), Stop>
     ensures runs { Runs Same (SaysFront line.now) (M.disk machine.old) (M.disk machine.new) }
     ensures all { (M.disk machine.old).tells_files → OnOk result ((M.disk machine.new).said ≡ (M.disk machine.old).said ++ line.now) }
     ensures cause { IfErr result (λ stop. IsCaused stop (M.disk machine.old) (M.disk machine.new)) }

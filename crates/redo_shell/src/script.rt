@@ -70,7 +70,9 @@ pub fn answer_script<M: Machine, T: Machine, S: Source>(
     // Whatever a source that reports nothing gave, it is some script.
     ensures some { (script : List (List ℕ)) × ((p : Params) (commands : List Command) → (holds : Holds p (M.disk machine.old) engine.old commands) → forced_in engine.old ≡ length commands → engine.old.group ≡ None →
         IsRun p (stage_of engine.old holds.world) (M.disk machine.old) (M.disk machine.new) commands script (status_after result)
-        × IfOk result (λ refusing. IsComplete p (stage_of engine.old holds.world) (M.disk machine.old) (M.disk machine.new) commands script (status_after (Ok refusing)))) }
+        × IfOk result (λ refusing. IsComplete p (stage_of engine.old holds.world) (M.disk machine.old) (M.disk machine.new) commands script (status_after (Ok refusing))))
+        × ((p : Params) (commands : List Command) → (holds : Holds p (M.disk machine.old) engine.old commands) → forced_in engine.old ≡ length commands → engine.old.group ≡ None → engine.old.copied ≡ None →
+        IsBackedUp T.disk p (stage_of engine.old holds.world) commands script (M.disk machine.old) (M.disk machine.new) backup.old backup.new) }
     ensures input { S.tells input.old → IfOk result (λ _. (S.left input.new ≡ []) × (length (S.left input.old) < 2 ^ 40)) }
     ensures cause { IfErr result (λ stop. StopsWith stop (M.disk machine.old) (M.disk machine.new) (S.faults input.old) (S.faults input.new) (T.disk backup.old) (T.disk backup.new)) }
     ensures undamaged { (M.disk machine.old).tells_files → IsAttached (M.disk machine.old) engine.old → IfErr result IsUndamaged }

@@ -34,6 +34,12 @@ pub enum Status {
     Smaller,
     /// The disk of the backup failed.
     BackupFault,
+    /// The log begins behind the number that was asked for.
+    Gone,
+    /// The input is no stream of frames that the store can follow.
+    BadStream,
+    /// The log has no room for what the stream has.
+    StandbyFull,
 }
 
 impl Status {
@@ -55,6 +61,9 @@ impl Status {
             Status::AlreadyTwo => 3,
             Status::Smaller => 10,
             Status::BackupFault => 11,
+            Status::Gone => 12,
+            Status::BadStream => 13,
+            Status::StandbyFull => 14,
         }
     }
 }

@@ -21,3 +21,5 @@ mod mirror;
 mod rows;
 #[cfg(test)]
 mod running;
+#[cfg(test)]
+mod standbys;

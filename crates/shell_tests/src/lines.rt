@@ -1,6 +1,7 @@
 // What no clause says of lines: that calls succeed with ample memory, and worked rows.
 ghost use Rattle.std.specs.Prelude.{⊤, []};
 
+use crate::running::Pieces;
 use app_program::ProgramOp;
 use command_words::{Asked, read_words};
 use disk_model::{Failed, Source};
@@ -461,7 +462,7 @@ const LEAST: Params = Params {
 };
 
 // Words, and what they ask.
-const WORDS: [(&[&str], Option<Asked>); 32] = [
+const WORDS: [(&[&str], Option<Asked>); 40] = [
     (&["redo", "run"], Some(Asked::Run)),
     (&["redo", "dump"], Some(Asked::Dump)),
     (&["redo", "dump", "run"], None),
@@ -515,6 +516,19 @@ const WORDS: [(&[&str], Option<Asked>); 32] = [
     (&["redo", "upgrade", "8", "64"], None),
     (&["redo", "upgrade", "8", "64", "4223"], None),
     (&["redo", "upgraded", "8", "64", "65536"], None),
+    (&["redo", "ship", "1"], Some(Asked::Ship { from: 1 })),
+    (
+        &["redo", "ship", "4611686018427387903"],
+        Some(Asked::Ship {
+            from: 4611686018427387903,
+        }),
+    ),
+    (&["redo", "ship", "0"], None),
+    (&["redo", "ship", "4611686018427387904"], None),
+    (&["redo", "ship"], None),
+    (&["redo", "ship", "1", "2"], None),
+    (&["redo", "follow"], Some(Asked::Follow)),
+    (&["redo", "follow", "1"], None),
 ];
 
 fn ask(alloc: Global, words: &[&str], want: Option<Asked>) -> bool {
@@ -535,31 +549,6 @@ fn all_words_are_read(alloc: Global) -> bool {
 #[test]
 fn words_are_read(rt: HostRuntime) {
     assert!(rt; all_words_are_read(rt.alloc()));
-}
-
-/// Gives bytes in pieces of so many.
-#[derive(Drop)]
-struct Pieces<'a> {
-    left: &'a [u8],
-    size: usize,
-}
-
-impl Source for Pieces<'_> {
-    ghost use Rattle.std.specs.Prelude.{⊤, []};
-
-    ghost tells = { λ _. ⊤ };
-
-    ghost left = { λ s. s.left.now };
-
-    ghost faults = { λ _. 0 };
-
-    fn read(&mut self, into: &mut [u8]) -> Result<usize, Failed> {
-        let count = self.size.max(1).min(into.len()).min(self.left.len());
-        let (front, rest) = self.left.split_at(count);
-        into[..count].copy_from_slice(front);
-        self.left = rest;
-        Ok(count)
-    }
 }
 
 /// Fails.

@@ -1,5 +1,5 @@
 // The program in a folder in memory.
-use disk_model::{Crash, GrowMem, Machine, MemMachine, MemSource};
+use disk_model::{Crash, Failed, GrowMem, Machine, MemMachine, MemSource, Source};
 use redo_shell::{Status, top};
 use std::alloc::{AllocError, Global};
 
@@ -7,6 +7,31 @@ pub const INIT: &str = "redo init 8 64 65536";
 
 pub fn empty_folder(alloc: Global) -> Result<MemMachine, AllocError> {
     MemMachine::new(alloc, [32896, 65536, 65536], 1000, 65536, Vec::new(alloc))
+}
+
+/// Gives bytes in pieces of so many.
+#[derive(Drop)]
+pub struct Pieces<'a> {
+    pub left: &'a [u8],
+    pub size: usize,
+}
+
+impl Source for Pieces<'_> {
+    ghost use Rattle.std.specs.Prelude.{⊤, []};
+
+    ghost tells = { λ _. ⊤ };
+
+    ghost left = { λ s. s.left.now };
+
+    ghost faults = { λ _. 0 };
+
+    fn read(&mut self, into: &mut [u8]) -> Result<usize, Failed> {
+        let count = self.size.max(1).min(into.len()).min(self.left.len());
+        let (front, rest) = self.left.split_at(count);
+        into[..count].copy_from_slice(front);
+        self.left = rest;
+        Ok(count)
+    }
 }
 
 // The words of a line.
@@ -45,6 +70,21 @@ pub fn run<M: Machine>(alloc: Global, machine: &mut M, line: &str, input: &[u8])
         Ok(mut backup) => run_beside(alloc, machine, &mut backup, line, input),
         Err(_) => Status::Memory,
     }
+}
+
+// The same with an input that comes in pieces of so many bytes.
+pub fn run_in_pieces<M: Machine>(
+    alloc: Global,
+    machine: &mut M,
+    line: &str,
+    input: &[u8],
+    size: usize,
+) -> Status {
+    let (Ok(words), Ok(mut backup)) = (words(alloc, line), GrowMem::new(alloc)) else {
+        return Status::Memory;
+    };
+    let mut source = Pieces { left: input, size };
+    top(alloc, words.as_slice(), machine, &mut backup, &mut source)
 }
 
 // A folder with a store of 8 objects. Nothing is printed yet, and all is synced.

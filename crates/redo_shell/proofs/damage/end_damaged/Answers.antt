@@ -1,4 +1,5 @@
-use Rattle.redo_shell.proofs.KeepLemmas.{keeps_once, keeps_none}
+use Rattle.disk_model.specs.Moments.{stays_here}
+use Rattle.redo_shell.proofs.KeepLemmas.{keeps_once, keeps_none, says_once}
 use Rattle.redo_shell.proofs.damage.end_damaged.Goals as goal
 
 pub returns-in-Ok-clause-keeps : goal.returns-in-Ok-clause-keeps
@@ -6,3 +7,9 @@ returns-in-Ok-clause-keeps g c = keeps_once (g.M.Machine.disk c.args.machine.now
 
 pub returns-in-Err-clause-keeps : goal.returns-in-Err-clause-keeps
 returns-in-Err-clause-keeps g c = keeps_none (g.M.Machine.disk c.args.machine.now) (g.met.M.Machine.lawful c.args.machine.now)
+
+pub returns-in-Ok-clause-says : goal.returns-in-Ok-clause-says
+returns-in-Ok-clause-says g c = says_once (g.M.Machine.disk c.args.machine.now) (g.M.Machine.disk c.end_with.new.machine) c.end_with.ensures.runs
+
+pub returns-in-Err-clause-says : goal.returns-in-Err-clause-says
+returns-in-Err-clause-says g c = says_once (g.M.Machine.disk c.args.machine.now) (g.M.Machine.disk c.args.machine.now) (stays_here (g.M.Machine.disk c.args.machine.now) (g.met.M.Machine.lawful c.args.machine.now))

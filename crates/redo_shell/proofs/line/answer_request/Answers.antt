@@ -6,8 +6,23 @@ use Rattle.redo_shell.proofs.HoldLemmas.{always, attached_said, holds_between}
 use Rattle.redo_shell.proofs.LineLemmas.{as_work, caused_beside, not_saving, saving_is}
 use Rattle.redo_shell.proofs.MomentLemmas.{works_at_once}
 use Rattle.redo_shell.proofs.RunLemmas.{works_none, found_at_once, said_at_once, stops_before, skipped}
-use Rattle.redo_shell.proofs.SavingLemmas.{beside_other, beside_quiet}
+use Rattle.redo_shell.proofs.SavingLemmas.{BesideLaws, beside_other, beside_quiet}
+use Rattle.redo_shell.proofs.line.answer_request.Given.{Over}
+use Rattle.redo_shell.proofs.line.answer_request.Goals.{After-copies_go_on}
 use Rattle.redo_shell.proofs.line.answer_request.Goals as goal
+
+module _ (g : Over) (c : After-copies_go_on g) where
+  laws : (new : g.row.M.Denot) → BesideLaws (g.M.Machine.disk c.args.machine.now) (g.M.Machine.disk new) (g.T.Machine.disk c.args.backup.now)
+  laws new = record {
+    force = c.calls_go_beside_a_copy.ensures.force;
+    install = c.calls_go_beside_a_copy.ensures.install;
+    drain = c.calls_go_beside_a_copy.ensures.drain;
+    checkpoint = c.calls_go_beside_a_copy.ensures.checkpoint;
+    begin = c.calls_go_beside_a_copy.ensures.begin;
+    end = c.calls_go_beside_a_copy.ensures.end;
+    steps = λ p before after w steps taken. c.copies_go_on.ensures.steps p c.args.machine.now new before after w steps taken c.args.backup.now;
+    commands = λ p before after w limit used ops. c.copies_go_on.ensures.commands p c.args.machine.now new before after w limit used ops c.args.backup.now;
+  }
 
 pub returns-in_err-work-clause-answers : goal.returns-in_err-work-clause-answers
 returns-in_err-work-clause-answers g c = λ start p commands holds.
@@ -17,7 +32,7 @@ returns-in_err-work-clause-answers g c = λ start p commands holds.
 pub returns-in-Run-clause-answers : goal.returns-in-Run-clause-answers
 returns-in-Run-clause-answers g c = λ start p commands holds.
     let asks = as_work c.args.line.now (Run c.in-Run.op) c.in_ok-work.ensures c.in-Run.is in
-    beside_other (record { install = c.calls_go_beside_a_copy.ensures.install; drain = c.calls_go_beside_a_copy.ensures.drain; checkpoint = c.calls_go_beside_a_copy.ensures.checkpoint; begin = c.calls_go_beside_a_copy.ensures.begin; end = c.calls_go_beside_a_copy.ensures.end; some = c.a_copy_goes_on.ensures.some }) (g.T.Machine.disk c.args.backup.now) (not_saving c.a_line_asks_one_thing.ensures c.args.line.now (Run c.in-Run.op) tt asks) holds.shows c.run_command.result (c.run_command.ensures.answers p commands c.args.line.now holds asks)
+    beside_other (laws g (goal.at.returns-in-Run-clause-answers g c).After-copies_go_on c.run_command.new.machine) (not_saving c.a_line_asks_one_thing.ensures c.args.line.now (Run c.in-Run.op) tt asks) holds.shows c.run_command.result (c.run_command.ensures.answers p commands c.args.line.now holds asks)
 
 pub returns-in-Run-clause-cause : goal.returns-in-Run-clause-cause
 returns-in-Run-clause-cause g c = caused_beside (g.M.Machine.disk c.args.machine.now) (g.M.Machine.disk c.run_command.new.machine) (g.T.Machine.disk c.args.backup.now) (g.T.Machine.disk c.args.backup.now) c.run_command.result c.run_command.ensures.cause
@@ -25,7 +40,7 @@ returns-in-Run-clause-cause g c = caused_beside (g.M.Machine.disk c.args.machine
 pub returns-in-Make-clause-answers : goal.returns-in-Make-clause-answers
 returns-in-Make-clause-answers g c = λ start p commands holds.
     let asks = as_work c.args.line.now (Make c.in-Make.making) c.in_ok-work.ensures c.in-Make.is in
-    beside_other (record { install = c.calls_go_beside_a_copy.ensures.install; drain = c.calls_go_beside_a_copy.ensures.drain; checkpoint = c.calls_go_beside_a_copy.ensures.checkpoint; begin = c.calls_go_beside_a_copy.ensures.begin; end = c.calls_go_beside_a_copy.ensures.end; some = c.a_copy_goes_on.ensures.some }) (g.T.Machine.disk c.args.backup.now) (not_saving c.a_line_asks_one_thing.ensures c.args.line.now (Make c.in-Make.making) tt asks) holds.shows c.run_list.result (c.run_list.ensures.answers p commands c.args.line.now holds asks)
+    beside_other (laws g (goal.at.returns-in-Make-clause-answers g c).After-copies_go_on c.run_list.new.machine) (not_saving c.a_line_asks_one_thing.ensures c.args.line.now (Make c.in-Make.making) tt asks) holds.shows c.run_list.result (c.run_list.ensures.answers p commands c.args.line.now holds asks)
 
 pub returns-in-Make-clause-cause : goal.returns-in-Make-clause-cause
 returns-in-Make-clause-cause g c = caused_beside (g.M.Machine.disk c.args.machine.now) (g.M.Machine.disk c.run_list.new.machine) (g.T.Machine.disk c.args.backup.now) (g.T.Machine.disk c.args.backup.now) c.run_list.result c.run_list.ensures.cause
@@ -33,7 +48,7 @@ returns-in-Make-clause-cause g c = caused_beside (g.M.Machine.disk c.args.machin
 pub returns-in-Ask-clause-answers : goal.returns-in-Ask-clause-answers
 returns-in-Ask-clause-answers g c = λ start p commands holds.
     let asks = as_work c.args.line.now (Ask c.in-Ask.question) c.in_ok-work.ensures c.in-Ask.is in
-    beside_other (record { install = c.calls_go_beside_a_copy.ensures.install; drain = c.calls_go_beside_a_copy.ensures.drain; checkpoint = c.calls_go_beside_a_copy.ensures.checkpoint; begin = c.calls_go_beside_a_copy.ensures.begin; end = c.calls_go_beside_a_copy.ensures.end; some = c.a_copy_goes_on.ensures.some }) (g.T.Machine.disk c.args.backup.now) (not_saving c.a_line_asks_one_thing.ensures c.args.line.now (Ask c.in-Ask.question) tt asks) holds.shows c.say_found.result (c.say_found.ensures.answers p commands c.args.line.now holds asks)
+    beside_other (laws g (goal.at.returns-in-Ask-clause-answers g c).After-copies_go_on c.say_found.new.machine) (not_saving c.a_line_asks_one_thing.ensures c.args.line.now (Ask c.in-Ask.question) tt asks) holds.shows c.say_found.result (c.say_found.ensures.answers p commands c.args.line.now holds asks)
 
 pub returns-in-Ask-clause-cause : goal.returns-in-Ask-clause-cause
 returns-in-Ask-clause-cause g c = caused_beside (g.M.Machine.disk c.args.machine.now) (g.M.Machine.disk c.say_found.new.machine) (g.T.Machine.disk c.args.backup.now) (g.T.Machine.disk c.args.backup.now) c.say_found.result c.say_found.ensures.cause
@@ -41,7 +56,7 @@ returns-in-Ask-clause-cause g c = caused_beside (g.M.Machine.disk c.args.machine
 pub returns-in-Tell-clause-answers : goal.returns-in-Tell-clause-answers
 returns-in-Tell-clause-answers g c = λ start p commands holds.
     let asks = as_work c.args.line.now (Tell c.in-Tell.object) c.in_ok-work.ensures c.in-Tell.is in
-    beside_other (record { install = c.calls_go_beside_a_copy.ensures.install; drain = c.calls_go_beside_a_copy.ensures.drain; checkpoint = c.calls_go_beside_a_copy.ensures.checkpoint; begin = c.calls_go_beside_a_copy.ensures.begin; end = c.calls_go_beside_a_copy.ensures.end; some = c.a_copy_goes_on.ensures.some }) (g.T.Machine.disk c.args.backup.now) (not_saving c.a_line_asks_one_thing.ensures c.args.line.now (Tell c.in-Tell.object) tt asks) holds.shows c.say_value.result (c.say_value.ensures.answers p commands c.args.line.now holds asks)
+    beside_other (laws g (goal.at.returns-in-Tell-clause-answers g c).After-copies_go_on c.say_value.new.machine) (not_saving c.a_line_asks_one_thing.ensures c.args.line.now (Tell c.in-Tell.object) tt asks) holds.shows c.say_value.result (c.say_value.ensures.answers p commands c.args.line.now holds asks)
 
 pub returns-in-Tell-clause-cause : goal.returns-in-Tell-clause-cause
 returns-in-Tell-clause-cause g c = caused_beside (g.M.Machine.disk c.args.machine.now) (g.M.Machine.disk c.say_value.new.machine) (g.T.Machine.disk c.args.backup.now) (g.T.Machine.disk c.args.backup.now) c.say_value.result c.say_value.ensures.cause
@@ -49,7 +64,7 @@ returns-in-Tell-clause-cause g c = caused_beside (g.M.Machine.disk c.args.machin
 pub returns-in-Force-clause-answers : goal.returns-in-Force-clause-answers
 returns-in-Force-clause-answers g c = λ start p commands holds.
     let asks = as_work c.args.line.now Force c.in_ok-work.ensures c.in-Force.is in
-    beside_other (record { install = c.calls_go_beside_a_copy.ensures.install; drain = c.calls_go_beside_a_copy.ensures.drain; checkpoint = c.calls_go_beside_a_copy.ensures.checkpoint; begin = c.calls_go_beside_a_copy.ensures.begin; end = c.calls_go_beside_a_copy.ensures.end; some = c.a_copy_goes_on.ensures.some }) (g.T.Machine.disk c.args.backup.now) (not_saving c.a_line_asks_one_thing.ensures c.args.line.now Force tt asks) holds.shows c.run_force.result (c.run_force.ensures.answers p commands c.args.line.now holds asks)
+    beside_other (laws g (goal.at.returns-in-Force-clause-answers g c).After-copies_go_on c.run_force.new.machine) (not_saving c.a_line_asks_one_thing.ensures c.args.line.now Force tt asks) holds.shows c.run_force.result (c.run_force.ensures.answers p commands c.args.line.now holds asks)
 
 pub returns-in-Force-clause-cause : goal.returns-in-Force-clause-cause
 returns-in-Force-clause-cause g c = caused_beside (g.M.Machine.disk c.args.machine.now) (g.M.Machine.disk c.run_force.new.machine) (g.T.Machine.disk c.args.backup.now) (g.T.Machine.disk c.args.backup.now) c.run_force.result c.run_force.ensures.cause
@@ -57,7 +72,7 @@ returns-in-Force-clause-cause g c = caused_beside (g.M.Machine.disk c.args.machi
 pub returns-in-Keep-clause-answers : goal.returns-in-Keep-clause-answers
 returns-in-Keep-clause-answers g c = λ start p commands holds.
     let asks = as_work c.args.line.now (Keep c.in-Keep.upkeep) c.in_ok-work.ensures c.in-Keep.is in
-    beside_other (record { install = c.calls_go_beside_a_copy.ensures.install; drain = c.calls_go_beside_a_copy.ensures.drain; checkpoint = c.calls_go_beside_a_copy.ensures.checkpoint; begin = c.calls_go_beside_a_copy.ensures.begin; end = c.calls_go_beside_a_copy.ensures.end; some = c.a_copy_goes_on.ensures.some }) (g.T.Machine.disk c.args.backup.now) (not_saving c.a_line_asks_one_thing.ensures c.args.line.now (Keep c.in-Keep.upkeep) tt asks) holds.shows c.run_upkeep.result (c.run_upkeep.ensures.answers p commands c.args.line.now holds asks)
+    beside_other (laws g (goal.at.returns-in-Keep-clause-answers g c).After-copies_go_on c.run_upkeep.new.machine) (not_saving c.a_line_asks_one_thing.ensures c.args.line.now (Keep c.in-Keep.upkeep) tt asks) holds.shows c.run_upkeep.result (c.run_upkeep.ensures.answers p commands c.args.line.now holds asks)
 
 pub returns-in-Keep-clause-cause : goal.returns-in-Keep-clause-cause
 returns-in-Keep-clause-cause g c = caused_beside (g.M.Machine.disk c.args.machine.now) (g.M.Machine.disk c.run_upkeep.new.machine) (g.T.Machine.disk c.args.backup.now) (g.T.Machine.disk c.args.backup.now) c.run_upkeep.result c.run_upkeep.ensures.cause
@@ -65,7 +80,7 @@ returns-in-Keep-clause-cause g c = caused_beside (g.M.Machine.disk c.args.machin
 pub returns-in-Group-clause-answers : goal.returns-in-Group-clause-answers
 returns-in-Group-clause-answers g c = λ start p commands holds.
     let asks = as_work c.args.line.now (Group c.in-Group.grouping) c.in_ok-work.ensures c.in-Group.is in
-    beside_other (record { install = c.calls_go_beside_a_copy.ensures.install; drain = c.calls_go_beside_a_copy.ensures.drain; checkpoint = c.calls_go_beside_a_copy.ensures.checkpoint; begin = c.calls_go_beside_a_copy.ensures.begin; end = c.calls_go_beside_a_copy.ensures.end; some = c.a_copy_goes_on.ensures.some }) (g.T.Machine.disk c.args.backup.now) (not_saving c.a_line_asks_one_thing.ensures c.args.line.now (Group c.in-Group.grouping) tt asks) holds.shows c.run_group.result (c.run_group.ensures.answers p commands c.args.line.now holds asks)
+    beside_other (laws g (goal.at.returns-in-Group-clause-answers g c).After-copies_go_on c.run_group.new.machine) (not_saving c.a_line_asks_one_thing.ensures c.args.line.now (Group c.in-Group.grouping) tt asks) holds.shows c.run_group.result (c.run_group.ensures.answers p commands c.args.line.now holds asks)
 
 pub returns-in-Group-clause-cause : goal.returns-in-Group-clause-cause
 returns-in-Group-clause-cause g c = caused_beside (g.M.Machine.disk c.args.machine.now) (g.M.Machine.disk c.run_group.new.machine) (g.T.Machine.disk c.args.backup.now) (g.T.Machine.disk c.args.backup.now) c.run_group.result c.run_group.ensures.cause
@@ -73,7 +88,7 @@ returns-in-Group-clause-cause g c = caused_beside (g.M.Machine.disk c.args.machi
 pub returns-in-Count-clause-answers : goal.returns-in-Count-clause-answers
 returns-in-Count-clause-answers g c = λ start p commands holds.
     let asks = as_work c.args.line.now Count c.in_ok-work.ensures c.in-Count.is in
-    beside_other (record { install = c.calls_go_beside_a_copy.ensures.install; drain = c.calls_go_beside_a_copy.ensures.drain; checkpoint = c.calls_go_beside_a_copy.ensures.checkpoint; begin = c.calls_go_beside_a_copy.ensures.begin; end = c.calls_go_beside_a_copy.ensures.end; some = c.a_copy_goes_on.ensures.some }) (g.T.Machine.disk c.args.backup.now) (not_saving c.a_line_asks_one_thing.ensures c.args.line.now Count tt asks) holds.shows c.say_counts.result (c.say_counts.ensures.answers p commands c.args.line.now holds asks)
+    beside_other (laws g (goal.at.returns-in-Count-clause-answers g c).After-copies_go_on c.say_counts.new.machine) (not_saving c.a_line_asks_one_thing.ensures c.args.line.now Count tt asks) holds.shows c.say_counts.result (c.say_counts.ensures.answers p commands c.args.line.now holds asks)
 
 pub returns-in-Count-clause-cause : goal.returns-in-Count-clause-cause
 returns-in-Count-clause-cause g c = caused_beside (g.M.Machine.disk c.args.machine.now) (g.M.Machine.disk c.say_counts.new.machine) (g.T.Machine.disk c.args.backup.now) (g.T.Machine.disk c.args.backup.now) c.say_counts.result c.say_counts.ensures.cause
@@ -89,13 +104,13 @@ returns-in-Save-clause-idle g c = λ other.
 pub returns-in-Nothing-clause-answers : goal.returns-in-Nothing-clause-answers
 returns-in-Nothing-clause-answers g c = λ start p commands holds.
     let asks = as_work c.args.line.now Nothing c.in_ok-work.ensures c.in-Nothing.is in
-    beside_other (record { install = c.calls_go_beside_a_copy.ensures.install; drain = c.calls_go_beside_a_copy.ensures.drain; checkpoint = c.calls_go_beside_a_copy.ensures.checkpoint; begin = c.calls_go_beside_a_copy.ensures.begin; end = c.calls_go_beside_a_copy.ensures.end; some = c.a_copy_goes_on.ensures.some }) (g.T.Machine.disk c.args.backup.now) (not_saving c.a_line_asks_one_thing.ensures c.args.line.now Nothing tt asks) holds.shows _ (skipped (g.met.M.Machine.lawful c.args.machine.now) holds asks)
+    beside_other (laws g (goal.at.returns-in-Nothing-clause-answers g c).After-copies_go_on c.args.machine.now) (not_saving c.a_line_asks_one_thing.ensures c.args.line.now Nothing tt asks) holds.shows _ (skipped (g.met.M.Machine.lawful c.args.machine.now) holds asks)
 
 pub returns-in-Bad-clause-answers : goal.returns-in-Bad-clause-answers
 returns-in-Bad-clause-answers g c = λ start p commands holds.
     let bad_line = as_work c.args.line.now Bad c.in_ok-work.ensures c.in-Bad.is in
     let found = found_at_once {line = c.args.line.now} bad holds (bad_line, refl) (λ f. tt) (λ group. refl) (λ n is. cc) (λ log. refl) in
-    beside_other (record { install = c.calls_go_beside_a_copy.ensures.install; drain = c.calls_go_beside_a_copy.ensures.drain; checkpoint = c.calls_go_beside_a_copy.ensures.checkpoint; begin = c.calls_go_beside_a_copy.ensures.begin; end = c.calls_go_beside_a_copy.ensures.end; some = c.a_copy_goes_on.ensures.some }) (g.T.Machine.disk c.args.backup.now) (not_saving c.a_line_asks_one_thing.ensures c.args.line.now Bad tt bad_line) holds.shows c.say_answer.result
+    beside_other (laws g (goal.at.returns-in-Bad-clause-answers g c).After-copies_go_on c.say_answer.new.machine) (not_saving c.a_line_asks_one_thing.ensures c.args.line.now Bad tt bad_line) holds.shows c.say_answer.result
     (said_at_once c.say_answer.result (g.met.M.Machine.lawful c.args.machine.now) holds found c.say_answer.ensures.runs c.say_answer.ensures.all c.say_answer.ensures.kind)
 
 pub returns-in-Bad-clause-cause : goal.returns-in-Bad-clause-cause

@@ -1,4 +1,4 @@
-use Rattle.std.proofs.Common.{length, None, ◌++◌, List, ℕ, ⊎_elim, ap, sym, subst, ◌∙◌, arith}
+use Rattle.std.proofs.Common.{length, None, ap, sym, subst, ◌∙◌}
 use Rattle.disk_model.specs.Disk.{Disk, LeavesOnly}
 use Rattle.disk_model.specs.Moments.{passes_twice}
 use Rattle.disk_model.specs.declared.machine.FileNo.TheVariants.{Objects}
@@ -6,13 +6,9 @@ use Rattle.formats.specs.Objects.{bounds_of}
 use Rattle.restart.specs.Starts.{OrAtStart}
 use Rattle.standing.specs.OneStable.{small_store}
 use Rattle.redo_shell.specs.Courses.{OpeningMoment}
-use Rattle.redo_shell.specs.Notices.{damaged, not_a_store}
 use Rattle.redo_shell.specs.Stages.{redo_dirty}
 use Rattle.redo_shell.specs.Store.{Between}
-use Rattle.redo_shell.proofs.ExactLemmas.{unopened_reads_none}
-use Rattle.redo_shell.proofs.HoldLemmas.{rises_within}
-use Rattle.redo_shell.proofs.KeepLemmas.{keeps_behind}
-use Rattle.redo_shell.proofs.RestartLemmas.{first_of, shows_first, stays_unless, no_damage, not_damaged}
+use Rattle.redo_shell.proofs.RestartLemmas.{first_of, no_damage, shows_first, unopened_so}
 use Rattle.redo_shell.proofs.opening.open_store.Goals as goal
 
 pub returns-in-Ok-clause-time : goal.returns-in-Ok-clause-time
@@ -69,46 +65,15 @@ pub returns-in-Ok-clause-read : goal.returns-in-Ok-clause-read
 returns-in-Ok-clause-read g c = λ told. (c.in-Ok.ensures.judged told).read
 
 pub returns-in-Err-clause-unopened : goal.returns-in-Err-clause-unopened
-returns-in-Err-clause-unopened g c =
-    let old = g.M.Machine.disk c.args.machine.now in
-    let mid = g.M.Machine.disk c.restart.new.machine in
-    let new = g.M.Machine.disk c.end_unopened.new.machine in
-    record {
-      ends = c.end_unopened.ensures.status;
-      judged = λ told.
-          let told_mid = c.restart.ensures.opening.time.files_told.0 told in
-          let judged = c.in-Err.ensures.judged told in
-          record {
-            no_store = λ is.
-                let said = c.end_unopened.ensures.no_store told_mid is in
-                let stays = stays_unless judged.kept (λ image. no_damage c.in-Err.cause (judged.whole image) said.0) in (
-                  judged.no_store (cc (said.0)),
-                  c.end_unopened.ensures.keeps.reads told_mid ∙ stays.reads told,
-                  said.1 ∙ ap (λ (l : List ℕ). l ++ not_a_store) (c.restart.ensures.opening.quiet told),
-                );
-            damaged = λ is.
-                let said = c.end_unopened.ensures.damaged told_mid is in
-                let stays = stays_unless judged.kept (λ image. not_damaged c.in-Err.cause said.2 (judged.whole image)) in (
-                  said.0,
-                  said.1,
-                  judged.damaged said.0 said.1 (cc (said.2)),
-                  c.end_unopened.ensures.keeps.reads told_mid ∙ stays.reads told,
-                  said.3 ∙ ap (λ (l : List ℕ). l ++ damaged said.0 said.1) (c.restart.ensures.opening.quiet told),
-                );
-            store = λ image.
-                let whole = judged.whole image in
-                let quiet = c.end_unopened.ensures.quiet (no_damage c.in-Err.cause whole) whole in
-                (quiet.1, quiet.2);
-            opened = λ of. absurd (unopened_reads_none c.end_unopened.result c.end_unopened.ensures.status of);
-            keeps = λ broken. keeps_behind old mid new (stays_unless judged.kept broken) c.end_unopened.ensures.keeps;
-            memory = λ is. ⊎_elim (λ e. judged.memory (cc e)) (λ broken. (judged.damaged broken.0 broken.1 (cc (broken.2))).gate) (c.end_unopened.ensures.memory is);
-            silent = λ broken is. ap (λ (d : Disk). d.said) (ap g.M.Machine.disk (c.end_unopened.ensures.silent is)) ∙ c.restart.ensures.opening.quiet told;
-          };
-      quiet = λ told image.
-          let whole = (c.in-Err.ensures.judged told).whole image in
-          (c.end_unopened.ensures.quiet (no_damage c.in-Err.cause whole) whole).3;
-      faults = record {
-        disk = λ is. rises_within _ _ _ _ (omega arith) c.end_unopened.ensures.time.disk_faults (c.in-Err.ensures.opening.fault (cc (c.end_unopened.ensures.disk_fault is)));
-        output = λ is. rises_within _ _ _ _ c.restart.ensures.opening.time.say_faults (omega arith) (c.end_unopened.ensures.say_fault is);
-      };
-    }
+returns-in-Err-clause-unopened g c = unopened_so c.in-Err.ensures.opening c.in-Err.ensures.judged (record {
+  time = c.end_unopened.ensures.time;
+  keeps = c.end_unopened.ensures.keeps;
+  no_store = c.end_unopened.ensures.no_store;
+  damaged = c.end_unopened.ensures.damaged;
+  quiet = λ none no. let quiet = c.end_unopened.ensures.quiet none no in (ap (λ (d : Disk). d.said) (ap g.M.Machine.disk quiet.0), quiet.1, quiet.2, quiet.3);
+  silent = λ is. ap (λ (d : Disk). d.said) (ap g.M.Machine.disk (c.end_unopened.ensures.silent is));
+  ends = c.end_unopened.ensures.status;
+  disk_fault = c.end_unopened.ensures.disk_fault;
+  say_fault = c.end_unopened.ensures.say_fault;
+  memory = c.end_unopened.ensures.memory;
+})

@@ -1,7 +1,7 @@
 use Rattle.std.proofs.Common.{refl, sym, subst}
 use Rattle.command_words.specs.Words.{IsAllowed}
 use Rattle.redo_shell.specs.Demo.{IsOfDemo}
-use Rattle.redo_shell.specs.Status.{IsOfDump, IsOfInit, IsOfUpgrade}
+use Rattle.redo_shell.specs.Status.{IsOfDump, IsOfFollow, IsOfInit, IsOfShip, IsOfUpgrade}
 use Rattle.redo_shell.proofs.CallLemmas.{backup_for, beside_none, call_for}
 use Rattle.redo_shell.proofs.program.serve.Goals as goal
 
@@ -76,3 +76,27 @@ returns-in-Upgrade-clause-backup g c = backup_for g.T.Machine.disk _ _ _ _ _ _ (
 
 pub returns-in-Upgrade-clause-beside : goal.returns-in-Upgrade-clause-beside
 returns-in-Upgrade-clause-beside g c = beside_none (g.T.Machine.disk c.args.backup.now) c.upgrade.result (λ is. subst IsOfUpgrade is c.upgrade.ensures.call.ends)
+
+pub returns-in-Ship-clause-call : goal.returns-in-Ship-clause-call
+returns-in-Ship-clause-call g c = call_for _ _ _ _ _ _ (sym c.in-Ship.is) c.ship.ensures.call
+
+pub returns-in-Ship-clause-read_fault : goal.returns-in-Ship-clause-read_fault
+returns-in-Ship-clause-read_fault g c = λ is. absurd (subst IsOfShip is c.ship.ensures.call.ends)
+
+pub returns-in-Ship-clause-too_long : goal.returns-in-Ship-clause-too_long
+returns-in-Ship-clause-too_long g c = λ told is. absurd (subst IsOfShip is c.ship.ensures.call.ends)
+
+pub returns-in-Ship-clause-backup : goal.returns-in-Ship-clause-backup
+returns-in-Ship-clause-backup g c = backup_for g.T.Machine.disk _ _ _ _ _ _ (sym c.in-Ship.is) refl
+
+pub returns-in-Ship-clause-beside : goal.returns-in-Ship-clause-beside
+returns-in-Ship-clause-beside g c = beside_none (g.T.Machine.disk c.args.backup.now) c.ship.result (λ is. subst IsOfShip is c.ship.ensures.call.ends)
+
+pub returns-in-Follow-clause-call : goal.returns-in-Follow-clause-call
+returns-in-Follow-clause-call g c = call_for _ _ _ _ _ _ (sym c.in-Follow.is) c.follow.ensures.call
+
+pub returns-in-Follow-clause-backup : goal.returns-in-Follow-clause-backup
+returns-in-Follow-clause-backup g c = backup_for g.T.Machine.disk _ _ _ _ _ _ (sym c.in-Follow.is) refl
+
+pub returns-in-Follow-clause-beside : goal.returns-in-Follow-clause-beside
+returns-in-Follow-clause-beside g c = beside_none (g.T.Machine.disk c.args.backup.now) c.follow.result (λ is. subst IsOfFollow is c.follow.ensures.call.ends)

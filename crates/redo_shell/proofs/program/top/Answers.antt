@@ -1,7 +1,7 @@
 use Rattle.std.proofs.Common.{⊎_elim, inl, inr, subst, sym, refl, map, string_bytes}
 use Rattle.disk_model.specs.Moments.{stays_here}
 use Rattle.command_words.specs.Refusals.{IsRefusal}
-use Rattle.command_words.specs.declared.asked.Asked.TheVariants.{Init, Run, Dump, Demo, Upgrade}
+use Rattle.command_words.specs.declared.asked.Asked.TheVariants.{Run}
 use Rattle.redo_shell.proofs.CallLemmas.{backup_called, backup_idle, backup_unread, call_for, call_caused, call_exactly, call_goes_on, unread_goes_on}
 use Rattle.redo_shell.specs.Causes.{IsUnread}
 use Rattle.redo_shell.specs.declared.status.Status.TheVariants.{Memory}
@@ -20,17 +20,8 @@ returns-in-Ok-clause-images g c = λ p commands asks opens told.
 pub returns-in-Ok-clause-run : goal.returns-in-Ok-clause-run
 returns-in-Ok-clause-run g c = λ asks. inl (call_for _ _ _ _ _ _ (c.words_ask_one_thing.ensures (map string_bytes c.args.words.now) c.in-Ok.asked Run c.in-Ok.ensures.ok asks) c.serve.ensures.call)
 
-pub returns-in-Ok-clause-dump : goal.returns-in-Ok-clause-dump
-returns-in-Ok-clause-dump g c = λ asks. inl (call_for _ _ _ _ _ _ (c.words_ask_one_thing.ensures (map string_bytes c.args.words.now) c.in-Ok.asked Dump c.in-Ok.ensures.ok asks) c.serve.ensures.call)
-
-pub returns-in-Ok-clause-init : goal.returns-in-Ok-clause-init
-returns-in-Ok-clause-init g c = λ p asks. inl (call_for _ _ _ _ _ _ (c.words_ask_one_thing.ensures (map string_bytes c.args.words.now) c.in-Ok.asked (Init p) c.in-Ok.ensures.ok asks) c.serve.ensures.call)
-
-pub returns-in-Ok-clause-upgrade : goal.returns-in-Ok-clause-upgrade
-returns-in-Ok-clause-upgrade g c = λ q asks. inl (call_for _ _ _ _ _ _ (c.words_ask_one_thing.ensures (map string_bytes c.args.words.now) c.in-Ok.asked (Upgrade q) c.in-Ok.ensures.ok asks) c.serve.ensures.call)
-
-pub returns-in-Ok-clause-demo : goal.returns-in-Ok-clause-demo
-returns-in-Ok-clause-demo g c = λ seed steps asks. inl (call_for _ _ _ _ _ _ (c.words_ask_one_thing.ensures (map string_bytes c.args.words.now) c.in-Ok.asked (Demo seed steps) c.in-Ok.ensures.ok asks) c.serve.ensures.call)
+pub returns-in-Ok-clause-call : goal.returns-in-Ok-clause-call
+returns-in-Ok-clause-call g c = λ asked asks. inl (call_for _ _ _ _ _ _ (c.words_ask_one_thing.ensures (map string_bytes c.args.words.now) c.in-Ok.asked asked c.in-Ok.ensures.ok asks) c.serve.ensures.call)
 
 pub returns-in-Ok-clause-backup : goal.returns-in-Ok-clause-backup
 returns-in-Ok-clause-backup g c = backup_called g.T.Machine.disk _ _ _ _ _ _ c.in-Ok.asked c.in-Ok.ensures.ok (λ other asks. c.words_ask_one_thing.ensures (map string_bytes c.args.words.now) c.in-Ok.asked other c.in-Ok.ensures.ok asks) c.serve.ensures.beside c.serve.ensures.backup
@@ -54,17 +45,8 @@ returns-in-Err-Refused-clause-images g c = λ p commands asks. absurd (c.in-Err-
 pub returns-in-Err-Refused-clause-run : goal.returns-in-Err-Refused-clause-run
 returns-in-Err-Refused-clause-run g c = λ asks. absurd (c.in-Err-Refused.ensures.refused (subst IsRefusal (sym c.in-Err-Refused.field-0-is) tt) _ asks)
 
-pub returns-in-Err-Refused-clause-dump : goal.returns-in-Err-Refused-clause-dump
-returns-in-Err-Refused-clause-dump g c = λ asks. absurd (c.in-Err-Refused.ensures.refused (subst IsRefusal (sym c.in-Err-Refused.field-0-is) tt) _ asks)
-
-pub returns-in-Err-Refused-clause-init : goal.returns-in-Err-Refused-clause-init
-returns-in-Err-Refused-clause-init g c = λ p asks. absurd (c.in-Err-Refused.ensures.refused (subst IsRefusal (sym c.in-Err-Refused.field-0-is) tt) _ asks)
-
-pub returns-in-Err-Refused-clause-upgrade : goal.returns-in-Err-Refused-clause-upgrade
-returns-in-Err-Refused-clause-upgrade g c = λ q asks. absurd (c.in-Err-Refused.ensures.refused (subst IsRefusal (sym c.in-Err-Refused.field-0-is) tt) _ asks)
-
-pub returns-in-Err-Refused-clause-demo : goal.returns-in-Err-Refused-clause-demo
-returns-in-Err-Refused-clause-demo g c = λ seed steps asks. absurd (c.in-Err-Refused.ensures.refused (subst IsRefusal (sym c.in-Err-Refused.field-0-is) tt) _ asks)
+pub returns-in-Err-Refused-clause-call : goal.returns-in-Err-Refused-clause-call
+returns-in-Err-Refused-clause-call g c = λ asked asks. absurd (c.in-Err-Refused.ensures.refused (subst IsRefusal (sym c.in-Err-Refused.field-0-is) tt) asked asks)
 
 pub returns-in-Err-Refused-clause-backup : goal.returns-in-Err-Refused-clause-backup
 returns-in-Err-Refused-clause-backup g c = backup_idle g.T.Machine.disk c.args.backup.now (λ asks. c.in-Err-Refused.ensures.refused (subst IsRefusal (sym c.in-Err-Refused.field-0-is) tt) _ asks)
@@ -87,6 +69,9 @@ returns-in-Err-Refused-clause-cause g c = record {
   read_fault = λ is. absurd (subst IsOfUsage is (usage_ends c.end_with.result c.end_with.ensures.status));
   backup_fault = λ is. absurd (subst IsOfUsage is (usage_ends c.end_with.result c.end_with.ensures.status));
   too_long = λ told is. absurd (subst IsOfUsage is (usage_ends c.end_with.result c.end_with.ensures.status));
+  gone = λ is. absurd (subst IsOfUsage is (usage_ends c.end_with.result c.end_with.ensures.status));
+  stream = λ is. absurd (subst IsOfUsage is (usage_ends c.end_with.result c.end_with.ensures.status));
+  full = λ is. absurd (subst IsOfUsage is (usage_ends c.end_with.result c.end_with.ensures.status));
 }
 
 pub returns-in-Err-Refused-clause-exactly : goal.returns-in-Err-Refused-clause-exactly
@@ -99,6 +84,10 @@ returns-in-Err-Refused-clause-exactly g c = λ faultless. record {
   init = λ p asks. absurd (c.in-Err-Refused.ensures.refused (subst IsRefusal (sym c.in-Err-Refused.field-0-is) tt) _ asks);
   demos = λ seed steps asks. absurd (c.in-Err-Refused.ensures.refused (subst IsRefusal (sym c.in-Err-Refused.field-0-is) tt) _ asks);
   upgrades = λ q asks. absurd (c.in-Err-Refused.ensures.refused (subst IsRefusal (sym c.in-Err-Refused.field-0-is) tt) _ asks);
+  ship = λ from asks. absurd (c.in-Err-Refused.ensures.refused (subst IsRefusal (sym c.in-Err-Refused.field-0-is) tt) _ asks);
+  ships = λ from asks. absurd (c.in-Err-Refused.ensures.refused (subst IsRefusal (sym c.in-Err-Refused.field-0-is) tt) _ asks);
+  follow = λ asks. absurd (c.in-Err-Refused.ensures.refused (subst IsRefusal (sym c.in-Err-Refused.field-0-is) tt) _ asks);
+  follows = λ asks. absurd (c.in-Err-Refused.ensures.refused (subst IsRefusal (sym c.in-Err-Refused.field-0-is) tt) _ asks);
 }
 
 pub returns-in-Err-Refused-clause-session : goal.returns-in-Err-Refused-clause-session
@@ -109,18 +98,35 @@ returns-in-Err-Refused-clause-session g c = record {
   init = λ p first next sizes runs said asks. absurd (c.in-Err-Refused.ensures.refused (subst IsRefusal (sym c.in-Err-Refused.field-0-is) tt) _ asks);
   dump = λ first next sizes runs said asks. absurd (c.in-Err-Refused.ensures.refused (subst IsRefusal (sym c.in-Err-Refused.field-0-is) tt) _ asks);
   upgrade = λ q first next sizes runs said asks. absurd (c.in-Err-Refused.ensures.refused (subst IsRefusal (sym c.in-Err-Refused.field-0-is) tt) _ asks);
+  ship = λ from first next sizes runs said asks. absurd (c.in-Err-Refused.ensures.refused (subst IsRefusal (sym c.in-Err-Refused.field-0-is) tt) _ asks);
+  follow = λ asks. absurd (c.in-Err-Refused.ensures.refused (subst IsRefusal (sym c.in-Err-Refused.field-0-is) tt) _ asks);
 }
 
-pub returns-clause-demo : goal.returns-clause-demo
-returns-clause-demo g c = λ seed steps asks. inr (record { ends = refl; stays = stays_here (g.M.Machine.disk c.args.machine.now) (g.met.M.Machine.lawful c.args.machine.now) })
+pub returns-clause-call : goal.returns-clause-call
+returns-clause-call g c = λ asked asks. inr (record { ends = refl; stays = stays_here (g.M.Machine.disk c.args.machine.now) (g.met.M.Machine.lawful c.args.machine.now) })
+
+pub returns-clause-exactly : goal.returns-clause-exactly
+returns-clause-exactly g c = λ faultless.
+    let unread : IsUnread (g.M.Machine.disk c.args.machine.now) (g.M.Machine.disk c.args.machine.now) Memory = record { ends = refl; stays = stays_here (g.M.Machine.disk c.args.machine.now) (g.met.M.Machine.lawful c.args.machine.now) } in
+    record {
+      usage = λ memory. absurd (memory refl);
+      run = λ asks told. inr unread;
+      runs = λ asks memory. absurd (memory refl);
+      dump = λ asks told. inr unread;
+      dumps = λ asks memory. absurd (memory refl);
+      init = λ p asks told. inr unread;
+      demos = λ seed steps asks memory. absurd (memory refl);
+      upgrades = λ q asks memory. absurd (memory refl);
+      ship = λ from asks told. inr unread;
+      ships = λ from asks memory. absurd (memory refl);
+      follow = λ asks told. inr unread;
+      follows = λ asks memory. absurd (memory refl);
+    }
 
 pub returns-clause-session : goal.returns-clause-session
 returns-clause-session g c =
     let unread : IsUnread (g.M.Machine.disk c.args.machine.now) (g.M.Machine.disk c.args.machine.now) Memory = record { ends = refl; stays = stays_here (g.M.Machine.disk c.args.machine.now) (g.met.M.Machine.lawful c.args.machine.now) } in
     unread_goes_on g.M.Machine.disk c.args.machine.now c.args.machine.now unread
-
-pub returns-clause-upgrade : goal.returns-clause-upgrade
-returns-clause-upgrade g c = λ q asks. inr (record { ends = refl; stays = stays_here (g.M.Machine.disk c.args.machine.now) (g.met.M.Machine.lawful c.args.machine.now) })
 
 pub returns-clause-backup : goal.returns-clause-backup
 returns-clause-backup g c = backup_unread c.standing_files_meet_their_format.ensures.few g.T.Machine.disk (g.M.Machine.disk c.args.machine.now) c.args.backup.now
@@ -137,4 +143,7 @@ returns-clause-cause g c = record {
   read_fault = λ is. cc;
   backup_fault = λ is. cc;
   too_long = λ told is. cc;
+  gone = λ is. cc;
+  stream = λ is. cc;
+  full = λ is. cc;
 }

@@ -30,7 +30,7 @@ returns-in-Ok-clause-call g c =
           (runs_from_each (lines_of (g.S.Source.left c.args.input.now)) new c.run_open-status.result opened (λ holds. (c.run_open-status.ensures.answers p commands holds opened.all opened.alone told, c.run_open-status.ensures.complete p commands holds opened.all opened.alone told)))
           (c.run_open-status.ensures.store (c.open_store.ensures.time.files_told.0 opens.told) attached);
       untold =
-          let (script, each) = c.run_open-status.ensures.some in (
+          let (script, each, backed) = c.run_open-status.ensures.some in (
             script,
             λ p commands opens.
                 let opened = c.in-Ok.ensures.ok p commands opens in
@@ -50,6 +50,15 @@ returns-in-Ok-clause-backup g c = record {
       printed_backed c.standing_files_meet_their_format.ensures.few g.T.Machine.disk
       (backed_from g.T.Machine.disk (g.met.M.Machine.lawful c.args.machine.now) (c.open_store.ensures.opens p commands opens) c.open_store.ensures.time
       (backed_each g.T.Machine.disk opened (λ holds. c.run_open-status.ensures.backup p commands holds opened.all opened.alone opened.uncopied told) first is));
+  untold =
+      let (script, each, backed) = c.run_open-status.ensures.some in (
+        script,
+        λ p commands opens first is.
+            let opened = c.in-Ok.ensures.ok p commands opens in
+            printed_backed c.standing_files_meet_their_format.ensures.few g.T.Machine.disk
+            (backed_from g.T.Machine.disk (g.met.M.Machine.lawful c.args.machine.now) (c.open_store.ensures.opens p commands opens) c.open_store.ensures.time
+            (backed_each g.T.Machine.disk opened (λ holds. backed p commands holds opened.all opened.alone opened.uncopied) first is)),
+      );
   unopened = λ tells broken. absurd (broken (c.in-Ok.ensures.read tells));
 }
 
@@ -81,6 +90,7 @@ returns-in-Err-clause-call g c =
 pub returns-in-Err-clause-backup : goal.returns-in-Err-clause-backup
 returns-in-Err-clause-backup g c = record {
   opened = λ p commands opens told first is. printed_backed c.standing_files_meet_their_format.ensures.few g.T.Machine.disk (none_backed g.T.Machine.disk first c.open_store.ensures.time (c.open_store.ensures.opens p commands opens).quiet);
+  untold = ([], λ p commands opens first is. printed_backed c.standing_files_meet_their_format.ensures.few g.T.Machine.disk (none_backed g.T.Machine.disk first c.open_store.ensures.time (c.open_store.ensures.opens p commands opens).quiet));
   unopened = λ tells broken. refl;
 }
 

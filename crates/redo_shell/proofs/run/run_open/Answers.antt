@@ -15,11 +15,12 @@ returns-in_default-clause-complete g c = λ p commands holds all alone told.
 
 pub returns-in_default-clause-some : goal.returns-in_default-clause-some
 returns-in_default-clause-some g c =
-    let (script, each) = c.answer_script-outcome.ensures.some in (
+    let (script, each, backed) = c.answer_script-outcome.ensures.some in (
       script,
       λ p commands holds all alone.
           let (answers, complete) = each p commands holds all alone in
           (run_ends (g.M.Machine.disk c.args.machine.now) (g.M.Machine.disk c.answer_script-outcome.new.machine) c.answer_script-outcome.result c.status_after.result c.status_after.ensures answers, run_completes (g.M.Machine.disk c.args.machine.now) (g.M.Machine.disk c.answer_script-outcome.new.machine) c.answer_script-outcome.result c.status_after.result c.status_after.ensures complete),
+      backed,
     )
 
 pub returns-in-Err-Damaged-clause-answers : goal.returns-in-Err-Damaged-clause-answers
@@ -30,6 +31,8 @@ pub returns-in-Err-Damaged-clause-some : goal.returns-in-Err-Damaged-clause-some
 returns-in-Err-Damaged-clause-some g c = (
   [],
   λ p commands holds all alone.
+      absurd (whole_end (c.answer_script-outcome.ensures.undamaged (told_by holds) (attached_of holds)) {file = c.in-Err-Damaged.file} {place = c.in-Err-Damaged.place} (search rules)),
+  λ p commands holds all alone none.
       absurd (whole_end (c.answer_script-outcome.ensures.undamaged (told_by holds) (attached_of holds)) {file = c.in-Err-Damaged.file} {place = c.in-Err-Damaged.place} (search rules)),
 )
 

@@ -5,7 +5,7 @@ use Rattle.script_lines.specs.Grammar.{lines_of}
 use Rattle.script_lines.specs.Reading.{IsLine, ReadsOn}
 use Rattle.redo_shell.specs.Run.{Going}
 use Rattle.redo_shell.specs.Stages.{stage_of}
-use Rattle.redo_shell.proofs.BackupLemmas.{GoingBeside, answering_of, ends_here_beside, ends_in_finish_beside, ends_in_line_beside, goes_on_beside, goes_to_beside, opened_beside}
+use Rattle.redo_shell.proofs.BackupLemmas.{GoingBeside, answering_of, ends_here_beside, ends_in_finish_beside, ends_in_line_beside, goes_on_beside, goes_to_beside, next_beside, opened_beside}
 use Rattle.redo_shell.proofs.HoldLemmas.{told_by}
 use Rattle.redo_shell.proofs.RunLemmas.{opened, goes_to, with_next, goes_on, ends_here, ends_in_line, ends_in_finish, completes}
 use Rattle.redo_shell.proofs.ScriptLemmas.{takes_on, next_line, ended, input_end, too_much, whole_uncut, finish_stops, finish_uncut, line_stops, line_not_long, line_undamaged}
@@ -20,8 +20,11 @@ returns-in_err-lines-clause-backup g c = λ p commands holds all alone none told
     ends_here_beside g.T.Machine.disk (opened_beside g.T.Machine.disk c.args.backup.now c.standing_files_meet_their_format.ensures.few (lines_of (g.S.Source.left c.args.input.now)) (g.met.M.Machine.lawful c.args.machine.now) holds all alone none)
 
 pub returns-in_err-lines-clause-some : goal.returns-in_err-lines-clause-some
-returns-in_err-lines-clause-some g c =
-    ([], λ p commands holds all alone. (ends_here (opened c.standing_files_meet_their_format.ensures.few [] (g.met.M.Machine.lawful c.args.machine.now) holds all alone), IfOk-from_err c.from_residual.result _ c.from_residual.ensures.0))
+returns-in_err-lines-clause-some g c = (
+  [],
+  λ p commands holds all alone. (ends_here (opened c.standing_files_meet_their_format.ensures.few [] (g.met.M.Machine.lawful c.args.machine.now) holds all alone), IfOk-from_err c.from_residual.result _ c.from_residual.ensures.0),
+  λ p commands holds all alone none. ends_here_beside g.T.Machine.disk (opened_beside g.T.Machine.disk c.args.backup.now c.standing_files_meet_their_format.ensures.few [] (g.met.M.Machine.lawful c.args.machine.now) holds all alone none),
+)
 
 pub loop-lines-init : goal.loop-lines-init
 loop-lines-init g c = record {
@@ -36,7 +39,11 @@ loop-lines-init g c = record {
   beside = λ p commands holds all alone none told.
       subst (λ (l : List ℕ). GoingBeside g.T.Machine.disk c.args.backup.now c.args.backup.now p (stage_of c.args.engine.now holds.world) (g.M.Machine.disk c.args.machine.now) (g.M.Machine.disk c.args.machine.now) c.args.engine.now commands (lines_of (g.S.Source.left c.args.input.now)) (lines_of (l ++ g.S.Source.left c.args.input.now)) false)
       (sym c.in_ok-lines.ensures.0) (opened_beside g.T.Machine.disk c.args.backup.now c.standing_files_meet_their_format.ensures.few (lines_of (g.S.Source.left c.args.input.now)) (g.met.M.Machine.lawful c.args.machine.now) holds all alone none);
-  some = ([], λ p commands holds all alone. opened c.standing_files_meet_their_format.ensures.few [] (g.met.M.Machine.lawful c.args.machine.now) holds all alone);
+  some = (
+    [],
+    λ p commands holds all alone. opened c.standing_files_meet_their_format.ensures.few [] (g.met.M.Machine.lawful c.args.machine.now) holds all alone,
+    λ p commands holds all alone none. opened_beside g.T.Machine.disk c.args.backup.now c.standing_files_meet_their_format.ensures.few [] (g.met.M.Machine.lawful c.args.machine.now) holds all alone none,
+  );
   reads = omega arith;
   takes = λ told. record { bytes = []; front = refl; count = omega (arith, c.in_ok-lines.ensures.1) };
 }
@@ -49,8 +56,11 @@ returns-in_err-next-clause-backup g c = λ p commands holds all alone none told.
 
 pub returns-in_err-next-clause-some : goal.returns-in_err-next-clause-some
 returns-in_err-next-clause-some g c =
-    let (script, so_far) = c.loop-lines.invariant.some in
-    (script, λ p commands holds all alone. (ends_here (so_far p commands holds all alone), IfOk-from_err c.from_residual-in_err-next.result _ c.from_residual-in_err-next.ensures.0))
+    let (script, so_far, beside) = c.loop-lines.invariant.some in (
+      script,
+      λ p commands holds all alone. (ends_here (so_far p commands holds all alone), IfOk-from_err c.from_residual-in_err-next.result _ c.from_residual-in_err-next.ensures.0),
+      λ p commands holds all alone none. ends_here_beside g.T.Machine.disk (beside p commands holds all alone none),
+    )
 
 pub returns-in_err-next-clause-too_long : goal.returns-in_err-next-clause-too_long
 returns-in_err-next-clause-too_long g c = λ told long.
@@ -77,14 +87,18 @@ returns-in_err-refusing-in_default g c = record {
       (c.answer_next.ensures.answers c.args.backup.now p here.going.account.commands l.0 is_line here.going.holds) (c.answer_next.ensures.idle l.0 is_line) c.in_err-refusing-in_default.was;
   complete = λ p commands holds all alone told. IfOk-from_err c.from_residual-in_err-refusing-in_default.result _ c.from_residual-in_err-refusing-in_default.ensures.0;
   some =
-      let (script, so_far) = c.loop-lines.invariant.some in
-      let (line, answering) = c.answer_next.ensures.some c.in_default.not-End in (
+      let (script, so_far, beside) = c.loop-lines.invariant.some in
+      let (line, answering, idle) = c.answer_next.ensures.some c.in_default.not-End in (
         script ++ line ∷ [],
         λ p commands holds all alone.
             let here = so_far p commands holds all alone in (
-              ends_in_line c.standing_files_meet_their_format.ensures.few line (with_next line here) c.loop-lines.invariant.time c.in_err-refusing-in_default.was (answering p here.account.commands here.holds),
+              ends_in_line c.standing_files_meet_their_format.ensures.few line (with_next line here) c.loop-lines.invariant.time c.in_err-refusing-in_default.was (answering_of c.answer_next.result (answering c.args.backup.now p here.account.commands here.holds)),
               IfOk-from_err c.from_residual-in_err-refusing-in_default.result _ c.from_residual-in_err-refusing-in_default.ensures.0,
             ),
+        λ p commands holds all alone none.
+            let here = next_beside g.T.Machine.disk line (beside p commands holds all alone none) in
+            ends_in_line_beside g.T.Machine.disk c.standing_files_meet_their_format.ensures.few line here c.loop-lines.invariant.time c.loop-lines.invariant.backup_time (answering c.args.backup.now p here.going.account.commands here.going.holds) idle
+            c.in_err-refusing-in_default.was,
       );
   input = λ told. IfOk-from_err c.from_residual-in_err-refusing-in_default.result _ c.from_residual-in_err-refusing-in_default.ensures.0;
   cause = line_stops (g.M.Machine.disk c.answer_next.new.machine) (g.T.Machine.disk c.answer_next.new.backup) (g.S.Source.faults c.args.input.now) (g.S.Source.faults c.next.new.input) c.loop-lines.invariant.time c.loop-lines.invariant.backup_time c.from_residual-in_err-refusing-in_default.result c.answer_next.result
@@ -116,12 +130,16 @@ loop-lines-preserved g c = record {
       goes_on_beside g.T.Machine.disk c.standing_files_meet_their_format.ensures.few l.0 here c.loop-lines.invariant.time c.loop-lines.invariant.backup_time
       (c.answer_next.ensures.answers c.args.backup.now p here.going.account.commands l.0 is_line here.going.holds) (c.answer_next.ensures.idle l.0 is_line) c.a_line_asks_one_thing.ensures c.in_ok-refusing-in_default.was;
   some =
-      let (script, so_far) = c.loop-lines.invariant.some in
-      let (line, answering) = c.answer_next.ensures.some c.in_default.not-End in (
+      let (script, so_far, beside) = c.loop-lines.invariant.some in
+      let (line, answering, idle) = c.answer_next.ensures.some c.in_default.not-End in (
         script ++ line ∷ [],
         λ p commands holds all alone.
             let here = so_far p commands holds all alone in
-            goes_on c.standing_files_meet_their_format.ensures.few c.a_line_asks_one_thing.ensures line (with_next line here) c.loop-lines.invariant.time c.in_ok-refusing-in_default.was (answering p here.account.commands here.holds),
+            goes_on c.standing_files_meet_their_format.ensures.few c.a_line_asks_one_thing.ensures line (with_next line here) c.loop-lines.invariant.time c.in_ok-refusing-in_default.was (answering_of c.answer_next.result (answering c.args.backup.now p here.account.commands here.holds)),
+        λ p commands holds all alone none.
+            let here = next_beside g.T.Machine.disk line (beside p commands holds all alone none) in
+            goes_on_beside g.T.Machine.disk c.standing_files_meet_their_format.ensures.few line here c.loop-lines.invariant.time c.loop-lines.invariant.backup_time (answering c.args.backup.now p here.going.account.commands here.going.holds) idle
+            c.a_line_asks_one_thing.ensures c.in_ok-refusing-in_default.was,
       );
   reads = omega (arith, c.loop-lines.invariant.reads, c.next.ensures.later);
   takes = λ told. takes_on (c.loop-lines.invariant.takes told) (c.next.ensures.takes (c.loop-lines.invariant.told told));
@@ -144,7 +162,7 @@ returns-in_err-close_script-clause-backup g c = λ p commands holds all alone no
 
 pub returns-in_err-close_script-clause-some : goal.returns-in_err-close_script-clause-some
 returns-in_err-close_script-clause-some g c =
-    let (script, so_far) = c.loop-lines.invariant.some in (
+    let (script, so_far, beside) = c.loop-lines.invariant.some in (
       script,
       λ p commands holds all alone.
           let here = so_far p commands holds all alone in (
@@ -152,11 +170,14 @@ returns-in_err-close_script-clause-some g c =
                 (λ telling. c.close_script.ensures.steps telling p here.holds.world here.holds.shows),
             IfOk-from_err c.from_residual-in_err-close_script.result _ c.from_residual-in_err-close_script.ensures.0,
           ),
+      λ p commands holds all alone none.
+          let here = beside p commands holds all alone none in
+          ends_in_finish_beside g.T.Machine.disk here c.loop-lines.invariant.time (c.close_script.ensures.quiet (told_by here.going.holds)) (λ telling. c.close_script.ensures.images p here.going.account.commands here.going.holds telling),
     )
 
 pub returns-clause-some : goal.returns-clause-some
 returns-clause-some g c =
-    let (script, so_far) = c.loop-lines.invariant.some in (
+    let (script, so_far, beside) = c.loop-lines.invariant.some in (
       script,
       λ p commands holds all alone.
           let here = so_far p commands holds all alone in
@@ -166,6 +187,9 @@ returns-clause-some g c =
                 (λ telling. c.close_script.ensures.steps telling p here.holds.world here.holds.shows),
             completes here quiet forced after emptied (c.in_ok-close_script.ensures.follows p here.holds.world here.holds.shows),
           ),
+      λ p commands holds all alone none.
+          let here = beside p commands holds all alone none in
+          ends_in_finish_beside g.T.Machine.disk here c.loop-lines.invariant.time (c.close_script.ensures.quiet (told_by here.going.holds)) (λ telling. c.close_script.ensures.images p here.going.account.commands here.going.holds telling),
     )
 
 pub returns-clause-answers : goal.returns-clause-answers

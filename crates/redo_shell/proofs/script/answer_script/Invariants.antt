@@ -23,7 +23,9 @@ invariant-loop-lines g l = record {
   beside : (p : Params) (commands : List Command) → (holds : Holds p (g.M.Machine.disk l.fn.machine) l.fn.engine commands) → forced_in l.fn.engine ≡ length commands → l.fn.engine.group ≡ None → l.fn.engine.copied ≡ None → g.S.Source.tells l.fn.input →
       GoingBeside g.T.Machine.disk l.fn.backup l.backup p (stage_of l.fn.engine holds.world) (g.M.Machine.disk l.fn.machine) (g.M.Machine.disk l.machine) l.engine commands (lines_of (g.S.Source.left l.fn.input)) (lines_of (l.lines.ahead ++ g.S.Source.left l.input)) l.refusing;
   some : (script : List (List ℕ)) × ((p : Params) (commands : List Command) → (holds : Holds p (g.M.Machine.disk l.fn.machine) l.fn.engine commands) → forced_in l.fn.engine ≡ length commands → l.fn.engine.group ≡ None →
-      Going p (stage_of l.fn.engine holds.world) (g.M.Machine.disk l.fn.machine) (g.M.Machine.disk l.machine) l.engine commands script [] l.refusing);
+      Going p (stage_of l.fn.engine holds.world) (g.M.Machine.disk l.fn.machine) (g.M.Machine.disk l.machine) l.engine commands script [] l.refusing)
+      × ((p : Params) (commands : List Command) → (holds : Holds p (g.M.Machine.disk l.fn.machine) l.fn.engine commands) → forced_in l.fn.engine ≡ length commands → l.fn.engine.group ≡ None → l.fn.engine.copied ≡ None →
+      GoingBeside g.T.Machine.disk l.fn.backup l.backup p (stage_of l.fn.engine holds.world) (g.M.Machine.disk l.fn.machine) (g.M.Machine.disk l.machine) l.engine commands script [] l.refusing);
   reads : g.S.Source.faults l.fn.input ≤ g.S.Source.faults l.input;
   takes : g.S.Source.tells l.fn.input → ReadsOn (g.S.Source.left l.fn.input) (g.S.Source.left l.input) 0 l.lines.taken;
 }

@@ -1,0 +1,72 @@
+use Rattle.std.proofs.Common.{◌∙◌, length, None, ap, sym, subst}
+use Rattle.disk_model.specs.Disk.{Disk, LeavesOnly}
+use Rattle.disk_model.specs.Moments.{passes_twice}
+use Rattle.restart.specs.Starts.{OrAtStart}
+use Rattle.redo_shell.specs.Store.{Between}
+use Rattle.disk_model.specs.declared.machine.FileNo.TheVariants.{Objects}
+use Rattle.formats.specs.Objects.{bounds_of}
+use Rattle.standing.specs.OneStable.{small_store}
+use Rattle.redo_shell.specs.Stages.{redo_dirty}
+use Rattle.redo_shell.proofs.FollowingLemmas.{first_begins}
+use Rattle.redo_shell.proofs.RestartLemmas.{first_commands, no_damage, unopened_so}
+use Rattle.redo_shell.proofs.following.attach_store.Goals as goal
+
+pub returns-in-Ok-clause-time : goal.returns-in-Ok-clause-time
+returns-in-Ok-clause-time g c = c.attach.ensures.opening.time
+
+pub returns-in-Err-clause-time : goal.returns-in-Err-clause-time
+returns-in-Err-clause-time g c = passes_twice (g.M.Machine.disk c.args.machine.now) (g.M.Machine.disk c.attach.new.machine) (g.M.Machine.disk c.end_unopened.new.machine) (g.met.M.Machine.lawful c.end_unopened.new.machine) c.attach.ensures.opening.time c.end_unopened.ensures.time
+
+pub returns-in-Ok-clause-images : goal.returns-in-Ok-clause-images
+returns-in-Ok-clause-images g c = c.attach.ensures.images
+
+pub returns-in-Err-clause-images : goal.returns-in-Err-clause-images
+returns-in-Err-clause-images g c = λ telling p commands opens.
+    let whole = (c.in-Err.ensures.judged opens.told).whole (c.standing_files_meet_their_format.ensures.format p _ commands opens.stands) in
+    let same = ap g.M.Machine.disk (c.end_unopened.ensures.quiet (no_damage c.in-Err.cause whole) whole).0 in
+    subst (λ (d : Disk). LeavesOnly (g.M.Machine.disk c.args.machine.now) d (OrAtStart (g.M.Machine.disk c.args.machine.now) (Between p (g.M.Machine.disk c.args.machine.now) None (length commands) (length commands) commands))) (sym same) (c.attach.ensures.images telling p commands opens)
+
+pub returns-in-Ok-clause-attached : goal.returns-in-Ok-clause-attached
+returns-in-Ok-clause-attached g c = c.in-Ok.ensures.opening.attached
+
+pub returns-in-Ok-clause-quiet : goal.returns-in-Ok-clause-quiet
+returns-in-Ok-clause-quiet g c = λ told. c.attach.ensures.opening.quiet told
+
+pub returns-in-Ok-clause-read : goal.returns-in-Ok-clause-read
+returns-in-Ok-clause-read g c = λ told. (c.in-Ok.ensures.judged told).read
+
+pub returns-in-Err-clause-unopened : goal.returns-in-Err-clause-unopened
+returns-in-Err-clause-unopened g c = unopened_so c.in-Err.ensures.opening c.in-Err.ensures.judged (record {
+  time = c.end_unopened.ensures.time;
+  keeps = c.end_unopened.ensures.keeps;
+  no_store = c.end_unopened.ensures.no_store;
+  damaged = c.end_unopened.ensures.damaged;
+  quiet = λ none no. let quiet = c.end_unopened.ensures.quiet none no in (ap (λ (d : Disk). d.said) (ap g.M.Machine.disk quiet.0), quiet.1, quiet.2, quiet.3);
+  silent = λ is. ap (λ (d : Disk). d.said) (ap g.M.Machine.disk (c.end_unopened.ensures.silent is));
+  ends = c.end_unopened.ensures.status;
+  disk_fault = c.end_unopened.ensures.disk_fault;
+  say_fault = c.end_unopened.ensures.say_fault;
+  memory = c.end_unopened.ensures.memory;
+})
+
+pub returns-in-Ok-clause-first : goal.returns-in-Ok-clause-first
+returns-in-Ok-clause-first g c = λ p commands opens.
+    let old = g.M.Machine.disk c.args.machine.now in
+    let starts = c.opens_on_a_world.ensures.world p old.reads commands opens.stands in
+    first_commands opens starts (c.a_restart_may_be_made.ensures.reopened (bounds_of p) starts.1 (redo_dirty p) starts.0 (small_store p (old.reads Objects) starts.2.shows.objects) starts.2.sound)
+
+pub returns-in-Err-clause-first : goal.returns-in-Err-clause-first
+returns-in-Err-clause-first g c = λ p commands opens.
+    let old = g.M.Machine.disk c.args.machine.now in
+    let starts = c.opens_on_a_world.ensures.world p old.reads commands opens.stands in
+    first_commands opens starts (c.a_restart_may_be_made.ensures.reopened (bounds_of p) starts.1 (redo_dirty p) starts.0 (small_store p (old.reads Objects) starts.2.shows.objects) starts.2.sound)
+
+pub returns-in-Ok-clause-begins : goal.returns-in-Ok-clause-begins
+returns-in-Ok-clause-begins g c = λ p commands opens first is.
+    first_begins first is (c.in-Ok.ensures.follows p is.used is.world is.found) (c.in-Ok.ensures.begins p commands opens) (c.standby_stands.ensures p)
+
+pub returns-in-Err-clause-silent : goal.returns-in-Err-clause-silent
+returns-in-Err-clause-silent g c = λ p commands opens.
+    let whole = (c.in-Err.ensures.judged opens.told).whole (c.standing_files_meet_their_format.ensures.format p _ commands opens.stands) in
+    let same = ap g.M.Machine.disk (c.end_unopened.ensures.quiet (no_damage c.in-Err.cause whole) whole).0 in
+    ap (λ (d : Disk). d.said) same ∙ c.attach.ensures.opening.quiet opens.told
