@@ -1,0 +1,21 @@
+use Rattle.std.proofs.Common.{List, ℕ, subst}
+use Rattle.disk_model.specs.Disk.{Files}
+use Rattle.redo_check.specs.Checking.{Ends}
+use Rattle.redo_check.specs.Saying.{says_then}
+use Rattle.redo_check.proofs.checking.check_store.Goals as goal
+
+pub returns-in-Ok-clause-keeps : goal.returns-in-Ok-clause-keeps
+returns-in-Ok-clause-keeps g c = says_then c.say_files.ensures.runs c.end_checked.ensures.runs
+
+pub returns-in-Ok-clause-checks : goal.returns-in-Ok-clause-checks
+returns-in-Ok-clause-checks g c told verdict =
+    let run = c.say_files.ensures.runs in
+    let mid = g.M.Machine.disk c.say_files.new.machine in
+    let new = g.M.Machine.disk c.end_checked.new.machine in
+    let found = c.in-Ok.ensures.said told in
+    record {
+      text = found.0;
+      lines = found.1;
+      ends = subst (λ (s : List ℕ). Ends (g.M.Machine.disk c.args.machine.now).reads s new.said c.end_checked.result) found.2
+          (subst (λ (f : Files). Ends f mid.said new.said c.end_checked.result) (run.reads told) (c.end_checked.ensures.ends (run.time.files_told.0 told)));
+    }

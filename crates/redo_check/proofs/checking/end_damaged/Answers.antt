@@ -1,0 +1,9 @@
+use Rattle.disk_model.specs.Moments.{stays_here}
+use Rattle.redo_check.specs.Saying.{says_front, says_nothing}
+use Rattle.redo_check.proofs.checking.end_damaged.Goals as goal
+
+pub returns-in-Ok-clause-runs : goal.returns-in-Ok-clause-runs
+returns-in-Ok-clause-runs g c = says_front _ c.end_with.ensures.runs
+
+pub returns-in-Err-clause-runs : goal.returns-in-Err-clause-runs
+returns-in-Err-clause-runs g c = says_nothing (stays_here (g.M.Machine.disk c.args.machine.now) (g.met.M.Machine.lawful c.args.machine.now))

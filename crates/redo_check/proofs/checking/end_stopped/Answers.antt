@@ -1,0 +1,15 @@
+use Rattle.disk_model.specs.Moments.{stays_here}
+use Rattle.redo_check.specs.Saying.{says_front, says_nothing}
+use Rattle.redo_check.proofs.checking.end_stopped.Goals as goal
+
+pub returns-in-NotAStore-clause-runs : goal.returns-in-NotAStore-clause-runs
+returns-in-NotAStore-clause-runs g c = says_front _ c.end_with.ensures.runs
+
+pub returns-in-DiskFault-clause-runs : goal.returns-in-DiskFault-clause-runs
+returns-in-DiskFault-clause-runs g c = says_nothing (stays_here (g.M.Machine.disk c.args.machine.now) (g.met.M.Machine.lawful c.args.machine.now))
+
+pub returns-in-SayFault-clause-runs : goal.returns-in-SayFault-clause-runs
+returns-in-SayFault-clause-runs g c = says_nothing (stays_here (g.M.Machine.disk c.args.machine.now) (g.met.M.Machine.lawful c.args.machine.now))
+
+pub returns-in-Memory-clause-runs : goal.returns-in-Memory-clause-runs
+returns-in-Memory-clause-runs g c = says_nothing (stays_here (g.M.Machine.disk c.args.machine.now) (g.met.M.Machine.lawful c.args.machine.now))

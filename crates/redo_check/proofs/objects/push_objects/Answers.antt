@@ -1,0 +1,19 @@
+use Rattle.disk_model.specs.Moments.{agreed_before, stays_twice}
+use Rattle.disk_model.specs.declared.machine.FileNo.TheVariants.{Objects}
+use Rattle.redo_check.proofs.FormLemmas.{head_alone, head_and_more}
+use Rattle.redo_check.proofs.objects.push_objects.Goals as goal
+
+pub returns-in_default-clause-text : goal.returns-in_default-clause-text
+returns-in_default-clause-text g c files agrees =
+    head_alone (files Objects) c.read_padded.new.into c.args.text.now.items c.push_head.new.text.items (c.in_ok-read_padded.ensures.bytes files agrees) c.in_default.ensures.none c.in_ok-push_head.ensures
+
+pub returns-in_err-push_behind-clause-kept : goal.returns-in_err-push_behind-clause-kept
+returns-in_err-push_behind-clause-kept g c = stays_twice _ _ _ c.read_padded.ensures.kept c.push_behind.ensures.kept
+
+pub returns-clause-kept : goal.returns-clause-kept
+returns-clause-kept g c = stays_twice _ _ _ c.read_padded.ensures.kept c.push_behind.ensures.kept
+
+pub returns-clause-text : goal.returns-clause-text
+returns-clause-text g c files agrees =
+    head_and_more (files Objects) c.read_padded.new.into c.in-Some.form c.args.text.now.items c.push_head.new.text.items c.push_behind.new.text.items (c.in_ok-read_padded.ensures.bytes files (agreed_before c.push_behind.ensures.kept files agrees)) c.in-Some.ensures.some.0 c.in-Some.ensures.some.2 c.in_ok-push_head.ensures
+    (c.in_ok-push_behind.ensures.text files agrees)
