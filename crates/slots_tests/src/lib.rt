@@ -1,4 +1,4 @@
-//! A test crate: the tests of disk_model and stable_objects. The library is empty.
+//! A test crate: the tests of disk_model, write_queue and stable_objects. The library is empty.
 //!
 //! They stand apart so that the proofs of those crates are made once, and not a second time with their tests.
 #![tactic(auto)]
@@ -13,6 +13,8 @@ mod frail_files;
 mod growing;
 #[cfg(test)]
 mod layouts;
+#[cfg(test)]
+mod queue;
 #[cfg(test)]
 mod replacing;
 #[cfg(test)]
