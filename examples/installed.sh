@@ -10,6 +10,8 @@ try init --help | tail -n 1
 mkdir store
 try -C store init 8 64 65536
 printf 'put 0 aa\nforce\n' | try -C store run
+{ seq -f 'put 1 %0128.0f' 200; echo force; } | (ulimit -f 1; try -C store run) | tail -n 1
+try help frobnicate
 printf X | dd of=store/objects.rdo conv=notrunc 2>/dev/null
 try -C store dump
 try -C store init 8 64 65536
