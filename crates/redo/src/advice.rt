@@ -68,7 +68,7 @@ pub fn advice(status: Status) -> Option<&'static str> {
              says how many there are in all. Run again with the rest.",
         ),
         Status::Memory => Some(
-            "out of memory. All that was answered `forced` is there. Run again with more: a restart takes about 200 bytes for \
+            "out of memory. All that was answered `forced` is there. Run again with more: a restart takes about 240 bytes for \
              each record that it does again, beside the values.",
         ),
         Status::TooLong => Some(

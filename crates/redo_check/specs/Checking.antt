@@ -64,10 +64,10 @@ pub record IsRestart (files : Files) (it : Restart) : Type 0 where
   pub records : HasRecords (all_meaning it.bounds) files it.records
   pub none_late : (x s : ℕ) → IsOpenSlot (files Objects) x s → identifier_at (place_in (files Objects) x s) (files Objects) < it.records.next
 
--- about how many bytes of memory it takes: 200 for each record, and for the values at most those of all objects, and at most 64 MiB
+-- about how many bytes of memory it takes: 240 for each record, and for the values at most those of all objects, and at most 64 MiB
 -- (the greatest number that is said is 2^64 - 1)
 abbrev pub memory : Restart → ℕ
-memory it = min (min ((it.records.next - it.records.start) * 200) (2 ^ 64 - 1) + min (it.bounds.objects * it.bounds.cap) (2 ^ 26)) (2 ^ 64 - 1)
+memory it = min (min ((it.records.next - it.records.start) * 240) (2 ^ 64 - 1) + min (it.bounds.objects * it.bounds.cap) (2 ^ 26)) (2 ^ 64 - 1)
 
 -- the line of it: the number at which the redo begins, how many records it does again, how many bytes of the log it reads, and
 -- about how much memory it takes

@@ -16,7 +16,7 @@ use oper_core::Memory;
 use std::alloc::Global;
 
 /// About how many bytes of memory the restart of a record takes.
-const RECORD_MEMORY: u64 = 200;
+const RECORD_MEMORY: u64 = 240;
 
 /// About how many bytes of values a restart has in memory at the most.
 const VALUES_MEMORY: u64 = 1 << 26;
