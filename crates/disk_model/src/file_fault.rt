@@ -1,5 +1,5 @@
 // What went wrong at a file.
-ghost use Rattle.std.specs.Prelude.{◌≡◌, ◌↔◌, IsErr};
+ghost use Rattle.std.specs.Prelude.{◌≡◌, ◌↔◌, IsOk, IsErr, IsSomeAnd};
 
 use crate::{Failed, FileNo};
 use std::io;
@@ -35,6 +35,9 @@ pub fn noted<T: Drop>(
 ) -> Result<T, Failed>
     ensures value { (value : T) → result ≡ Ok value → answer ≡ Ok value }
     ensures fails { IsErr result ↔ IsErr answer }
+    ensures kept { (f : FileFault) → first.old ≡ Some f → first.new ≡ Some f }
+    ensures fresh { first.old ≡ None → IsOk answer → first.new ≡ None }
+    ensures named { first.old ≡ None → IsErr answer → IsSomeAnd first.new (λ fault. (fault.file ≡ file) × (fault.call ≡ call)) }
 {
     match answer {
         Ok(value) => Ok(value),
