@@ -1,8 +1,8 @@
 -- What one arc more does to nodes and levels.
-use Rattle.std.proofs.Common.{◌≡◌, ◌∙◌, sym, subst, ℕ, suc, ◌<◌, ◌≤◌, Bool, refl, arith, inl, inr}
+use Rattle.std.proofs.Common.{◌≡◌, ◌∙◌, sym, subst, ℕ, ◌<◌, ◌≤◌, Bool, refl, arith, inl, inr}
 use Rattle.std.specs.Prelude.{IsTrue, IsFalse, ◌↔◌, ◌⊎◌, ◌==◌}
 use Rattle.std.proofs.lemmas.Bool.{cases_Bool, both_ways, eqb-true, cond-true, cond-false}
-use Rattle.install_order.specs.Digraph.{Walk, Joined, AreNodes, AreLevels, with_arc, IsOnWay, IsRaised, IsReached, AreWhole, merged}
+use Rattle.install_order.specs.Digraph.{Walk, Joined, AreNodes, AreLevels, with_arc, IsOnWay, IsReached, AreWhole, merged}
 use Rattle.install_order.specs.Digraph.Walk.{Here, Then}
 
 pub walk-on : (E : ℕ → ℕ → Type 0) (o m p : ℕ) → Walk E o m → Walk E m p → Walk E o p
@@ -69,33 +69,6 @@ found-or-stop E level stop found v i p are is held le (Then m q walk arc) = elim
       let at : level m ≡ level v = omega (arith, are m q arc, walk-levels E level i m are walk, (is.sound q held).1, le) in
       found-or-stop E level stop found v i m are is (is.closed m q arc held goes at) le walk
 ]
-
--- where the levels were raised above v and v stayed, w does not reach it, and the levels fit the new arc
-pub raised-apart : (E : ℕ → ℕ → Type 0) (level raised : ℕ → ℕ) (v w : ℕ) → IsRaised E w (suc (level v)) level raised → raised v ≡ level v → (Walk E w v → ⊥) × AreLevels (with_arc E v w) raised
-raised-apart E level raised v w is same = (
-  (λ walk. omega (arith, walk-levels E raised w v is.are_levels walk, is.at_least, same)),
-  (λ i j arc. elim arc [
-    | inl old ↦ is.are_levels i j old
-    | inr new ↦
-        let at_i : raised i ≡ raised v = subst (λ (k : ℕ). raised i ≡ raised k) new.0 refl in
-        let at_j : raised j ≡ raised w = subst (λ (k : ℕ). raised j ≡ raised k) new.1 refl in
-        omega (arith, at_i, at_j, same, is.at_least)
-  ]),
-)
-
--- where v was raised, those on a walk from w to v are those that reach v at its new level
-pub raised-way : (E : ℕ → ℕ → Type 0) (level raised : ℕ → ℕ) (v w i : ℕ) → AreLevels E level → IsRaised E w (suc (level v)) level raised → level v < raised v → IsOnWay E v w i ↔ (Walk E i v × (raised i ≡ raised v))
-raised-way E level raised v w i are is up =
-    let at_v : raised v ≡ suc (level v) = elim (is.each v) [ inl e ↦ absurd (omega (arith, e, up)) | inr r ↦ r.1 ] in (
-      (λ way. (way.1, omega (arith, at_v, is.at_least, walk-levels E raised w i is.are_levels way.0, walk-levels E raised i v is.are_levels way.1))),
-      (λ r. (
-        elim (is.each i) [
-          | inl e ↦ absurd (omega (arith, e, r.1, at_v, walk-levels E level i v are r.0))
-          | inr more ↦ more.2
-        ],
-        r.0,
-      )),
-    )
 
 -- after a complete search those on a walk from w to v are what was found of what w reaches
 pub found-way : (E : ℕ → ℕ → Type 0) (node level : ℕ → ℕ) (found : ℕ → Bool) (v w i : ℕ) → AreLevels E level → IsReached E level (λ s. node s == node w) found v → AreNodes E node → AreWhole node found → level v ≤ level w →

@@ -1,7 +1,7 @@
-ghost use Rattle.std.specs.Prelude.{◌≡◌, ℕ, suc, ◌<◌, ◌≤◌, ◌==◌, ◌↔◌, ◌⊎◌, Bool, not, IsTrue, IsFalse};
+ghost use Rattle.std.specs.Prelude.{◌≡◌, ℕ, ◌<◌, ◌≤◌, ◌==◌, ◌↔◌, ◌⊎◌, Bool, not, IsTrue, IsFalse};
 ghost use Rattle.install_order.specs.Renamed.{IsRenamed, numbers_of, places_of};
 ghost use Rattle.install_order.specs.More.{IsAdded, NewArc};
-ghost use Rattle.install_order.specs.Digraph.{Walk, Joined, AreNodes, AreLevels, with_arc, outside, IsOnWay, IsRaised, IsRaising, lift, merged, IsReached, AreWhole, arcs};
+ghost use Rattle.install_order.specs.Digraph.{Walk, Joined, AreNodes, AreLevels, with_arc, outside, IsOnWay, merged, IsReached, AreWhole, arcs};
 ghost use Rattle.install_order.specs.Order.{Access, Reaches, within, NoEdgeInto, IsNode, IsName, IsLastWriter};
 ghost use Rattle.install_order.specs.Arcs.{Arc, ReachesByArcs, NoArcInto};
 
@@ -48,14 +48,6 @@ pub fn one_arc_more()
         IsReached (arcs e) level (λ s. node s == node w) found v → AreNodes (arcs e) node → AreWhole node found → level v ≤ level w →
         IsTrue (taken w) → ((o p : ℕ) → arcs e o p → IsTrue (taken o) → IsTrue (found p) → IsTrue (taken p)) →
         Walk (arcs e) w i → IsTrue (found i) → IsTrue (taken i) }
-    // the levels were raised and v stayed
-    ensures apart { (e : ℕ → ℕ → Bool) (level raised : ℕ → ℕ) (v w : ℕ) →
-        IsRaised (arcs e) w (suc (level v)) level raised → raised v ≡ level v →
-        (Walk (arcs e) w v → ⊥) × AreLevels (with_arc (arcs e) v w) raised }
-    // the levels were raised and v with them
-    ensures way { (e : ℕ → ℕ → Bool) (level raised : ℕ → ℕ) (v w i : ℕ) → AreLevels (arcs e) level →
-        IsRaised (arcs e) w (suc (level v)) level raised → level v < raised v →
-        IsOnWay (arcs e) v w i ↔ (Walk (arcs e) i v × (raised i ≡ raised v)) }
 {}
 
 /// Under other numbers in the same order the same operations reach each other.
@@ -84,14 +76,4 @@ pub fn nodes_left_by_a_removal()
     ensures { (e : ℕ → ℕ → Bool) (node : ℕ → ℕ) (gone : ℕ → Bool) (i j : ℕ) → AreNodes (arcs e) node →
         ((o p : ℕ) → arcs e o p → IsTrue (gone p) → IsTrue (gone o)) → IsFalse (gone i) → IsFalse (gone j) →
         (node i ≡ node j) ↔ Joined (outside gone (arcs e)) i j }
-{}
-
-/// How levels are raised: the start, one node more, one node done, the end.
-pub fn levels_are_raised()
-    ensures start { (e : ℕ → ℕ → Bool) (node level : ℕ → ℕ) (w l : ℕ) → AreNodes (arcs e) node →
-        AreLevels (arcs e) (λ i. level (node i)) → level (node w) < l →
-        IsRaising (arcs e) node level w l (lift level (node w) l) (λ k. k == node w) }
-    ensures end { (e : ℕ → ℕ → Bool) (node level : ℕ → ℕ) (w l : ℕ) (raised : ℕ → ℕ) (waits : ℕ → Bool) →
-        IsRaising (arcs e) node level w l raised waits → ((n : ℕ) → IsFalse (waits n)) →
-        IsRaised (arcs e) w l (λ i. level (node i)) (λ i. raised (node i)) }
 {}

@@ -1,5 +1,5 @@
 use Rattle.install_order.specs.Digraph.{arcs}
-use Rattle.install_order.specs.MergeLaws.{joined-more, found-way, closure-way, nodes-merged, raised-apart, raised-way}
+use Rattle.install_order.specs.MergeLaws.{joined-more, found-way, closure-way, nodes-merged}
 use Rattle.install_order.proofs.sparse.one_arc_more.Goals as goal
 
 pub returns-clause-joined : goal.returns-clause-joined
@@ -7,12 +7,6 @@ returns-clause-joined c = λ e. joined-more (arcs e)
 
 pub returns-clause-complete : goal.returns-clause-complete
 returns-clause-complete c = λ e. found-way (arcs e)
-
-pub returns-clause-apart : goal.returns-clause-apart
-returns-clause-apart c = λ e. raised-apart (arcs e)
-
-pub returns-clause-way : goal.returns-clause-way
-returns-clause-way c = λ e. raised-way (arcs e)
 
 pub returns-clause-taken : goal.returns-clause-taken
 returns-clause-taken c = λ e. closure-way (arcs e)
