@@ -9,3 +9,4 @@ pub mod FlushLemmas
 pub mod Tails
 pub mod Rewritten
 pub mod RewriteEnds
+pub mod PrepareLemmas

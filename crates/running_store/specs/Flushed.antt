@@ -1,5 +1,5 @@
 -- What the flush of an object leaves.
-use Rattle.std.specs.Prelude.{◌≡◌, ◌≢◌, ◌⊎◌, ◌<◌, ℕ, false, nat_eq, None, Some}
+use Rattle.std.specs.Prelude.{◌≡◌, ◌≢◌, ◌⊎◌, ◌<◌, ℕ, true, false, nat_eq, None, Some}
 use Rattle.dirty_cache.specs.Contents.{held, is_dirty, IsSameOrForgotten}
 use Rattle.dirty_cache.specs.declared.entry.Entry.{Entry as Pair}
 use Rattle.stable_objects.specs.SlotsView.{id_in, layout_of}
@@ -18,3 +18,7 @@ pub record IsFlushed (before after : Laid) (x : ℕ) : Type 0 where
   pub entry : (held after.cache x ≡ held before.cache x) ⊎ (held after.cache x ≡ None)
   pub clean : is_dirty after.cache x ≡ false
   pub others : (y : ℕ) → nat_eq x y ≡ false → IsSameOrForgotten before.cache after.cache y
+
+-- no object becomes dirty
+abbrev pub DirtiesNone : Laid → Laid → Type 0
+DirtiesNone before after = (x : ℕ) → is_dirty after.cache x ≡ true → is_dirty before.cache x ≡ true

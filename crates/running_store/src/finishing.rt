@@ -9,6 +9,7 @@ ghost use Rattle.standing.specs.Moments.{TakesSome};
 ghost use Rattle.running_store.specs.Beside.{IsOnObjectsAlone};
 ghost use Rattle.running_store.specs.Calls.{IsCall, Never, ending_of_force};
 ghost use Rattle.running_store.specs.Courses.{flush_steps, removal_steps};
+ghost use Rattle.running_store.specs.Flushed.{DirtiesNone};
 ghost use Rattle.running_store.specs.Parts.{VolatileShows, meaning_in};
 
 use crate::fault::note;
@@ -25,6 +26,7 @@ impl<O: Oper> Store<O> {
         ensures call { IsCall O.meaning (M.disk machine.old) (M.disk machine.new) self.old self.new 0 Never (ending_of_force result) }
         ensures beside { IsOnObjectsAlone (M.disk machine.old) (M.disk machine.new) self.old self.new }
         ensures entries { self.new.parts.volatile.entries ≡ self.old.parts.volatile.entries }
+        ensures dirty { OnOk result (DirtiesNone self.old.parts.volatile.objects self.new.parts.volatile.objects) }
         ensures shows { (p : Numbers) (w : World O) (node : ℕ → Bool) → let m = meaning_in O.meaning p in
             VolatileShows m p (M.disk machine.old) self.old.parts.volatile w → AreAllowed m w (flush_steps m node work.now) →
             OnOk result (VolatileShows m p (M.disk machine.new) self.new.parts.volatile (run m w (flush_steps m node work.now))) }
@@ -70,6 +72,7 @@ impl<O: Oper> Store<O> {
         ensures entries { (node : ℕ → Bool) → IsNodeNamed self.old.parts.volatile.entries n node → OnOk result
             ((self.new.parts.volatile.entries ≡ filter (λ e. not (node e.number)) self.old.parts.volatile.entries)
             × (length self.new.parts.volatile.entries < length self.old.parts.volatile.entries)) }
+        ensures dirty { OnOk result (DirtiesNone self.old.parts.volatile.objects self.new.parts.volatile.objects) }
     {
         explain_core::removal_keeps::<O>();
         self.flush(machine, work)?;

@@ -12,7 +12,8 @@
 //! [`Objects`] holds what is cached: an object's identifier and value are those of the cache, or else those of its slot, and
 //! what was read and forgotten is read again, and is the same. The length of each value is known without a read, from the
 //! cache or the head of its slot, so `next_empty` finds the next empty object in memory alone. For a backup a
-//! slot is read past the cache (`read_slot`), and the log is copied to another machine (`copy_log`). An error says what can come:
+//! slot is read past the cache (`read_slot`), and the log is copied to another machine (`copy_log`). Several objects are made
+//! ready to be flushed with two syncs (`prepare`), so that the flush of each has one. An error says what can come:
 //! `ReadErr` of a call that reads, `RewriteErr` of a rewrite, `Failed` or `Memory` of one that fails by that alone, and
 //! [`StoreErr`] of the calls above that fail by either. The crate depends on log_records, stable_objects, dirty_cache,
 //! number_lists and write_graph, of which a store is made, on standing and explain_core, which say what files and worlds are,
@@ -32,6 +33,7 @@ mod laws;
 mod limits;
 mod log_copy;
 mod objects;
+mod preparing;
 mod reading;
 mod rewriting;
 mod slots;

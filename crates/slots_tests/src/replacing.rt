@@ -1,5 +1,7 @@
 // A replacement stopped at each call, and worked bytes.
-use disk_model::{Crash, FileNo, Fuse, Machine, MemMachine};
+ghost use Rattle.std.specs.Prelude.{◌<◌, ◌≤◌, length};
+
+use disk_model::{Crash, Failed, FileNo, Fuse, Machine, MemMachine};
 use oper_core::Bounds;
 use stable_objects::Slots;
 use std::alloc::{AllocError, Global};
@@ -74,13 +76,38 @@ fn put<M: Machine>(slots: &mut Slots, machine: &mut M, id: u64, value: &[u8]) ->
     slots.id(0) < id && slots.replace(machine, 0, id, value).is_ok()
 }
 
+// Makes object 0 ready for a value, and then gives it; false where that is no call to make, or a call fails.
+fn put_ready<M: Machine>(slots: &mut Slots, machine: &mut M, id: u64, value: &[u8]) -> bool {
+    let params = slots.params();
+    if params.objects == 0 || value.len() > params.cap as usize {
+        return false;
+    }
+    make_ready(slots, machine, id, value).is_ok() && put(slots, machine, id, value)
+}
+
+// Closes the slot that doesn't hold object 0, and fills it, with a sync after each.
+fn make_ready<M: Machine>(
+    slots: &mut Slots,
+    machine: &mut M,
+    id: u64,
+    value: &[u8],
+) -> Result<(), Failed>
+    requires object { 0 < slots.old.params.objects }
+    requires short { length value.now ≤ slots.old.params.cap }
+{
+    slots.close_spare(machine, 0)?;
+    machine.sync(FileNo::Objects)?;
+    slots.fill_spare(machine, 0, id, value)?;
+    machine.sync(FileNo::Objects)
+}
+
 // Whether values go into the slots by turns, and an open gate is closed before its slot is filled again.
 fn takes_turns(store: &mut Store) -> bool {
     let calls = [store.put(1, &[0xaa]), store.put(2, &[0xbb])];
     let two = [store.has(32, &FIRST), store.has(109, &SECOND)];
     let third = store.put(256, &[0xcc, 0xcd]);
     let three = [store.has(32, &THIRD), store.has(109, &SECOND)];
-    (calls == [5, 5]) & (third == 7) & ([two, three] == [[true; 2]; 2])
+    (calls == [6, 6]) & (third == 8) & ([two, three] == [[true; 2]; 2])
 }
 
 // The length that is known of an object, 0 where there is no such object.
@@ -163,11 +190,12 @@ fn with_values(alloc: Global, count: u64) -> Result<Store, Fail> {
     Ok(store)
 }
 
-// Puts one more value through a machine that fails after some calls. It reports whether the call succeeded, and what is
-// seen after a crash.
+// Puts one more value through a machine that fails after some calls, perhaps into a slot that is made ready first. It reports
+// whether the call succeeded, and what is seen after a crash.
 fn stopped(
     alloc: Global,
     count: u64,
+    ready: bool,
     calls: u64,
     how: Crash,
 ) -> Result<(bool, (u64, u8, bool)), Fail> {
@@ -175,7 +203,11 @@ fn stopped(
     let mut slots = store.slots;
     let mut fuse = Fuse::new(store.machine, calls);
     let value = if count == 1 { 0xbb } else { 0xcc };
-    let is_ok = count < 3 && put(&mut slots, &mut fuse, count + 1, &[value]);
+    let id = count.saturating_add(1);
+    let is_ok = match ready {
+        true => put_ready(&mut slots, &mut fuse, id, &[value]),
+        false => count < 3 && put(&mut slots, &mut fuse, id, &[value]),
+    };
     let mut left = fuse.into_inner().crash(how);
     Ok((is_ok, seen(alloc, &mut left)?))
 }
@@ -189,11 +221,12 @@ fn opens(how: Crash) -> bool {
 fn is_old_or_new(
     alloc: Global,
     count: u64,
+    ready: bool,
     last: u64,
     calls: u64,
     how: Crash,
 ) -> Result<bool, Fail> {
-    let (is_ok, seen) = stopped(alloc, count, calls, how)?;
+    let (is_ok, seen) = stopped(alloc, count, ready, calls, how)?;
     let is_new = calls >= last || (calls + 1 == last && opens(how));
     let wanted = match (count, is_new) {
         (1, false) => (1, 0xaa, true),
@@ -205,11 +238,11 @@ fn is_old_or_new(
 
 #[test]
 fn a_value_is_old_or_new(rt: HostRuntime) -> Result<(), Fail> {
-    for (count, last) in [(1, 5), (2, 7)] {
+    for (count, ready, last) in [(1, false, 6), (2, false, 8), (1, true, 9), (2, true, 10)] {
         for calls in 0..=last {
             for how in CRASHES {
                 assert!(rt;
-                    is_old_or_new(rt.alloc(), count, last, calls, how)?,
+                    is_old_or_new(rt.alloc(), count, ready, last, calls, how)?,
                     "{how:?} after {calls} of {last}"
                 );
             }

@@ -54,7 +54,7 @@ fn is_as_worked(machine: &MemMachine) -> bool {
 }
 
 fn are_new(slots: &Slots) -> bool {
-    (slots.bounds() == BOUNDS) & (slots.limit() == LIMIT) & (slots.params().cap == 64)
+    (slots.bounds() == BOUNDS) & (slots.params().limit == LIMIT) & (slots.params().cap == 64)
 }
 
 // Whether a machine's file is loaded as that of a new store.

@@ -63,7 +63,7 @@ slot_stays cap at place old new agrees reach apart within slot =
     }
 
 -- the two slots of an object differ still
-apart_here : (layout : Layout) (x : ℕ) (old new : List ℕ) (s : ℕ) → s < 2 → cell_at (slot_place layout x (1 - s)) new ≡ cell_at (slot_place layout x (1 - s)) old
+pub apart_here : (layout : Layout) (x : ℕ) (old new : List ℕ) (s : ℕ) → s < 2 → cell_at (slot_place layout x (1 - s)) new ≡ cell_at (slot_place layout x (1 - s)) old
     → (IsOpenAt (slot_place layout x s) new → identifier_at (slot_place layout x s) new ≢ open_identifier (slot_place layout x (1 - s)) old)
     → IsOpenAt (slot_place layout x 0) new → IsOpenAt (slot_place layout x 1) new → identifier_at (slot_place layout x 0) new ≢ identifier_at (slot_place layout x 1) new
 apart_here layout x old new zero two stays other first second same =

@@ -18,3 +18,6 @@ pub mod Staying
 pub mod Uncut
 pub mod Moved
 pub mod Grown
+pub mod Compared
+pub mod Spares
+pub mod Closing

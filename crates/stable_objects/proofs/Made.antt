@@ -1,9 +1,8 @@
 -- What the writes that make the objects file leave of it.
 use Rattle.std.proofs.Common.{◌≡◌, ◌≢◌, ◌⊎◌, ◌<◌, ◌≤◌, ◌+◌, ◌-◌, ◌*◌, inl, inr, ℕ, true, false, List, [], ◌∷◌, length, get_or, drop, refl, sym, ◌∙◌, ap, subst, arith, length-drop}
-use Rattle.std.proofs.lemmas.List.{take_min}
 use Rattle.std.proofs.lemmas.Bool.{cases_eq, cases_lt, cond-true, cond-false}
 use Rattle.disk_model.specs.Disk.{Files, Disk, Runs, Stays, Same, In, Torn, HoldsAt, Any, IsSettled, IsSettledIn, LeavesOnly, written_over}
-use Rattle.disk_model.specs.Moments.{runs_twice, runs_wider, runs_join, runs_then_stays, stays_settled, settled_again, from_reads, first_call, goes_on}
+use Rattle.disk_model.specs.Moments.{runs_twice, runs_wider, runs_then_stays, stays_settled, settled_again, from_reads, first_call, goes_on}
 use Rattle.disk_model.specs.declared.machine.FileNo.TheVariants.{Objects}
 use Rattle.formats.specs.Bytes.{byte_at, number_at, IsClosedAt}
 use Rattle.formats.specs.Objects.{IsInRange, IsInForm, AreSlotsClosed, first_form, second_form, form_in, params_at, params_in, layout_in, slot_place, last_slot}
@@ -217,16 +216,6 @@ all_stay_settled old new stays settled file = stays_settled old new file stays (
 -- no call of a kind that keeps what stands before a place
 pub front_none : (first : ℕ) (a : Files) → In Objects (KeepsFront first) a a
 front_none first a = record { changed = (omega arith, λ j within less. refl); others = λ other is_other. refl }
-
-torn_none : (at n : ℕ) (a : List ℕ) → Torn at n a a
-torn_none at n a = record { before = take_min at a; after = refl; no_shorter = omega arith; no_longer = omega arith }
-
--- a look at the gate, and then a write of it
-pub look_then_write : (old mid new : Disk) → Stays old mid → Runs (In Objects (Torn 0 1)) Same mid new → Runs (In Objects (Torn 0 1)) Same old new
-look_then_write old mid new first second = runs_join old mid new Same (In Objects (Torn 0 1)) (In Objects (Torn 0 1))
-    (λ a b same. subst (λ (f : Files). In Objects (Torn 0 1) a f) (sym same) (record { changed = torn_none 0 1 (a Objects); others = λ other is_other. refl }))
-    (λ a b c same step. subst (λ (f : Files). In Objects (Torn 0 1) f c) same step)
-    first second
 
 -- a closed gate was written
 pub closed_after : (old new : List ℕ) → HoldsAt 0 (0 ∷ []) old new → IsClosedFile new

@@ -1,9 +1,9 @@
 -- What the writes that fill a slot and open it leave.
-use Rattle.std.proofs.Common.{◌≡◌, ◌<◌, ◌+◌, ◌^◌, inl, inr, ℕ, List, [], ◌∷◌, ◌++◌, length, sym, ◌∙◌, ap, subst, arith, length-append}
+use Rattle.std.proofs.Common.{◌≡◌, ◌<◌, ◌+◌, ◌^◌, inl, inr, ℕ, List, [], ◌∷◌, ◌++◌, length, sym, ◌∙◌, ap, subst, arith, length-append, refl}
 use Rattle.byteorder.specs.Endian.{little_bytes}
 use Rattle.oper_core.specs.LittleEndian.{length-little_bytes}
-use Rattle.disk_model.specs.Disk.{Disk, Runs, Stays, Same, In, Torn, HoldsAt, Any, IsSettled, IsSettledIn, LeavesOnly}
-use Rattle.disk_model.specs.Moments.{runs_join, runs_wider, runs_then_stays, settled_again, from_reads, first_call, goes_on}
+use Rattle.disk_model.specs.Disk.{Files, Disk, Runs, Stays, Same, In, Torn, HoldsAt, Any, IsSettled, LeavesOnly}
+use Rattle.disk_model.specs.Moments.{runs_join, runs_wider, from_reads, first_call, goes_on}
 use Rattle.disk_model.specs.Ranges.{torn_wider, run_apart}
 use Rattle.disk_model.specs.declared.machine.FileNo.TheVariants.{Objects}
 use Rattle.formats.specs.Bytes.{byte_at, IsClosedAt}
@@ -25,11 +25,17 @@ fill_run old mid new place head value long first second =
     run_apart old mid new Objects (place + 1) (length head) 12 (length value) (12 + length value) (omega (arith, long)) (omega arith) first
     (subst (λ (at : ℕ). Runs (In Objects (Torn at (length value))) Same mid new) same second)
 
--- a sync after writes of one file settles all again
-pub sync_settles : (old mid new : Disk) (change : List ℕ → List ℕ → Type 0) → IsSettled old → Runs (In Objects change) Same old mid → Stays mid new → IsSettledIn Objects new → IsSettled new
-sync_settles old mid new change settled first second here =
-    let run = runs_then_stays old mid new (In Objects change) first second in
-    settled_again old new Objects change change run.ends settled run.time run.crash (λ told. run.reads (run.begins.telling told)) here
+-- a look, which changes nothing
+pub look_only : (change : List ℕ → List ℕ → Type 0) → ((l : List ℕ) → change l l) → (old new : Disk) → Stays old new → Runs (In Objects change) Same old new
+look_only change stays old new look = runs_wider old new Same (In Objects change)
+    (λ a b same. subst (λ (f : Files). In Objects change a f) (sym same) (record { changed = stays (a Objects); others = λ other is_other. refl })) look
+
+-- and a change after it
+pub look_first : (change : List ℕ → List ℕ → Type 0) → ((l : List ℕ) → change l l) → (old mid new : Disk) → Stays old mid → Runs (In Objects change) Same mid new → Runs (In Objects change) Same old new
+look_first change stays old mid new first second = runs_join old mid new Same (In Objects change) (In Objects change)
+    (λ a b same. subst (λ (f : Files). In Objects change a f) (sym same) (record { changed = stays (a Objects); others = λ other is_other. refl }))
+    (λ a b c same step. subst (λ (f : Files). In Objects change f c) same step)
+    first second
 
 -- any change of the file
 pub any_run : (old new : Disk) (change : List ℕ → List ℕ → Type 0) → Runs (In Objects change) Same old new → Runs (In Objects Any) Same old new

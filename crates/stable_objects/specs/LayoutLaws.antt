@@ -1,13 +1,12 @@
 -- Laws of forms and layouts: those of a file, and which of its bytes say them.
 use Rattle.std.proofs.Common.{◌≡◌, ◌≢◌, inl, inr, ◌≤◌, ◌+◌, ◌*◌, ℕ, List, sym, ◌∙◌, ap, subst, arith}
-use Rattle.std.specs.Prelude.{Bool, nat_eq, nat_le, ◌&&◌, if◌then◌else◌}
+use Rattle.std.specs.Prelude.{nat_eq, nat_le, if◌then◌else◌}
 use Rattle.std.proofs.lemmas.Bool.{cond_both, cond-true, cond-false, eq-eqb, ne_eqb, cases_eq, and_parts, leb-true}
 use Rattle.std.proofs.lemmas.Nat.{mul-le}
 use Rattle.oper_core.specs.declared.bounds.Bounds.{Bounds}
 use Rattle.formats.specs.Bytes.{byte_at, number_at}
 use Rattle.formats.specs.Objects.{IsInRange, IsInForm, IsObjectsFile, is_second, first_form, second_form, form_in, params_at, params_in, layout_in}
 use Rattle.formats.specs.declared.form.Form.{Form}
-use Rattle.formats.specs.declared.layout.Layout.{Layout}
 use Rattle.formats.specs.declared.params.Params.{Params}
 use Rattle.stable_objects.specs.Layouts.{IsForm, IsLayout, fits_first, no_store, new_form, new_layout}
 

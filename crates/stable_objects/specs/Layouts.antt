@@ -1,5 +1,5 @@
 -- Which layouts there are, and that of a new store.
-use Rattle.std.specs.Prelude.{◌≡◌, ◌≤◌, ◌<◌, ◌+◌, ◌&&◌, ◌^◌, ℕ, Bool, nat_le, if◌then◌else◌}
+use Rattle.std.specs.Prelude.{◌≡◌, ◌≤◌, ◌<◌, ◌+◌, ◌&&◌, ◌^◌, Bool, nat_le, if◌then◌else◌}
 use Rattle.oper_core.specs.declared.bounds.Bounds.{Bounds}
 use Rattle.formats.specs.Objects.{IsInRange, first_form, second_form}
 use Rattle.formats.specs.declared.form.Form.{Form}

@@ -12,3 +12,5 @@ pub mod Growing
 pub mod Laws
 pub mod SlotLaws
 pub mod Replacing
+pub mod Spares
+pub mod SpareLaws

@@ -1,5 +1,5 @@
 // A store of version 1 becomes a larger one: its pairs are moved, one value at a time.
-ghost use Rattle.std.specs.Prelude.{◌≡◌, ◌<◌, ◌+◌, ℕ, List, OnOk, IfErr};
+ghost use Rattle.std.specs.Prelude.{◌<◌, ◌+◌, ℕ, List, OnOk, IfErr};
 ghost use Rattle.disk_model.specs.Disk.{Runs, Stays, In, Any, Same, IsSettled, LeavesOnly};
 ghost use Rattle.disk_model.specs.declared.machine.FileNo.TheVariants.{Objects};
 ghost use Rattle.formats.specs.Objects.{IsInRange};

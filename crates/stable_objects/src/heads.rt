@@ -1,5 +1,5 @@
 // Reads the heads of the slots.
-ghost use Rattle.std.specs.Prelude.{◌≡◌, ◌<◌, ◌≤◌, ◌*◌, ◌^◌, if◌then◌else◌, nat_lt, length, IfOk, IfErr, OnOk};
+ghost use Rattle.std.specs.Prelude.{◌≡◌, ◌<◌, ◌*◌, ◌^◌, if◌then◌else◌, nat_lt, length, IfOk, IfErr, OnOk};
 ghost use Rattle.disk_model.specs.Disk.{Files, Rises, Stays};
 ghost use Rattle.disk_model.specs.declared.machine.FileNo.TheVariants.{Objects};
 ghost use Rattle.formats.specs.Reading.{FailsBy};

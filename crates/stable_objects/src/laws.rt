@@ -1,4 +1,4 @@
-// Laws of files that are filled before they are in use, and of a store that is made larger.
+// Laws of files that are filled before they are in use, of a store that is made larger, and of spare slots.
 ghost use Rattle.std.specs.Prelude.{◌≡◌, ◌≢◌, ◌<◌, ◌≤◌, ◌+◌, ◌^◌, ℕ, List, [], ◌∷◌, length};
 ghost use Rattle.disk_model.specs.Disk.{Torn, written_over};
 ghost use Rattle.oper_core.specs.Cell.{Cell};
@@ -10,6 +10,7 @@ ghost use Rattle.stable_objects.specs.Larger.{IsFirst, IsStill, HasLastHead, end
 ghost use Rattle.stable_objects.specs.Making.{IsNewFile, KeepsFront, opened};
 ghost use Rattle.stable_objects.specs.Replacing.{IsPut};
 ghost use Rattle.stable_objects.specs.SlotsView.{SlotsView, AreOf};
+ghost use Rattle.stable_objects.specs.Spares.{IsUnseen, KeepsButGates, KeepsButSpares};
 
 /// A new file is filled by the pairs of its objects, one after the other, and its slots stay in their places; an object without
 /// a pair is passed over.
@@ -40,4 +41,11 @@ pub fn a_store_stays_while_it_grows()
 pub fn a_version_is_one_of_two()
     ensures first { (slots : SlotsView) (old new : List ℕ) → AreOf slots old → IsFirst slots → Torn 8 1 old new → byte_at 8 new ≢ 50 → IsStill slots old new }
     ensures second { (slots : SlotsView) (old new : List ℕ) → AreOf slots old → IsFirst slots → Torn 8 1 old new → byte_at 8 new ≡ 50 → new ≡ seconded old }
+{}
+
+/// While gates of spare slots are closed, and while what closed ones have behind their gates is written, torn or not, each object has
+/// the pair that it had.
+pub fn spare_slots_are_not_seen()
+    ensures gates { (slots : SlotsView) (old new : List ℕ) → AreOf slots old → KeepsButGates slots old new → IsUnseen slots.params old new }
+    ensures spares { (slots : SlotsView) (old new : List ℕ) → AreOf slots old → KeepsButSpares slots old new → AreOf slots new × IsUnseen slots.params old new }
 {}

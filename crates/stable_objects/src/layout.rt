@@ -1,5 +1,5 @@
 // Where things stand in the objects file.
-ghost use Rattle.std.specs.Prelude.{◌≡◌, ◌≤◌, ◌<◌, ◌*◌, ◌&&◌, nat_le};
+ghost use Rattle.std.specs.Prelude.{◌≡◌, ◌≤◌, ◌<◌, ◌*◌, ◌&&◌};
 ghost use Rattle.formats.specs.Objects.{slot_place, first_form as version_one, second_form as version_two};
 ghost use Rattle.stable_objects.specs.Layouts.{IsLayout, fits_first as has_room, new_form as form_of};
 ghost use Rattle.stable_objects.specs.SlotGates.{slot_gate};

@@ -2,11 +2,14 @@
 //!
 //! An object's identifier and value stand in one of its slots; a new pair goes into the other, whose gate is opened
 //! last. So the one contract is that of `Slots::replace`: a crash at any moment of it leaves the old pair or the new one.
+//! Of several objects the other slots can be closed, synced, filled and synced together first (`close_spare`,
+//! `fill_spare`), which no reader sees; then `replace` has only to open a gate.
 //! Opened, the heads of all slots are read once: the identifier and the length of each value are known from then on.
 //! The crate depends on disk_model, whose machines it reads and writes, on formats, which says what the bytes of the file
 //! are, on oper_core for bounds and errors, and on byteorder for the numbers in the bytes.
 #![tactic(auto)]
 
+mod comparing;
 mod creating;
 mod damage;
 mod growing;
@@ -17,6 +20,7 @@ mod layout;
 mod loading;
 mod open_err;
 mod opening;
+mod preparing;
 mod replacing;
 mod slots;
 mod value;
@@ -24,7 +28,7 @@ mod window;
 
 pub use laws::{
     a_byte_is_written_later, a_file_is_filled, a_store_stays_while_it_grows,
-    a_version_is_one_of_two,
+    a_version_is_one_of_two, spare_slots_are_not_seen,
 };
 pub use open_err::OpenErr;
 pub use slots::Slots;

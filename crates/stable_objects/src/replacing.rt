@@ -8,6 +8,7 @@ ghost use Rattle.stable_objects.specs.SlotsView.{id_in, layout_of, AreOf};
 ghost use Rattle.stable_objects.specs.Replacing.{IsReplaced, IsRenewed, IsOldOrNew, IsFilled, IsPut, IsHalfPut, spare_in};
 
 use crate::Slots;
+use crate::comparing::is_filled;
 use crate::layout::{CLOSED, OPEN, gate_place};
 use byteorder::{ByteOrder, LittleEndian};
 use disk_model::{Failed, FileNo, Machine, write_through};
@@ -38,7 +39,26 @@ fn close_slot<M: Machine>(machine: &mut M, place: u64, id: u64) -> Result<(), Fa
     Ok(())
 }
 
-// Writes all but the gate of a slot, and syncs it.
+/// Writes all but the gate of a slot. Nothing is synced.
+pub fn write_slot<M: Machine>(
+    machine: &mut M,
+    place: u64,
+    id: u64,
+    value: &[u8],
+) -> Result<(), Failed>
+    requires place { place < 2 ^ 62 }
+    requires short { length value.now ≤ 1048576 }
+    ensures runs { Runs (In Objects (Torn (place + 1) (12 + length value.now))) Same (M.disk machine.old) (M.disk machine.new) }
+    ensures filled { (M.disk machine.old).tells_files → OnOk result (IsFilled place id value.now ((M.disk machine.new).reads Objects)) }
+    ensures cause { IsErr result → Rises (M.disk machine.old).disk_faults (M.disk machine.new).disk_faults }
+{
+    machine.write_at(FileNo::Objects, place + 1, &head_of(id, value.len() as u32))?;
+    machine.write_at(FileNo::Objects, place + 13, value)?;
+    Ok(())
+}
+
+// Writes all but the gate of a slot, and syncs it. Where it stands there already nothing is written: then it is on the disk,
+// if the machine is settled.
 fn fill<M: Machine>(machine: &mut M, place: u64, id: u64, value: &[u8]) -> Result<(), Failed>
     requires place { place < 2 ^ 62 }
     requires short { length value.now ≤ 1048576 }
@@ -47,8 +67,10 @@ fn fill<M: Machine>(machine: &mut M, place: u64, id: u64, value: &[u8]) -> Resul
     ensures settled { IsSettled (M.disk machine.old) → OnOk result (IsSettled (M.disk machine.new)) }
     ensures cause { IsErr result → Rises (M.disk machine.old).disk_faults (M.disk machine.new).disk_faults }
 {
-    machine.write_at(FileNo::Objects, place + 1, &head_of(id, value.len() as u32))?;
-    machine.write_at(FileNo::Objects, place + 13, value)?;
+    if is_filled(machine, place, id, value)? {
+        return Ok(());
+    }
+    write_slot(machine, place, id, value)?;
     machine.sync(FileNo::Objects)?;
     Ok(())
 }
@@ -71,7 +93,7 @@ fn put<M: Machine>(machine: &mut M, place: u64, id: u64, value: &[u8]) -> Result
 
 impl Slots {
     // The slot that doesn't hold an object, counted through the file.
-    fn spare(&self, object: u32) -> usize
+    pub(crate) fn spare(&self, object: u32) -> usize
         requires { object < self.now.params.objects }
         ensures { result ≡ 2 * object + spare_in self.now object }
     {

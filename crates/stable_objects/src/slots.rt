@@ -69,13 +69,6 @@ impl Slots {
         }
     }
 
-    /// The length that the log may grow to.
-    pub fn limit(&self) -> u32
-        ensures { result ≡ self.now.params.limit }
-    {
-        self.params.limit
-    }
-
     /// The identifier of an object: the number of the record whose value its slot holds, 0 where none is open.
     pub fn id(&self, object: u32) -> u64
         requires { object < self.now.params.objects }

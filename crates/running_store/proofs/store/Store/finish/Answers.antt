@@ -1,5 +1,6 @@
 use Rattle.std.proofs.Common.{◌∙◌, ◌∷◌, [], ap, sym, subst, List}
 use Rattle.formats.specs.Objects.{bounds_of}
+use Rattle.dirty_cache.specs.Contents.{is_dirty}
 use Rattle.install_order.specs.declared.entry.Entry.{Entry}
 use Rattle.write_graph.specs.Graph.{IsNodeNamed, NamesMinimal}
 use Rattle.explain_core.specs.RunLaws.{allowed-front}
@@ -53,3 +54,6 @@ pub returns-in_err-flush-clause-steps : goal.returns-in_err-flush-clause-steps
 returns-in_err-flush-clause-steps g c = λ told p w node shows.
     let m = g.O.Oper.meaning (bounds_of p) in
     moments_longer m p (g.M.Machine.disk c.args.machine.now) (g.M.Machine.disk c.flush.new.machine) w (flush_steps m node c.args.work.now) (Removal node ∷ []) (c.flush.ensures.steps told p w node shows)
+
+pub returns-clause-dirty : goal.returns-clause-dirty
+returns-clause-dirty g c = λ y dirty. c.in_ok-flush.ensures.dirty y (ap (λ (s : StoreView). is_dirty s.parts.volatile.objects.cache y) (sym c.self.view_is) ∙ dirty)

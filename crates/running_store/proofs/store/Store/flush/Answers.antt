@@ -1,5 +1,6 @@
-use Rattle.std.proofs.Common.{◌≡◌, ◌⊎◌, ◌∙◌, ap, sym, subst, Bool, List, ℕ, Option, Some, None, Ok, true, false, nat_eq}
+use Rattle.std.proofs.Common.{◌≡◌, ◌⊎◌, ◌∙◌, ap, sym, subst, inl, inr, Bool, List, ℕ, Option, Some, None, Ok, true, false, nat_eq}
 use Rattle.std.specs.Prelude.{length, OnErr, OnOk, Result}
+use Rattle.std.proofs.lemmas.Bool.{both_ways, cases_eq, ne_eqb}
 use Rattle.disk_model.specs.Disk.{Disk, IsSettled, LeavesOnly}
 use Rattle.disk_model.specs.declared.machine.FileNo.TheVariants.{Objects}
 use Rattle.formats.specs.Objects.{bounds_of}
@@ -109,6 +110,12 @@ module _ (g : Over) (c : After-note g) where
         subst (λ (bytes : List ℕ). AreOf later.slots (new.reads Objects) × IsReplaced objects.slots.params x (record { id = pair.lsn; value = bytes }) (old.reads Objects) (new.reads Objects)) c.as_slice.ensures
         (done _ (c.replace-answer.ensures.replaced told are))
 
+    still_dirty : (y : ℕ) → is_dirty cache y ≡ true → is_dirty c.args.self.now.parts.volatile.objects.cache y ≡ true
+    still_dirty y dirty = elim (cases_eq x y) [
+      | inl e ↦ absurd (both_ways _ (subst (λ (z : ℕ). is_dirty cache z ≡ false) e clean) dirty)
+      | inr ne ↦ ap (λ (s : StoreView). is_dirty s.parts.volatile.objects.cache y) (sym is) ∙ sym (others y (ne_eqb x y ne)).dirty ∙ dirty
+    ]
+
     unset : c.note.new.broken ≡ false
     unset =
         flag_after log objects entries identities broken c.args.self.now is c.note.new.broken (has_failed (λ e. true) c.replace-answer.result) c.requires.unbroken c.note.ensures
@@ -186,3 +193,14 @@ returns-clause-shows g c =
 
 pub returns-clause-steps : goal.returns-clause-steps
 returns-clause-steps g c = taken g (goal.at.returns-clause-steps g c).After-note
+
+pub returns-in_default-clause-dirty : goal.returns-in_default-clause-dirty
+returns-in_default-clause-dirty g c = λ y dirty. dirty
+
+pub returns-in_default-entry-clause-dirty : goal.returns-in_default-entry-clause-dirty
+returns-in_default-entry-clause-dirty g c = λ y dirty. dirty
+
+pub returns-clause-dirty : goal.returns-clause-dirty
+returns-clause-dirty g c =
+    let clean = c.mark_clean.ensures in
+    still_dirty g (goal.at.returns-clause-dirty g c).After-note c.in_ok-answer.field-0 c.in_ok-answer.was c.mark_clean.new.self clean.entry clean.clean clean.others

@@ -1,10 +1,12 @@
 use Rattle.std.proofs.Common.{◌≡◌, ◌⊎◌, inl, inr, ℕ, List, [], ◌∷◌, length, get_or, take, sym, ap, ◌∙◌, arith}
 use Rattle.std.proofs.lemmas.List.{get_or-take}
-use Rattle.disk_model.specs.Disk.{read_of}
+use Rattle.disk_model.specs.CallLaws.{torn_none}
+use Rattle.disk_model.specs.Disk.{Torn, read_of}
 use Rattle.disk_model.specs.Moments.{told_agrees}
 use Rattle.disk_model.specs.declared.machine.FileNo.TheVariants.{Objects}
 use Rattle.stable_objects.specs.Making.{IsClosedFile}
-use Rattle.stable_objects.proofs.Made.{all_stay_settled, look_then_write, closed_after}
+use Rattle.stable_objects.proofs.Made.{all_stay_settled, closed_after}
+use Rattle.stable_objects.proofs.Put.{look_first}
 use Rattle.stable_objects.proofs.slots.Slots.close.Goals as goal
 use Rattle.stable_objects.proofs.slots.Slots.close.Goals.{then-read-eq0-via-then-read-eq0, then-read-eq0-via-else-read-eq0+then-gate-eq-OPEN}
 
@@ -17,10 +19,10 @@ look_at_closed (g ∷ rest) into n count bytes is (inr is_open) =
     is.closed (sym same ∙ is_open)
 
 pub returns-in_err-write_through-clause-runs : goal.returns-in_err-write_through-clause-runs
-returns-in_err-write_through-clause-runs g c = look_then_write _ _ _ c.read.ensures.kept c.write_through.ensures.runs
+returns-in_err-write_through-clause-runs g c = look_first (Torn 0 1) (torn_none 0 1) _ _ _ c.read.ensures.kept c.write_through.ensures.runs
 
 pub returns-in_ok-write_through-clause-runs : goal.returns-in_ok-write_through-clause-runs
-returns-in_ok-write_through-clause-runs g c = look_then_write _ _ _ c.read.ensures.kept c.write_through.ensures.runs
+returns-in_ok-write_through-clause-runs g c = look_first (Torn 0 1) (torn_none 0 1) _ _ _ c.read.ensures.kept c.write_through.ensures.runs
 
 pub returns-in_ok-write_through-clause-closed : goal.returns-in_ok-write_through-clause-closed
 returns-in_ok-write_through-clause-closed g c told = closed_after _ _ (c.in_ok-write_through.ensures.written (c.read.ensures.kept.time.files_told.0 told)).changed

@@ -1,0 +1,54 @@
+use Rattle.std.proofs.Common.{◌∙◌, refl, subst, sym, arith}
+use Rattle.disk_model.specs.Disk.{Files, In}
+use Rattle.disk_model.specs.Moments.{runs_none, runs_then_stays}
+use Rattle.disk_model.specs.declared.machine.FileNo.TheVariants.{Objects}
+use Rattle.stable_objects.specs.SlotsView.{AreOf, layout_of}
+use Rattle.stable_objects.specs.SpareLaws.{closing_none, closing_twice, gates_run, keeps_none, sync_settles}
+use Rattle.stable_objects.specs.Spares.{IsSpareGate, KeepsButGates}
+use Rattle.running_store.proofs.objects.Objects.close_spares.Goals as goal
+
+pub loop-object-init : goal.loop-object-init
+loop-object-init g c =
+    let slots = c.args.self.now.slots in
+    record {
+      runs = runs_none (g.M.Machine.disk c.args.machine.now) (In Objects (KeepsButGates slots)) (λ files. record { changed = keeps_none (layout_of slots) (IsSpareGate slots) (files Objects); others = λ other ne. refl }) (g.met.M.Machine.lawful c.args.machine.now);
+      slots = closing_none slots;
+      cache = refl;
+      are = λ told are. are;
+    }
+
+pub loop-object-preserved : goal.loop-object-preserved
+loop-object-preserved g c =
+    let inv = c.loop-object.invariant in
+    record {
+      runs = gates_run _ _ _ _ _ inv.slots inv.runs c.close_spare.ensures.runs;
+      slots = closing_twice _ _ _ inv.slots c.close_spare.ensures.slots;
+      cache = c.close_spare.ensures.cache ∙ inv.cache;
+      are = λ told are. c.in_ok-close_spare.ensures.are (inv.runs.time.files_told.0 told) (inv.are told are);
+    }
+
+pub returns-in_err-close_spare-clause-runs : goal.returns-in_err-close_spare-clause-runs
+returns-in_err-close_spare-clause-runs g c = let inv = c.loop-object.invariant in gates_run _ _ _ _ _ inv.slots inv.runs c.close_spare.ensures.runs
+
+pub returns-in_err-close_spare-clause-slots : goal.returns-in_err-close_spare-clause-slots
+returns-in_err-close_spare-clause-slots g c = closing_twice _ _ _ c.loop-object.invariant.slots c.close_spare.ensures.slots
+
+pub returns-in_err-close_spare-clause-cause : goal.returns-in_err-close_spare-clause-cause
+returns-in_err-close_spare-clause-cause g c is_err below = let risen = c.in_err-close_spare.ensures.cause refl below in omega (arith, risen, c.loop-object.invariant.runs.time.disk_faults)
+
+pub returns-in_err-sync-clause-runs : goal.returns-in_err-sync-clause-runs
+returns-in_err-sync-clause-runs g c = runs_then_stays _ _ _ _ c.loop-object.invariant.runs c.sync.ensures.kept
+
+pub returns-in_err-sync-clause-cause : goal.returns-in_err-sync-clause-cause
+returns-in_err-sync-clause-cause g c is_err below = let risen = c.in_err-sync.ensures.cause refl below in omega (arith, risen, c.loop-object.invariant.runs.time.disk_faults)
+
+pub returns-clause-runs : goal.returns-clause-runs
+returns-clause-runs g c = runs_then_stays _ _ _ _ c.loop-object.invariant.runs c.sync.ensures.kept
+
+pub returns-clause-are : goal.returns-clause-are
+returns-clause-are g c told are =
+    let inv = c.loop-object.invariant in
+    subst (λ (f : Files). AreOf c.loop-object.self.slots (f Objects)) (sym (c.sync.ensures.kept.reads (inv.runs.time.files_told.0 told))) (inv.are told are)
+
+pub returns-clause-settled : goal.returns-clause-settled
+returns-clause-settled g c settled = sync_settles _ _ _ _ settled c.loop-object.invariant.runs c.sync.ensures.kept c.in_ok-sync.ensures.settled
