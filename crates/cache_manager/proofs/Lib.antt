@@ -25,3 +25,7 @@ pub mod Besides
 pub mod RoundsTaken
 pub mod Telling
 pub mod DrainTaken
+pub mod Readying
+pub mod Older
+pub mod OlderWork
+pub mod DirtyLogs

@@ -92,7 +92,7 @@ longest_of_among lengths [] k is = cc
 longest_of_among lengths (x ∷ xs) k is = let e : Some (longest lengths x xs) ≡ Some k = is in subst (λ (z : ℕ). IsTrue (is_among z (x ∷ xs))) (cc e) (longest_among lengths x xs)
 
 -- what is left of objects without one that is kept, if one is
-kept_among : (o : Option ℕ) (xs : List ℕ) (y : ℕ) → IsTrue (is_among y (but_kept o xs)) → IsTrue (is_among y xs)
+pub kept_among : (o : Option ℕ) (xs : List ℕ) (y : ℕ) → IsTrue (is_among y (but_kept o xs)) → IsTrue (is_among y xs)
 kept_among None xs y there = there
 kept_among (Some k) xs y there = (among_filter (λ z. not (z == k)) xs y there).0
 

@@ -37,7 +37,7 @@ one_among (z ∷ []) x y few first second = here x first ∙ sym (here y second)
 one_among (z ∷ u ∷ xs) x y few first second = absurd (omega (arith, few))
 
 -- a rising list of numbers of which there is at most one
-few_listed : (P : ℕ → Type 0) (xs : List ℕ) → Lists P xs → ((x y : ℕ) → P x → P y → x ≡ y) → length xs ≤ 1
+pub few_listed : (P : ℕ → Type 0) (xs : List ℕ) → Lists P xs → ((x y : ℕ) → P x → P y → x ≡ y) → length xs ≤ 1
 few_listed P [] listed few = omega arith
 few_listed P (x ∷ []) listed few = omega arith
 few_listed P (x ∷ y ∷ xs) listed few =

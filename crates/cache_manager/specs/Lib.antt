@@ -8,4 +8,5 @@ pub mod FreeSteps
 pub mod Upkeep
 pub mod FewLogged
 pub mod Thin
+pub mod LogsDirty
 pub mod Worked

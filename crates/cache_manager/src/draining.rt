@@ -1,6 +1,6 @@
 // All nodes are installed, one after the other.
-ghost use Rattle.std.specs.Prelude.{◌≡◌, ◌+◌, ◌≤◌, ℕ, false, [], length, OnOk, IfOk};
-ghost use Rattle.dirty_cache.specs.Contents.{is_dirty};
+ghost use Rattle.std.specs.Prelude.{◌≡◌, ◌+◌, ◌≤◌, ℕ, List, false, [], length, OnOk, IfOk};
+ghost use Rattle.dirty_cache.specs.Contents.{AreDirty, is_dirty};
 ghost use Rattle.formats.specs.declared.params.Params.{Params as Numbers};
 ghost use Rattle.explain_core.specs.World.{World};
 ghost use Rattle.running_store.specs.Calls.{IsCall};
@@ -12,14 +12,15 @@ ghost use Rattle.running_store.specs.StoreView.{log_length, logged_since, next_o
 ghost use Rattle.running_store.specs.Taking.{Takes};
 ghost use Rattle.cache_manager.specs.Endings.{ending_of};
 
-use crate::rounds::install_one;
+use crate::rounds::install_ready;
 use crate::{Install, InstallErr};
 use disk_model::Machine;
 use oper_core::Oper;
 use running_store::Store;
 
-/// Installs the minimal node of the least name until no node is left, beside a copy of the slots as [`install_one`] does. It
-/// answers how many were installed.
+/// Installs the minimal node of the least name until no node is left, beside a copy of the slots as [`install_one`](crate::install_one) does. Of
+/// nodes that are minimal together the objects are made ready with two syncs, and then each has one more. It answers how many
+/// nodes were installed.
 pub fn drain<O: Oper, M: Machine>(
     store: &mut Store<O>,
     machine: &mut M,
@@ -32,6 +33,8 @@ pub fn drain<O: Oper, M: Machine>(
         IfOk result (λ n. n ≡ removals (drain_course (meaning_in O.meaning p) copied w (log_length store.old)).steps) }
     // Each install takes an entry out of the graph at least, and each identity write puts one in.
     ensures bounded { IfOk result (λ n. n + next_of store.old ≤ length store.old.parts.volatile.entries + next_of store.new) }
+    // And these are of different objects that were dirty.
+    ensures few { (objects : List ℕ) → AreDirty store.old.parts.volatile.objects.cache objects → IfOk result (λ n. n ≤ length store.old.parts.volatile.entries + length objects) }
     ensures drained { OnOk result (store.new.parts.volatile.entries ≡ []) }
     ensures clean { (p : Numbers) (w : World O) → Shows (meaning_in O.meaning p) p (M.disk machine.old) store.old.parts w →
         OnOk result ((x : ℕ) → is_dirty store.new.parts.volatile.objects.cache x ≡ false) }
@@ -41,8 +44,9 @@ pub fn drain<O: Oper, M: Machine>(
     // Called for their clauses: the numbers of the graph rise, and are below the next, which is 2^62 at most.
     let _params = store.params();
     let _held = store.graph().len();
+    let mut round = Vec::new(store.alloc());
     let mut count = 0;
-    while let Install::Installed { .. } = install_one(store, machine, copied)? {
+    while let Install::Installed { .. } = install_ready(store, machine, copied, &mut round)? {
         let _params = store.params();
         count += 1;
     }

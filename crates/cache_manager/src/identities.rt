@@ -1,14 +1,15 @@
 // Identity writes of several objects, one after the other.
-ghost use Rattle.std.specs.Prelude.{◌≡◌, ◌⊎◌, ◌<◌, ℕ, false, true, All, List, Some, slice_get, length, map, OnOk, IfOk};
+ghost use Rattle.std.specs.Prelude.{◌≡◌, ◌⊎◌, ◌<◌, ◌++◌, ℕ, false, true, All, List, Some, slice_get, length, map, OnOk, IfOk};
 ghost use Rattle.std.specs.List.Sorted.{IsStrictlyIncreasing};
 ghost use Rattle.dirty_cache.specs.Contents.{is_dirty};
 ghost use Rattle.running_store.specs.Calls.{IsCall};
 ghost use Rattle.running_store.specs.Courses.{cached_length};
 ghost use Rattle.cache_manager.specs.InstallCourses.{but_longest, identities};
+ghost use Rattle.cache_manager.specs.LogsDirty.{HasLogged, identity_entries};
 ghost use Rattle.running_store.specs.Kept.{IsLonger, StopsAt};
 ghost use Rattle.running_store.specs.Laid.{values_in};
 ghost use Rattle.formats.specs.Limits.{log_limit};
-ghost use Rattle.running_store.specs.StoreView.{logged_since};
+ghost use Rattle.running_store.specs.StoreView.{logged_since, next_of};
 ghost use Rattle.running_store.specs.Taking.{Takes};
 ghost use Rattle.cache_manager.specs.Endings.{ending_of};
 
@@ -31,6 +32,7 @@ pub(crate) fn log_all<O: Oper, M: Machine>(
     ensures call { IsCall O.meaning (M.disk machine.old) (M.disk machine.new) store.old store.new (logged_since store.old store.new) (StopsAt log_limit) (ending_of result) }
     ensures takes { Takes O.meaning (M.disk machine.old) (M.disk machine.new) store.old.parts store.new.parts (λ m w used. identities m xs.now w used) (ending_of result) }
     ensures logged { OnOk result (IsLonger (length xs.now) store.old.parts store.new.parts) }
+    ensures entries { OnOk result (store.new.parts.volatile.entries ≡ store.old.parts.volatile.entries ++ identity_entries (next_of store.old) xs.now) }
 {
     for x in xs {
         log_identity(store, machine, *x)?;
@@ -67,6 +69,7 @@ pub(crate) fn log_others<O: Oper, M: Machine>(
     ensures takes { Takes O.meaning (M.disk machine.old) (M.disk machine.new) store.old.parts store.new.parts
         (λ m w used. identities m (but_longest copied (cached_length m w) work.now) w used) (ending_of result) }
     ensures logged { OnOk result ((n : ℕ) × (0 < n) × IsLonger n store.old.parts store.new.parts) }
+    ensures objects { OnOk result (HasLogged work.now store.old.parts store.new.parts) }
 {
     let alloc = store.alloc();
     let lengths = lengths_of(alloc, store.objects(), work)?;

@@ -1,11 +1,12 @@
 // Identity writes.
-ghost use Rattle.std.specs.Prelude.{◌≡◌, ◌<◌, ◌≤◌, ◌^◌, false, true, OnOk, IfSome, IfNone};
+ghost use Rattle.std.specs.Prelude.{◌≡◌, ◌<◌, ◌≤◌, ◌^◌, ◌++◌, ◌∷◌, [], false, true, OnOk, IfSome, IfNone};
 ghost use Rattle.dirty_cache.specs.Contents.{is_dirty};
 ghost use Rattle.running_store.specs.Calls.{IsCall};
 ghost use Rattle.cache_manager.specs.InstallCourses.{identity_course};
+ghost use Rattle.cache_manager.specs.LogsDirty.{identity_entries};
 ghost use Rattle.running_store.specs.Kept.{IsLonger, StopsAt};
 ghost use Rattle.formats.specs.Limits.{log_limit};
-ghost use Rattle.running_store.specs.StoreView.{logged_since};
+ghost use Rattle.running_store.specs.StoreView.{logged_since, next_of};
 ghost use Rattle.running_store.specs.Taking.{Takes};
 ghost use Rattle.cache_manager.specs.Endings.{ending_of};
 ghost use Rattle.cache_manager.specs.RecordPlace.{HasRecordPlace, LacksRecordPlace};
@@ -51,6 +52,7 @@ pub(crate) fn log_identity<O: Oper, M: Machine>(
     ensures call { IsCall O.meaning (M.disk machine.old) (M.disk machine.new) store.old store.new (logged_since store.old store.new) (StopsAt log_limit) (ending_of result) }
     ensures takes { Takes O.meaning (M.disk machine.old) (M.disk machine.new) store.old.parts store.new.parts (λ m w used. identity_course m x w used) (ending_of result) }
     ensures logged { OnOk result (IsLonger 1 store.old.parts store.new.parts) }
+    ensures entries { OnOk result (store.new.parts.volatile.entries ≡ store.old.parts.volatile.entries ++ identity_entries (next_of store.old) (x ∷ [])) }
 {
     explain_core::append_keeps::<O>();
     // Called for its clause: the next number is 2^62 at most.

@@ -1,4 +1,5 @@
-//! How the objects of a running store reach their slots: one node of the write graph at a time.
+//! How the objects of a running store reach their slots: one node of the write graph at a time. A drain makes the objects of
+//! nodes that are minimal together ready first, with two syncs for all of them.
 //!
 //! What an install and a drain do is a course, a function of a world and of the log's length; functions without parameters
 //! and with an empty body say that its steps may be taken, and what bounds them. [`install_one`] and [`drain`] take it, or
@@ -14,6 +15,7 @@ mod identity;
 mod install;
 mod install_err;
 mod installing;
+mod preparing;
 mod rounds;
 mod thin;
 mod worked;

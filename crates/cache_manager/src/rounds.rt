@@ -14,11 +14,13 @@ ghost use Rattle.running_store.specs.Parts.{Shows, meaning_in};
 ghost use Rattle.running_store.specs.StoreView.{log_length, logged_since, next_of};
 ghost use Rattle.running_store.specs.Taking.{Takes};
 ghost use Rattle.cache_manager.specs.Endings.{ending_of};
+ghost use Rattle.cache_manager.specs.LogsDirty.{LogsDirty};
 ghost use Rattle.cache_manager.specs.Thin.{IsWork};
 ghost use Rattle.cache_manager.specs.Told.{IsInstall, TellsParts, listed};
 
 use crate::beside::may_finish;
 use crate::identities::log_others;
+use crate::preparing::make_ready;
 use crate::thin::work_of;
 use crate::{Install, InstallErr};
 use disk_model::{Failed, Machine};
@@ -43,6 +45,7 @@ pub(crate) fn finish_next<O: Oper, M: Machine>(
     ensures next { next_of store.new ≡ next_of store.old }
     ensures ops { IfOk result (λ ops. (0 < ops) × (length store.old.parts.volatile.entries ≡ length store.new.parts.volatile.entries + ops)) }
     ensures rising { OnOk result (IsStrictlyIncreasing (numbers store.new.parts.volatile.entries)) }
+    ensures logs { OnOk result (LogsDirty store.old.parts store.new.parts) }
 {
     explain_core::every_run_keeps::<O>();
     let held = store.graph().len();
@@ -52,7 +55,7 @@ pub(crate) fn finish_next<O: Oper, M: Machine>(
 }
 
 /// The first of the objects, if there is one.
-fn first_of(work: &[u32]) -> Option<u32>
+pub(crate) fn first_of(work: &[u32]) -> Option<u32>
     ensures { listed result ≡ take 1 work.now }
 {
     match work.first() {
@@ -78,6 +81,7 @@ pub fn install_one<O: Oper, M: Machine>(
     ensures told { (p : Numbers) (w : World O) → Shows (meaning_in O.meaning p) p (M.disk machine.old) store.old.parts w →
         IfOk result (IsInstall (meaning_in O.meaning p) w (install_course (meaning_in O.meaning p) copied w (log_length store.old)).steps) }
     ensures tells { IfOk result (TellsParts store.old.parts store.new.parts) }
+    ensures logs { OnOk result (LogsDirty store.old.parts store.new.parts) }
 {
     explain_core::every_run_keeps::<O>();
     install_order::last_blind_write_is_alone();
@@ -100,4 +104,22 @@ pub fn install_one<O: Oper, M: Machine>(
         log_others(store, machine, due, copied)?;
     }
     Ok(Install::Clean)
+}
+
+/// The same, after the object of the node is made ready, with those of other minimal nodes.
+pub(crate) fn install_ready<O: Oper, M: Machine>(
+    store: &mut Store<O>,
+    machine: &mut M,
+    copied: u32,
+    round: &mut Vec<u32>,
+) -> Result<Install, InstallErr>
+    requires unbroken { store.old.broken ≡ false }
+    ensures call { IsCall O.meaning (M.disk machine.old) (M.disk machine.new) store.old store.new (logged_since store.old store.new) (StopsAt log_limit) (ending_of result) }
+    ensures takes { Takes O.meaning (M.disk machine.old) (M.disk machine.new) store.old.parts store.new.parts (λ m w used. install_course m copied w used) (ending_of result) }
+    ensures tells { IfOk result (TellsParts store.old.parts store.new.parts) }
+    ensures logs { OnOk result (LogsDirty store.old.parts store.new.parts) }
+{
+    make_ready(store, machine, copied, round)?;
+    let install = install_one(store, machine, copied)?;
+    Ok(install)
 }

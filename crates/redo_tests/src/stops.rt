@@ -8,13 +8,13 @@ use std::test::Fail;
 // A log, how many objects may be dirty, the calls that a redo makes then, and the values after it.
 type Row = (&'static [u8], usize, u64, &'static [&'static [u8]]);
 
-// A redo makes four calls that read a log of one block, and five for each object that is flushed.
+// A redo makes four calls that read a log of one block, and six for each object that is flushed.
 const ROWS: [Row; 5] = [
-    (THREE_PUTS, 0, 19, &[b"aa", b"bb", b"cc"]),
-    (THREE_PUTS, 1, 14, &[b"aa", b"bb", b"cc"]),
-    (THREE_PUTS, 2, 9, &[b"aa", b"bb", b"cc"]),
-    (LOGGED, 0, 24, &[b"bb", b"aa"]),
-    (LOGGED, 1, 14, &[b"bb", b"aa"]),
+    (THREE_PUTS, 0, 22, &[b"aa", b"bb", b"cc"]),
+    (THREE_PUTS, 1, 16, &[b"aa", b"bb", b"cc"]),
+    (THREE_PUTS, 2, 10, &[b"aa", b"bb", b"cc"]),
+    (LOGGED, 0, 28, &[b"bb", b"aa"]),
+    (LOGGED, 1, 16, &[b"bb", b"aa"]),
 ];
 
 const CRASHES: [Crash; 4] = [Crash::Old, Crash::New, Crash::Fill(0), Crash::Fill(1)];

@@ -1,5 +1,5 @@
 -- What the calls say that no group allows, of an engine in which none is open: from what the call on its store says.
-use Rattle.std.proofs.Common.{◌≡◌, ◌∙◌, ap, ℕ, ◌+◌, ◌≤◌, false, [], length, refl, arith, subst, Option, None}
+use Rattle.std.proofs.Common.{◌≡◌, ◌∙◌, ap, ℕ, ◌+◌, ◌≤◌, false, List, [], length, refl, arith, subst, Option, None}
 use Rattle.std.specs.Prelude.{Result, Ok, Err, IfOk, IfErr, OnOk}
 use Rattle.disk_model.specs.Disk.{Disk}
 use Rattle.disk_model.specs.declared.machine.Failed.{Failed as Failure}
@@ -10,7 +10,7 @@ use Rattle.formats.specs.declared.params.Params.{Params}
 use Rattle.log_records.specs.Loading.{IsTailFault}
 use Rattle.log_records.specs.RecordLog.{RecordLogView}
 use Rattle.log_records.specs.declared.rewrite_err.RewriteErr.{RewriteErr}
-use Rattle.dirty_cache.specs.Contents.{is_dirty}
+use Rattle.dirty_cache.specs.Contents.{AreDirty, is_dirty}
 use Rattle.explain_core.specs.Turns.{count_below, dirty_in}
 use Rattle.explain_core.specs.World.{World, end_of}
 use Rattle.running_store.specs.Calls as of_store
@@ -98,12 +98,13 @@ module _ {O : Type 0} (meaning : Bounds → Meaning O) (old new : Disk) (store l
   pub draining : (n : ℕ) → n ≡ so_far copied → (r : Result ℕ InstallErr) → of_store.IsCall meaning old new store later (logged_since store later) (StopsAt log_limit) (ending_of r)
       → Takes meaning old new store.parts later.parts (λ m w used. drain_course m n w used) (ending_of r)
       → ((p : Params) (w : World O) → Shows (meaning_in meaning p) p old store.parts w → IfOk r (λ count. count ≡ removals (drain_course (meaning_in meaning p) n w (log_length store)).steps))
-      → IfOk r (λ n. n + next_of store ≤ length store.parts.volatile.entries + next_of later) → OnOk r (later.parts.volatile.entries ≡ [])
+      → IfOk r (λ n. n + next_of store ≤ length store.parts.volatile.entries + next_of later)
+      → ((objects : List ℕ) → AreDirty store.parts.volatile.objects.cache objects → IfOk r (λ n. n ≤ length store.parts.volatile.entries + length objects)) → OnOk r (later.parts.volatile.entries ≡ [])
       → ((p : Params) (w : World O) → Shows (meaning_in meaning p) p old store.parts w → OnOk r ((x : ℕ) → is_dirty later.parts.volatile.objects.cache x ≡ false))
       → MayTake meaning (λ m w used. drain_course m (so_far copied) w used)
       → ((p : Params) (w : World O) (used : ℕ) → removals (drain_course (meaning_in meaning p) (so_far copied) w used).steps ≤ count_below (end_of w) w.graph + dirty_in (meaning_in meaning p) w)
       → IsDraining meaning old new (engine_of store None copied) (engine_of later None copied) r
-  draining n is r call taken counts bounded drained clean may removed =
+  draining n is r call taken counts bounded within drained clean may removed =
       let k = so_far copied in
       let takes = subst (λ (n : ℕ). Takes meaning old new store.parts later.parts (λ m w used. drain_course m n w used) (ending_of r)) is taken in
       let count = subst (λ (n : ℕ). (p : Params) (w : World O) → Shows (meaning_in meaning p) p old store.parts w → IfOk r (λ count. count ≡ removals (drain_course (meaning_in meaning p) n w (log_length store)).steps)) is counts in
@@ -113,6 +114,7 @@ module _ {O : Type 0} (meaning : Bounds → Meaning O) (old new : Disk) (store l
         commands = keeps_of meaning old new store later (logged_since store later) (StopsAt log_limit) (ending_of r) call copied (λ m w used. drain_course m k w used) takes keeps stand may (λ m w used. are_plain (drain_course m k w used).steps (upkeep_drain m k w used));
         count = λ p w shows. count p w (alone_shown meaning p old (engine_of store None copied) w shows refl);
         bounded = bounded_so r (next_of store) (next_of later) (length store.parts.volatile.entries) call.rising bounded;
+        within = within;
         few = λ p w shows.
             few_removed r (removals (drain_course (meaning_in meaning p) k w (log_length store)).steps) (count_below (end_of w) w.graph + dirty_in (meaning_in meaning p) w)
             (count p w (alone_shown meaning p old (engine_of store None copied) w shows refl)) (removed p w (log_length store));

@@ -10,7 +10,7 @@ use Rattle.formats.specs.declared.params.Params.{Params}
 use Rattle.log_records.specs.Loading.{IsTailFault}
 use Rattle.log_records.specs.declared.rewrite_err.RewriteErr.{RewriteErr}
 use Rattle.log_records.specs.declared.rewrite_err.RewriteErr.TheVariants as of_rewrite
-use Rattle.dirty_cache.specs.Contents.{is_dirty}
+use Rattle.dirty_cache.specs.Contents.{AreDirty, is_dirty}
 use Rattle.explain_core.specs.Turns.{count_below, dirty_in}
 use Rattle.explain_core.specs.World.{World, end_of}
 use Rattle.explain_core.specs.World.Step.{Begin, End}
@@ -127,8 +127,9 @@ module _ {O : Type 0} (meaning : Bounds → Meaning O) (old new : Disk) (before 
     pub count : (p : Params) (w : World O) → ShowsIn meaning p old before w → IfOk answer (λ n. n ≡ removals (drain_course (meaning_in meaning p) (so_far before.copied) w (used_in before)).steps)
     -- each install takes an entry out of the graph at least, and each identity write puts one in
     pub bounded : IfOk answer (λ n. n ≤ length before.parts.volatile.entries + logged_since before after)
-    -- and these are of different objects that were dirty: at most as many nodes as the graph had members and there were dirty
-    -- objects together
+    -- and these are of different objects that were dirty: at most as many nodes as there were entries and dirty objects together
+    pub within : (objects : List ℕ) → AreDirty before.parts.volatile.objects.cache objects → IfOk answer (λ n. n ≤ length before.parts.volatile.entries + length objects)
+    -- as many as the graph of the world had members and it had dirty objects
     pub few : (p : Params) (w : World O) → ShowsIn meaning p old before w → IfOk answer (λ n. n ≤ count_below (end_of w) w.graph + dirty_in (meaning_in meaning p) w)
     pub drained : OnOk answer (after.parts.volatile.entries ≡ [])
     pub clean : (p : Params) (w : World O) → ShowsIn meaning p old before w → OnOk answer ((x : ℕ) → is_dirty after.parts.volatile.objects.cache x ≡ false)

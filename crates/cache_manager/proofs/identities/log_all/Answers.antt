@@ -1,13 +1,15 @@
-use Rattle.std.proofs.Common.{◌≡◌, ◌∙◌, sym, subst, ap, ℕ, ◌+◌, ◌<◌, suc, List, ◌∷◌, drop, drop-cons, slice_index, length, refl, arith}
-use Rattle.std.proofs.lemmas.List.{drop_all}
+use Rattle.std.proofs.Common.{◌≡◌, ◌∙◌, sym, subst, ap, ℕ, ◌+◌, ◌<◌, suc, List, [], ◌∷◌, ◌++◌, append_assoc, drop, drop-cons, slice_index, length, refl, arith}
+use Rattle.std.proofs.lemmas.List.{append-nil, drop_all}
+use Rattle.install_order.specs.declared.entry.Entry.{Entry}
 use Rattle.running_store.specs.CallLaws.{IsLogging, logging_none, logging_twice, unbroken_after}
 use Rattle.running_store.specs.Calls.{Never, call_none}
 use Rattle.cache_manager.specs.InstallCourses.{identities, identity_course}
+use Rattle.cache_manager.specs.LogsDirty.{identity_entries}
 use Rattle.running_store.specs.Keeping.{longer_here, longer_twice}
 use Rattle.running_store.specs.Kept.{IsLonger, StopsAt}
 use Rattle.formats.specs.Limits.{log_limit}
 use Rattle.running_store.specs.Rests.{IsRest, rest_next}
-use Rattle.running_store.specs.StoreView.{logged_since}
+use Rattle.running_store.specs.StoreView.{logged_since, next_of}
 use Rattle.running_store.specs.Taking.{Ending, Takes}
 use Rattle.running_store.specs.Taking.Ending.{Done}
 use Rattle.running_store.specs.TakesLaws.{takes_first, takes_none}
@@ -18,6 +20,12 @@ use Rattle.cache_manager.proofs.identities.log_all.Goals as goal
 first_left : (xs : List ℕ) (i : ℕ) → i < length xs → drop i xs ≡ slice_index xs i ∷ drop (i + 1) xs
 first_left xs i there = let next : suc i ≡ i + 1 = omega arith in drop-cons xs i 0 there ∙ ap (λ (k : ℕ). slice_index xs i ∷ drop k xs) next
 
+-- its entry is the next
+entries_on : (all here after : List Entry) (n k x : ℕ) (xs rest : List ℕ) → xs ≡ x ∷ rest → after ≡ here ++ identity_entries n (x ∷ []) → k ≡ n + 1 → here ++ identity_entries n xs ≡ all → after ++ identity_entries k rest ≡ all
+entries_on all here after n k x xs rest split more next so_far =
+    let up : k ≡ suc n = omega (arith, next) in
+    (λ i. more i ++ identity_entries (up i) rest) ∙ append_assoc here (identity_entries n (x ∷ [])) (identity_entries (suc n) rest) ∙ ap (λ (l : List ℕ). here ++ identity_entries n l) (sym split) ∙ so_far
+
 pub loop-x-init : goal.loop-x-init
 loop-x-init g c =
     let d = g.M.Machine.disk c.args.machine.now in
@@ -25,6 +33,7 @@ loop-x-init g c =
     record {
       call = logging_none g.O.Oper.meaning d d it it (StopsAt log_limit) Done refl (call_none g.O.Oper.meaning d it Never (g.met.M.Machine.lawful c.args.machine.now) c.requires.unbroken);
       logged = longer_here it.parts;
+      entries = refl;
       rest = λ new after ending takes. takes;
     }
 
@@ -50,6 +59,7 @@ loop-x-preserved g c =
     record {
       call = logging_twice meaning (disk c.args.machine.now) (disk c.loop-x.machine) (disk c.log_identity.new.machine) before here after (StopsAt log_limit) Done so_far.call done.call;
       logged = longer_twice i 1 before.parts here.parts after.parts so_far.logged done.logged;
+      entries = entries_on (before.parts.volatile.entries ++ identity_entries (next_of before) xs) here.parts.volatile.entries after.parts.volatile.entries (next_of here) (next_of after) x (drop i xs) (drop (i + 1) xs) (first_left xs i c.loop-x-test.true) done.entries done.logged.next so_far.entries;
       rest = rest_next disk meaning c.args.machine.now c.loop-x.machine before.parts here.parts (λ m w used. identities m xs w used) (λ m v used. identity_course m x v used) (λ m v used. identities m (drop (i + 1) xs) v used)
           c.log_identity.new.machine after.parts done.call.quiet done.takes
           (subst (λ (l : List ℕ). IsRest disk meaning c.args.machine.now before.parts (λ m w used. identities m xs w used) c.loop-x.machine here.parts (λ m v used. identities m l v used)) (first_left xs i c.loop-x-test.true) so_far.rest);
@@ -95,3 +105,9 @@ pub returns-clause-logged : goal.returns-clause-logged
 returns-clause-logged g c =
     let all : c.loop-x.x-index ≡ length c.args.xs.now = omega arith in
     subst (λ (k : ℕ). IsLonger k c.args.store.now.parts c.loop-x.store.parts) all c.loop-x.invariant.logged
+
+pub returns-clause-entries : goal.returns-clause-entries
+returns-clause-entries g c =
+    let here = c.loop-x.store in
+    let entries = here.parts.volatile.entries in
+    sym (append-nil entries) ∙ ap (λ (l : List ℕ). entries ++ identity_entries (next_of here) l) (sym (drop_all c.loop-x.x-index c.args.xs.now c.loop-x-test.false)) ∙ c.loop-x.invariant.entries

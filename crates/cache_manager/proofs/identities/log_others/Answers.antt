@@ -1,7 +1,9 @@
-use Rattle.std.proofs.Common.{◌≡◌, ◌∙◌, sym, subst, ap, ℕ, ◌<◌, true, List, [], length, map, refl, arith, Option}
-use Rattle.std.specs.Prelude.{◌↔◌, All, IfSome, IsNone, OnOk, Result, Ok, Err}
+use Rattle.std.proofs.Common.{◌≡◌, ◌∙◌, sym, subst, ap, ℕ, ◌<◌, ◌++◌, true, List, [], length, map, refl, arith, Option, None, Some}
+use Rattle.std.specs.Prelude.{◌↔◌, ◌==◌, not, All, IfSome, IsNone, IsTrue, OnOk, Result, Ok, Err}
 use Rattle.std.specs.List.Sorted.{IsStrictlyIncreasing}
 use Rattle.std.proofs.lemmas.List.{length-map}
+use Rattle.std.proofs.lemmas.List.Kept.{IsStrictlyIncreasing-filter}
+use Rattle.oper_core.specs.State.{is_among}
 use Rattle.disk_model.specs.declared.machine.FileNo.TheVariants.{Objects}
 use Rattle.identity_writes.specs.Plan.{IsKeptBeside, but_kept}
 use Rattle.log_frames.specs.LogView.{used_of}
@@ -10,6 +12,8 @@ use Rattle.running_store.specs.CallLaws.{IsLogging, call_short, logging_none}
 use Rattle.running_store.specs.Calls.{Never, call_none}
 use Rattle.running_store.specs.Courses.{cached_length}
 use Rattle.cache_manager.specs.InstallCourses.{but_longest, identities}
+use Rattle.cache_manager.specs.LogsDirty.{HasLogged, identity_entries}
+use Rattle.cache_manager.proofs.Lists.{kept_among}
 use Rattle.running_store.specs.Kept.{IsLonger, StopsAt}
 use Rattle.running_store.specs.Laid.{Laid, values_in}
 use Rattle.formats.specs.Limits.{log_limit}
@@ -94,3 +98,23 @@ returns-clause-logged g c =
     let some = logged_some c.args.copied lengths c.args.work.now c.as_slice-2.result.now c.requires.rising c.requires.some (logged c.args.copied lengths c.args.work.now c.in_ok-lengths.lengths.items c.as_slice.result.now c.in_ok-planned.planned.log c.as_slice-2.result.now c.in_ok-planned.planned.keep c.requires.rising c.as_slice.ensures.value c.as_slice-2.ensures
     c.in_ok-planned.ensures.none c.in_ok-planned.ensures.keep c.in_ok-planned.ensures.others (c.in_ok-lengths.ensures [])) in
     some_more c.log_all.result (length c.as_slice-2.result.now) c.args.store.now.parts c.log_all.new.store.parts (omega (arith, some)) c.log_all.ensures.logged
+
+-- what is logged is of the work
+rising_kept : (keep : Option ℕ) (work : List ℕ) → IsStrictlyIncreasing work → IsStrictlyIncreasing (but_kept keep work)
+rising_kept None work up = up
+rising_kept (Some x) work up = IsStrictlyIncreasing-filter (λ y. not (y == x)) work up
+
+of_work : {T E : Type 0} (r : Result T E) (work logs : List ℕ) (keep : Option ℕ) (before after : Parts) → IsStrictlyIncreasing work → logs ≡ but_kept keep work → OnOk r (IsLonger (length logs) before after)
+    → OnOk r (after.volatile.entries ≡ before.volatile.entries ++ identity_entries before.log.next logs) → OnOk r (HasLogged work before after)
+of_work (Ok value) work logs keep before after up is longer entries = record {
+  objects = logs;
+  rising = subst IsStrictlyIncreasing (sym is) (rising_kept keep work up);
+  among = λ x there. kept_among keep work x (subst (λ (l : List ℕ). IsTrue (is_among x l)) is there);
+  entries = entries;
+  next = longer.next;
+}
+of_work (Err e) work logs keep before after up is longer entries = tt
+
+pub returns-clause-objects : goal.returns-clause-objects
+returns-clause-objects g c =
+    of_work c.log_all.result c.args.work.now c.as_slice-2.result.now c.in_ok-planned.planned.keep c.args.store.now.parts c.log_all.new.store.parts c.requires.rising (c.as_slice-2.ensures ∙ c.in_ok-planned.ensures.others) c.log_all.ensures.logged c.log_all.ensures.entries

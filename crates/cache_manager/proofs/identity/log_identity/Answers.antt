@@ -1,4 +1,4 @@
-use Rattle.std.proofs.Common.{◌≡◌, ◌∙◌, sym, subst, ap, arith, ◌+◌, ◌≤◌, length, true, false, ℕ}
+use Rattle.std.proofs.Common.{◌≡◌, ◌∙◌, sym, subst, ap, arith, ◌+◌, ◌≤◌, length, true, false, ℕ, [], ◌∷◌, ◌++◌}
 use Rattle.std.specs.Prelude.{◌^◌}
 use Rattle.disk_model.specs.Disk.{Disk, IsDisk}
 use Rattle.dirty_cache.specs.Contents.{held, is_dirty}
@@ -21,6 +21,7 @@ use Rattle.running_store.specs.TakesLaws.{takes_both, takes_first}
 use Rattle.running_store.specs.Writes.{write_call, write_longer, write_takes}
 use Rattle.running_store.specs.Written.{room_is_place, value_cached}
 use Rattle.cache_manager.specs.Endings.{failed_ends, short_ends}
+use Rattle.cache_manager.specs.LogsDirty.{identity_entries}
 use Rattle.cache_manager.specs.RecordPlace.{HasRecordPlace, LacksRecordPlace}
 use Rattle.cache_manager.proofs.IdentityTakes.{length_shown, place, refused, room, takes_identity, takes_refused, takes_unforced, takes_written}
 use Rattle.cache_manager.proofs.identity.log_identity.Given.{Over}
@@ -203,3 +204,12 @@ returns-clause-logged g c =
     let done = c.in_ok-append_identity.ensures in
     let same = c.in_ok-make_block_room.ensures.same in
     appended_longer (g.O.Oper.meaning here.log.bounds) c.args.x done.pair here c.append_identity.new.self.parts done.had done.appended (still_dirty c.args.x (same_objects c.args.store.now c.make_block_room.new.self same) c.requires.dirty) c.args.store.now.parts same.long.next (ap (λ (s : StoreView). s.parts.volatile) same.same)
+
+pub returns-clause-entries : goal.returns-clause-entries
+returns-clause-entries g c =
+    let before = c.args.store.now in
+    let here = c.make_block_room.new.self in
+    let same = c.in_ok-make_block_room.ensures.same in
+    c.in_ok-append_identity.ensures.appended.entries
+    ∙ ap (λ (s : StoreView). s.parts.volatile.entries ++ identity_entries (next_of here) (c.args.x ∷ [])) same.same
+    ∙ ap (λ (k : ℕ). before.parts.volatile.entries ++ identity_entries k (c.args.x ∷ [])) same.long.next

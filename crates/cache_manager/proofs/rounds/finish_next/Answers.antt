@@ -1,5 +1,6 @@
 use Rattle.std.proofs.Common.{◌≡◌, ◌∙◌, sym, subst, ap, List, length, arith}
-use Rattle.std.specs.Prelude.{All, true}
+use Rattle.std.specs.Prelude.{All, not, true}
+use Rattle.std.specs.List.{filter}
 use Rattle.std.specs.List.Sorted.{IsStrictlyIncreasing}
 use Rattle.log_records.specs.RecordLog.{RecordLogView}
 use Rattle.install_order.specs.declared.entry.Entry.{Entry}
@@ -8,11 +9,13 @@ use Rattle.dirty_cache.specs.Contents.{is_dirty}
 use Rattle.running_store.specs.CallLaws.{failed_force, unbroken_after}
 use Rattle.running_store.specs.Calls.{IsCall, Never, call_twice}
 use Rattle.running_store.specs.Courses.{course}
+use Rattle.running_store.specs.Flushed.{DirtiesNone}
 use Rattle.cache_manager.specs.InstallCourses.{finish_steps}
 use Rattle.running_store.specs.Courses.Stop.{Through}
 use Rattle.running_store.specs.StoreView.{StoreView, next_of}
 use Rattle.running_store.specs.Taking.{Ending, Takes}
 use Rattle.running_store.specs.Taking.Ending.{Done, Failed}
+use Rattle.cache_manager.proofs.DirtyLogs.{logs_removal}
 use Rattle.cache_manager.proofs.NextTaken.{takes_finished, takes_unfinished, takes_unforced}
 use Rattle.cache_manager.proofs.NextWork.{work_dirty}
 use Rattle.cache_manager.proofs.rounds.finish_next.Goals as goal
@@ -112,3 +115,13 @@ returns-clause-ops g c =
 
 pub returns-clause-rising : goal.returns-clause-rising
 returns-clause-rising g c = subst (λ (es : List Entry). IsStrictlyIncreasing (numbers es)) c.graph-2.ensures c.len.ensures.rising
+
+pub returns-clause-logs : goal.returns-clause-logs
+returns-clause-logs g c =
+    let before = c.args.store.now.parts in
+    let least = c.requires.least.0 in
+    let same = c.in_ok-force.ensures.forced.1 in
+    logs_removal before c.finish.new.self.parts least.0 least.2
+    ((c.in_ok-finish.ensures.entries least.0 (subst (λ (s : StoreView). IsNodeNamed s.parts.volatile.entries c.args.n least.0) (sym same) least.1)).0 ∙ ap (λ (s : StoreView). filter (λ e. not (least.0 e.number)) s.parts.volatile.entries) same)
+    (ap (λ (l : RecordLogView). l.next) (c.finish.ensures.beside.objects.log ∙ c.in_ok-force.ensures.forced.0))
+    (subst (λ (s : StoreView). DirtiesNone s.parts.volatile.objects c.finish.new.self.parts.volatile.objects) same c.in_ok-finish.ensures.dirty)

@@ -28,6 +28,7 @@ use Rattle.running_store.specs.TakesLaws.{both, takes_first, takes_none, takes_n
 use Rattle.cache_manager.specs.Beside.{HasCopied, IsFresh}
 use Rattle.cache_manager.specs.Endings.{err_cuts, failed_ends, same_ends, short_ends}
 use Rattle.cache_manager.specs.InstallCourses.{but_longest, finish_steps, flushed_in, identities, install_course}
+use Rattle.cache_manager.proofs.DirtyLogs.{logs_none, logs_round, logs_twice}
 use Rattle.cache_manager.proofs.NextWork.{work_dirty}
 use Rattle.cache_manager.proofs.RoundsTaken.{IsNext, finish_flush, finishes, logs, logs_flush, next_here, none_left}
 use Rattle.cache_manager.proofs.Telling.{tells_none, told_done, told_none}
@@ -42,6 +43,7 @@ loop-name-init g c =
     record {
       call = logging_none g.O.Oper.meaning d d it it (StopsAt log_limit) Done refl (call_none g.O.Oper.meaning d it Never (g.met.M.Machine.lawful c.args.machine.now) c.requires.unbroken);
       logged = (0, longer_here it.parts);
+      logs = logs_none it.parts;
       none = λ e. e;
       rest = λ new after ending takes. takes;
       flushed = λ p w shows. (w, shows, refl);
@@ -132,9 +134,13 @@ loop-name-preserved g c =
     let done = c.in_ok-log_others.ensures in
     let one = round g at.After-log_others it in
     let install = rest g at.After-log_others it in
+    let used = (c.params-params.ensures.in_use (unbroken_after meaning _ _ before here (logged_since before here) (StopsAt log_limit) so_far.call)).store in
     record {
       call = logging_twice meaning (disk c.args.machine.now) (disk now) (disk later) before here after (StopsAt log_limit) Done so_far.call done.call;
       logged = (so_far.logged.0 + done.logged.0, longer_twice so_far.logged.0 done.logged.0 before.parts here.parts after.parts so_far.logged.1 done.logged.2);
+      logs = logs_twice before.parts here.parts after.parts so_far.logs
+          (logs_round c.last_blind_write_is_alone.ensures here.parts after.parts c.in-Some.name c.args.copied it.least.0.0 it.least.0.1 c.as_slice-due.result.now (it.work it.least.0.0 it.least.0.1) (more g at.After-log_others it) used.above
+          (λ x is. sym (done.logged.2.dirty x) ∙ is) done.objects);
       none = λ e. absurd (both_ways _ (ap (λ (es : List Entry). is_among c.in-Some.name (numbers es)) (so_far.none e)) it.least.0.1.held);
       rest = rest_next disk meaning c.args.machine.now now before.parts here.parts install one install later after.parts done.call.quiet done.takes
           (rest_same disk meaning c.args.machine.now now before.parts here.parts install install (both meaning one install) (goes g at.After-log_others it) so_far.rest);
@@ -303,3 +309,9 @@ pub returns-clause-tells : goal.returns-clause-tells
 returns-clause-tells g c =
     let longer = c.loop-name.invariant.logged in
     tells_none c.args.store.now.parts c.loop-name.store.parts longer.0 longer.1 (sym c.graph-in-loop-name.ensures ∙ c.in_default.ensures.none)
+
+pub returns-then-may_finish-clause-logs : goal.returns-then-may_finish-clause-logs
+returns-then-may_finish-clause-logs g c = logs_twice c.args.store.now.parts c.loop-name.store.parts c.finish_next.new.store.parts c.loop-name.invariant.logs c.in_ok-ops.ensures.logs
+
+pub returns-clause-logs : goal.returns-clause-logs
+returns-clause-logs g c = c.loop-name.invariant.logs

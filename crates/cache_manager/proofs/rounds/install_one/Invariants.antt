@@ -3,6 +3,7 @@ use Rattle.formats.specs.declared.params.Params.{Params}
 use Rattle.explain_core.specs.World.{World}
 use Rattle.running_store.specs.CallLaws.{IsLogging}
 use Rattle.cache_manager.specs.InstallCourses.{flushed_in, install_course}
+use Rattle.cache_manager.specs.LogsDirty.{LogsDirty}
 use Rattle.running_store.specs.Kept.{IsLonger, StopsAt}
 use Rattle.formats.specs.Limits.{log_limit}
 use Rattle.running_store.specs.Parts.{Shows, meaning_in}
@@ -20,6 +21,7 @@ invariant-loop-name g l =
     record {
       call : IsLogging meaning (disk l.fn.machine) (disk l.machine) before here (StopsAt log_limit) Done;
       logged : (n : ℕ) × IsLonger n before.parts here.parts;
+      logs : LogsDirty before.parts here.parts;
       none : before.parts.volatile.entries ≡ [] → here.parts.volatile.entries ≡ [];
       rest : IsRest disk meaning l.fn.machine before.parts (λ m w used. install_course m l.fn.copied w used) l.machine here.parts (λ m w used. install_course m l.fn.copied w used);
       flushed : (p : Params) (w : World g.row.O.Denot) → Shows (meaning_in meaning p) p (disk l.fn.machine) before.parts w → (v : World g.row.O.Denot) × Shows (meaning_in meaning p) p (disk l.machine) here.parts v
