@@ -1,11 +1,12 @@
 -- The end of a frame that was followed: it is forced, thin nodes are installed, and it is passed.
 use Rattle.std.proofs.Common.{◌≡◌, ◌∙◌, sym, subst, ap, ℕ, ◌+◌, ◌-◌, ◌≤◌, Bool, true, false, List, [], ◌∷◌, ◌++◌, length, drop, refl, arith, inl, inr, ◌⊎◌, ⊎_elim, length-drop, Some}
-use Rattle.std.specs.Prelude.{◌↔◌, ◌&&◌, ⊤, nat_lt, Result, Ok, Err, IsErrOf, OnOk}
-use Rattle.std.proofs.lemmas.Bool.{cond-false, le-ltb}
+use Rattle.std.specs.Prelude.{◌↔◌, ◌&&◌, ⊤, Result, Ok, Err, IsErrOf, OnOk}
+use Rattle.std.proofs.lemmas.Bool.{cond-false, cond-true}
 use Rattle.std.proofs.lemmas.List.{append-nil}
 use Rattle.disk_model.specs.Disk.{Disk, IsDisk, LeavesOnly}
 use Rattle.disk_model.specs.Moments.{weaker}
 use Rattle.disk_model.specs.declared.machine.FileNo.{FileNo}
+use Rattle.disk_model.specs.declared.machine.FileNo.TheVariants.{Objects}
 use Rattle.disk_model.specs.declared.machine.Failed.{Failed}
 use Rattle.oper_core.specs.Meaning.{Meaning}
 use Rattle.oper_core.specs.declared.bounds.Bounds.{Bounds}
@@ -18,24 +19,27 @@ use Rattle.frame_stream.specs.FrameBuffer.{BeginsWith, FrameBufferView, HasPasse
 use Rattle.log_records.specs.RecordLog.{RecordLogView}
 use Rattle.explain_core.specs.History.{Member, commands_of}
 use Rattle.explain_core.specs.History.Member.{Command, Identity}
-use Rattle.explain_core.specs.Turns.{dirty_in, has_thin, must_install, thin_steps}
+use Rattle.explain_core.specs.Sound.{IsSound}
+use Rattle.explain_core.specs.Turns.{has_thin, thin_steps}
 use Rattle.explain_core.specs.World.{Step, World, run}
 use Rattle.execution.specs.Judged.{first_refused, follows}
 use Rattle.running_store.specs.Buffered.{buffered_shown}
 use Rattle.running_store.specs.Calls.{IsFailed, ending_of_store}
 use Rattle.running_store.specs.Courses.{force_steps, records_length}
+use Rattle.running_store.specs.Parts.{ShowsVolatile}
 use Rattle.running_store.specs.declared.store_err.StoreErr.{StoreErr}
 use Rattle.running_store.specs.declared.store_err.StoreErr.TheVariants as of_store
 use Rattle.store_engine.specs.Calls.{IsForcing}
 use Rattle.store_engine.specs.Counts.{commands-fewer}
-use Rattle.store_engine.specs.Engine.{Between, EngineView, Holds, ShowsIn, accepted_in, forced_in, used_in}
+use Rattle.store_engine.specs.Engine.{Between, EngineView, Holds, IsStat, ShowsIn, accepted_in, forced_in, used_in}
 use Rattle.store_engine.specs.Following.{HasInstalledThin, thin_course}
-use Rattle.store_engine.specs.Grouping.{ungrouped}
+use Rattle.store_engine.specs.Grouping.{ungrouped, ungrouped_alone}
 use Rattle.store_engine.specs.Store.{meaning_in}
+use Rattle.store_engine.specs.declared.stat.Stat.{Stat}
 use Rattle.standby_node.specs.Failures.{follow_from_store}
-use Rattle.standby_node.specs.Feeding.{IsAtFrameEnd, dirty_limit}
+use Rattle.standby_node.specs.Feeding.{FeedsThrough, FeedsTo, IsAtFrameEnd, is_above, is_over, must_relieve}
 use Rattle.standby_node.specs.Standby.{BeginsWithFrameOf, IsAlone, IsFollowing, StandbyView}
-use Rattle.standby_node.specs.Steps.{AnyWorld, FollowsStep, GoesOn, HasPassedFrame, HasWholeFrame, IsLimited}
+use Rattle.standby_node.specs.Steps.{AnyWorld, FollowsStep, GoesOn, HasPassedFrame, HasWholeFrame, IsRelieved}
 use Rattle.standby_node.specs.declared.follow_err.FollowErr.{FollowErr}
 use Rattle.standby_node.specs.declared.follow_err.FollowErr.TheVariants.{DiskFault, Damaged}
 use Rattle.standby_node.proofs.Ends.{Stand, between_end, forced_is, frames_more, past, records_more}
@@ -108,6 +112,10 @@ module _ {O : Type 0} (meaning : Bounds → Meaning O) (p : Params) (first : Lis
 
 -- ---- a thin node is installed
 
+-- too much is left in each world that is shown
+abbrev pub IsOverIn : {O : Type 0} → (Bounds → Meaning O) → Disk → EngineView → Type 0
+IsOverIn {O} meaning d engine = (p : Params) (w : World O) → ShowsIn meaning p d engine w → is_over (meaning_in meaning p) w ≡ true
+
 -- the answer of the step that an install of a thin node is
 abbrev pub thin_result : Result Bool StoreErr → Result (Unit {0}) FollowErr
 thin_result (Ok some) = Ok tt
@@ -116,7 +124,7 @@ thin_result (Err e) = Err (follow_from_store e)
 -- the world that it leaves
 abbrev pub LeftThin : {O : Type 0} → Result Bool StoreErr → Meaning O → World O → Type 0
 LeftThin (Ok true) m w = ⊤
-LeftThin (Ok false) m w = must_install m dirty_limit w ≡ false
+LeftThin (Ok false) m w = must_relieve m w ≡ false
 LeftThin (Err e) m w = ⊤
 
 no_error : {T E : Type 0} (value : T) (e : E) → Ok value ≡ Err e → ⊥
@@ -145,16 +153,16 @@ module _ {O : Type 0} (meaning : Bounds → Meaning O) (old new : Disk) (before 
       inr (settled_world meaning p first bytes old before f new after (run m f.world is.taken) may is.holds
       (run_settled m f.world.history f.world is.taken (calm_front steps is.taken is.begins (thin_course_calm m f.world (used_in before.engine))) (settled_here meaning p first bytes old before f none)))
 
-  -- where none was left none has to be installed
+  -- where none was left none must be installed
   pub none_left : (p : Params) (first : List (Member O)) (bytes : List ℕ) (f : IsFollowing meaning p first bytes old before) → HasInstalledThin meaning old new before.engine after (Ok false)
-      → (g : IsFollowing meaning p first bytes new with_engine) × (must_install (meaning_in meaning p) dirty_limit g.world ≡ false)
+      → (g : IsFollowing meaning p first bytes new with_engine) × (must_relieve (meaning_in meaning p) g.world ≡ false)
   unfolding run
   none_left p first bytes f it =
       let m = meaning_in meaning p in
       let none : has_thin m f.world ≡ false = sym (it.told p f.world f.shows) in
       let no_steps : (thin_course m f.world (used_in before.engine)).steps ≡ [] = cond-false (has_thin m f.world) (thin_steps m f.world) [] none in
       let there : ShowsIn meaning p new after f.world = subst (λ (l : List (Step O)). ShowsIn meaning p new after (run m f.world l)) no_steps (it.takes.follows p f.world f.shows).1.shows in
-      (same_world meaning p first bytes old new before after f there, no_need (nat_lt dirty_limit (dirty_in m f.world)) (has_thin m f.world) none)
+      (same_world meaning p first bytes old new before after f there, no_need (is_over m f.world) (has_thin m f.world) none)
     where
       no_need : (a b : Bool) → b ≡ false → (a && b) ≡ false
       no_need true b is = is
@@ -188,9 +196,24 @@ module _ {O : Type 0} (meaning : Bounds → Meaning O) (old new : Disk) (before 
       weaker old new (Between meaning p old before.engine.group (forced_in before.engine) (accepted_in before.engine) (commands_of f.world.history)) (IsAtFrameEnd meaning p old (forced_in before.engine) first bytes) leaves
       (λ files said is. between_end meaning p first bytes old before f whole before.engine.group files said is)
 
-  pub thin_goes : IsThrough → before.engine.parts.log.log.pending ≡ [] → Stand meaning → (answer : Result Bool StoreErr) → HasInstalledThin meaning old new before.engine after answer
+  -- the world that was shown leads to the one that is, since too much was left in it
+  thin_led : IsOverIn meaning old before.engine → (answer : Result Bool StoreErr) → HasInstalledThin meaning old new before.engine after answer → FeedsThrough meaning old new before.engine after (thin_result answer)
+  unfolding run
+  thin_led over (Ok true) it p w shown =
+      let m = meaning_in meaning p in
+      let some : has_thin m w ≡ true = sym (it.told p w shown) in
+      let must : must_relieve m w ≡ true = λ i. over p w shown i && some i in
+      let steps : (thin_course m w (used_in before.engine)).steps ≡ thin_steps m w = cond-true (has_thin m w) (thin_steps m w) [] some in
+      (run m w (thin_steps m w), subst (λ (l : List (Step O)). ShowsIn meaning p new after (run m w l)) steps (it.takes.follows p w shown).1.shows, FeedsTo.Relieved w must FeedsTo.Nothing)
+  thin_led over (Ok false) it p w shown =
+      let m = meaning_in meaning p in
+      let no_steps : (thin_course m w (used_in before.engine)).steps ≡ [] = cond-false (has_thin m w) (thin_steps m w) [] (sym (it.told p w shown)) in
+      (w, subst (λ (l : List (Step O)). ShowsIn meaning p new after (run m w l)) no_steps (it.takes.follows p w shown).1.shows, FeedsTo.Nothing)
+  thin_led over (Err e) it p w shown = tt
+
+  pub thin_goes : IsThrough → before.engine.parts.log.log.pending ≡ [] → Stand meaning → IsOverIn meaning old before.engine → (answer : Result Bool StoreErr) → HasInstalledThin meaning old new before.engine after answer
       → GoesOn meaning old new before with_engine (IsForcedIn before with_engine) (LeftThin answer) (thin_result answer)
-  thin_goes through none stand answer it = record {
+  thin_goes through none stand over answer it = record {
     time = it.call.time;
     quiet = it.call.quiet;
     params = it.call.params;
@@ -202,6 +225,7 @@ module _ {O : Type 0} (meaning : Bounds → Meaning O) (old new : Disk) (before 
     done = on_ok (thin_result answer) (refl, refl, ap (λ (l : RecordLogView). l.log.pending) it.log ∙ none);
     rising = λ p first bytes f. inr (omega (arith, ap (λ (l : RecordLogView). l.forced) it.log));
     follows_it = λ p first bytes f. thin_follows p first bytes f (inr (whole_begun (meaning_in meaning p) before f.begun f.in_hand before.done through refl)) none answer it;
+    leads = thin_led over answer it;
     images = λ told p first bytes f. through_images through stand told p first bytes f (it.commands.images told p (commands_of f.world.history) (holds_all meaning p first bytes old before f));
     undamaged = λ told attached file place same. thin_undamaged answer file place same;
   }
@@ -231,6 +255,7 @@ module _ {O : Type 0} (meaning : Bounds → Meaning O) (old new : Disk) (before 
         let all = (it.forced p (commands_of w.history) (holds_all meaning p first bytes old before f)).1 in
         inr (omega (arith, all, forced_is meaning p first bytes old before f, commands-fewer w.forced w.history));
     follows_it = λ p first bytes f. (forced_following p first bytes f (inr (whole_begun (meaning_in meaning p) before f.begun f.in_hand before.done through refl)) n it, tt);
+    leads = λ p w shown. (run (meaning_in meaning p) w (force_steps (meaning_in meaning p) w), (it.takes.follows p w shown).1.shows, FeedsTo.Forced w FeedsTo.Nothing);
     images = λ told p first bytes f. through_images through stand told p first bytes f (it.commands.images told p (commands_of f.world.history) (holds_all meaning p first bytes old before f));
     undamaged = λ told attached file place same. absurd (not_failed same);
   }
@@ -249,6 +274,7 @@ module _ {O : Type 0} (meaning : Bounds → Meaning O) (old new : Disk) (before 
     done = tt;
     rising = λ p first bytes f. inl refl;
     follows_it = λ p first bytes f. tt;
+    leads = λ p w shown. tt;
     images = λ told p first bytes f. through_images through stand told p first bytes f (it.commands.images told p (commands_of f.world.history) (holds_all meaning p first bytes old before f));
     undamaged = λ told attached file place same. cc;
   }
@@ -270,7 +296,7 @@ limits_begin meaning d lawful now parts same alone unbroken through none stand =
 }
 
 -- a node more was installed, or none, or the call failed
-module _ {O : Type 0} (meaning : Bounds → Meaning O) (old mid new : Disk) (begins : IsDisk old) (lawful : IsDisk new) (before here : StandbyView) (so_far : LimitsSo meaning old mid before here) (after : EngineView) (stand : Stand meaning) where
+module _ {O : Type 0} (meaning : Bounds → Meaning O) (old mid new : Disk) (begins : IsDisk old) (lawful : IsDisk new) (before here : StandbyView) (so_far : LimitsSo meaning old mid before here) (over : IsOverIn meaning mid here.engine) (after : EngineView) (stand : Stand meaning) where
   abbrev next : StandbyView
   next = record here { engine = after }
 
@@ -278,7 +304,7 @@ module _ {O : Type 0} (meaning : Bounds → Meaning O) (old mid new : Disk) (beg
       → GoesOn meaning old new before next (IsForcedIn before next) Left (thin_result answer)
   installed_then answer Left so it =
       goes_twice meaning old mid new begins lawful before here next (IsForcedIn before here) (IsForcedIn here next) (IsForcedIn before next) AnyWorld (LeftThin answer) Left (thin_result answer)
-      (joined (thin_result answer)) so so_far.goes (thin_goes meaning mid new here after so_far.through so_far.goes.done.2 stand answer it)
+      (joined (thin_result answer)) so so_far.goes (thin_goes meaning mid new here after so_far.through so_far.goes.done.2 stand over answer it)
     where
       joined : (result : Result (Unit {0}) FollowErr) → IsForcedIn before here → OnOk result (IsForcedIn here next) → OnOk result (IsForcedIn before next)
       joined (Ok done) start reached = (reached.0 ∙ start.0, reached.1 ∙ start.1, reached.2)
@@ -290,10 +316,10 @@ module _ {O : Type 0} (meaning : Bounds → Meaning O) (old mid new : Disk) (beg
   pub limits_more : HasInstalledThin meaning mid new here.engine after (Ok true) → LimitsSo meaning old new before next
   limits_more it = record { alone = alone_then (Ok true) it; through = so_far.through; goes = installed_then (Ok true) AnyWorld (λ m w any. any) it }
 
--- where few objects are dirty, or no node is thin, it has gone on to the end
-pub limited_by : {O : Type 0} (meaning : Bounds → Meaning O) (old now : Disk) (before here : StandbyView) → LimitsSo meaning old now before here
-    → ((p : Params) (first : List (Member O)) (bytes : List ℕ) (f : IsFollowing meaning p first bytes now here) → must_install (meaning_in meaning p) dirty_limit f.world ≡ false) → IsLimited meaning old now before here (Ok tt)
-limited_by meaning old now before here it none = record {
+-- where little is left, or no node is thin, it has gone on to the end
+pub relieved_by : {O : Type 0} (meaning : Bounds → Meaning O) (old now : Disk) (before here : StandbyView) → LimitsSo meaning old now before here
+    → ((p : Params) (first : List (Member O)) (bytes : List ℕ) (f : IsFollowing meaning p first bytes now here) → must_relieve (meaning_in meaning p) f.world ≡ false) → IsRelieved meaning old now before here (Ok tt)
+relieved_by meaning old now before here it none = record {
   time = it.goes.time;
   quiet = it.goes.quiet;
   params = it.goes.params;
@@ -305,13 +331,23 @@ limited_by meaning old now before here it none = record {
   done = it.goes.done;
   rising = it.goes.rising;
   follows_it = λ p first bytes f. let g = (it.goes.follows_it p first bytes f).0 in (g, none p first bytes g);
+  leads = it.goes.leads;
   images = it.goes.images;
   undamaged = it.goes.undamaged;
 }
 
--- few are
-pub few_dirty : {O : Type 0} (m : Meaning O) (w : World O) (n : ℕ) → n ≡ dirty_in m w → n ≤ dirty_limit → must_install m dirty_limit w ≡ false
-few_dirty m w n is few = ap (λ (b : Bool). b && has_thin m w) (le-ltb dirty_limit (dirty_in m w) (omega (arith, is, few)))
+-- The engine counts in each world that it shows what is left.
+pub is_over_in : {O : Type 0} (meaning : Bounds → Meaning O) (d : Disk) (engine : EngineView) → IsAlone engine → (stat : Stat) → ((p : Params) (file : List ℕ) (w : World O) → IsSound (meaning_in meaning p) w → ShowsVolatile (meaning_in meaning p) p file engine.parts.volatile w → IsStat meaning p w stat)
+    → (over : Bool) → is_above stat.dirty stat.uninstalled ≡ over → (p : Params) (w : World O) → ShowsIn meaning p d engine w → is_over (meaning_in meaning p) w ≡ over
+is_over_in {O} meaning d engine alone stat counted over is p w shown =
+    let same : ungrouped w ≡ w = ungrouped_alone w (shown.group ∙ alone.group) in
+    let sound = subst (λ (v : World O). IsSound (meaning_in meaning p) v) (sym same) shown.sound in
+    let counts = counted p (d.reads Objects) (ungrouped w) sound shown.shows.store in
+    sym (λ i. is_above (counts.dirty i) (counts.uninstalled i)) ∙ is
+
+-- then none must be installed
+pub none_must : {O : Type 0} (m : Meaning O) (w : World O) → is_over m w ≡ false → must_relieve m w ≡ false
+none_must m w is = ap (λ (b : Bool). b && has_thin m w) is
 
 -- The same of a standby that is told apart into its parts.
 module _ {O : Type 0} (meaning : Bounds → Meaning O) (old new : Disk) (now parts : StandbyView) (same : parts ≡ now) (after : EngineView) (through : HasWholeFrame now now.done) (stand : Stand meaning) where
@@ -390,6 +426,7 @@ passed_then {O} meaning old new before here frames size whole through Left it is
           let g = it.follows_it p first bytes f in
           let h = frame_passed meaning new here frames size whole_here through_here none passes p first bytes g.0 in
           (h.0, subst (λ (v : World O). Left (meaning_in meaning p) v) (sym h.1) g.1);
+      leads = it.leads;
       images = it.images;
       undamaged = it.undamaged;
     }

@@ -1,6 +1,6 @@
 -- A piece of a stream is taken, and its whole frames are followed.
 use Rattle.std.proofs.Common.{◌≡◌, ◌∙◌, sym, subst, ap, ℕ, ◌+◌, ◌≤◌, false, List, [], ◌∷◌, ◌++◌, length, take, drop, refl, arith, inl, inr, ◌⊎◌, ⊎_elim, append_assoc, length-append, Option, None}
-use Rattle.std.specs.Prelude.{Result, Ok, Err, IsErrOf}
+use Rattle.std.specs.Prelude.{Result, Ok, Err, IsErrOf, OnOk}
 use Rattle.std.proofs.Math.Seq.{drop-length, take-length}
 use Rattle.std.proofs.lemmas.Bool.{both_ways}
 use Rattle.std.proofs.lemmas.List.{append-nil}
@@ -22,7 +22,7 @@ use Rattle.running_store.specs.Courses.{records_length, tables_length}
 use Rattle.store_engine.specs.Engine.{accepted_in, forced_in}
 use Rattle.store_engine.specs.Grouping.{ungrouped}
 use Rattle.store_engine.specs.Store.{meaning_in}
-use Rattle.standby_node.specs.Feeding.{BeginsNoRecord, ComeNext, FollowsPiece, HasRefused, HasRefusedIn, IsAtFrameEnd, IsFed, IsJudgedNext, stopped_by}
+use Rattle.standby_node.specs.Feeding.{BeginsNoRecord, ComeNext, FollowsPiece, HasRefused, HasRefusedIn, IsAtFrameEnd, IsFed, IsJudgedNext, IsLedTo, stopped_by}
 use Rattle.standby_node.specs.Standby.{BeginsWithFrameOf, HasBegun, IsFollowing, IsWithinFrame, StandbyView}
 use Rattle.standby_node.specs.Steps.{AreFramesFollowed}
 use Rattle.standby_node.specs.declared.follow_err.FollowErr.{FollowErr}
@@ -100,6 +100,7 @@ module _ {O : Type 0} (meaning : Bounds → Meaning O) where
     stopped = none;
     taken = inl (refl, refl);
     follows_it = λ p first bytes f. inl (refl, f);
+    leads = λ p w shown. tt;
     images = λ told p first bytes f.
         weaker old old (IsAtFrameEnd meaning p old (forced_in before.engine) first bytes) (IsAtFrameEnd meaning p old (forced_in before.engine) first (bytes ++ piece)) (still_end meaning p first bytes old before f stand old (stays_here old lawful) told)
         (λ files said is. piece_end p old (forced_in before.engine) first bytes piece files said is);
@@ -204,6 +205,10 @@ module _ {O : Type 0} (meaning : Bounds → Meaning O) where
   stopped_same n passed (Err Memory) = refl
   stopped_same n passed (Err (Stopped place)) = refl
 
+  fed_also : (P : Type 0) (n : ℕ) (answer : Result (Unit {0}) FollowErr) → OnOk answer P → OnOk (fed_result n answer) P
+  fed_also P n (Ok done) is = is
+  fed_also P n (Err e) is = tt
+
   -- what is noted of an answer
   pub noted_as : (after left : StandbyView) (result answer : Result (Unit {0}) FollowErr) → left ≡ record after { stopped = stopped_by after.frames.passed result } → result ≡ answer → left ≡ record after { stopped = stopped_by after.frames.passed answer }
   noted_as after left result answer is same = is ∙ ap (λ (r : Result (Unit {0}) FollowErr). record after { stopped = stopped_by after.frames.passed r }) same
@@ -256,6 +261,7 @@ module _ {O : Type 0} (meaning : Bounds → Meaning O) where
       stopped = stopped_same n after.frames.passed answer;
       taken = inr (it.taken ∙ ap taken_by taken_is ∙ omega (arith, length-append before.frames.kept piece));
       follows_it = λ p first bytes f. piece_followed p first bytes f answer count it;
+      leads = λ p w shown. fed_also (IsLedTo meaning p new after.engine w) n answer (it.leads p w shown);
       images = λ told p first bytes f. it.images told p first (bytes ++ piece) (with_piece p first bytes f);
       undamaged = λ told attached file place same. it.undamaged told attached file place (fed_error n answer (Damaged file place) same);
     }

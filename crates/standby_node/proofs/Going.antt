@@ -10,9 +10,9 @@ use Rattle.oper_core.specs.declared.bounds.Bounds.{Bounds}
 use Rattle.formats.specs.declared.params.Params.{Params}
 use Rattle.explain_core.specs.History.{Member}
 use Rattle.explain_core.specs.World.{World}
-use Rattle.store_engine.specs.Engine.{IsAttached, forced_in}
+use Rattle.store_engine.specs.Engine.{EngineView, IsAttached, forced_in}
 use Rattle.store_engine.specs.Store.{meaning_in}
-use Rattle.standby_node.specs.Feeding.{IsAtFrameEnd}
+use Rattle.standby_node.specs.Feeding.{FeedsTo, IsAtFrameEnd, IsLedTo}
 use Rattle.standby_node.specs.Standby.{IsFollowing, StandbyView}
 use Rattle.standby_node.specs.Steps.{FollowsStep, GoesOn}
 use Rattle.standby_node.specs.declared.follow_err.FollowErr.{FollowErr}
@@ -22,6 +22,18 @@ use Rattle.standby_node.proofs.Ends.{Stand, later_end, still_end}
 -- the disk did not fail in a step that was done
 pub not_failed : {e : FollowErr} → IsErrOf {T = Unit {0}} (Ok tt) e → ⊥
 not_failed same = cc
+
+-- what holds of any answer holds of one that is done
+pub on_ok : {P : Type 0} (result : Result (Unit {0}) FollowErr) → P → OnOk result P
+on_ok (Ok done) is = is
+on_ok (Err e) is = tt
+
+-- a world leads on to where one leads to which it leads
+feeds_on : {O : Type 0} (m : Meaning O) (u v w : World O) → FeedsTo m u v → FeedsTo m v w → FeedsTo m u w
+feeds_on m u v w first FeedsTo.Nothing = first
+feeds_on m u v w first (FeedsTo.Followed x r used more) = FeedsTo.Followed x r used (feeds_on m u v x first more)
+feeds_on m u v w first (FeedsTo.Forced x more) = FeedsTo.Forced x (feeds_on m u v x first more)
+feeds_on m u v w first (FeedsTo.Relieved x must more) = FeedsTo.Relieved x must (feeds_on m u v x first more)
 
 -- what a step that is done keeps, and one after it, both keep
 and_then : {F G P Q R : Type 0} → (F → ⊥) → F ⊎ (P → Q) → G ⊎ (Q → R) → G ⊎ (P → R)
@@ -41,6 +53,10 @@ module _ {O : Type 0} (meaning : Bounds → Meaning O) where
   step_weaker One Two (Err Memory) so p first bytes d s is = is
   step_weaker One Two (Err (Stopped place)) so p first bytes d s is = is
 
+  leads_on : (p : Params) (d : Disk) (engine : EngineView) (w v : World O) (result : Result (Unit {0}) FollowErr) → FeedsTo (meaning_in meaning p) w v → OnOk result (IsLedTo meaning p d engine v) → OnOk result (IsLedTo meaning p d engine w)
+  leads_on p d engine w v (Ok done) first more = (more.0, more.1, feeds_on (meaning_in meaning p) w v more.0 first more.2)
+  leads_on p d engine w v (Err e) first more = tt
+
   -- a step that is done, and one after it
   pub goes_twice : (old mid new : Disk) → IsDisk old → IsDisk new → (before here after : StandbyView) (Start Reached Both : Type 0) (Some One Two : Meaning O → World O → Type 0) (result : Result (Unit {0}) FollowErr)
       → (Start → OnOk result Reached → OnOk result Both) → OnOk result ((m : Meaning O) (w : World O) → One m w → Two m w) → GoesOn meaning old mid before here Start Some (Ok tt) → GoesOn meaning mid new here after Reached One result
@@ -57,6 +73,7 @@ module _ {O : Type 0} (meaning : Bounds → Meaning O) where
     done = joins first.done second.done;
     rising = λ p list bytes f.
         ⊎_elim (λ failed. absurd (not_failed failed)) (λ rises. ⊎_elim (λ failed. inl failed) (λ more. inr (omega (arith, rises, more))) (second.rising p list bytes (first.follows_it p list bytes f).0)) (first.rising p list bytes f);
+    leads = λ p w shown. let led = first.leads p w shown in leads_on p new after.engine w led.0 result led.2 (second.leads p led.0 led.1);
     follows_it = λ p list bytes f. step_weaker One Two result so p list bytes new after (second.follows_it p list bytes (first.follows_it p list bytes f).0);
     images = λ told p list bytes f.
         let ends = IsAtFrameEnd meaning p old (forced_in before.engine) list bytes in
@@ -86,14 +103,10 @@ module _ {O : Type 0} (meaning : Bounds → Meaning O) where
     done = reached;
     rising = λ p list bytes f. inr (omega arith);
     follows_it = follows_it;
+    leads = λ p w shown. on_ok result (w, shown, FeedsTo.Nothing);
     images = λ told p list bytes f. still_end meaning p list bytes old before f stand old (stays_here old lawful) told;
     undamaged = λ told attached file place is. whole file place is;
   }
-
--- what holds of any answer holds of one that is done
-pub on_ok : {P : Type 0} (result : Result (Unit {0}) FollowErr) → P → OnOk result P
-on_ok (Ok done) is = is
-on_ok (Err e) is = tt
 
 -- a step that is done has reached this too
 pub reached_also : {O : Type 0} (meaning : Bounds → Meaning O) (old new : Disk) (before after : StandbyView) (One Two : Type 0) (Left : Meaning O → World O → Type 0) → Two → GoesOn meaning old new before after One Left (Ok tt)
@@ -110,6 +123,7 @@ reached_also meaning old new before after One Two Left reached it = record {
   done = reached;
   rising = it.rising;
   follows_it = it.follows_it;
+  leads = it.leads;
   images = it.images;
   undamaged = it.undamaged;
 }

@@ -11,4 +11,5 @@ mod Attached
 mod OneWay
 mod Primary
 mod Refusals
+mod OneRefusal
 mod Shipped

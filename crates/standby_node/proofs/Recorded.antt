@@ -40,7 +40,7 @@ use Rattle.store_engine.specs.Following.{HasFollowed}
 use Rattle.store_engine.specs.Grouping.{ungrouped}
 use Rattle.store_engine.specs.Store.{meaning_in}
 use Rattle.standby_node.specs.Failures.{follow_from_record}
-use Rattle.standby_node.specs.Feeding.{BeginsNoRecord, HasRefusedIn, IsJudgedNext}
+use Rattle.standby_node.specs.Feeding.{BeginsNoRecord, FeedsThrough, FeedsTo, HasRefusedIn, IsJudgedNext}
 use Rattle.standby_node.specs.Standby.{IsFollowing, IsWithinFrame, StandbyView}
 use Rattle.standby_node.specs.Steps.{AnyWorld, FollowsStep, GoesOn, HasWholeFrame, IsReading, IsReadingOf, IsRecordFollowed, left_of}
 use Rattle.standby_node.specs.declared.follow_err.FollowErr.{FollowErr}
@@ -405,6 +405,11 @@ module _ {O : Type 0} (meaning : Bounds → Meaning O) (old new : Disk) (before 
       rises_so (Err (of_record.Damaged file place)) it = absurd (it.in_world p f.world f.shows)
       rises_so (Err of_record.Memory) it = inr (leaves (Err of_record.Memory) it).1
 
+    -- the world that was shown leads to the one that is
+    led : (answer : Result Bool RecordErr) → HasFollowed meaning old new before.engine after r answer → FeedsThrough meaning old new before.engine after (step_of answer)
+    led (Ok taken) it p w shown = (run (with p) w (follow_course (with p) r w (used_in before.engine)).steps, (it.takes.follows p w shown).1.shows, FeedsTo.Followed w r (used_in before.engine) FeedsTo.Nothing)
+    led (Err e) it p w shown = tt
+
     -- a step of each answer, which leaves the standby so
     step_with : (answer : Result Bool RecordErr) (left_so : StandbyView) → left_so ≡ left_by answer → HasFollowed meaning old new before.engine after r answer → left_so.engine ≡ after → left_so.frames ≡ before.frames → left_so.stopped ≡ before.stopped
         → OnOk (step_of answer) ((left_so.frames ≡ before.frames) × (before.done < left_so.done) × (left_so.done ≤ size)) → IsRecordFollowed meaning old new before left_so size (step_of answer)
@@ -423,6 +428,7 @@ module _ {O : Type 0} (meaning : Bounds → Meaning O) (old new : Disk) (before 
       done = reached;
       rising = λ p first bytes f. subst (λ (e : EngineView). IsErrOf (step_of answer) DiskFault ⊎ (forced_in before.engine ≤ forced_in e)) (sym engine) (rises_so p first bytes f answer it);
       follows_it = λ p first bytes f. subst (λ (s : StandbyView). FollowsStep meaning AnyWorld p first bytes new s (step_of answer)) (sym is) (follows_so p first bytes f answer it);
+      leads = subst (λ (e : EngineView). FeedsThrough meaning old new before.engine e (step_of answer)) (sym engine) (led answer it);
       images = λ told p first bytes f. still_end meaning p first bytes old before f stand new (still p first bytes f answer it) told;
       undamaged = λ told attached file place same. it.undamaged told attached file place (damaged_so answer file place same);
     }

@@ -1,5 +1,5 @@
--- A stream without fault is not refused.
-use Rattle.std.proofs.Common.{◌≡◌, ◌∙◌, sym, subst, ap, ℕ, ◌<◌, ◌+◌, List, [], ◌∷◌, ◌++◌, length, refl, arith, true, ⊎_elim, append_assoc, length-append, length-drop, None, Some}
+-- A stream without fault is not refused, nor is one where a standby has followed more of it.
+use Rattle.std.proofs.Common.{◌≡◌, ◌∙◌, sym, subst, ap, ℕ, ◌<◌, ◌+◌, List, [], ◌∷◌, ◌++◌, length, refl, arith, true, inl, inr, ◌⊎◌, ⊎_elim, append_assoc, length-append, length-drop, None, Some}
 use Rattle.std.specs.List.{AllByRecursion}
 use Rattle.std.proofs.lemmas.Bool.{cond-true}
 use Rattle.std.proofs.lemmas.List.{append_cancel_left}
@@ -15,11 +15,12 @@ use Rattle.frame_stream.specs.Frames.{HasBadLength, IsFrameLength, IsUnfinished,
 use Rattle.frame_stream.specs.Laws.{frame_cancel, length_stands}
 use Rattle.log_records.specs.Codec.{StartsWithRecord}
 use Rattle.explain_core.specs.History.{Member}
+use Rattle.execution.specs.Following.{IsNumbered}
 use Rattle.execution.specs.Judged.{Judged, first_refused, follows, is_refused, judge_behind, with_judged}
-use Rattle.execution.specs.Judged.Judged.{Gap as Leaves_gap, Differs as Is_different}
+use Rattle.execution.specs.Judged.Judged.{Passed, Taken, Gap as Leaves_gap, Differs as Is_different}
 use Rattle.store_engine.specs.Store.{meaning_in}
 use Rattle.standby_node.specs.Feeding.{BeginsNoRecord, ComeNext, HasRefused, IsJudgedNext, IsOfStream}
-use Rattle.standby_node.specs.Standby.{AreFramesOf, IsFollowing, IsFrameOf, MayBeShipped, StandbyView}
+use Rattle.standby_node.specs.Standby.{AreFramesOf, HasBegun, IsFollowing, IsFrameOf, MayBeShipped, StandbyView}
 use Rattle.standby_node.specs.declared.follow_err.FollowErr.{FollowErr}
 use Rattle.standby_node.specs.declared.follow_err.FollowErr.TheVariants.{BadFrame, Gap, Differs, LogFull, DiskFault, Damaged, Memory, Stopped}
 use Rattle.standby_node.proofs.InHand.{no_code, payload_is}
@@ -47,7 +48,7 @@ all_behind [] qs all = all
 all_behind (p ∷ ps) qs all = all_behind ps qs all.1
 
 -- frames have no bad length in front
-right_length : (p rest kept : List ℕ) → IsPayload p → kept ≡ frame p ++ rest → HasBadLength kept → ⊥
+pub right_length : (p rest kept : List ℕ) → IsPayload p → kept ≡ frame p ++ rest → HasBadLength kept → ⊥
 right_length p rest kept is stands bad =
     let long : little_number 4 kept ≡ length p = ap (λ (l : List ℕ). little_number 4 l) stands ∙ length_stands p rest is in
     bad.1 (subst IsFrameLength (sym long) (is.some, is.short))
@@ -113,20 +114,116 @@ joined {O} (g ∷ front) group later = ap (λ (l : List (Record O)). g ++ l) (jo
 regroup : {O : Type 0} (xs begun : List (Record O)) (r : Record O) (later last : List (Record O)) → xs ++ ((begun ++ r ∷ later) ++ last) ≡ (xs ++ begun) ++ r ∷ (later ++ last)
 regroup {O} xs begun r later last = ap (λ (l : List (Record O)). xs ++ l) (append_assoc begun (r ∷ later) last) ∙ sym (append_assoc xs begun (r ∷ (later ++ last)))
 
+-- the payload in hand is the codes of the records that were followed, and the bytes that come next
+pub payload_left : {O : Type 0} (m : Meaning O) (s : StandbyView) (begun : List (Record O)) (has : HasBegun m s.frames.kept s.done begun) (left : List ℕ) (come : ComeNext s left) → come.payload ≡ payload_of m begun ++ left
+payload_left m s begun has left come =
+    payload_is m s begun has (length come.payload) (come.payload, come.later, come.is_payload, refl, come.stands) ∙ ap (λ (l : List ℕ). payload_of m begun ++ l) (sym come.rest_is)
+
 -- a bad length stays one where more comes
-bad_more : (kept more : List ℕ) → HasBadLength kept → HasBadLength (kept ++ more)
+pub bad_more : (kept more : List ℕ) → HasBadLength kept → HasBadLength (kept ++ more)
 bad_more [] more bad = absurd (omega (arith, bad.0))
 bad_more (a ∷ []) more bad = absurd (omega (arith, bad.0))
 bad_more (a ∷ b ∷ []) more bad = absurd (omega (arith, bad.0))
 bad_more (a ∷ b ∷ c ∷ []) more bad = absurd (omega (arith, bad.0))
 bad_more (a ∷ b ∷ c ∷ d ∷ kept) more bad = (omega (arith, length-append kept more), bad.1)
 
-module _ {O : Type 0} (meaning : Bounds → Meaning O) (p : Params) (first : List (Member O)) (bytes more : List ℕ) (payloads : List (List ℕ)) (groups : List (List (Record O))) (rest : List ℕ) (splits : Splits (bytes ++ more) payloads rest) (right : HasBadLength rest → ⊥)
-    (frames_are : AreFramesOf (meaning_in meaning p) payloads groups) (fine : first_refused (meaning_in meaning p) first (records_of groups) ≡ None) (then : Disk) (other : StandbyView) (b : IsFollowing meaning p first bytes then other)
-    (one_record : (bytes : List ℕ) (first second : Record O) → StartsWithRecord (meaning_in meaning p) bytes first → StartsWithRecord (meaning_in meaning p) bytes second → first ≡ second) where
+-- ---- why a stream is refused
+
+-- the answer to a record that is refused
+abbrev pub answer_to : {O : Type 0} → Judged O → FollowErr
+answer_to Passed = Memory
+answer_to (Taken member) = Memory
+answer_to (Leaves_gap expected got) = Gap expected got
+answer_to (Is_different lsn) = Differs lsn
+
+module _ {O : Type 0} (m : Meaning O) (h : List (Member O)) (s : StandbyView) where
+  -- the record that begins the bytes is refused behind this history
+  pub record IsJudgedAt (left : List ℕ) (e : FollowErr) : Type 0 where
+    pub logged : Record O
+    pub starts : StartsWithRecord m left logged
+    pub numbered : IsNumbered logged
+    pub refused : is_refused (judge_behind m h logged) ≡ true
+    pub answer : e ≡ answer_to (judge_behind m h logged)
+
+  -- why the bytes that come next are refused
+  abbrev pub IsRefusedAt : List ℕ → FollowErr → Type 0
+  IsRefusedAt left e = (BeginsNoRecord m left × (e ≡ BadFrame (s.frames.passed + (4 + s.done)))) ⊎ IsJudgedAt left e
+
+  -- it is for a frame's length, or for bytes that come next in one
+  abbrev pub HasReason : FollowErr → Type 0
+  HasReason e = (HasBadLength s.frames.kept × (e ≡ BadFrame s.frames.passed)) ⊎ ((left : List ℕ) × ComeNext s left × IsRefusedAt left e)
+
+  judged_reason : (j : Judged O) → is_refused j ≡ true → IsJudgedNext m h s j → HasReason (answer_to j)
+  judged_reason j refused is = inr (is.rest, is.next, inr (record { logged = is.logged; starts = is.starts; numbered = is.numbered; refused = ap is_refused is.judged_so ∙ refused; answer = ap answer_to (sym is.judged_so) }))
+
+  pub reason : (e : FollowErr) → HasRefused m h s e → IsOfStream e → HasReason e
+  reason (BadFrame place) refused stream =
+      ⊎_elim (λ (bad : HasBadLength s.frames.kept × (place ≡ s.frames.passed)). inl (bad.0, ap (λ (n : ℕ). BadFrame n) bad.1))
+      (λ (none : (left : List ℕ) × ComeNext s left × BeginsNoRecord m left × (place ≡ s.frames.passed + (4 + s.done))). inr (none.0, none.1, inl (none.2, ap (λ (n : ℕ). BadFrame n) none.3))) refused
+  reason (Gap expected got) refused stream = judged_reason (Leaves_gap expected got) refl refused
+  reason (Differs lsn) refused stream = judged_reason (Is_different lsn) refl refused
+  reason (LogFull used need limit) refused stream = absurd stream
+  reason DiskFault refused stream = absurd stream
+  reason (Damaged file place) refused stream = absurd stream
+  reason Memory refused stream = absurd stream
+  reason (Stopped place) refused stream = absurd stream
+
+module _ {O : Type 0} (m : Meaning O) (one_record : (bytes : List ℕ) (first second : Record O) → StartsWithRecord m bytes first → StartsWithRecord m bytes second → first ≡ second) (first : List (Member O)) (before : List (Record O)) where
+  -- of records of which none is refused one begins the bytes behind the first ones
+  pub record IsFollowedNext (left : List ℕ) : Type 0 where
+    pub next : Record O
+    pub later : List (Record O)
+    pub shipped : MayBeShipped m next
+    pub starts : StartsWithRecord m left next
+    pub fine_with : first_refused m first (before ++ next ∷ later) ≡ None
+
+  -- so they are not refused there
+  pub next_fine : (s : StandbyView) (h : List (Member O)) → h ≡ follows m first before → (left : List ℕ) → IsFollowedNext left → (e : FollowErr) → IsRefusedAt m h s left e → ⊥
+  next_fine s h members left it e refused =
+      ⊎_elim (λ (none : BeginsNoRecord m left × (e ≡ BadFrame (s.frames.passed + (4 + s.done)))). none.0 it.next it.starts it.shipped.1)
+      (λ (is : IsJudgedAt m h s left e).
+      let same : is.logged ≡ it.next = one_record left is.logged it.next is.starts it.starts in
+      let judged : judge_behind m (follows m first before) it.next ≡ judge_behind m h is.logged = λ i. judge_behind m (sym members i) (sym same i) in
+      not_refused m one_record first before it.next it.later (judge_behind m h is.logged) it.fine_with judged is.refused) refused
+
+-- A standby has passed the first of these frames, of whose records none is refused, and not the next one.
+module _ {O : Type 0} (meaning : Bounds → Meaning O) (p : Params) (first : List (Member O)) (payloads : List (List ℕ)) (groups : List (List (Record O))) (rest : List ℕ) (whole : AllByRecursion IsPayload payloads)
+    (frames_are : AreFramesOf (meaning_in meaning p) payloads groups) (fine : first_refused (meaning_in meaning p) first (records_of groups) ≡ None) (bytes more : List ℕ) (d : Disk) (s : StandbyView) (b : IsFollowing meaning p first bytes d s)
+    (one_record : (bytes : List ℕ) (first second : Record O) → StartsWithRecord (meaning_in meaning p) bytes first → StartsWithRecord (meaning_in meaning p) bytes second → first ≡ second)
+    (q : List ℕ) (others : List (List ℕ)) (are : payloads ≡ b.payloads ++ q ∷ others) (kept : s.frames.kept ++ more ≡ frames (q ∷ others) ++ rest) where
   abbrev m : Meaning O
   m = meaning_in meaning p
 
+  all : AllByRecursion IsPayload (q ∷ others)
+  all = all_behind b.payloads (q ∷ others) (subst (λ (l : List (List ℕ)). AllByRecursion IsPayload l) are whole)
+
+  behind_q : frames (q ∷ others) ++ rest ≡ frame q ++ (frames others ++ rest)
+  behind_q = append_assoc (frame q) (frames others) rest
+
+  -- the next record of the frame in hand is one of these
+  followed_in : (left : List ℕ) → ComeNext s left → IsFollowedNext m one_record first (records_of b.groups ++ b.begun) left
+  followed_in left come =
+      let stands : s.frames.kept ++ more ≡ frame come.payload ++ (come.later ++ more) = ap (λ (l : List ℕ). l ++ more) come.stands ∙ append_assoc (frame come.payload) come.later more in
+      let same : q ≡ come.payload = (frame_cancel q come.payload (frames others ++ rest) (come.later ++ more) all.0 come.is_payload (sym behind_q ∙ sym kept ∙ stands)).0 in
+      let of = group_of m one_record b.payloads q others groups (subst (λ (l : List (List ℕ)). AreFramesOf m l groups) are frames_are) in
+      let fronts : of.front ≡ b.groups = one_grouping m one_record b.payloads of.front b.groups of.of_front b.frames_are in
+      let codes : payload_of m of.group ≡ payload_of m b.begun ++ left = sym of.of_group.is ∙ same ∙ payload_left m s b.begun b.in_hand left come in
+      let some : 0 < length left = omega (arith, come.left, ap (λ (l : List ℕ). length l) come.rest_is, length-drop s.done come.payload) in
+      let it = next_of m one_record b.begun of.group left b.in_hand.shipped of.of_group.shipped codes some in
+      let records : records_of groups ≡ (records_of b.groups ++ b.begun) ++ it.next ∷ (it.later ++ records_of of.later) =
+      ap (λ (gs : List (List (Record O))). records_of gs) of.are ∙ joined of.front of.group of.later ∙ (λ i. records_of (fronts i) ++ (it.are i ++ records_of of.later)) ∙ regroup (records_of b.groups) b.begun it.next it.later (records_of of.later) in
+      record { next = it.next; later = it.later ++ records_of of.later; shipped = it.shipped; starts = it.starts; fine_with = ap (λ (rs : List (Record O)). first_refused m first rs) (sym records) ∙ fine }
+
+  -- so it has no reason to refuse the stream
+  pub none_here : (e : FollowErr) → HasReason m b.world.history s e → ⊥
+  none_here e why =
+      ⊎_elim (λ (bad : HasBadLength s.frames.kept × (e ≡ BadFrame s.frames.passed)). right_length q (frames others ++ rest) (s.frames.kept ++ more) all.0 (kept ∙ behind_q) (bad_more s.frames.kept more bad.0))
+      (λ (at : (left : List ℕ) × ComeNext s left × IsRefusedAt m b.world.history s left e).
+      next_fine m one_record first (records_of b.groups ++ b.begun) s b.world.history b.members at.0 (followed_in at.0 at.1) e at.2) why
+
+module _ {O : Type 0} (meaning : Bounds → Meaning O) (p : Params) (first : List (Member O)) (bytes more : List ℕ) (payloads : List (List ℕ)) (groups : List (List (Record O))) (rest : List ℕ) (splits : Splits (bytes ++ more) payloads rest) (right : HasBadLength rest → ⊥)
+    (frames_are : AreFramesOf (meaning_in meaning p) payloads groups) (fine : first_refused (meaning_in meaning p) first (records_of groups) ≡ None) (then : Disk) (other : StandbyView) (b : IsFollowing meaning p first bytes then other)
+    (one_record : (bytes : List ℕ) (first second : Record O) → StartsWithRecord (meaning_in meaning p) bytes first → StartsWithRecord (meaning_in meaning p) bytes second → first ≡ second) where
   abbrev all_kept : List ℕ
   all_kept = other.frames.kept ++ more
 
@@ -135,64 +232,19 @@ module _ {O : Type 0} (meaning : Bounds → Meaning O) (p : Params) (first : Lis
       let split : bytes ++ more ≡ frames b.payloads ++ all_kept = ap (λ (l : List ℕ). l ++ more) b.passed.is ∙ append_assoc (frames b.payloads) other.frames.kept more in
       behind payloads b.payloads rest all_kept splits.whole b.passed.whole splits.unfinished (sym splits.is ∙ split)
 
-  -- no length is bad
-  no_bad_length : HasBadLength other.frames.kept → ⊥
-  no_bad_length bad = by_more rest_of.more rest_of.are rest_of.kept
+  -- no reason is one that it has
+  no_reason : (e : FollowErr) → HasReason (meaning_in meaning p) b.world.history other e → ⊥
+  no_reason e why = by_more rest_of.more rest_of.are rest_of.kept
     where
       by_more : (others : List (List ℕ)) → payloads ≡ b.payloads ++ others → all_kept ≡ frames others ++ rest → ⊥
-      by_more [] are kept = right (subst HasBadLength kept (bad_more other.frames.kept more bad))
-      by_more (q ∷ others) are kept =
-          let all = all_behind b.payloads (q ∷ others) (subst (λ (l : List (List ℕ)). AllByRecursion IsPayload l) are splits.whole) in
-          right_length q (frames others ++ rest) all_kept all.0 (kept ∙ append_assoc (frame q) (frames others) rest) (bad_more other.frames.kept more bad)
-
-  -- the next record of the frame in hand is one of the stream's
-  record IsFollowedNext (left : List ℕ) : Type 0 where
-    pub next : Record O
-    pub later : List (Record O)
-    pub shipped : MayBeShipped m next
-    pub starts : StartsWithRecord m left next
-    pub fine_with : first_refused m first ((records_of b.groups ++ b.begun) ++ next ∷ later) ≡ None
-
-  followed_next : (left : List ℕ) → ComeNext other left → IsFollowedNext left
-  followed_next left come = by_more rest_of.more rest_of.are rest_of.kept
-    where
-      by_more : (others : List (List ℕ)) → payloads ≡ b.payloads ++ others → all_kept ≡ frames others ++ rest → IsFollowedNext left
       by_more [] are kept =
+          ⊎_elim (λ (bad : HasBadLength other.frames.kept × (e ≡ BadFrame other.frames.passed)). right (subst HasBadLength kept (bad_more other.frames.kept more bad.0)))
+          (λ (at : (left : List ℕ) × ComeNext other left × IsRefusedAt (meaning_in meaning p) b.world.history other left e).
+          let come = at.1 in
           let stands : all_kept ≡ frame come.payload ++ (come.later ++ more) = ap (λ (l : List ℕ). l ++ more) come.stands ∙ append_assoc (frame come.payload) come.later more in
-          absurd (splits.unfinished come.payload (come.later ++ more) come.is_payload (sym kept ∙ stands))
-      by_more (q ∷ others) are kept =
-          let stands : all_kept ≡ frame come.payload ++ (come.later ++ more) = ap (λ (l : List ℕ). l ++ more) come.stands ∙ append_assoc (frame come.payload) come.later more in
-          let all = all_behind b.payloads (q ∷ others) (subst (λ (l : List (List ℕ)). AllByRecursion IsPayload l) are splits.whole) in
-          let same : q ≡ come.payload = (frame_cancel q come.payload (frames others ++ rest) (come.later ++ more) all.0 come.is_payload (sym (append_assoc (frame q) (frames others) rest) ∙ sym kept ∙ stands)).0 in
-          let of = group_of m one_record b.payloads q others groups (subst (λ (l : List (List ℕ)). AreFramesOf m l groups) are frames_are) in
-          let fronts : of.front ≡ b.groups = one_grouping m one_record b.payloads of.front b.groups of.of_front b.frames_are in
-          let whole = payload_is m other b.begun b.in_hand (length come.payload) (come.payload, come.later, come.is_payload, refl, come.stands) in
-          let codes : payload_of m of.group ≡ payload_of m b.begun ++ left = sym of.of_group.is ∙ same ∙ whole ∙ ap (λ (l : List ℕ). payload_of m b.begun ++ l) (sym come.rest_is) in
-          let some : 0 < length left = omega (arith, come.left, ap (λ (l : List ℕ). length l) come.rest_is, length-drop other.done come.payload) in
-          let it = next_of m one_record b.begun of.group left b.in_hand.shipped of.of_group.shipped codes some in
-          let records : records_of groups ≡ (records_of b.groups ++ b.begun) ++ it.next ∷ (it.later ++ records_of of.later) =
-          ap (λ (gs : List (List (Record O))). records_of gs) of.are ∙ joined of.front of.group of.later ∙ (λ i. records_of (fronts i) ++ (it.are i ++ records_of of.later)) ∙ regroup (records_of b.groups) b.begun it.next it.later (records_of of.later) in
-          record { next = it.next; later = it.later ++ records_of of.later; shipped = it.shipped; starts = it.starts; fine_with = ap (λ (rs : List (Record O)). first_refused m first rs) (sym records) ∙ fine }
-
-  -- so it is not refused
-  no_judged : (j : Judged O) → is_refused j ≡ true → IsJudgedNext m b.world.history other j → ⊥
-  no_judged j refused is =
-      let it = followed_next is.rest is.next in
-      let same : is.logged ≡ it.next = one_record is.rest is.logged it.next is.starts it.starts in
-      let judged : judge_behind m (follows m first (records_of b.groups ++ b.begun)) it.next ≡ j = (λ i. judge_behind m (sym b.members i) (sym same i)) ∙ is.judged_so in
-      not_refused m one_record first (records_of b.groups ++ b.begun) it.next it.later j it.fine_with judged refused
-
-  no_fault : (left : List ℕ) → ComeNext other left → BeginsNoRecord m left → ⊥
-  no_fault left come none = let it = followed_next left come in none it.next it.starts it.shipped.1
+          splits.unfinished come.payload (come.later ++ more) come.is_payload (sym kept ∙ stands)) why
+      by_more (q ∷ others) are kept = none_here meaning p first payloads groups rest splits.whole frames_are fine bytes more then other b one_record q others are kept e why
 
   -- no answer of a stream is one that it gets
-  pub not_answered : (e : FollowErr) → HasRefused m b.world.history other e → IsOfStream e → ⊥
-  not_answered (BadFrame place) refused stream = ⊎_elim (λ (bad : HasBadLength other.frames.kept × (place ≡ other.frames.passed)). no_bad_length bad.0)
-      (λ (none : (left : List ℕ) × ComeNext other left × BeginsNoRecord m left × (place ≡ other.frames.passed + (4 + other.done))). no_fault none.0 none.1 none.2) refused
-  not_answered (Gap expected got) refused stream = no_judged (Leaves_gap expected got) refl refused
-  not_answered (Differs lsn) refused stream = no_judged (Is_different lsn) refl refused
-  not_answered (LogFull used need limit) refused stream = absurd stream
-  not_answered DiskFault refused stream = absurd stream
-  not_answered (Damaged file place) refused stream = absurd stream
-  not_answered Memory refused stream = absurd stream
-  not_answered (Stopped place) refused stream = absurd stream
+  pub not_answered : (e : FollowErr) → HasRefused (meaning_in meaning p) b.world.history other e → IsOfStream e → ⊥
+  not_answered e refused stream = no_reason e (reason (meaning_in meaning p) b.world.history other e refused stream)

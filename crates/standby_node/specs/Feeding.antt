@@ -1,5 +1,5 @@
 -- What a piece of a stream makes of a standby.
-use Rattle.std.specs.Prelude.{◌≡◌, ◌⊎◌, ◌↔◌, ◌<◌, ◌≤◌, ◌+◌, ⊤, ℕ, true, false, List, ◌++◌, drop, length, Option, None, Some, Result, Ok, Err, IsErrOf}
+use Rattle.std.specs.Prelude.{◌≡◌, ◌⊎◌, ◌↔◌, ◌<◌, ◌≤◌, ◌+◌, ⊤, ℕ, Bool, true, false, ◌&&◌, ◌||◌, nat_lt, List, ◌++◌, drop, length, Option, None, Some, Result, Ok, Err, IsErrOf, OnOk}
 use Rattle.disk_model.specs.Disk.{Disk, Files, LeavesOnly, Passes, Rises}
 use Rattle.disk_model.specs.declared.machine.FileNo.{FileNo}
 use Rattle.oper_core.specs.Meaning.{Meaning}
@@ -14,12 +14,13 @@ use Rattle.frame_stream.specs.FrameBuffer.{taken_by}
 use Rattle.log_frames.specs.LogView.{growth_of}
 use Rattle.log_records.specs.Codec.{StartsWithRecord}
 use Rattle.explain_core.specs.History.{Member, commands_of}
-use Rattle.explain_core.specs.Turns.{must_install}
-use Rattle.execution.specs.Following.{IsNumbered}
+use Rattle.explain_core.specs.Turns.{count_below, dirty_in, has_thin, thin_steps}
+use Rattle.explain_core.specs.World.{World, end_of, run}
+use Rattle.execution.specs.Following.{IsNumbered, follow_course}
 use Rattle.execution.specs.Judged.{Judged, first_refused, follows, judge_behind}
 use Rattle.execution.specs.Judged.Judged.{Taken, Gap as Leaves_gap, Differs as Is_different}
-use Rattle.running_store.specs.Courses.{record_length}
-use Rattle.store_engine.specs.Engine.{IsAttached, accepted_in, forced_in, params_of, used_in}
+use Rattle.running_store.specs.Courses.{force_steps, record_length}
+use Rattle.store_engine.specs.Engine.{EngineView, IsAttached, ShowsIn, accepted_in, forced_in, params_of, used_in}
 use Rattle.store_engine.specs.Store.{Stands, meaning_in}
 use Rattle.standby_node.specs.Standby.{AreFramesOf, IsBetweenPieces, IsFollowing, StandbyView}
 use Rattle.standby_node.specs.declared.follow_err.FollowErr.{FollowErr}
@@ -28,6 +29,30 @@ use Rattle.standby_node.specs.declared.follow_err.FollowErr.TheVariants.{BadFram
 -- at a frame's end no more objects are left dirty than so many, unless each node has two or more to flush
 abbrev pub dirty_limit : ℕ
 dirty_limit = 64
+
+-- nor are more records left that wait for their install
+abbrev pub waiting_limit : ℕ
+waiting_limit = 65536
+
+-- so many dirty objects are too many, or so many records that wait
+abbrev pub is_above : ℕ → ℕ → Bool
+is_above dirty waiting = nat_lt dirty_limit dirty || nat_lt waiting_limit waiting
+
+-- in this world they are
+abbrev pub is_over : {O : Type 0} → Meaning O → World O → Bool
+is_over m w = is_above (dirty_in m w) (count_below (end_of w) w.graph)
+
+-- and a node is thin
+abbrev pub must_relieve : {O : Type 0} → Meaning O → World O → Bool
+must_relieve m w = is_over m w && has_thin m w
+
+-- The worlds that a standby may come to from this one: a record of a stream is followed, what waits is forced, and a thin node is
+-- installed where one must be. No check is taken, and no log is trimmed.
+pub data FeedsTo {O : Type 0} (m : Meaning O) (w : World O) : World O → Type 0 where
+  Nothing : FeedsTo m w w
+  Followed : (v : World O) (r : Record O) (used : ℕ) → FeedsTo m w v → FeedsTo m w (run m v (follow_course m r v used).steps)
+  Forced : (v : World O) → FeedsTo m w v → FeedsTo m w (run m v (force_steps m v))
+  Relieved : (v : World O) → must_relieve m v ≡ true → FeedsTo m w v → FeedsTo m w (run m v (thin_steps m v))
 
 -- the place of the frame in which a refusal came, where this is the answer
 abbrev pub stopped_by : {T : Type 0} → ℕ → Result T FollowErr → Option ℕ
@@ -78,8 +103,9 @@ module _ {O : Type 0} (m : Meaning O) (h : List (Member O)) (s : StandbyView) wh
     pub limit_is : limit ≡ log_limit
     pub over : limit < used + need
 
-  -- why the standby, which was left so behind this history, refuses the stream: what comes next is of no frame, or no record, or is
-  -- judged so
+  -- Why the standby, which was left so behind this history, refuses the stream: what comes next is of no frame, or no record, or is
+  -- judged so. Of one stream each standby that began with one history has one such answer, in whatever pieces it came, and however
+  -- much came behind (`a_stream_is_refused_in_one_way`). Where the log has no room that goes by its length.
   abbrev pub HasRefused : FollowErr → Type 0
   HasRefused (BadFrame place) = (HasBadLength s.frames.kept × (place ≡ s.frames.passed))
       ⊎ ((rest : List ℕ) × ComeNext s rest × BeginsNoRecord m rest × (place ≡ s.frames.passed + (4 + s.done)))
@@ -98,13 +124,13 @@ module _ {O : Type 0} (meaning : Bounds → Meaning O) where
     pub refused : HasRefused (meaning_in meaning p) following.world.history s e
 
   -- after a piece that was followed: no whole frame is left, all is stable, and so many commands were accepted; where a frame
-  -- ended no thin node is left to install
+  -- ended no thin node is left that must be installed
   pub record HasFollowedPiece (p : Params) (first : List (Member O)) (bytes : List ℕ) (d : Disk) (before s : StandbyView) (n : ℕ) : Type 0 where
     pub following : IsFollowing meaning p first bytes d s
     pub between : IsBetweenPieces s
     pub stable : forced_in s.engine ≡ accepted_in s.engine
     pub count : n ≡ length (commands_of following.world.history)
-    pub limited : (s.frames.passed ≡ before.frames.passed) ⊎ (must_install (meaning_in meaning p) dirty_limit following.world ≡ false)
+    pub limited : (s.frames.passed ≡ before.frames.passed) ⊎ (must_relieve (meaning_in meaning p) following.world ≡ false)
 
   -- What a piece makes of a standby that follows, by its answer: it is followed, it was refused at its first refusal, or
   -- memory ran out: before any of it was taken, or later, and then it is kept.
@@ -113,6 +139,14 @@ module _ {O : Type 0} (meaning : Bounds → Meaning O) where
   FollowsPiece p first bytes piece new before after (Err DiskFault) = ⊤
   FollowsPiece p first bytes piece new before after (Err Memory) = ((after ≡ before) × IsFollowing meaning p first bytes new after) ⊎ IsFollowing meaning p first (bytes ++ piece) new after
   FollowsPiece p first bytes piece new before after (Err e) = HasRefusedIn p first (bytes ++ piece) new after e
+
+  -- engine and files show a world to which this one leads
+  abbrev pub IsLedTo : Params → Disk → EngineView → World O → Type 0
+  IsLedTo p d engine w = (v : World O) × ShowsIn meaning p d engine v × FeedsTo (meaning_in meaning p) w v
+
+  -- where it is done, the world that was shown leads to one that is
+  abbrev pub FeedsThrough : {T : Type 0} → Disk → Disk → EngineView → EngineView → Result T FollowErr → Type 0
+  FeedsThrough old new before after result = (p : Params) (w : World O) → ShowsIn meaning p old before w → OnOk result (IsLedTo p new after w)
 
   -- An image at a moment of a piece: nothing more is said, and it stands for what some first whole frames make of the first list,
   -- at least those that were stable as the piece came.
@@ -139,6 +173,7 @@ module _ {O : Type 0} (meaning : Bounds → Meaning O) where
     -- the piece is kept, but where memory ran out before any of it was taken
     pub taken : ((after ≡ before) × IsErrOf result Memory) ⊎ (taken_by after.frames ≡ taken_by before.frames + length piece)
     pub follows_it : (p : Params) (first : List (Member O)) (bytes : List ℕ) → IsFollowing meaning p first bytes old before → FollowsPiece p first bytes piece new before after result
+    pub leads : FeedsThrough old new before.engine after.engine result
     pub images : old.tells_moments → (p : Params) (first : List (Member O)) (bytes : List ℕ) → IsFollowing meaning p first bytes old before
         → LeavesOnly old new (IsAtFrameEnd p old (forced_in before.engine) first (bytes ++ piece))
     pub undamaged : old.tells_files → IsAttached meaning old before.engine → (file : FileNo) (place : ℕ) → IsErrOf result (Damaged file place) → ⊥

@@ -11,12 +11,11 @@ use Rattle.frame_stream.specs.Frames.{HasBadLength}
 use Rattle.frame_stream.specs.FrameBuffer.{BeginsWith, taken_by}
 use Rattle.log_records.specs.Codec.{StartsWithRecord}
 use Rattle.explain_core.specs.History.{Member}
-use Rattle.explain_core.specs.Turns.{must_install}
 use Rattle.explain_core.specs.World.{World}
 use Rattle.execution.specs.Following.{IsNumbered}
 use Rattle.store_engine.specs.Engine.{IsAttached, forced_in, params_of}
 use Rattle.store_engine.specs.Store.{meaning_in}
-use Rattle.standby_node.specs.Feeding.{BeginsNoRecord, HasRefusedIn, IsAtFrameEnd, dirty_limit}
+use Rattle.standby_node.specs.Feeding.{BeginsNoRecord, FeedsThrough, HasRefusedIn, IsAtFrameEnd, must_relieve}
 use Rattle.standby_node.specs.Standby.{IsFollowing, StandbyView}
 use Rattle.standby_node.specs.declared.follow_err.FollowErr.{FollowErr}
 use Rattle.standby_node.specs.declared.follow_err.FollowErr.TheVariants.{BadFrame, DiskFault, Damaged, Memory}
@@ -68,6 +67,7 @@ module _ {O : Type 0} (meaning : Bounds → Meaning O) where
     -- no fewer commands are stable
     pub rising : (p : Params) (first : List (Member O)) (bytes : List ℕ) → IsFollowing meaning p first bytes old before → IsErrOf result DiskFault ⊎ (forced_in before.engine ≤ forced_in after.engine)
     pub follows_it : (p : Params) (first : List (Member O)) (bytes : List ℕ) → IsFollowing meaning p first bytes old before → FollowsStep LeftSo p first bytes new after result
+    pub leads : FeedsThrough meaning old new before.engine after.engine result
     pub images : old.tells_moments → (p : Params) (first : List (Member O)) (bytes : List ℕ) → IsFollowing meaning p first bytes old before
         → LeavesOnly old new (IsAtFrameEnd meaning p old (forced_in before.engine) first bytes)
     pub undamaged : old.tells_files → IsAttached meaning old before.engine → (file : FileNo) (place : ℕ) → IsErrOf result (Damaged file place) → ⊥
@@ -81,9 +81,9 @@ module _ {O : Type 0} (meaning : Bounds → Meaning O) where
     abbrev pub IsFrameFollowed : ℕ → Result (Unit {0}) FollowErr → Type 0
     IsFrameFollowed size = GoesOn old new before after ((after.frames ≡ before.frames) × (after.done ≡ size)) AnyWorld
 
-    -- its end was forced, and thin nodes were installed while too many objects were dirty
-    abbrev pub IsLimited : Result (Unit {0}) FollowErr → Type 0
-    IsLimited = GoesOn old new before after ((after.frames ≡ before.frames) × (after.done ≡ before.done) × (after.engine.parts.log.log.pending ≡ [])) (λ m w. must_install m dirty_limit w ≡ false)
+    -- its end was forced, and thin nodes were installed while they had to be
+    abbrev pub IsRelieved : Result (Unit {0}) FollowErr → Type 0
+    IsRelieved = GoesOn old new before after ((after.frames ≡ before.frames) × (after.done ≡ before.done) × (after.engine.parts.log.log.pending ≡ [])) (λ m w. must_relieve m w ≡ false)
 
     -- the frame was passed
     pub record HasPassedFrame (size : ℕ) : Type 0 where
@@ -92,11 +92,11 @@ module _ {O : Type 0} (meaning : Bounds → Meaning O) where
       pub none_done : after.done ≡ 0
       pub none_waits : after.engine.parts.log.log.pending ≡ []
 
-    -- and no thin node is left that has to be installed
+    -- and no thin node is left that must be installed
     abbrev pub IsFrameEnded : ℕ → Result (Unit {0}) FollowErr → Type 0
-    IsFrameEnded size = GoesOn old new before after (HasPassedFrame size) (λ m w. must_install m dirty_limit w ≡ false)
+    IsFrameEnded size = GoesOn old new before after (HasPassedFrame size) (λ m w. must_relieve m w ≡ false)
 
     -- all whole frames were
     abbrev pub AreFramesFollowed : Result (Unit {0}) FollowErr → Type 0
     AreFramesFollowed =
-        GoesOn old new before after (BeginsWith after.frames.kept (Ok None) × (after.done ≡ 0)) (λ m w. (after.frames.passed ≡ before.frames.passed) ⊎ (must_install m dirty_limit w ≡ false))
+        GoesOn old new before after (BeginsWith after.frames.kept (Ok None) × (after.done ≡ 0)) (λ m w. (after.frames.passed ≡ before.frames.passed) ⊎ (must_relieve m w ≡ false))

@@ -7,21 +7,32 @@ ghost use Rattle.log_records.specs.Codec.{StartsWithRecord};
 ghost use Rattle.execution.specs.Following.{IsNumbered};
 ghost use Rattle.store_engine.specs.Engine.{params_of};
 ghost use Rattle.store_engine.specs.Store.{meaning_in};
-ghost use Rattle.standby_node.specs.Feeding.{BeginsNoRecord, IsFed, stopped_by};
+ghost use Rattle.standby_node.specs.Feeding.{BeginsNoRecord, IsFed, is_above, stopped_by};
 ghost use Rattle.standby_node.specs.Standby.{IsWithinFrame};
-ghost use Rattle.standby_node.specs.Steps.{AreFramesFollowed, HasWholeFrame, IsFrameEnded, IsFrameFollowed, IsLimited, IsReading, IsReadingOf, IsRecordFollowed};
+ghost use Rattle.standby_node.specs.Steps.{AreFramesFollowed, HasWholeFrame, IsFrameEnded, IsFrameFollowed, IsReading, IsReadingOf, IsRecordFollowed, IsRelieved};
 
 use crate::{FollowErr, Standby};
 use disk_model::Machine;
 use formats::{NUMBERS_END, Record};
 use oper_core::{Bounds, Memory, Oper};
 use std::alloc::Global;
+use store_engine::Stat;
 
 // A frame's payload stands behind so many bytes.
 const HEAD: usize = 4;
 
-// At a frame's end thin nodes are installed while more objects than this are dirty.
+// At a frame's end thin nodes are installed while more objects than this are dirty,
 const DIRTY: u64 = 64;
+
+// or more records than this wait for their install.
+const WAITING: u64 = 65536;
+
+// Whether too many objects are dirty, or too many records wait.
+fn is_over(stat: Stat) -> bool
+    ensures { result ≡ is_above stat.dirty stat.uninstalled }
+{
+    stat.dirty > DIRTY || stat.uninstalled > WAITING
+}
 
 // Whether a record has a number that a store may give.
 fn is_numbered<O: Oper>(logged: &Record<O>) -> bool
@@ -115,15 +126,16 @@ impl<O: Oper> Standby<O> {
         Ok(())
     }
 
-    // Installs thin nodes while too many objects are dirty, at the end of a frame that was followed and forced.
-    fn limit_dirty<M: Machine>(&mut self, machine: &mut M) -> Result<(), FollowErr>
+    // Installs thin nodes while too many objects are dirty or too many records wait, at the end of a frame that was followed and
+    // forced.
+    fn relieve<M: Machine>(&mut self, machine: &mut M) -> Result<(), FollowErr>
         requires unbroken { self.old.engine.broken ≡ false }
         requires through { HasWholeFrame self.old self.old.done }
         requires forced { self.old.engine.parts.log.log.pending ≡ [] }
-        ensures { IsLimited O.meaning (M.disk machine.old) (M.disk machine.new) self.old self.new result }
+        ensures { IsRelieved O.meaning (M.disk machine.old) (M.disk machine.new) self.old self.new result }
     {
         standing::image_stands::<O>();
-        while self.engine.dirty() > DIRTY {
+        while is_over(self.engine.stat()) {
             if !self.engine.install_thin(machine)? {
                 return Ok(());
             }
@@ -131,7 +143,7 @@ impl<O: Oper> Standby<O> {
         Ok(())
     }
 
-    // Ends the frame in hand, which was followed: the log is forced, and thin nodes are installed while too many objects are dirty.
+    // Ends the frame in hand, which was followed: the log is forced, and thin nodes are installed while they have to be.
     fn end_frame<M: Machine>(&mut self, machine: &mut M, size: u32) -> Result<(), FollowErr>
         requires unbroken { self.old.engine.broken ≡ false }
         requires whole { HasWholeFrame self.old size }
@@ -142,7 +154,7 @@ impl<O: Oper> Standby<O> {
         if self.engine.force(machine).is_err() {
             return Err(FollowErr::DiskFault);
         }
-        self.limit_dirty(machine)?;
+        self.relieve(machine)?;
         self.frames.pass(size);
         self.done = 0;
         Ok(())
@@ -172,7 +184,8 @@ impl<O: Oper> Standby<O> {
     }
 
     /// Follows a piece of the stream: each whole frame is followed record by record and forced at its end, where thin nodes are
-    /// installed too while more than 64 objects are dirty. It answers how many commands were accepted since the store was made.
+    /// installed too while more than 64 objects are dirty, or more than 65,536 records wait for their install. It answers how many
+    /// commands were accepted since the store was made.
     ///
     /// A frame's length is judged once its four bytes came, a record once its frame is whole, the records of a frame one after the
     /// other. It answers `BadFrame` where a length is not 1 to 2^30, or where a record breaks the grammar, is a check, has a number

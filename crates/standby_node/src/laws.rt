@@ -50,6 +50,16 @@ pub fn a_stream_without_fault_is_not_refused<O: Oper, M: Machine>()
     log_records::one_record::<O>();
 }
 
+/// However a stream came, and however much of it: two standbys that began with one history, and were refused first bytes of it for
+/// what they are, have one answer. A log without room, which depends on its length, may stop one of them before.
+pub fn a_stream_is_refused_in_one_way<O: Oper, M: Machine>()
+    ensures { (p : Params) (first : List (Member O)) (bytes more others rest : List ℕ) → bytes ++ more ≡ others ++ rest
+        → (now then : M) (one other : StandbyView) (e f : FollowFailure) → HasRefusedIn O.meaning p first bytes (M.disk now) one e → HasRefusedIn O.meaning p first others (M.disk then) other f
+        → IsOfStream e → IsOfStream f → e ≡ f }
+{
+    log_records::one_record::<O>();
+}
+
 /// The records of a store's own log are refused nowhere by a standby that has the same bounds or larger ones, and a first part
 /// of the store's history: from any number up to its next one on, it comes to have as much of the history as they do.
 pub fn a_primary_is_followed<O: Oper>()

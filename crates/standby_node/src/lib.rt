@@ -3,8 +3,9 @@
 //!
 //! The one contract is [`Standby::feed`]. What a stream makes of a list is a function (`follows` of execution, over the records of
 //! the stream's whole frames), and so is its first refusal: `IsFollowing` of specs/Standby.antt says that the standby shows just
-//! that. A stream is followed in one way ([`a_stream_is_followed_in_one_way`]), and one in which the definition finds no fault is
-//! not refused ([`a_stream_without_fault_is_not_refused`]). What a store ships are frames of its records
+//! that. A stream is followed in one way ([`a_stream_is_followed_in_one_way`]), and refused in one
+//! ([`a_stream_is_refused_in_one_way`]); one in which the definition finds no fault is not refused
+//! ([`a_stream_without_fault_is_not_refused`]). What a store ships are frames of its records
 //! ([`what_is_shipped_is_followed`]), in which it finds none ([`a_primary_is_followed`]).
 //!
 //! Between two frames the standby may install, take a check and trim its log, and goes on. It logs no identity write of its own, so
@@ -21,7 +22,7 @@ mod upkeep;
 
 pub use follow_err::FollowErr;
 pub use laws::{
-    a_primary_is_followed, a_stream_is_followed_in_one_way, a_stream_without_fault_is_not_refused,
-    standby_stands, what_is_shipped_is_followed,
+    a_primary_is_followed, a_stream_is_followed_in_one_way, a_stream_is_refused_in_one_way,
+    a_stream_without_fault_is_not_refused, standby_stands, what_is_shipped_is_followed,
 };
 pub use standby::Standby;

@@ -3,9 +3,8 @@ use Rattle.std.specs.Prelude.{false, ⊤, Ok, Err}
 use Rattle.std.proofs.lemmas.Bool.{false_from_ne_true}
 use Rattle.redo_pass.specs.Endings.{as_error}
 use Rattle.oper_core.specs.Meaning.{Meaning}
-use Rattle.explain_core.specs.Turns.{must_install}
 use Rattle.explain_core.specs.World.{World}
-use Rattle.standby_node.specs.Feeding.{dirty_limit}
+use Rattle.standby_node.specs.Feeding.{must_relieve}
 use Rattle.standby_node.specs.Standby.{StandbyView}
 use Rattle.standby_node.specs.Steps.{AnyWorld, AreFramesFollowed}
 use Rattle.standby_node.proofs.Going.{goes_nowhere, goes_twice, not_failed, reached_also}
@@ -15,7 +14,7 @@ use Rattle.standby_node.proofs.standby.Standby.follow_frames.Goals as goal
 
 -- no frame was passed, or no thin node is left that has to be installed
 abbrev LeftSo : {O : Type 0} → StandbyView → StandbyView → Meaning O → World O → Type 0
-LeftSo before here m w = (here.frames.passed ≡ before.frames.passed) ⊎ (must_install m dirty_limit w ≡ false)
+LeftSo before here m w = (here.frames.passed ≡ before.frames.passed) ⊎ (must_relieve m w ≡ false)
 
 pub loop-size-init : goal.loop-size-init
 loop-size-init g c =
@@ -85,7 +84,7 @@ loop-size-preserved g c =
     let after = c.end_frame.new.self in
     let first = goes_twice g.O.Oper.meaning old mid then (g.met.M.Machine.lawful c.args.machine.now) (g.met.M.Machine.lawful c.follow_frame.new.machine) before here through ⊤ _ ⊤ (LeftSo before here) AnyWorld AnyWorld (Ok tt) (λ start reached. tt) (λ m w any. any)
     c.loop-size.invariant c.in_ok-follow_frame.ensures in
-    goes_twice g.O.Oper.meaning old then new (g.met.M.Machine.lawful c.args.machine.now) (g.met.M.Machine.lawful c.end_frame.new.machine) before through after ⊤ _ ⊤ AnyWorld (λ m w. must_install m dirty_limit w ≡ false) (LeftSo before after) (Ok tt)
+    goes_twice g.O.Oper.meaning old then new (g.met.M.Machine.lawful c.args.machine.now) (g.met.M.Machine.lawful c.end_frame.new.machine) before through after ⊤ _ ⊤ AnyWorld (λ m w. must_relieve m w ≡ false) (LeftSo before after) (Ok tt)
     (λ start reached. tt) (λ m w none. inr none) first c.in_ok-end_frame.ensures
 
 pub returns : goal.returns

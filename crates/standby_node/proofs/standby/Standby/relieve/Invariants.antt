@@ -1,6 +1,6 @@
 use Rattle.std.specs.Prelude.{length}
 use Rattle.standby_node.proofs.Ended.{LimitsSo}
-use Rattle.standby_node.proofs.standby.Standby.limit_dirty.Given as goal
+use Rattle.standby_node.proofs.standby.Standby.relieve.Given as goal
 
 abbrev pub invariant-loop-self : goal.invariant-loop-self
 invariant-loop-self g l =
