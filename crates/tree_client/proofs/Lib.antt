@@ -2,3 +2,4 @@ pub mod WalkLemmas
 pub mod PlanLemmas
 pub mod TurnLemmas
 pub mod ScanLemmas
+pub mod PieceLemmas

@@ -1,4 +1,4 @@
-//! The calls of an ordered map that stands in a range of a store's objects: `get`, `range`, `insert` and `delete`.
+//! The calls of an ordered map that stands in a range of a store's objects: `get`, `range`, `piece_from`, `insert` and `delete`.
 //!
 //! The one contract: on an engine that stands for a list of commands each call answers what the plan of `logical_btree`
 //! on the map of these commands says, and adds the commands of that plan, or a beginning of them where the log, memory
@@ -17,6 +17,7 @@ mod inserting;
 mod laws;
 mod nodes;
 mod part;
+mod piecing;
 mod ranging;
 mod scanning;
 mod splitting;
@@ -27,5 +28,6 @@ pub use deleting::delete;
 pub use getting::get;
 pub use inserting::insert;
 pub use laws::only_calls_keep_the_tree;
+pub use piecing::{Piece, piece_from};
 pub use ranging::range;
 pub use tree_err::TreeErr;
