@@ -1,18 +1,21 @@
 // What a store in memory is worth for the real files.
-ghost use Rattle.std.specs.Prelude.{ℕ, List, None, Option, length};
+ghost use Rattle.std.specs.Prelude.{◌≡◌, ◌⊎◌, ℕ, List, [], None, Option, length};
 ghost use Rattle.disk_model.specs.Disk.{Files, IsSettled, LeavesOnly};
 ghost use Rattle.formats.specs.declared.params.Params.{Params};
 ghost use Rattle.op_codec.specs.AllOps.{AllOps as Command, all_meaning};
 ghost use Rattle.restart.specs.Starts.{OrAtStart};
-ghost use Rattle.store_engine.specs.Engine.{Between, Opens};
+ghost use Rattle.store_engine.specs.Engine.{Between, InEachImage, Opens};
 ghost use Rattle.store_engine.specs.Store.{Stands};
-ghost use Rattle.write_queue.specs.Memory.{disk_of, IsLeftByFront};
+ghost use Rattle.backup_copy.specs.Calls.{IsShutOrWhole};
+ghost use Rattle.backup_copy.specs.Target.{AreShut};
+ghost use Rattle.write_queue.specs.Memory.{disk_of, waiting_in, IsLeftByFront};
 ghost use Rattle.write_queue.specs.declared.queue_mem.QueueMem.{QueueMem};
 ghost use Rattle.embed.specs.Real.{IsSinceTaken};
 
 /// Real files on which some front of what a call queued was made, in order, and which then crash, stand for such a front of the
 /// commands as the call says of the machine: none that was forced is lost, and no group is split. Where the call opens a store
-/// they stand for its commands.
+/// they stand for its commands. Those of a backup have a closed gate meanwhile, or stand for the commands. Once all calls are made,
+/// the real files stand for the commands that each image stands for.
 pub fn real_files_keep_what_is_forced()
     ensures calls { (p : Params) (old new : QueueMem) (group : Option ℕ) (forced start : ℕ) (commands : List Command) → IsSinceTaken old new →
         LeavesOnly (disk_of old) (disk_of new) (Between all_meaning p (disk_of old) group forced start commands) →
@@ -20,6 +23,11 @@ pub fn real_files_keep_what_is_forced()
     ensures opening { (p : Params) (old new : QueueMem) (commands : List Command) → IsSinceTaken old new → IsSettled (disk_of old) → Opens all_meaning p (disk_of old) commands →
         LeavesOnly (disk_of old) (disk_of new) (OrAtStart (disk_of old) (Between all_meaning p (disk_of old) None (length commands) (length commands) commands)) →
         (files : Files) (said : List ℕ) → IsLeftByFront new files said → Stands all_meaning p files commands }
+    ensures backup { (p : Params) (old new : QueueMem) (commands : List Command) → IsSinceTaken old new →
+        LeavesOnly (disk_of old) (disk_of new) (IsShutOrWhole all_meaning p commands (disk_of old)) →
+        (files : Files) (said : List ℕ) → IsLeftByFront new files said → AreShut files ⊎ Stands all_meaning p files commands }
+    ensures made { (p : Params) (m : QueueMem) (commands : List Command) → waiting_in m ≡ [] → InEachImage (disk_of m) (λ files. Stands all_meaning p files commands) →
+        (files : Files) (said : List ℕ) → IsLeftByFront m files said → Stands all_meaning p files commands }
 {
     write_queue::fronts_are_what_is_left();
 }

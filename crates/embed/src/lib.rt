@@ -7,6 +7,7 @@
 #![tactic(auto)]
 
 mod apps;
+mod backups;
 mod calls;
 mod hashes;
 mod laws;

@@ -1,12 +1,13 @@
 // A store is laid out, and opened.
 ghost use Rattle.std.specs.Prelude.{◌≡◌, false, List, None, length, IfOk, OnOk, IsErrOf};
-ghost use Rattle.disk_model.specs.Disk.{IsSettled, LeavesOnly, Passes, Rises};
+ghost use Rattle.disk_model.specs.Disk.{Files, IsSettled, LeavesOnly, Passes, Rises, Stays};
 ghost use Rattle.disk_model.specs.declared.machine.FileNo.TheVariants.{Objects};
 ghost use Rattle.formats.specs.Objects.{BeginsStore, IsInRange};
 ghost use Rattle.formats.specs.declared.params.Params.{Params as Numbers};
 ghost use Rattle.op_codec.specs.AllOps.{AllOps as Command, all_meaning};
 ghost use Rattle.restart.specs.Starts.{OrAtStart};
 ghost use Rattle.store_engine.specs.Engine.{Between, Holds, InEachImage, IsAttached, IsNew, IsNewStore, Opens, forced_in};
+ghost use Rattle.embed.specs.Embedded.{IsJudgedBy};
 
 use crate::Store;
 use disk_model::Machine;
@@ -28,9 +29,14 @@ const TUNING: Tuning = Tuning {
 pub fn lay_out<M: Machine>(machine: &mut M, params: Params) -> Result<(), InitErr>
     requires { IsInRange params }
     ensures time { Passes (M.disk machine.old) (M.disk machine.new) }
+    ensures quiet { (M.disk machine.old).tells_files → (M.disk machine.new).said ≡ (M.disk machine.old).said }
     ensures ok { (M.disk machine.old).tells_files → OnOk result (InEachImage (M.disk machine.new) (IsNewStore all_meaning params)) }
     ensures settled { OnOk result (IsSettled (M.disk machine.new)) }
-    ensures already { IsErrOf result InitErr.AlreadyStore → IsSettled (M.disk machine.new) × ((M.disk machine.old).tells_files → BeginsStore ((M.disk machine.old).reads Objects)) }
+    ensures already { IsErrOf result InitErr.AlreadyStore → IsSettled (M.disk machine.new) × ((M.disk machine.old).tells_files → BeginsStore ((M.disk machine.old).reads Objects))
+        × ((files : Files) → (M.disk machine.new).agrees files → BeginsStore (files Objects)) }
+    // A store that is there is left as it is, and nothing is laid out over it.
+    ensures kept { (M.disk machine.old).tells_files → BeginsStore ((M.disk machine.old).reads Objects) → Stays (M.disk machine.old) (M.disk machine.new) }
+    ensures fresh { (M.disk machine.old).tells_files → OnOk result (BeginsStore ((M.disk machine.old).reads Objects) → ⊥) }
     ensures images { (M.disk machine.old).tells_moments → (BeginsStore ((M.disk machine.old).reads Objects) → ⊥) →
         LeavesOnly (M.disk machine.old) (M.disk machine.new) (OrAtStart (M.disk machine.old) (λ files said. IsNew all_meaning params files × (said ≡ (M.disk machine.old).said))) }
     ensures fault { IsErrOf result InitErr.DiskFault → Rises (M.disk machine.old).disk_faults (M.disk machine.new).disk_faults }
@@ -44,7 +50,11 @@ impl<M: Machine + Drop> Store<M> {
     pub fn open(alloc: Global, machine: M) -> Result<Store<M>, OpenErr>
         ensures holds { (p : Numbers) (commands : List Command) → Opens all_meaning p (M.disk machine) commands →
             IfOk result (λ store. Holds all_meaning p (M.disk store.machine) store.engine commands × (forced_in store.engine ≡ length commands)) }
-        ensures ready { IfOk result (λ store. (store.engine.broken ≡ false) × (store.engine.group ≡ None) × IsAttached all_meaning (M.disk store.machine) store.engine) }
+        ensures ready { IfOk result (λ store. (store.engine.broken ≡ false) × (store.engine.group ≡ None) × (store.engine.copied ≡ None) × (store.engine.identities ≡ 0) × IsAttached all_meaning (M.disk store.machine) store.engine) }
+        ensures time { IfOk result (λ store. Passes (M.disk machine) (M.disk store.machine)) }
+        ensures quiet { (M.disk machine).tells_files → IfOk result (λ store. (M.disk store.machine).said ≡ (M.disk machine).said) }
+        ensures settled { IfOk result (λ store. IsSettled (M.disk store.machine)) }
+        ensures judged { (M.disk machine).tells_files → IsJudgedBy (M.disk machine).reads result }
         ensures images { (M.disk machine).tells_moments → (p : Numbers) (commands : List Command) → Opens all_meaning p (M.disk machine) commands →
             IfOk result (λ store. LeavesOnly (M.disk machine) (M.disk store.machine) (OrAtStart (M.disk machine) (Between all_meaning p (M.disk machine) None (length commands) (length commands) commands))) }
     {

@@ -23,6 +23,13 @@ impl<M: Machine + Drop> Store<M> {
         self.engine.params()
     }
 
+    /// How many objects are copied, while a backup is being made.
+    pub fn copied(&self) -> Option<u32>
+        ensures { result ≡ self.now.engine.copied }
+    {
+        self.engine.copied()
+    }
+
     /// Whether a call was answered that the disk failed.
     pub fn is_broken(&self) -> bool
         ensures { result ≡ self.now.engine.broken }

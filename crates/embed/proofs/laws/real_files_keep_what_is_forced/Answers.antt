@@ -1,4 +1,4 @@
-use Rattle.std.proofs.Common.{◌≡◌, ◌∙◌, ◌++◌, ℕ, List, length, ⊎_elim, sym, ap, subst}
+use Rattle.std.proofs.Common.{◌≡◌, ◌∙◌, ◌++◌, ℕ, List, [], length, ⊎_elim, sym, ap, subst}
 use Rattle.std.proofs.lemmas.List.{append-nil, take_all}
 use Rattle.disk_model.specs.Calls.{Call}
 use Rattle.disk_model.specs.Disk.{Files}
@@ -25,3 +25,15 @@ returns-clause-opening c p old new commands since settled opens leaves files sai
     subst (λ (f : Files). Stands all_meaning p f commands) (sym same) opens.stands)
     (λ between. subst (λ (l : List AllOps). Stands all_meaning p files l) (take_all between.kept commands between.enough) between.stands)
     (leaves.each files said (subst (λ (t : ℕ). (disk_of new).left_since t files said) (began old new since) ((c.fronts_are_what_is_left.ensures new files said).1 front)))
+
+pub returns-clause-backup : goal.returns-clause-backup
+returns-clause-backup c p old new commands since leaves files said front =
+    (leaves.each files said (subst (λ (t : ℕ). (disk_of new).left_since t files said) (began old new since) ((c.fronts_are_what_is_left.ensures new files said).1 front))).0
+
+-- all calls are those that were taken
+all_taken : (m : QueueMem) → waiting_in m ≡ [] → length (taken_from m) ≡ length (taken_from m ++ waiting_in m)
+all_taken m none = ap (λ (l : List Call). length l) (sym (append-nil (taken_from m)) ∙ ap (λ (l : List Call). taken_from m ++ l) (sym none))
+
+pub returns-clause-made : goal.returns-clause-made
+returns-clause-made c p m commands none images files said front =
+    images.1 tt files said (subst (λ (t : ℕ). (disk_of m).left_since t files said) (all_taken m none) ((c.fronts_are_what_is_left.ensures m files said).1 front))
