@@ -1,3 +1,4 @@
+pub mod FaultLemmas
 pub mod FormLemmas
 pub mod JudgeLemmas
 pub mod EndLemmas

@@ -1,4 +1,5 @@
 pub mod Stops
+pub mod Faults
 pub mod Saying
 pub mod Lines
 pub mod Slots

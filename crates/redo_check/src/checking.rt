@@ -3,6 +3,7 @@ ghost use Rattle.std.specs.Prelude.{◌≡◌, ◌≢◌, ◌⊎◌, ◌-◌, �
 ghost use Rattle.disk_model.specs.Disk.{Runs, Same, SaysFront};
 ghost use Rattle.disk_model.specs.declared.machine.FileNo.{FileNo as File};
 ghost use Rattle.redo_check.specs.Checking.{Checks, Ends, HasVerdict, damaged, memory, not_a_store, restart_line};
+ghost use Rattle.redo_check.specs.Faults.{CountsFaults, EndsBy, HandsOn};
 ghost use Rattle.redo_check.specs.Saying.{OnlySays};
 
 use crate::judging::judge;
@@ -72,6 +73,7 @@ fn end_with<M: Machine>(machine: &mut M, line: &[u8], status: Status) -> Status
     ensures runs { Runs Same (SaysFront line.now) (M.disk machine.old) (M.disk machine.new) }
     ensures all { (M.disk machine.old).tells_files → result ≢ Status.SayFault → (M.disk machine.new).said ≡ (M.disk machine.old).said ++ line.now }
     ensures status { (result ≡ status) ⊎ (result ≡ Status.SayFault) }
+    ensures faults { EndsBy (M.disk machine.old) (M.disk machine.new) status → EndsBy (M.disk machine.old) (M.disk machine.new) result }
 {
     match machine.say(line) {
         Ok(()) => status,
@@ -85,6 +87,7 @@ fn end_damaged<M: Machine>(alloc: Global, machine: &mut M, file: FileNo, place: 
     ensures runs { OnlySays (M.disk machine.old) (M.disk machine.new) }
     ensures all { (M.disk machine.old).tells_files → result ≡ Status.Damaged → (M.disk machine.new).said ≡ (M.disk machine.old).said ++ damaged file place }
     ensures status { (result ≡ Status.Damaged) ⊎ ((result ≡ Status.Memory) ⊎ (result ≡ Status.SayFault)) }
+    ensures faults { EndsBy (M.disk machine.old) (M.disk machine.new) result }
 {
     match damage_text(alloc, file, place) {
         Ok(line) => end_with(machine, line.as_slice(), Status::Damaged),
@@ -99,6 +102,7 @@ fn end_stopped<M: Machine>(alloc: Global, machine: &mut M, stop: Stop) -> Status
     ensures damaged { (M.disk machine.old).tells_files → result ≡ Status.Damaged → (file : File) × (place : ℕ) × (stop ≡ Stop.Damaged file place)
         × ((M.disk machine.new).said ≡ (M.disk machine.old).said ++ damaged file place) }
     ensures undone { result ≢ Status.Done }
+    ensures faults { HandsOn (M.disk machine.old) (M.disk machine.new) stop result }
 {
     match stop {
         Stop::NotAStore => end_with(machine, b"not a store\n", Status::NotAStore),
@@ -114,6 +118,7 @@ fn end_whole<M: Machine>(alloc: Global, machine: &mut M, it: Restart) -> Status
     ensures runs { OnlySays (M.disk machine.old) (M.disk machine.new) }
     ensures all { (M.disk machine.old).tells_files → result ≡ Status.Done → (M.disk machine.new).said ≡ (M.disk machine.old).said ++ restart_line it }
     ensures status { (result ≡ Status.Done) ⊎ ((result ≡ Status.Memory) ⊎ (result ≡ Status.SayFault)) }
+    ensures faults { EndsBy (M.disk machine.old) (M.disk machine.new) result }
 {
     match restart_text(alloc, it) {
         Ok(line) => end_with(machine, line.as_slice(), Status::Done),
@@ -125,6 +130,7 @@ fn end_whole<M: Machine>(alloc: Global, machine: &mut M, it: Restart) -> Status
 fn end_checked<M: Machine>(alloc: Global, machine: &mut M) -> Status
     ensures runs { OnlySays (M.disk machine.old) (M.disk machine.new) }
     ensures ends { (M.disk machine.old).tells_files → Ends (M.disk machine.old).reads (M.disk machine.old).said (M.disk machine.new).said result }
+    ensures faults { CountsFaults (M.disk machine.old) (M.disk machine.new) result }
 {
     match judge(alloc, machine) {
         Ok(restart) => end_whole(alloc, machine, restart),
@@ -139,11 +145,15 @@ pub fn check_store<M: Machine>(alloc: Global, machine: &mut M) -> Status
     ensures keeps { OnlySays (M.disk machine.old) (M.disk machine.new) }
     // The lines of the three files are said whatever these hold, and after them what a restart makes of them.
     ensures checks { (M.disk machine.old).tells_files → HasVerdict result → Checks (M.disk machine.old).reads (M.disk machine.old).said (M.disk machine.new).said result }
+    // A fault is reported only where the machine counted it: where none was, and memory is not refused, there is a verdict.
+    ensures faults { CountsFaults (M.disk machine.old) (M.disk machine.new) result }
 {
     match say_files(alloc, machine) {
         Ok(()) => end_checked(alloc, machine),
+        Err(Stop::NotAStore) => Status::NotAStore,
+        Err(Stop::Damaged { .. }) => Status::Damaged,
+        Err(Stop::DiskFault) => Status::DiskFault,
         Err(Stop::SayFault) => Status::SayFault,
         Err(Stop::Memory) => Status::Memory,
-        Err(_) => Status::DiskFault,
     }
 }

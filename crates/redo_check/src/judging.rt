@@ -1,6 +1,6 @@
 // Judges the files as a restart does.
 ghost use Rattle.std.specs.Prelude.{⊤, IfErr, IfOk};
-ghost use Rattle.disk_model.specs.Disk.{Files, Stays};
+ghost use Rattle.disk_model.specs.Disk.{Files, Rises, Stays};
 ghost use Rattle.disk_model.specs.declared.machine.FileNo.TheVariants.{Objects};
 ghost use Rattle.formats.specs.FirstFault.{IsFirstLogFault};
 ghost use Rattle.formats.specs.Reading.{FailsBy};
@@ -9,6 +9,7 @@ ghost use Rattle.op_codec.specs.AllOps.{all_meaning};
 ghost use Rattle.oper_core.specs.Meaning.{IsSmall};
 ghost use Rattle.stable_objects.specs.SlotsView.{AreOf};
 ghost use Rattle.redo_check.specs.Checking.{EndsLog, HasRecords, IsLogStopped, IsRestart, IsStopped};
+ghost use Rattle.redo_check.specs.Faults.{CountsStop};
 
 use crate::records::Records;
 use crate::restart::Restart;
@@ -28,6 +29,7 @@ pub fn log_end<M: Machine>(alloc: Global, machine: &mut M) -> Result<(FileNo, u6
     ensures kept { Stays (M.disk machine.old) (M.disk machine.new) }
     ensures ends { (files : Files) → (M.disk machine.new).agrees files → IfOk result (λ found. EndsLog files found.0 found.1) }
     ensures cause { (files : Files) → (M.disk machine.new).agrees files → IfErr result (FailsBy ⊤ (IsFirstLogFault files)) }
+    ensures fault { IfErr result (FailsBy (Rises (M.disk machine.old).disk_faults (M.disk machine.new).disk_faults) (λ file place. ⊤)) }
 {
     let log = LogFile::load(alloc, machine)?;
     Ok((log.active(), log.used()))
@@ -42,6 +44,7 @@ fn read_records<O: Oper, M: Machine>(
     ensures kept { Stays (M.disk machine.old) (M.disk machine.new) }
     ensures read { (M.disk machine.old).tells_files → IsSmall b → IfOk result (HasRecords (O.meaning b) (M.disk machine.old).reads) }
     ensures cause { (M.disk machine.old).tells_files → IfErr result (FailsBy ⊤ (IsLoadFault (O.meaning b) (M.disk machine.old).reads)) }
+    ensures fault { IfErr result (FailsBy (Rises (M.disk machine.old).disk_faults (M.disk machine.new).disk_faults) (λ file place. ⊤)) }
 {
     let found = log_end(alloc, machine)?;
     let (log, check) = RecordLog::<O>::load_checked(alloc, machine, b)?;
@@ -63,6 +66,7 @@ pub fn store_records<M: Machine>(
     ensures kept { Stays (M.disk machine.old) (M.disk machine.new) }
     ensures read { (M.disk machine.old).tells_files → IsSmall b → IfOk result (HasRecords (all_meaning b) (M.disk machine.old).reads) }
     ensures cause { (M.disk machine.old).tells_files → IfErr result (FailsBy ⊤ (IsLoadFault (all_meaning b) (M.disk machine.old).reads)) }
+    ensures fault { IfErr result (FailsBy (Rises (M.disk machine.old).disk_faults (M.disk machine.new).disk_faults) (λ file place. ⊤)) }
 {
     read_records::<AllOps, M>(alloc, machine, b)
 }
@@ -72,6 +76,7 @@ fn judge_log<M: Machine>(alloc: Global, machine: &mut M, slots: &Slots) -> Resul
     ensures kept { Stays (M.disk machine.old) (M.disk machine.new) }
     ensures whole { (M.disk machine.old).tells_files → AreOf slots.now ((M.disk machine.old).reads Objects) → IfOk result (IsRestart (M.disk machine.old).reads) }
     ensures cause { (M.disk machine.old).tells_files → AreOf slots.now ((M.disk machine.old).reads Objects) → IfErr result (IsLogStopped (M.disk machine.old).reads) }
+    ensures faults { IfErr result (CountsStop (M.disk machine.old) (M.disk machine.new)) }
 {
     let bounds = slots.bounds();
     let records = store_records(alloc, machine, bounds)?;
@@ -89,6 +94,7 @@ pub fn judge<M: Machine>(alloc: Global, machine: &mut M) -> Result<Restart, Stop
     ensures kept { Stays (M.disk machine.old) (M.disk machine.new) }
     ensures whole { (M.disk machine.old).tells_files → IfOk result (IsRestart (M.disk machine.old).reads) }
     ensures cause { (M.disk machine.old).tells_files → IfErr result (IsStopped (M.disk machine.old).reads) }
+    ensures faults { IfErr result (CountsStop (M.disk machine.old) (M.disk machine.new)) }
 {
     let slots = Slots::load(alloc, machine)?;
     let judged = judge_log(alloc, machine, &slots);

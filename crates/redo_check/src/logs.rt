@@ -1,6 +1,7 @@
 // The lines of the log files.
-ghost use Rattle.std.specs.Prelude.{◌≡◌, ◌++◌, OnOk, length, nat_lt};
-ghost use Rattle.disk_model.specs.Disk.{Files, Stays};
+ghost use Rattle.std.specs.Prelude.{◌≡◌, ◌++◌, IfErr, OnOk, length, nat_lt};
+ghost use Rattle.disk_model.specs.Disk.{Files, Rises, Stays};
+ghost use Rattle.formats.specs.Reading.{FailsBy};
 ghost use Rattle.redo_check.specs.Lines.{header_lines, is_numbered as number_fits, log_lines};
 ghost use Rattle.redo_check.specs.Files.{log_file_lines};
 
@@ -86,6 +87,7 @@ pub fn push_log<M: Machine>(
 ) -> Result<(), ReadErr>
     ensures kept { Stays (M.disk machine.old) (M.disk machine.new) }
     ensures text { (files : Files) → (M.disk machine.new).agrees files → OnOk result (text.new.items ≡ text.old.items ++ log_file_lines file (files file)) }
+    ensures cause { IfErr result (FailsBy (Rises (M.disk machine.old).disk_faults (M.disk machine.new).disk_faults) (λ file place. ⊥)) }
 {
     let size = machine.size(file)?;
     let mut head = [0; HEAD as usize];

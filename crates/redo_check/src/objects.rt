@@ -1,9 +1,10 @@
 // The lines of the objects file.
-ghost use Rattle.std.specs.Prelude.{◌≡◌, ◌++◌, ◌&&◌, ◌≤◌, IfNone, IfOk, IfSome, IsTrue, OnOk, false, if◌then◌else◌, length, nat_le, true};
-ghost use Rattle.disk_model.specs.Disk.{Files, Stays};
+ghost use Rattle.std.specs.Prelude.{◌≡◌, ◌++◌, ◌&&◌, ◌≤◌, IfErr, IfNone, IfOk, IfSome, IsTrue, OnOk, false, if◌then◌else◌, length, nat_le, true};
+ghost use Rattle.disk_model.specs.Disk.{Files, Rises, Stays};
 ghost use Rattle.disk_model.specs.declared.machine.FileNo.TheVariants.{Objects};
 ghost use Rattle.formats.specs.Bytes.{number_at};
 ghost use Rattle.formats.specs.Objects.{form_in, params_at, first_form as version_one, second_form as version_two, is_second as says_second};
+ghost use Rattle.formats.specs.Reading.{FailsBy};
 ghost use Rattle.oper_core.specs.Meaning.{IsSmall};
 ghost use Rattle.stable_objects.specs.Layouts.{IsForm};
 ghost use Rattle.redo_check.specs.Lines.{begin_lines, has_cap as cap_fits, has_count as count_fits, has_limit as limit_fits, head_lines, is_placed, numbers_lines, older_lines};
@@ -261,6 +262,7 @@ fn push_behind<M: Machine>(
     requires { IsForm form }
     ensures kept { Stays (M.disk machine.old) (M.disk machine.new) }
     ensures text { (files : Files) → (M.disk machine.new).agrees files → OnOk result (text.new.items ≡ text.old.items ++ behind_lines form (files Objects)) }
+    ensures cause { IfErr result (FailsBy (Rises (M.disk machine.old).disk_faults (M.disk machine.new).disk_faults) (λ file place. ⊥)) }
 {
     let mut bytes = [0; 12];
     read_padded(machine, FileNo::Objects, form.numbers, &mut bytes)?;
@@ -283,6 +285,7 @@ fn bounds_behind<M: Machine>(machine: &mut M, form: Form) -> Result<Option<Bound
     ensures kept { Stays (M.disk machine.old) (M.disk machine.new) }
     ensures small { IfOk result (λ found. IfSome found IsSmall) }
     ensures read { (files : Files) → (M.disk machine.new).agrees files → IfOk result (λ found. found ≡ bounds_after form (files Objects)) }
+    ensures cause { IfErr result (FailsBy (Rises (M.disk machine.old).disk_faults (M.disk machine.new).disk_faults) (λ file place. ⊥)) }
 {
     let mut bytes = [0; 12];
     read_padded(machine, FileNo::Objects, form.numbers, &mut bytes)?;
@@ -301,6 +304,7 @@ pub fn read_bounds<M: Machine>(machine: &mut M) -> Result<Option<Bounds>, ReadEr
     ensures kept { Stays (M.disk machine.old) (M.disk machine.new) }
     ensures small { IfOk result (λ found. IfSome found IsSmall) }
     ensures read { (files : Files) → (M.disk machine.new).agrees files → IfOk result (λ found. found ≡ bounds_said (files Objects)) }
+    ensures cause { IfErr result (FailsBy (Rises (M.disk machine.old).disk_faults (M.disk machine.new).disk_faults) (λ file place. ⊥)) }
 {
     let mut head = [0; HEAD];
     read_padded(machine, FileNo::Objects, 0, &mut head)?;
@@ -319,6 +323,7 @@ pub fn push_objects<M: Machine>(
 ) -> Result<(), ReadErr>
     ensures kept { Stays (M.disk machine.old) (M.disk machine.new) }
     ensures text { (files : Files) → (M.disk machine.new).agrees files → OnOk result (text.new.items ≡ text.old.items ++ objects_lines (files Objects)) }
+    ensures cause { IfErr result (FailsBy (Rises (M.disk machine.old).disk_faults (M.disk machine.new).disk_faults) (λ file place. ⊥)) }
 {
     let mut head = [0; HEAD];
     read_padded(machine, FileNo::Objects, 0, &mut head)?;

@@ -1,8 +1,10 @@
 // Says lines.
-ghost use Rattle.std.specs.Prelude.{◌≡◌, ◌++◌, ℕ, IfOk, List, OnOk};
-ghost use Rattle.disk_model.specs.Disk.{Files, Runs, Same, SaysFront, Stays};
+ghost use Rattle.std.specs.Prelude.{◌≡◌, ◌++◌, ℕ, IfErr, IfOk, List, OnOk};
+ghost use Rattle.disk_model.specs.Disk.{Files, Rises, Runs, Same, SaysFront, Stays};
+ghost use Rattle.formats.specs.Reading.{FailsBy};
 ghost use Rattle.oper_core.specs.Meaning.{IsSmall};
 ghost use Rattle.redo_check.specs.Checking.{IsRecordsLine, IsRecordsOf, SaysLines};
+ghost use Rattle.redo_check.specs.Faults.{StopsBy};
 ghost use Rattle.redo_check.specs.Files.{IsLogLine, files_lines};
 ghost use Rattle.redo_check.specs.Saying.{OnlySays};
 
@@ -20,6 +22,7 @@ use std::alloc::Global;
 pub fn say_text<M: Machine>(machine: &mut M, text: &[u8]) -> Result<(), Stop>
     ensures runs { Runs Same (SaysFront text.now) (M.disk machine.old) (M.disk machine.new) }
     ensures all { (M.disk machine.old).tells_files → OnOk result ((M.disk machine.new).said ≡ (M.disk machine.old).said ++ text.now) }
+    ensures cause { IfErr result (StopsBy (M.disk machine.old) (M.disk machine.new)) }
 {
     match machine.say(text) {
         Ok(()) => Ok(()),
@@ -31,6 +34,7 @@ pub fn say_text<M: Machine>(machine: &mut M, text: &[u8]) -> Result<(), Stop>
 fn files_text<M: Machine>(alloc: Global, machine: &mut M) -> Result<Vec<u8>, ReadErr>
     ensures kept { Stays (M.disk machine.old) (M.disk machine.new) }
     ensures text { (files : Files) → (M.disk machine.new).agrees files → IfOk result (λ text. text.items ≡ files_lines files) }
+    ensures cause { IfErr result (FailsBy (Rises (M.disk machine.old).disk_faults (M.disk machine.new).disk_faults) (λ file place. ⊥)) }
 {
     let mut text = Vec::new(alloc);
     push_objects(alloc, machine, &mut text)?;
@@ -43,11 +47,13 @@ fn files_text<M: Machine>(alloc: Global, machine: &mut M) -> Result<Vec<u8>, Rea
 fn blocks_text<M: Machine>(alloc: Global, machine: &mut M) -> Result<Vec<u8>, ReadErr>
     ensures kept { Stays (M.disk machine.old) (M.disk machine.new) }
     ensures text { (files : Files) → (M.disk machine.new).agrees files → IfOk result (λ text. IsLogLine files text.items) }
+    ensures cause { IfErr result (FailsBy (Rises (M.disk machine.old).disk_faults (M.disk machine.new).disk_faults) (λ file place. ⊥)) }
 {
     match log_end(alloc, machine) {
         Ok((file, end)) => Ok(line_of(alloc, file, end, b"end of the log in force", true)?),
         Err(ReadErr::Damaged { file, place }) => Ok(line_of(alloc, file, place, b"logs", false)?),
-        Err(error) => Err(error),
+        Err(ReadErr::DiskFault) => Err(ReadErr::DiskFault),
+        Err(ReadErr::Memory) => Err(ReadErr::Memory),
     }
 }
 
@@ -55,13 +61,15 @@ fn blocks_text<M: Machine>(alloc: Global, machine: &mut M) -> Result<Vec<u8>, Re
 fn records_line<M: Machine>(alloc: Global, machine: &mut M, b: Bounds) -> Result<Vec<u8>, ReadErr>
     ensures kept { Stays (M.disk machine.old) (M.disk machine.new) }
     ensures text { (M.disk machine.old).tells_files → IsSmall b → IfOk result (λ text. IsRecordsOf (M.disk machine.old).reads b text.items) }
+    ensures cause { IfErr result (FailsBy (Rises (M.disk machine.old).disk_faults (M.disk machine.new).disk_faults) (λ file place. ⊥)) }
 {
     match store_records(alloc, machine, b) {
         Ok(it) => Ok(found_line(alloc, it.file, it.end, b"next number", it.next, true)?),
         Err(ReadErr::Damaged { file, place }) => Ok(line_of(
             alloc, file, place, b"records", false,
         )?),
-        Err(error) => Err(error),
+        Err(ReadErr::DiskFault) => Err(ReadErr::DiskFault),
+        Err(ReadErr::Memory) => Err(ReadErr::Memory),
     }
 }
 
@@ -69,6 +77,7 @@ fn records_line<M: Machine>(alloc: Global, machine: &mut M, b: Bounds) -> Result
 fn records_text<M: Machine>(alloc: Global, machine: &mut M) -> Result<Vec<u8>, ReadErr>
     ensures kept { Stays (M.disk machine.old) (M.disk machine.new) }
     ensures text { (M.disk machine.old).tells_files → IfOk result (λ text. IsRecordsLine (M.disk machine.old).reads text.items) }
+    ensures cause { IfErr result (FailsBy (Rises (M.disk machine.old).disk_faults (M.disk machine.new).disk_faults) (λ file place. ⊥)) }
 {
     let found = read_bounds(machine)?;
     let Some(b) = found else {
@@ -82,6 +91,7 @@ fn records_text<M: Machine>(alloc: Global, machine: &mut M) -> Result<Vec<u8>, R
 fn all_text<M: Machine>(alloc: Global, machine: &mut M) -> Result<Vec<u8>, ReadErr>
     ensures kept { Stays (M.disk machine.old) (M.disk machine.new) }
     ensures text { (M.disk machine.old).tells_files → IfOk result (λ text. SaysLines (M.disk machine.old).reads text.items) }
+    ensures cause { IfErr result (FailsBy (Rises (M.disk machine.old).disk_faults (M.disk machine.new).disk_faults) (λ file place. ⊥)) }
 {
     let mut text = files_text(alloc, machine)?;
     let blocks = blocks_text(alloc, machine)?;
@@ -95,6 +105,7 @@ fn all_text<M: Machine>(alloc: Global, machine: &mut M) -> Result<Vec<u8>, ReadE
 pub fn say_files<M: Machine>(alloc: Global, machine: &mut M) -> Result<(), Stop>
     ensures runs { OnlySays (M.disk machine.old) (M.disk machine.new) }
     ensures said { (M.disk machine.old).tells_files → OnOk result ((text : List ℕ) × SaysLines (M.disk machine.old).reads text × ((M.disk machine.new).said ≡ (M.disk machine.old).said ++ text)) }
+    ensures cause { IfErr result (StopsBy (M.disk machine.old) (M.disk machine.new)) }
 {
     let text = all_text(alloc, machine)?;
     say_text(machine, text.as_slice())?;

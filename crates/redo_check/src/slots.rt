@@ -1,9 +1,10 @@
 // The lines of the slots.
-ghost use Rattle.std.specs.Prelude.{◌≡◌, ◌<◌, ◌≤◌, ◌++◌, ◌^◌, ◌+◌, ◌*◌, IfOk, OnOk, length, nat_lt};
-ghost use Rattle.disk_model.specs.Disk.{Files, Stays};
+ghost use Rattle.std.specs.Prelude.{◌≡◌, ◌<◌, ◌≤◌, ◌++◌, ◌^◌, ◌+◌, ◌*◌, IfErr, IfOk, OnOk, length, nat_lt};
+ghost use Rattle.disk_model.specs.Disk.{Files, Rises, Stays};
 ghost use Rattle.disk_model.specs.Padded.{padded};
 ghost use Rattle.disk_model.specs.declared.machine.FileNo.TheVariants.{Objects};
 ghost use Rattle.formats.specs.Objects.{last_slot, slot_place};
+ghost use Rattle.formats.specs.Reading.{FailsBy};
 ghost use Rattle.redo_check.specs.Lines.{number_line};
 ghost use Rattle.redo_check.specs.Slots.{has_own_id as id_fits, has_value as value_fits, open_lines, pair_lines, slot_lines, slot_of, slot_words, slots_lines};
 
@@ -54,6 +55,7 @@ fn parse_slot(head: &[u8]) -> Slot
 fn read_slot<M: Machine>(machine: &mut M, place: u64) -> Result<Slot, ReadErr>
     ensures kept { Stays (M.disk machine.old) (M.disk machine.new) }
     ensures read { (files : Files) → (M.disk machine.new).agrees files → IfOk result (λ slot. slot ≡ slot_of (padded (files Objects) place 13)) }
+    ensures cause { IfErr result (FailsBy (Rises (M.disk machine.old).disk_faults (M.disk machine.new).disk_faults) (λ file place. ⊥)) }
 {
     let mut head = [0; 13];
     read_padded(machine, FileNo::Objects, place, &mut head)?;
@@ -223,6 +225,7 @@ fn push_object<M: Machine>(
     ensures kept { Stays (M.disk machine.old) (M.disk machine.new) }
     ensures text { (files : Files) → (M.disk machine.new).agrees files → OnOk result (text.new.items ≡ text.old.items ++
         pair_lines layout size object (slot_of (padded (files Objects) (slot_place layout object 0) 13)) (slot_of (padded (files Objects) (slot_place layout object 1) 13))) }
+    ensures cause { IfErr result (FailsBy (Rises (M.disk machine.old).disk_faults (M.disk machine.new).disk_faults) (λ file place. ⊥)) }
 {
     let first = read_slot(machine, place_of(layout, object, 0))?;
     let second = read_slot(machine, place_of(layout, object, 1))?;
@@ -254,6 +257,7 @@ pub fn push_slots<M: Machine>(
     requires few { layout.params.objects ≤ 65535 }
     ensures kept { Stays (M.disk machine.old) (M.disk machine.new) }
     ensures text { (files : Files) → (M.disk machine.new).agrees files → OnOk result (text.new.items ≡ text.old.items ++ slots_lines layout (files Objects)) }
+    ensures cause { IfErr result (FailsBy (Rises (M.disk machine.old).disk_faults (M.disk machine.new).disk_faults) (λ file place. ⊥)) }
 {
     let file = FileNo::Objects;
     let size = machine.size(file)?;

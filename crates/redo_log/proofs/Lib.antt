@@ -1,6 +1,8 @@
+pub mod FaultLemmas
 pub mod LineLemmas
 pub mod ReadLemmas
 pub mod Steps
 pub mod UsedLemmas
 pub mod RecordLemmas
 pub mod ListLemmas
+pub mod BrokenLemmas

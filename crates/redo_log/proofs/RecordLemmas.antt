@@ -1,5 +1,5 @@
 -- The records that were read are those that were checked.
-use Rattle.std.proofs.Common.{◌≡◌, ℕ, List, [], ◌∷◌, ◌++◌, length, drop, map, refl, sym, ap, ◌∙◌, subst, arith}
+use Rattle.std.proofs.Common.{◌≡◌, ◌<◌, ℕ, List, [], ◌∷◌, ◌++◌, length, length-append, append_assoc, drop, get_or, map, refl, sym, ap, ◌∙◌, subst, arith}
 use Rattle.std.specs.Prelude.{All}
 use Rattle.std.specs.List.{flat_map}
 use Rattle.std.proofs.lemmas.List.{drop_at}
@@ -13,8 +13,16 @@ use Rattle.formats.specs.Log.{Header}
 use Rattle.formats.specs.Records.{AreRecords, HoldsRecordLog, IsRecord, next_behind, payload_of, record_code, records_of}
 use Rattle.formats.specs.declared.record.Record.{Record}
 use Rattle.formats.specs.declared.record.Record.TheVariants.{Command, Identity, Check}
-use Rattle.log_frames.specs.Laws.{one_in_force}
+use Rattle.log_frames.specs.Forcing.{with_block}
+use Rattle.log_frames.specs.Laws.{one_in_force, with_block-some}
+use Rattle.log_records.specs.Codec.{StartsWithRecord}
 use Rattle.log_records.specs.CodecLaws.{HasCodes, same_record}
+use Rattle.redo_log.specs.Faults.{AreReadable, IsUnreadable}
+
+-- what holds of all of two lists together
+both_parts : {A : Type 0} (P : A → Type 0) (xs ys : List A) → All P (xs ++ ys) → All P xs × All P ys
+both_parts P [] ys all = (All-nil P, all)
+both_parts P (x ∷ xs) ys all = let rest = both_parts P xs ys (All-tail P x (xs ++ ys) all) in (All-cons P x xs (All-head P x (xs ++ ys) all) rest.0, rest.1)
 
 module _ {O : Type 0} (m : Meaning O) (codes : HasCodes m) where
   no_code : (r : Record O) (rest : List ℕ) → [] ≡ record_code m r ++ rest → ⊥
@@ -60,3 +68,43 @@ module _ {O : Type 0} (m : Meaning O) (codes : HasCodes m) where
               (subst (λ (l : List (Record O)). AreRecords m checked.base checked.base l) (sym records) held.log.placed);
         };
       }
+
+  -- a payload among those of groups is that of one of them
+  group_of : (groups : List (List (Record O))) (passed later : List (List ℕ)) (payload : List ℕ) → All (IsRecord m) (records_of groups) → passed ++ payload ∷ later ≡ map (payload_of m) groups
+      → (group : List (Record O)) × All (IsRecord m) group × (payload ≡ payload_of m group)
+  group_of [] [] later payload grammar same = absurd (omega (arith, ap length same))
+  group_of [] (first ∷ passed) later payload grammar same = absurd (omega (arith, ap length same))
+  group_of (group ∷ groups) [] later payload grammar same = (group, (both_parts (IsRecord m) group (records_of groups) grammar).0, ap (λ (l : List (List ℕ)). get_or l 0 []) same)
+  group_of (group ∷ groups) (first ∷ passed) later payload grammar same = group_of groups passed later payload (both_parts (IsRecord m) group (records_of groups) grammar).1 (ap (drop 1) same)
+
+  -- behind records of a payload the next one begins
+  starts_on : (part group : List (Record O)) (rest : List ℕ) → All (IsRecord m) part → All (IsRecord m) group → payload_of m part ++ rest ≡ payload_of m group → 0 < length rest
+      → (r : Record O) × StartsWithRecord m rest r
+  starts_on [] [] rest are_p are_g same some = absurd (omega (arith, some, ap length same))
+  starts_on [] (g ∷ group) rest are_p are_g same some = (g, record { rest = payload_of m group; split = same; in_grammar = All-head (IsRecord m) g group are_g })
+  starts_on (r ∷ part) [] rest are_p are_g same some = absurd (no_code r (payload_of m part ++ rest) (sym same ∙ append_assoc (record_code m r) (payload_of m part) rest))
+  starts_on (r ∷ part) (g ∷ group) rest are_p are_g same some =
+      let bytes : record_code m r ++ (payload_of m part ++ rest) ≡ record_code m g ++ payload_of m group = sym (append_assoc (record_code m r) (payload_of m part) rest) ∙ same in
+      let first : r ≡ g = same_record m codes r g (payload_of m (g ∷ group)) (record { rest = payload_of m part ++ rest; split = sym bytes; in_grammar = All-head (IsRecord m) r part are_p })
+      (record { rest = payload_of m group; split = refl; in_grammar = All-head (IsRecord m) g group are_g }) in
+      let long = ap (λ (t : Record O). length (record_code m t)) first in
+      let behind : payload_of m part ++ rest ≡ payload_of m group =
+      sym (drop_at (record_code m r) (payload_of m part ++ rest) (length (record_code m r)) refl) ∙ ap (drop (length (record_code m r))) bytes ∙ drop_at (record_code m g) (payload_of m group) (length (record_code m r)) (sym long) in
+      starts_on part group rest (All-tail (IsRecord m) r part are_p) (All-tail (IsRecord m) g group are_g) behind some
+
+  -- payloads of groups are lists of records
+  readable : (groups : List (List (Record O))) (all passed later : List (List ℕ)) → All (IsRecord m) (records_of groups) → all ≡ map (payload_of m) groups → IsUnreadable m all passed later → ⊥
+  readable groups all passed later grammar same is =
+      let rest = is.behind.rest in
+      let payload = payload_of m is.part ++ rest in
+      let some : 0 < length payload = omega (arith, is.behind.some, length-append (payload_of m is.part) rest) in
+      let split : all ≡ passed ++ payload ∷ later = is.behind.here ∙ ap (λ (l : List (List ℕ)). l ++ later) (with_block-some passed payload some) ∙ append_assoc passed (payload ∷ []) later in
+      let one = group_of groups passed later payload grammar (sym split ∙ same) in
+      let next = starts_on is.part one.0 rest is.in_grammar one.1 one.2 is.behind.some in
+      is.behind.none next.0 next.1
+
+  -- those of a log that was checked are
+  pub all_readable : (other : FileNo) (checked : Header) (others : List (List (Record O))) (files : Files) → HoldsRecordLog m other checked others files → AreReadable m files
+  all_readable other checked others files held active header payloads holds broken =
+      let one = one_in_force active other header checked payloads (map (payload_of m) others) files holds (record { in_force = held.in_force; log = held.log.log }) in
+      readable others payloads broken.0 broken.1 (in_grammar_of checked.base checked.base (records_of others) held.log.placed) one.2 broken.2

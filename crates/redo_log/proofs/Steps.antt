@@ -86,7 +86,7 @@ no_block m first old lawful none = record {
 }
 
 -- what the reader finds behind the blocks that were said, in the files that the machine reports
-found_next : (m : Meaning AllOps) (first now mid : Disk) (old it next : PayloadReaderView) (more : Bool) (is : IsSayingBlocks m first now old it) → Stays now mid
+pub found_next : (m : Meaning AllOps) (first now mid : Disk) (old it next : PayloadReaderView) (more : Bool) (is : IsSayingBlocks m first now old it) → Stays now mid
     → ((files : Files) → mid.agrees files → (payloads passed : List (List ℕ)) (taken : List ℕ) (later : List (List ℕ)) → IsInLog (files it.file) it payloads passed taken later → HasNext (files next.file) next payloads (with_block passed taken) later more)
     → (told : first.tells_files) (all : List (List ℕ)) → (so_far : AreBlocksSaid m (first.reads old.file) old it all first.said now.said)
     → HasNext (first.reads next.file) next all (map (payload_of m) so_far.groups) so_far.later more

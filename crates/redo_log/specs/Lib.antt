@@ -3,4 +3,5 @@ pub mod Words
 pub mod Lines
 pub mod Saying
 pub mod Reading
+pub mod Faults
 pub mod Listing

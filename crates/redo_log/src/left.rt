@@ -1,7 +1,8 @@
 // How many bytes a file has behind a place.
-ghost use Rattle.std.specs.Prelude.{◌≡◌, ◌+◌, ◌-◌, ◌^◌, IfOk, drop, if◌then◌else◌, min, nat_eq};
-ghost use Rattle.disk_model.specs.Disk.{Files, Stays};
+ghost use Rattle.std.specs.Prelude.{◌≡◌, ◌+◌, ◌-◌, ◌^◌, IfErr, IfOk, drop, if◌then◌else◌, min, nat_eq};
+ghost use Rattle.disk_model.specs.Disk.{Files, Rises, Stays};
 ghost use Rattle.disk_model.specs.Padded.{padded};
+ghost use Rattle.formats.specs.Reading.{FailsBy};
 ghost use Rattle.redo_log.specs.Lines.{used};
 
 use disk_model::{FileNo, Machine, read_padded};
@@ -52,6 +53,7 @@ fn used_in<M: Machine>(
 ) -> Result<u64, ReadErr>
     ensures kept { Stays (M.disk machine.old) (M.disk machine.new) }
     ensures used { (files : Files) → (M.disk machine.new).agrees files → IfOk result (λ n. n ≡ used (padded (files file) place count)) }
+    ensures cause { IfErr result (FailsBy (Rises (M.disk machine.old).disk_faults (M.disk machine.new).disk_faults) (λ file place. ⊥)) }
 {
     let mut piece = vec![in alloc; 0; count]?;
     read_padded(machine, file, place, &mut piece)?;
@@ -67,6 +69,7 @@ pub fn left_behind<M: Machine>(
 ) -> Result<u64, ReadErr>
     ensures kept { Stays (M.disk machine.old) (M.disk machine.new) }
     ensures left { (files : Files) → (M.disk machine.new).agrees files → IfOk result (λ n. n ≡ used (drop from (files file))) }
+    ensures cause { IfErr result (FailsBy (Rises (M.disk machine.old).disk_faults (M.disk machine.new).disk_faults) (λ file place. ⊥)) }
 {
     let size = machine.size(file)?;
     let all = size.saturating_sub(from);

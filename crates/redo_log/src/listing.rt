@@ -1,15 +1,16 @@
 // Lists the log of a store.
-ghost use Rattle.std.specs.Prelude.{◌≡◌, ◌≢◌, ◌⊎◌, ⊤, ◌++◌, [], List, ℕ, IfErr, IfOk, IsOk, OnOk, codes, drop};
-ghost use Rattle.disk_model.specs.Disk.{Runs, Same, SaysFront, Stays};
+ghost use Rattle.std.specs.Prelude.{◌≡◌, ◌≢◌, ◌⊎◌, ⊤, ◌++◌, [], List, ℕ, Err as Error, IfErr, IfOk, IsOk, OnOk, codes, drop};
+ghost use Rattle.disk_model.specs.Disk.{Rises, Runs, Same, SaysFront, Stays};
 ghost use Rattle.disk_model.specs.declared.machine.FileNo.{FileNo as File};
 ghost use Rattle.disk_model.specs.declared.machine.FileNo.TheVariants.{Objects};
 ghost use Rattle.formats.specs.Bytes.{IsClosedAt};
 ghost use Rattle.formats.specs.InForce.{HoldsLog};
-ghost use Rattle.formats.specs.Log.{end_of};
+ghost use Rattle.formats.specs.Log.{Header, end_of};
 ghost use Rattle.formats.specs.Reading.{FailsBy};
 ghost use Rattle.log_records.specs.Loading.{IsLoadFault};
 ghost use Rattle.op_codec.specs.AllOps.{all_meaning};
 ghost use Rattle.oper_core.specs.Meaning.{IsSmall};
+ghost use Rattle.redo_log.specs.Faults.{AreReadable, AreUnreadable, CountsFaults, CountsStop, EndsBy, HandsOn, IsBroken, StopsBy};
 ghost use Rattle.redo_log.specs.Lines.{header_words, line, used};
 ghost use Rattle.redo_log.specs.Listing.{ArePlaced, HasStore, IsDamageSaid, IsListed, IsLogStopped, IsStopped, SaysLog, damaged, not_a_store};
 ghost use Rattle.redo_log.specs.Saying.{OnlySays};
@@ -33,6 +34,7 @@ fn end_with<M: Machine>(machine: &mut M, line: &[u8], status: Status) -> Status
     ensures runs { Runs Same (SaysFront line.now) (M.disk machine.old) (M.disk machine.new) }
     ensures all { (M.disk machine.old).tells_files → result ≢ Status.SayFault → (M.disk machine.new).said ≡ (M.disk machine.old).said ++ line.now }
     ensures status { (result ≡ status) ⊎ (result ≡ Status.SayFault) }
+    ensures faults { EndsBy (M.disk machine.old) (M.disk machine.new) status → EndsBy (M.disk machine.old) (M.disk machine.new) result }
 {
     match machine.say(line) {
         Ok(()) => status,
@@ -46,6 +48,7 @@ fn end_damaged<M: Machine>(alloc: Global, machine: &mut M, file: FileNo, place: 
     ensures runs { OnlySays (M.disk machine.old) (M.disk machine.new) }
     ensures all { (M.disk machine.old).tells_files → result ≡ Status.Damaged → (M.disk machine.new).said ≡ (M.disk machine.old).said ++ damaged file place }
     ensures status { (result ≡ Status.Damaged) ⊎ ((result ≡ Status.Memory) ⊎ (result ≡ Status.SayFault)) }
+    ensures faults { EndsBy (M.disk machine.old) (M.disk machine.new) result }
 {
     match damage_line(alloc, file, place) {
         Ok(line) => end_with(machine, line.as_slice(), Status::Damaged),
@@ -60,6 +63,7 @@ fn end_stopped<M: Machine>(alloc: Global, machine: &mut M, stop: Stop) -> Status
     ensures damaged { (M.disk machine.old).tells_files → result ≡ Status.Damaged → (file : File) × (place : ℕ) × (stop ≡ Stop.Damaged file place)
         × ((M.disk machine.new).said ≡ (M.disk machine.old).said ++ damaged file place) }
     ensures undone { result ≢ Status.Done }
+    ensures faults { HandsOn (M.disk machine.old) (M.disk machine.new) stop result }
 {
     match stop {
         Stop::NotAStore => end_with(machine, b"not a store\n", Status::NotAStore),
@@ -75,6 +79,7 @@ fn read_bounds<M: Machine>(alloc: Global, machine: &mut M) -> Result<Bounds, Sto
     ensures kept { Stays (M.disk machine.old) (M.disk machine.new) }
     ensures whole { (M.disk machine.old).tells_files → IfOk result (HasStore (M.disk machine.old).reads) }
     ensures cause { (M.disk machine.old).tells_files → IfErr result (IsStopped (M.disk machine.old).reads) }
+    ensures faults { IfErr result (CountsStop (M.disk machine.old) (M.disk machine.new)) }
 {
     let slots = Slots::load(alloc, machine)?;
     Ok(slots.bounds())
@@ -85,6 +90,7 @@ fn say_end<M: Machine>(alloc: Global, machine: &mut M, file: FileNo, end: u64) -
     ensures runs { OnlySays (M.disk machine.old) (M.disk machine.new) }
     ensures said { (M.disk machine.old).tells_files
         → OnOk result ((M.disk machine.new).said ≡ (M.disk machine.old).said ++ line file end (used (drop end ((M.disk machine.old).reads file))) (codes "end")) }
+    ensures cause { IfErr result (StopsBy (M.disk machine.old) (M.disk machine.new) (λ file place. ⊥)) }
 {
     let left = left_behind(alloc, machine, file, end)?;
     let line = line_of(alloc, file, end, left, b"end")?;
@@ -97,6 +103,7 @@ fn say_header<M: Machine>(alloc: Global, machine: &mut M, log: &LogFile) -> Resu
     ensures runs { OnlySays (M.disk machine.old) (M.disk machine.new) }
     ensures said { (M.disk machine.old).tells_files
         → OnOk result ((M.disk machine.new).said ≡ (M.disk machine.old).said ++ line log.now.active 0 33 (header_words log.now.header)) }
+    ensures cause { IfErr result (StopsBy (M.disk machine.old) (M.disk machine.new) (λ file place. ⊥)) }
 {
     let line = header_line(alloc, log.active(), log.epoch(), log.base(), log.commands())?;
     say_line(machine, line.as_slice())?;
@@ -109,6 +116,8 @@ fn say_log<M: Machine>(alloc: Global, machine: &mut M, b: Bounds, log: &LogFile)
     ensures said { (M.disk machine.old).tells_files → (payloads : List (List ℕ)) → HoldsLog log.now.active log.now.header payloads (M.disk machine.old).reads
         → log.now.end ≡ end_of payloads → log.now.pending ≡ []
         → OnOk result (SaysLog (all_meaning b) (M.disk machine.old).reads log.now.active log.now.header payloads (M.disk machine.old).said (M.disk machine.new).said) }
+    ensures cause { IfErr result (StopsBy (M.disk machine.old) (M.disk machine.new) (λ file place. (M.disk machine.old).tells_files → (payloads : List (List ℕ))
+        → HoldsLog log.now.active log.now.header payloads (M.disk machine.old).reads → AreUnreadable (all_meaning b) payloads)) }
 {
     say_header(alloc, machine, log)?;
     let mut payloads = log.reader(alloc, machine)?;
@@ -124,8 +133,9 @@ fn check_records<O: Oper, M: Machine>(
     b: Bounds,
 ) -> Result<(), ReadErr>
     ensures kept { Stays (M.disk machine.old) (M.disk machine.new) }
-    ensures whole { (M.disk machine.old).tells_files → IsSmall b → OnOk result (ArePlaced (O.meaning b) (M.disk machine.old).reads) }
+    ensures whole { (M.disk machine.old).tells_files → IsSmall b → OnOk result (ArePlaced (O.meaning b) (M.disk machine.old).reads × AreReadable (O.meaning b) (M.disk machine.old).reads) }
     ensures cause { (M.disk machine.old).tells_files → IfErr result (FailsBy ⊤ (IsLoadFault (O.meaning b) (M.disk machine.old).reads)) }
+    ensures fault { IfErr result (FailsBy (Rises (M.disk machine.old).disk_faults (M.disk machine.new).disk_faults) (λ file place. ⊤)) }
 {
     match RecordLog::<O>::load_checked(alloc, machine, b) {
         Ok(loaded) => {
@@ -139,8 +149,9 @@ fn check_records<O: Oper, M: Machine>(
 /// The same for the operations of a store.
 fn check_log<M: Machine>(alloc: Global, machine: &mut M, b: Bounds) -> Result<(), ReadErr>
     ensures kept { Stays (M.disk machine.old) (M.disk machine.new) }
-    ensures whole { (M.disk machine.old).tells_files → IsSmall b → OnOk result (ArePlaced (all_meaning b) (M.disk machine.old).reads) }
+    ensures whole { (M.disk machine.old).tells_files → IsSmall b → OnOk result (ArePlaced (all_meaning b) (M.disk machine.old).reads × AreReadable (all_meaning b) (M.disk machine.old).reads) }
     ensures cause { (M.disk machine.old).tells_files → IfErr result (FailsBy ⊤ (IsLoadFault (all_meaning b) (M.disk machine.old).reads)) }
+    ensures fault { IfErr result (FailsBy (Rises (M.disk machine.old).disk_faults (M.disk machine.new).disk_faults) (λ file place. ⊤)) }
 {
     check_records::<AllOps, M>(alloc, machine, b)
 }
@@ -148,15 +159,16 @@ fn check_log<M: Machine>(alloc: Global, machine: &mut M, b: Bounds) -> Result<()
 /// The same, and a fault of the log is one of the store.
 fn check_store<M: Machine>(alloc: Global, machine: &mut M, b: Bounds) -> Result<(), Stop>
     ensures kept { Stays (M.disk machine.old) (M.disk machine.new) }
-    ensures whole { (M.disk machine.old).tells_files → HasStore (M.disk machine.old).reads b → OnOk result (ArePlaced (all_meaning b) (M.disk machine.old).reads) }
+    ensures whole { (M.disk machine.old).tells_files → HasStore (M.disk machine.old).reads b → OnOk result (ArePlaced (all_meaning b) (M.disk machine.old).reads × AreReadable (all_meaning b) (M.disk machine.old).reads) }
     ensures cause { (M.disk machine.old).tells_files → HasStore (M.disk machine.old).reads b → IfErr result (IsLogStopped (M.disk machine.old).reads) }
+    ensures faults { IfErr result (CountsStop (M.disk machine.old) (M.disk machine.new)) }
 {
     check_log(alloc, machine, b)?;
     Ok(())
 }
 
-/// Checks the log of which this was said. Bytes that are no record are reported by the check; where it finds no fault, the disk
-/// did not give the same bytes twice.
+/// Checks the log of which this was said. The first fault of the files is reported where the check finds one. Where it finds
+/// none, bytes that were no record were read otherwise the second time, and it is their place that is reported.
 fn end_listing<M: Machine>(
     alloc: Global,
     machine: &mut M,
@@ -165,17 +177,21 @@ fn end_listing<M: Machine>(
 ) -> Result<(), Stop>
     ensures kept { Stays (M.disk machine.old) (M.disk machine.new) }
     ensures whole { (M.disk machine.old).tells_files → HasStore (M.disk machine.old).reads b → OnOk result (ArePlaced (all_meaning b) (M.disk machine.old).reads) }
-    ensures cause { (M.disk machine.old).tells_files → HasStore (M.disk machine.old).reads b → IfErr result (IsLogStopped (M.disk machine.old).reads) }
+    ensures cause { (M.disk machine.old).tells_files → HasStore (M.disk machine.old).reads b → (active : File) (header : Header) (payloads : List (List ℕ))
+        → HoldsLog active header payloads (M.disk machine.old).reads → IfErr said (IsBroken (all_meaning b) payloads) → IfErr result (IsLogStopped (M.disk machine.old).reads) }
+    ensures faults { IfErr result (λ stop. CountsStop (M.disk machine.old) (M.disk machine.new) stop ⊎ (said ≡ Error stop)) }
     ensures all { OnOk result (IsOk said) }
 {
     match said {
         Ok(()) => check_store(alloc, machine, b),
+        Err(Stop::Damaged { file, place }) => {
+            check_store(alloc, machine, b)?;
+            Err(Stop::Damaged { file, place })
+        }
+        Err(Stop::NotAStore) => Err(Stop::NotAStore),
+        Err(Stop::DiskFault) => Err(Stop::DiskFault),
         Err(Stop::SayFault) => Err(Stop::SayFault),
         Err(Stop::Memory) => Err(Stop::Memory),
-        Err(_) => {
-            check_store(alloc, machine, b)?;
-            Err(Stop::DiskFault)
-        }
     }
 }
 
@@ -185,6 +201,7 @@ fn list_log<M: Machine>(alloc: Global, machine: &mut M, b: Bounds) -> Result<(),
     ensures listed { (M.disk machine.old).tells_files → HasStore (M.disk machine.old).reads b
         → OnOk result (IsListed (M.disk machine.old).reads (M.disk machine.old).said (M.disk machine.new).said) }
     ensures cause { (M.disk machine.old).tells_files → HasStore (M.disk machine.old).reads b → IfErr result (IsLogStopped (M.disk machine.old).reads) }
+    ensures faults { IfErr result (CountsStop (M.disk machine.old) (M.disk machine.new)) }
 {
     let log = LogFile::load(alloc, machine)?;
     let said = say_log(alloc, machine, b, &log);
@@ -201,6 +218,7 @@ fn list_open<M: Machine>(alloc: Global, machine: &mut M, b: Bounds) -> Status
     ensures a_store { (M.disk machine.old).tells_files → HasStore (M.disk machine.old).reads b → result ≢ Status.NotAStore }
     ensures damaged { (M.disk machine.old).tells_files → HasStore (M.disk machine.old).reads b → result ≡ Status.Damaged
         → IsDamageSaid (M.disk machine.old).reads (M.disk machine.old).said (M.disk machine.new).said }
+    ensures faults { CountsFaults (M.disk machine.old) (M.disk machine.new) result }
 {
     match list_log(alloc, machine, b) {
         Ok(()) => Status::Done,
@@ -218,6 +236,8 @@ pub fn list_store<M: Machine>(alloc: Global, machine: &mut M) -> Status
     ensures no_store { (M.disk machine.old).tells_files → result ≡ Status.NotAStore
         → IsClosedAt 0 ((M.disk machine.old).reads Objects) × ((M.disk machine.new).said ≡ (M.disk machine.old).said ++ not_a_store) }
     ensures damaged { (M.disk machine.old).tells_files → result ≡ Status.Damaged → IsDamageSaid (M.disk machine.old).reads (M.disk machine.old).said (M.disk machine.new).said }
+    // A fault is reported only where the machine counted it: where none was, and memory is not refused, the lines end with one of these.
+    ensures faults { CountsFaults (M.disk machine.old) (M.disk machine.new) result }
 {
     match read_bounds(alloc, machine) {
         Ok(b) => list_open(alloc, machine, b),

@@ -24,6 +24,16 @@ use status::Status;
 use std::fs::{File, TryLockError};
 use std::process::ExitCode;
 
+// Says on standard error which call on a file failed, and the system's reason.
+fn tell_fault(rt: HostRuntime, machine: &FileMachine<HostRuntime>) {
+    if let Some(fault) = machine.fault() {
+        let call = fault.call;
+        let path = machine.path(fault.file);
+        let reason = &fault.reason;
+        let _told = eprintln!(rt; "redo_log: cannot {call} {path}: {reason}");
+    }
+}
+
 // Lists the log while no other program uses the store.
 fn list_locked(rt: HostRuntime) -> ExitCode {
     let Ok(folder) = File::open(&rt, ".") else {
@@ -32,7 +42,9 @@ fn list_locked(rt: HostRuntime) -> ExitCode {
     match folder.try_lock() {
         Ok(()) => {
             let mut machine = FileMachine::new(rt);
-            ExitCode::from(list_store(rt.alloc(), &mut machine).number())
+            let status = list_store(rt.alloc(), &mut machine);
+            tell_fault(rt, &machine);
+            ExitCode::from(status.number())
         }
         Err(TryLockError::WouldBlock) => {
             let _told = eprintln!(rt; "redo_log: another program uses the store in this folder");

@@ -2,6 +2,8 @@ use Rattle.std.proofs.Common.{List, ℕ, subst}
 use Rattle.disk_model.specs.Disk.{Files}
 use Rattle.redo_check.specs.Checking.{Ends}
 use Rattle.redo_check.specs.Saying.{says_then}
+use Rattle.redo_check.specs.Faults.{StopsBy}
+use Rattle.redo_check.proofs.FaultLemmas.{faults_later}
 use Rattle.redo_check.proofs.checking.check_store.Goals as goal
 
 pub returns-in-Ok-clause-keeps : goal.returns-in-Ok-clause-keeps
@@ -19,3 +21,21 @@ returns-in-Ok-clause-checks g c told verdict =
       ends = subst (λ (s : List ℕ). Ends (g.M.Machine.disk c.args.machine.now).reads s new.said c.end_checked.result) found.2
           (subst (λ (f : Files). Ends f mid.said new.said c.end_checked.result) (run.reads told) (c.end_checked.ensures.ends (run.time.files_told.0 told)));
     }
+
+pub returns-in-Ok-clause-faults : goal.returns-in-Ok-clause-faults
+returns-in-Ok-clause-faults g c = faults_later (g.M.Machine.disk c.args.machine.now) (g.M.Machine.disk c.say_files.new.machine) (g.M.Machine.disk c.end_checked.new.machine) c.end_checked.result c.say_files.ensures.runs.time c.end_checked.ensures.faults
+
+pub returns-in-Err-DiskFault-clause-faults : goal.returns-in-Err-DiskFault-clause-faults
+returns-in-Err-DiskFault-clause-faults g c = subst (StopsBy (g.M.Machine.disk c.args.machine.now) (g.M.Machine.disk c.say_files.new.machine)) c.in-Err-DiskFault.field-0-is c.in-Err-DiskFault.ensures.cause
+
+pub returns-in-Err-SayFault-clause-faults : goal.returns-in-Err-SayFault-clause-faults
+returns-in-Err-SayFault-clause-faults g c = subst (StopsBy (g.M.Machine.disk c.args.machine.now) (g.M.Machine.disk c.say_files.new.machine)) c.in-Err-SayFault.field-0-is c.in-Err-SayFault.ensures.cause
+
+pub returns-in-Err-NotAStore-clause-checks : goal.returns-in-Err-NotAStore-clause-checks
+returns-in-Err-NotAStore-clause-checks g c told verdict = absurd (subst (StopsBy (g.M.Machine.disk c.args.machine.now) (g.M.Machine.disk c.say_files.new.machine)) c.in-Err-NotAStore.field-0-is c.in-Err-NotAStore.ensures.cause)
+
+pub returns-in-Err-Damaged-clause-checks : goal.returns-in-Err-Damaged-clause-checks
+returns-in-Err-Damaged-clause-checks g c told verdict = absurd (subst (StopsBy (g.M.Machine.disk c.args.machine.now) (g.M.Machine.disk c.say_files.new.machine)) c.in-Err-Damaged.field-0-is c.in-Err-Damaged.ensures.cause)
+
+pub returns-in-Err-Memory-clause-faults : goal.returns-in-Err-Memory-clause-faults
+returns-in-Err-Memory-clause-faults g c = tt

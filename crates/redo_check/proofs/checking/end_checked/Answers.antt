@@ -1,6 +1,7 @@
 use Rattle.std.proofs.Common.{List, ℕ, subst}
 use Rattle.redo_check.specs.Checking.{Ends}
 use Rattle.redo_check.specs.Saying.{says_nothing, says_then}
+use Rattle.redo_check.proofs.FaultLemmas.{ends_counted, stopped_counted}
 use Rattle.redo_check.proofs.EndLemmas.{ends_stopped, ends_whole}
 use Rattle.redo_check.proofs.checking.end_checked.Goals as goal
 
@@ -26,3 +27,9 @@ returns-in-Err-clause-ends g c told =
     let new = g.M.Machine.disk c.end_stopped.new.machine in
     subst (λ (s : List ℕ). Ends first.reads s new.said c.end_stopped.result) (kept.said told)
     (ends_stopped first.reads (g.M.Machine.disk c.judge.new.machine).said new.said c.in-Err.stop c.end_stopped.result (c.in-Err.ensures.cause told) (c.end_stopped.ensures.no_store told_mid) (c.end_stopped.ensures.damaged told_mid) c.end_stopped.ensures.undone)
+
+pub returns-in-Ok-clause-faults : goal.returns-in-Ok-clause-faults
+returns-in-Ok-clause-faults g c = ends_counted (g.M.Machine.disk c.args.machine.now) (g.M.Machine.disk c.judge.new.machine) (g.M.Machine.disk c.end_whole.new.machine) c.end_whole.result c.judge.ensures.kept.time c.end_whole.ensures.faults
+
+pub returns-in-Err-clause-faults : goal.returns-in-Err-clause-faults
+returns-in-Err-clause-faults g c = stopped_counted (g.M.Machine.disk c.args.machine.now) (g.M.Machine.disk c.judge.new.machine) (g.M.Machine.disk c.end_stopped.new.machine) c.in-Err.stop c.end_stopped.result c.judge.ensures.kept.time c.end_stopped.ensures.runs.time c.in-Err.ensures.faults c.end_stopped.ensures.faults

@@ -6,6 +6,7 @@ use Rattle.disk_model.specs.declared.machine.FileNo.TheVariants.{Objects}
 use Rattle.stable_objects.specs.SlotsView.{AreOf}
 use Rattle.redo_check.specs.Checking.{IsLogStopped, IsRestart, IsStopped}
 use Rattle.redo_check.specs.Stops.{stop_from_open}
+use Rattle.redo_check.proofs.FaultLemmas.{counted_later, open_counted}
 use Rattle.redo_check.proofs.JudgeLemmas.{all_stopped, objects_damaged, stopped_by, unopened}
 use Rattle.redo_check.proofs.judging.judge.Goals as goal
 
@@ -34,3 +35,9 @@ returns-clause-cause g c told =
     let are = c.in_ok-slots.ensures.read files (told_agrees kept told) in
     all_stopped files c.judge_log-judged.result (subst (λ (f : Files). IfErr c.judge_log-judged.result (IsLogStopped f)) (kept.reads told)
     (c.judge_log-judged.ensures.cause (kept.time.files_told.0 told) (subst (λ (f : Files). AreOf c.in_ok-slots.slots (f Objects)) (sym (kept.reads told)) are)))
+
+pub returns-in_err-slots-clause-faults : goal.returns-in_err-slots-clause-faults
+returns-in_err-slots-clause-faults g c = stopped_by c.from_residual.result (stop_from_open c.in_err-slots.field-0.0) _ c.from_residual.ensures.1 (open_counted (g.M.Machine.disk c.args.machine.now) (g.M.Machine.disk c.load.new.machine) _ _ c.in_err-slots.field-0.0 c.in_err-slots.ensures.cause)
+
+pub returns-clause-faults : goal.returns-clause-faults
+returns-clause-faults g c = counted_later (g.M.Machine.disk c.args.machine.now) (g.M.Machine.disk c.load.new.machine) (g.M.Machine.disk c.judge_log-judged.new.machine) c.judge_log-judged.result c.load.ensures.kept.time c.judge_log-judged.ensures.faults

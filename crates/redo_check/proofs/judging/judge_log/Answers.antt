@@ -3,6 +3,7 @@ use Rattle.log_records.specs.Loading.{IsLoadFault}
 use Rattle.op_codec.specs.AllOps.{all_meaning}
 use Rattle.redo_check.specs.Checking.{IsLogStopped}
 use Rattle.redo_check.specs.Stops.{stop_from_read}
+use Rattle.redo_check.proofs.FaultLemmas.{read_counted}
 use Rattle.redo_check.proofs.JudgeLemmas.{has_store, is_restart, is_small, late_damaged, load_damaged, log_stopped, stopped_by}
 use Rattle.redo_check.proofs.judging.judge_log.Goals as goal
 
@@ -28,3 +29,6 @@ returns-clause-whole g c told are =
     let b = c.bounds-bounds.result in
     let small = is_small files b (has_store files c.args.slots.now b are c.bounds-bounds.ensures) in
     is_restart files c.args.slots.now b c.in_ok-records.records are c.bounds-bounds.ensures (c.in_ok-records.ensures.read told small) c.in_default.ensures.none
+
+pub returns-in_err-records-clause-faults : goal.returns-in_err-records-clause-faults
+returns-in_err-records-clause-faults g c = stopped_by c.from_residual.result (stop_from_read c.in_err-records.field-0.0) _ c.from_residual.ensures.1 (read_counted (g.M.Machine.disk c.args.machine.now) (g.M.Machine.disk c.store_records.new.machine) _ c.in_err-records.field-0.0 c.in_err-records.ensures.fault)

@@ -6,6 +6,7 @@ use Rattle.log_frames.specs.Reading.{fails_on}
 use Rattle.log_records.specs.CodecLaws.{has_codes}
 use Rattle.log_records.specs.Loading.{IsLoadFault}
 use Rattle.log_records.specs.Loading.IsLoadFault.{in_blocks}
+use Rattle.redo_check.proofs.FaultLemmas.{fails_later, only_counted}
 use Rattle.redo_check.proofs.JudgeLemmas.{has_records, records_found, stopped_by}
 use Rattle.redo_check.proofs.judging.read_records.Goals as goal
 
@@ -40,3 +41,9 @@ returns-clause-read g c told small =
     has_records m (has_codes m b small (g.met.O.Oper.bounded b) (g.met.O.Oper.lawful b small)) files c.in_ok-log.log loaded.0.groups c.in_ok-log.check c.analyse-plan.result c.in_ok-found.found.0 c.base.result c.start.result c.next.result c.in_ok-found.found.1
     (c.in_ok-found.ensures.ends files (told_agrees kept told)) (records_found m (kept.reads told) loaded.0.file) loaded.1 (found.held files (told_agrees (stays_twice _ _ _ kept c.load_checked.ensures.kept) told)) found.next.0 c.base.ensures.value
     c.analyse-plan.ensures.table c.analyse-plan.ensures.start c.start.ensures c.next.ensures
+
+pub returns-in_err-found-clause-fault : goal.returns-in_err-found-clause-fault
+returns-in_err-found-clause-fault g c = stopped_by c.from_residual.result c.in_err-found.field-0.0 _ c.from_residual.ensures.1 c.in_err-found.ensures.fault
+
+pub returns-in_err-log-clause-fault : goal.returns-in_err-log-clause-fault
+returns-in_err-log-clause-fault g c = fails_later (g.M.Machine.disk c.args.machine.now) (g.M.Machine.disk c.log_end.new.machine) (g.M.Machine.disk c.load_checked.new.m) _ c.from_residual-in_err-log.result c.in_err-log.field-0.0 c.log_end.ensures.kept.time c.from_residual-in_err-log.ensures.1 (only_counted _ _ c.in_err-log.field-0.0 c.in_err-log.ensures.cause)

@@ -1,5 +1,6 @@
 use Rattle.disk_model.specs.Moments.{agreed_before, stays_twice}
 use Rattle.disk_model.specs.declared.machine.FileNo.TheVariants.{Objects}
+use Rattle.redo_check.proofs.FaultLemmas.{fails_later}
 use Rattle.redo_check.proofs.FormLemmas.{head_alone, head_and_more}
 use Rattle.redo_check.proofs.objects.push_objects.Goals as goal
 
@@ -17,3 +18,6 @@ pub returns-clause-text : goal.returns-clause-text
 returns-clause-text g c files agrees =
     head_and_more (files Objects) c.read_padded.new.into c.in-Some.form c.args.text.now.items c.push_head.new.text.items c.push_behind.new.text.items (c.in_ok-read_padded.ensures.bytes files (agreed_before c.push_behind.ensures.kept files agrees)) c.in-Some.ensures.some.0 c.in-Some.ensures.some.2 c.in_ok-push_head.ensures
     (c.in_ok-push_behind.ensures.text files agrees)
+
+pub returns-in_err-push_behind-clause-cause : goal.returns-in_err-push_behind-clause-cause
+returns-in_err-push_behind-clause-cause g c = fails_later (g.M.Machine.disk c.args.machine.now) (g.M.Machine.disk c.read_padded.new.machine) (g.M.Machine.disk c.push_behind.new.machine) _ c.from_residual-in_err-push_behind.result c.in_err-push_behind.field-0.0 c.read_padded.ensures.kept.time c.from_residual-in_err-push_behind.ensures.1 c.in_err-push_behind.ensures.cause

@@ -6,6 +6,7 @@ use Rattle.oper_core.specs.Meaning.{IsSmall}
 use Rattle.oper_core.specs.declared.bounds.Bounds.{Bounds}
 use Rattle.redo_check.specs.Checking.{IsRecordsOf}
 use Rattle.redo_check.specs.Checking.IsRecordsLine.{by_bounds}
+use Rattle.redo_check.proofs.FaultLemmas.{fails_later}
 use Rattle.redo_check.proofs.saying.records_text.Goals as goal
 
 pub returns-in_err-line-clause-kept : goal.returns-in_err-line-clause-kept
@@ -22,3 +23,6 @@ returns-clause-text g c told =
     by_bounds c.in-Some.b (sym (found.read files (told_agrees kept told)) ∙ c.in-Some.is)
     (subst (λ (f : Files). IsRecordsOf f c.in-Some.b c.in_ok-line.line.items) (kept.reads told)
     (c.in_ok-line.ensures.text (kept.time.files_told.0 told) (subst (λ (o : Option Bounds). IfSome o IsSmall) c.in-Some.is found.small)))
+
+pub returns-in_err-line-clause-cause : goal.returns-in_err-line-clause-cause
+returns-in_err-line-clause-cause g c = fails_later (g.M.Machine.disk c.args.machine.now) (g.M.Machine.disk c.read_bounds.new.machine) (g.M.Machine.disk c.records_line.new.machine) _ c.from_residual-in_err-line.result c.in_err-line.field-0.0 c.read_bounds.ensures.kept.time c.from_residual-in_err-line.ensures.1 c.in_err-line.ensures.cause

@@ -3,6 +3,7 @@ use Rattle.disk_model.specs.Moments.{agreed_before, stays_twice}
 use Rattle.disk_model.specs.Padded.{padded}
 use Rattle.disk_model.specs.declared.machine.FileNo.TheVariants.{Objects}
 use Rattle.redo_check.specs.Slots.{pair_lines, slot_of}
+use Rattle.redo_check.proofs.FaultLemmas.{fails_later}
 use Rattle.redo_check.proofs.slots.push_object.Goals as goal
 
 pub returns-in_err-second-clause-kept : goal.returns-in_err-second-clause-kept
@@ -21,3 +22,6 @@ returns-clause-text g c files agrees =
     let first = c.in_ok-first.ensures.read files (agreed_before c.read_slot-2.ensures.kept files agrees) ∙ ap at c.place_of.ensures.is in
     let second = c.in_ok-second.ensures.read files agrees ∙ ap at c.place_of-2.ensures.is in
     c.in_ok-push_pair.ensures ∙ λ i. a.text.now.items ++ pair_lines a.layout a.size a.object (first i) (second i)
+
+pub returns-in_err-second-clause-cause : goal.returns-in_err-second-clause-cause
+returns-in_err-second-clause-cause g c = fails_later (g.M.Machine.disk c.args.machine.now) (g.M.Machine.disk c.read_slot.new.machine) (g.M.Machine.disk c.read_slot-2.new.machine) _ c.from_residual-in_err-second.result c.in_err-second.field-0.0 c.read_slot.ensures.kept.time c.from_residual-in_err-second.ensures.1 c.in_err-second.ensures.cause

@@ -4,6 +4,7 @@ use Rattle.disk_model.specs.Moments.{agreed_before, stays_twice}
 use Rattle.disk_model.specs.declared.machine.FileNo.TheVariants.{Objects}
 use Rattle.formats.specs.Objects.{last_slot}
 use Rattle.redo_check.specs.Lines.{number_line}
+use Rattle.redo_check.proofs.FaultLemmas.{fails_later}
 use Rattle.redo_check.proofs.SlotLemmas.{pairs_begun, pairs_done, pairs_more}
 use Rattle.redo_check.proofs.slots.push_slots.Goals as goal
 
@@ -34,3 +35,6 @@ returns-clause-text g c files agrees =
     let inv = c.loop-object.invariant in
     let so_far = inv.lines files agrees in
     pairs_done c.args.layout (files Objects) c.in_ok-size.size c.loop-object.object c.args.text.now.items c.loop-object.text.items so_far.0 (search rules) so_far.1
+
+pub returns-in_err-push_object-clause-cause : goal.returns-in_err-push_object-clause-cause
+returns-in_err-push_object-clause-cause g c = fails_later (g.M.Machine.disk c.args.machine.now) (g.M.Machine.disk c.loop-object.machine) (g.M.Machine.disk c.push_object.new.machine) _ c.from_residual-in_err-push_object.result c.in_err-push_object.field-0.0 c.loop-object.invariant.kept.time c.from_residual-in_err-push_object.ensures.1 c.in_err-push_object.ensures.cause

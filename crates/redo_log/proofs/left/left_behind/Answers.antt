@@ -1,5 +1,6 @@
 use Rattle.std.proofs.Common.{arith, refl}
 use Rattle.disk_model.specs.Moments.{agreed_before, stays_twice}
+use Rattle.redo_log.proofs.FaultLemmas.{fails_later}
 use Rattle.redo_log.proofs.UsedLemmas.{left_more, left_whole}
 use Rattle.redo_log.proofs.left.left_behind.Goals as goal
 
@@ -31,3 +32,6 @@ returns-clause-left g c files agree =
     let inv = c.loop-gone.invariant in
     let so_far = inv.so_far files agree in
     left_whole (files c.args.file) c.args.from c.loop-gone.gone c.loop-gone.left (omega (arith, c.loop-gone-test.false, inv.all_is, so_far.0)) so_far.1
+
+pub returns-in_err-count-clause-cause : goal.returns-in_err-count-clause-cause
+returns-in_err-count-clause-cause g c = fails_later (g.M.Machine.disk c.args.machine.now) (g.M.Machine.disk c.loop-gone.machine) (g.M.Machine.disk c.used_in.new.machine) _ c.from_residual-in_err-count.result c.in_err-count.field-0.0 c.loop-gone.invariant.kept.time c.from_residual-in_err-count.ensures.1 c.in_err-count.ensures.cause

@@ -6,6 +6,10 @@ use Rattle.log_records.specs.Loading.IsLoadFault.{in_blocks}
 use Rattle.redo_log.specs.Listing.{HasStore, IsLogStopped}
 use Rattle.redo_log.specs.Saying.{says_nothing, says_then}
 use Rattle.redo_log.specs.Stops.{stop_from_read}
+use Rattle.op_codec.specs.AllOps.{all_meaning}
+use Rattle.formats.specs.InForce.{HoldsLog}
+use Rattle.redo_log.proofs.BrokenLemmas.{end_counted, said_broken}
+use Rattle.redo_log.proofs.FaultLemmas.{read_counted}
 use Rattle.redo_log.proofs.ListLemmas.{listed, load_damaged, log_stopped, on_ok, stopped_by}
 use Rattle.redo_log.proofs.listing.list_log.Goals as goal
 
@@ -23,11 +27,20 @@ returns-in_err-end_listing-clause-runs g c = says_then (says_then (says_nothing 
 
 pub returns-in_err-end_listing-clause-cause : goal.returns-in_err-end_listing-clause-cause
 returns-in_err-end_listing-clause-cause g c told store =
-    let run = says_then (says_nothing c.load.ensures.kept) c.say_log-said.ensures.runs in
+    let kept = c.load.ensures.kept in
+    let run = says_then (says_nothing kept) c.say_log-said.ensures.runs in
     let same = run.reads told in
+    let first = g.M.Machine.disk c.args.machine.now in
+    let mid = g.M.Machine.disk c.load.new.machine in
+    let new = g.M.Machine.disk c.say_log-said.new.machine in
+    let log = c.in_ok-log.log in
+    let found = c.in_ok-log.ensures.read first.reads (told_agrees kept told) in
+    let here = subst (λ (f : Files). HoldsLog log.active log.header found.0 f) (sym (kept.reads told)) found.1 in
+    let there = subst (λ (f : Files). HoldsLog log.active log.header found.0 f) (sym same) found.1 in
     subst (λ (f : Files). IfErr c.from_residual-in_err-end_listing.result (IsLogStopped f)) same
-    (stopped_by c.from_residual-in_err-end_listing.result c.in_err-end_listing.field-0.0 (IsLogStopped (g.M.Machine.disk c.say_log-said.new.machine).reads) c.from_residual-in_err-end_listing.ensures.1
-    (c.in_err-end_listing.ensures.cause (run.time.files_told.0 told) (subst (λ (f : Files). HasStore f c.args.b) (sym same) store)))
+    (stopped_by c.from_residual-in_err-end_listing.result c.in_err-end_listing.field-0.0 (IsLogStopped new.reads) c.from_residual-in_err-end_listing.ensures.1
+    (c.in_err-end_listing.ensures.cause (run.time.files_told.0 told) (subst (λ (f : Files). HasStore f c.args.b) (sym same) store) log.active log.header found.0 there
+    (said_broken (all_meaning c.args.b) mid new _ found.0 c.say_log-said.result (λ file place broken. broken (kept.time.files_told.0 told) found.0 here) c.say_log-said.ensures.cause)))
 
 pub returns-clause-runs : goal.returns-clause-runs
 returns-clause-runs g c = says_then (says_then (says_nothing c.load.ensures.kept) c.say_log-said.ensures.runs) (says_nothing c.end_listing.ensures.kept)
@@ -38,3 +51,10 @@ returns-clause-listed g c told store =
     let found = c.in_ok-log.ensures.read first.reads (told_agrees c.load.ensures.kept told) in
     listed first (g.M.Machine.disk c.load.new.machine) (g.M.Machine.disk c.say_log-said.new.machine) (g.M.Machine.disk c.end_listing.new.machine) c.args.b _ _ found.0 told store c.load.ensures.kept c.say_log-said.ensures.runs c.end_listing.ensures.kept found.1
     (λ told_mid holds. on_ok c.say_log-said.result _ c.in_ok-end_listing.ensures.all (c.say_log-said.ensures.said told_mid found.0 holds found.2 found.3)) c.in_ok-end_listing.ensures.whole
+
+pub returns-in_err-log-clause-faults : goal.returns-in_err-log-clause-faults
+returns-in_err-log-clause-faults g c = stopped_by c.from_residual.result (stop_from_read c.in_err-log.field-0.0) _ c.from_residual.ensures.1 (read_counted (g.M.Machine.disk c.args.machine.now) (g.M.Machine.disk c.load.new.machine) _ c.in_err-log.field-0.0 c.in_err-log.ensures.cause)
+
+pub returns-in_err-end_listing-clause-faults : goal.returns-in_err-end_listing-clause-faults
+returns-in_err-end_listing-clause-faults g c = stopped_by c.from_residual-in_err-end_listing.result c.in_err-end_listing.field-0.0 _ c.from_residual-in_err-end_listing.ensures.1
+    (end_counted (g.M.Machine.disk c.args.machine.now) (g.M.Machine.disk c.load.new.machine) (g.M.Machine.disk c.say_log-said.new.machine) (g.M.Machine.disk c.end_listing.new.machine) _ c.say_log-said.result c.in_err-end_listing.field-0.0 c.load.ensures.kept.time (says_then (says_nothing c.load.ensures.kept) c.say_log-said.ensures.runs).time c.end_listing.ensures.kept.time c.say_log-said.ensures.cause c.in_err-end_listing.ensures.faults)

@@ -1,6 +1,7 @@
 use Rattle.std.proofs.Common.{◌++◌, ◌∙◌, List, ℕ, ap, subst}
 use Rattle.redo_log.specs.Listing.{IsLogStopped, damaged}
 use Rattle.redo_log.specs.Saying.{says_then}
+use Rattle.redo_log.proofs.FaultLemmas.{stopped_counted}
 use Rattle.redo_log.proofs.listing.list_open.Goals as goal
 
 pub returns-in-Err-clause-keeps : goal.returns-in-Err-clause-keeps
@@ -25,3 +26,6 @@ returns-in-Err-clause-damaged g c told store done =
       lines = lines.0;
       said = is.3 ∙ ap (λ (l : List ℕ). l ++ damaged is.0 is.1) lines.1;
     }
+
+pub returns-in-Err-clause-faults : goal.returns-in-Err-clause-faults
+returns-in-Err-clause-faults g c = stopped_counted (g.M.Machine.disk c.args.machine.now) (g.M.Machine.disk c.list_log.new.machine) (g.M.Machine.disk c.end_stopped.new.machine) c.in-Err.stop c.end_stopped.result c.list_log.ensures.runs.time c.end_stopped.ensures.runs.time c.in-Err.ensures.faults c.end_stopped.ensures.faults

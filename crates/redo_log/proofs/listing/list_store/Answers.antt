@@ -3,6 +3,7 @@ use Rattle.std.proofs.lemmas.List.{append-nil}
 use Rattle.disk_model.specs.Disk.{Files}
 use Rattle.redo_log.specs.Listing.{HasStore, IsDamageSaid, IsListed, IsStopped, damaged, not_a_store}
 use Rattle.redo_log.specs.Saying.{says_nothing, says_then}
+use Rattle.redo_log.proofs.FaultLemmas.{faults_later, stopped_counted}
 use Rattle.redo_log.proofs.listing.list_store.Goals as goal
 
 pub returns-in-Ok-clause-keeps : goal.returns-in-Ok-clause-keeps
@@ -58,3 +59,9 @@ returns-in-Err-clause-damaged g c told done =
       lines = [];
       said = is.3 ∙ ap (λ (l : List ℕ). l ++ damaged is.0 is.1) (kept.said told ∙ sym (append-nil before));
     }
+
+pub returns-in-Ok-clause-faults : goal.returns-in-Ok-clause-faults
+returns-in-Ok-clause-faults g c = faults_later (g.M.Machine.disk c.args.machine.now) (g.M.Machine.disk c.read_bounds.new.machine) (g.M.Machine.disk c.list_open.new.machine) c.list_open.result c.read_bounds.ensures.kept.time c.list_open.ensures.faults
+
+pub returns-in-Err-clause-faults : goal.returns-in-Err-clause-faults
+returns-in-Err-clause-faults g c = stopped_counted (g.M.Machine.disk c.args.machine.now) (g.M.Machine.disk c.read_bounds.new.machine) (g.M.Machine.disk c.end_stopped.new.machine) c.in-Err.stop c.end_stopped.result c.read_bounds.ensures.kept.time c.end_stopped.ensures.runs.time c.in-Err.ensures.faults c.end_stopped.ensures.faults

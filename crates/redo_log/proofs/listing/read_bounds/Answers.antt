@@ -1,6 +1,7 @@
 use Rattle.disk_model.specs.Moments.{told_agrees}
 use Rattle.redo_log.specs.Listing.{IsStopped}
 use Rattle.redo_log.specs.Stops.{stop_from_open}
+use Rattle.redo_log.proofs.FaultLemmas.{open_counted}
 use Rattle.redo_log.proofs.ListLemmas.{has_store, objects_damaged, stopped_by, unopened}
 use Rattle.redo_log.proofs.listing.read_bounds.Goals as goal
 
@@ -15,3 +16,6 @@ returns-in_err-slots-clause-cause g c told =
     let agrees = told_agrees c.load.ensures.kept told in
     stopped_by c.from_residual.result (stop_from_open c.in_err-slots.field-0.0) (IsStopped files) c.from_residual.ensures.1
     (unopened files _ _ _ c.in_err-slots.field-0.0 (λ none. none files agrees) (λ file place is. objects_damaged files file place is.0 (is.1 files agrees)) c.in_err-slots.ensures.cause)
+
+pub returns-in_err-slots-clause-faults : goal.returns-in_err-slots-clause-faults
+returns-in_err-slots-clause-faults g c = stopped_by c.from_residual.result (stop_from_open c.in_err-slots.field-0.0) _ c.from_residual.ensures.1 (open_counted (g.M.Machine.disk c.args.machine.now) (g.M.Machine.disk c.load.new.machine) _ _ c.in_err-slots.field-0.0 c.in_err-slots.ensures.cause)

@@ -3,6 +3,8 @@ use Rattle.std.specs.Prelude.{codes}
 use Rattle.disk_model.specs.Moments.{told_agrees}
 use Rattle.redo_log.specs.Lines.{line}
 use Rattle.redo_log.specs.Saying.{says_front, says_nothing, says_then}
+use Rattle.redo_log.specs.Stops.{stop_from_read}
+use Rattle.redo_log.proofs.FaultLemmas.{read_stops, stops_first, stops_later}
 use Rattle.redo_log.proofs.listing.say_end.Goals as goal
 
 pub returns-in_err-left-clause-runs : goal.returns-in_err-left-clause-runs
@@ -23,3 +25,9 @@ returns-clause-said g c told =
     let kept = c.left_behind.ensures.kept in
     let text = c.as_slice.ensures.value ∙ c.in_ok-line.ensures ∙ ap (λ (k : ℕ). line c.args.file c.args.end k (codes "end")) (c.in_ok-left.ensures.left first.reads (told_agrees kept told)) in
     c.in_ok-say_line.ensures.all (kept.time.files_told.0 told) ∙ λ i. kept.said told i ++ text i
+
+pub returns-in_err-left-clause-cause : goal.returns-in_err-left-clause-cause
+returns-in_err-left-clause-cause g c = stops_first (g.M.Machine.disk c.args.machine.now) (g.M.Machine.disk c.left_behind.new.machine) _ _ c.from_residual.result (stop_from_read c.in_err-left.field-0.0) (λ file place none. absurd none) c.from_residual.ensures.1 (read_stops (g.M.Machine.disk c.args.machine.now) (g.M.Machine.disk c.left_behind.new.machine) _ c.in_err-left.field-0.0 c.in_err-left.ensures.cause)
+
+pub returns-in_err-say_line-clause-cause : goal.returns-in_err-say_line-clause-cause
+returns-in_err-say_line-clause-cause g c = stops_later (g.M.Machine.disk c.args.machine.now) (g.M.Machine.disk c.left_behind.new.machine) (g.M.Machine.disk c.say_line.new.machine) _ _ c.from_residual-in_err-say_line.result c.in_err-say_line.field-0.0 c.left_behind.ensures.kept.time (λ file place none. absurd none) c.from_residual-in_err-say_line.ensures.1 c.in_err-say_line.ensures.cause

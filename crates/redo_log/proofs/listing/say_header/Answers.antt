@@ -2,6 +2,7 @@ use Rattle.std.proofs.Common.{◌++◌, ◌∙◌, List, ℕ, ap}
 use Rattle.disk_model.specs.Moments.{stays_here}
 use Rattle.redo_log.specs.Lines.{header_words, line}
 use Rattle.redo_log.specs.Saying.{says_front, says_nothing}
+use Rattle.redo_log.proofs.FaultLemmas.{stops_first}
 use Rattle.redo_log.proofs.listing.say_header.Goals as goal
 
 pub returns-in_err-line-clause-runs : goal.returns-in_err-line-clause-runs
@@ -17,3 +18,6 @@ pub returns-clause-said : goal.returns-clause-said
 returns-clause-said g c told =
     let text = c.as_slice.ensures.value ∙ c.in_ok-line.ensures ∙ λ i. line (c.active.ensures i) 0 33 (header_words (record { epoch = c.epoch.ensures i; base = c.base.ensures i; commands = c.commands.ensures i })) in
     c.in_ok-say_line.ensures.all told ∙ ap (λ (l : List ℕ). (g.M.Machine.disk c.args.machine.now).said ++ l) text
+
+pub returns-in_err-say_line-clause-cause : goal.returns-in_err-say_line-clause-cause
+returns-in_err-say_line-clause-cause g c = stops_first (g.M.Machine.disk c.args.machine.now) (g.M.Machine.disk c.say_line.new.machine) _ _ c.from_residual-in_err-say_line.result c.in_err-say_line.field-0.0 (λ file place none. absurd none) c.from_residual-in_err-say_line.ensures.1 c.in_err-say_line.ensures.cause

@@ -1,6 +1,9 @@
 use Rattle.std.proofs.Common.{◌∙◌}
 use Rattle.op_codec.specs.AllOps.{all_meaning}
 use Rattle.redo_log.specs.Saying.{says_nothing, says_then, still_agrees}
+use Rattle.redo_log.specs.Stops.{stop_from_read}
+use Rattle.redo_log.proofs.BrokenLemmas.{log_broken}
+use Rattle.redo_log.proofs.FaultLemmas.{read_stops, stops_first, stops_later}
 use Rattle.redo_log.proofs.ListLemmas.{end_used, log_goes_on}
 use Rattle.redo_log.proofs.listing.say_log.Goals as goal
 
@@ -26,3 +29,16 @@ returns-clause-said g c told payloads holds end none =
     c.say_header.ensures.runs c.reader.ensures.kept c.say_blocks.ensures.runs (c.in_ok-say_header.ensures.said told) c.in_ok-payloads.ensures.file c.active.ensures (c.used.ensures ∙ end_used c.args.log.now _ none end)
     (c.in_ok-payloads.ensures.starts (g.M.Machine.disk c.args.machine.now).reads (still_agrees (says_then c.say_header.ensures.runs (says_nothing c.reader.ensures.kept)) told) payloads holds.log)
     c.in_ok-say_blocks.ensures.said c.in_ok-say_end.ensures.said
+
+pub returns-in_err-say_header-clause-cause : goal.returns-in_err-say_header-clause-cause
+returns-in_err-say_header-clause-cause g c = stops_first (g.M.Machine.disk c.args.machine.now) (g.M.Machine.disk c.say_header.new.machine) _ _ c.from_residual.result c.in_err-say_header.field-0.0 (λ file place none. absurd none) c.from_residual.ensures.1 c.in_err-say_header.ensures.cause
+
+pub returns-in_err-payloads-clause-cause : goal.returns-in_err-payloads-clause-cause
+returns-in_err-payloads-clause-cause g c = stops_later (g.M.Machine.disk c.args.machine.now) (g.M.Machine.disk c.say_header.new.machine) (g.M.Machine.disk c.reader.new.machine) _ _ c.from_residual-in_err-payloads.result (stop_from_read c.in_err-payloads.field-0.0) c.say_header.ensures.runs.time (λ file place none. absurd none) c.from_residual-in_err-payloads.ensures.1 (read_stops (g.M.Machine.disk c.say_header.new.machine) (g.M.Machine.disk c.reader.new.machine) _ c.in_err-payloads.field-0.0 c.in_err-payloads.ensures.cause)
+
+pub returns-in_err-say_blocks-clause-cause : goal.returns-in_err-say_blocks-clause-cause
+returns-in_err-say_blocks-clause-cause g c = stops_later (g.M.Machine.disk c.args.machine.now) (g.M.Machine.disk c.reader.new.machine) (g.M.Machine.disk c.say_blocks.new.machine) _ _ c.from_residual-in_err-say_blocks.result c.in_err-say_blocks.field-0.0 (says_then c.say_header.ensures.runs (says_nothing c.reader.ensures.kept)).time (λ file place broken. log_broken (all_meaning c.args.b) (g.M.Machine.disk c.args.machine.now) (g.M.Machine.disk c.say_header.new.machine) (g.M.Machine.disk c.reader.new.machine) c.args.log.now.active c.args.log.now.header c.in_ok-payloads.payloads c.say_header.ensures.runs c.reader.ensures.kept c.in_ok-payloads.ensures.file
+    (λ payloads told holds. c.in_ok-payloads.ensures.starts (g.M.Machine.disk c.args.machine.now).reads (still_agrees (says_then c.say_header.ensures.runs (says_nothing c.reader.ensures.kept)) told) payloads holds.log) broken) c.from_residual-in_err-say_blocks.ensures.1 c.in_err-say_blocks.ensures.cause
+
+pub returns-in_err-say_end-clause-cause : goal.returns-in_err-say_end-clause-cause
+returns-in_err-say_end-clause-cause g c = stops_later (g.M.Machine.disk c.args.machine.now) (g.M.Machine.disk c.say_blocks.new.machine) (g.M.Machine.disk c.say_end.new.machine) _ _ c.from_residual-in_err-say_end.result c.in_err-say_end.field-0.0 (says_then (says_then c.say_header.ensures.runs (says_nothing c.reader.ensures.kept)) c.say_blocks.ensures.runs).time (λ file place none. absurd none) c.from_residual-in_err-say_end.ensures.1 c.in_err-say_end.ensures.cause

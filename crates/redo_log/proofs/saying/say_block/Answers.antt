@@ -2,6 +2,8 @@ use Rattle.std.proofs.Common.{◌∙◌, arith}
 use Rattle.log_frames.specs.Payloads.{remaining}
 use Rattle.op_codec.specs.AllOps.{all_meaning}
 use Rattle.redo_log.specs.Saying.{says_then}
+use Rattle.redo_log.proofs.BrokenLemmas.{block_broken}
+use Rattle.redo_log.proofs.FaultLemmas.{stops_first, stops_later}
 use Rattle.redo_log.proofs.ReadLemmas.{block_said}
 use Rattle.redo_log.proofs.Steps.{block_begun, block_goes_on, some_left}
 use Rattle.redo_log.proofs.saying.say_block.Goals as goal
@@ -25,3 +27,9 @@ returns-then-remaining-eq0-clause-said g c told all passed later stands some =
 
 pub returns-in_err-say_record-clause-runs : goal.returns-in_err-say_record-clause-runs
 returns-in_err-say_record-clause-runs g c = says_then c.loop-alloc.invariant.run c.say_record.ensures.runs
+
+pub returns-in_err-say_head-clause-cause : goal.returns-in_err-say_head-clause-cause
+returns-in_err-say_head-clause-cause g c = stops_first (g.M.Machine.disk c.args.machine.now) (g.M.Machine.disk c.say_head.new.machine) _ _ c.from_residual.result c.in_err-say_head.field-0.0 (λ file place none. absurd none) c.from_residual.ensures.1 c.in_err-say_head.ensures.cause
+
+pub returns-in_err-say_record-clause-cause : goal.returns-in_err-say_record-clause-cause
+returns-in_err-say_record-clause-cause g c = stops_later (g.M.Machine.disk c.args.machine.now) (g.M.Machine.disk c.loop-alloc.machine) (g.M.Machine.disk c.say_record.new.machine) _ _ c.from_residual-in_err-say_record.result c.in_err-say_record.field-0.0 c.loop-alloc.invariant.run.time (λ file place none. block_broken (all_meaning c.args.b) (g.M.Machine.disk c.args.machine.now) (g.M.Machine.disk c.loop-alloc.machine) c.args.payloads.now c.loop-alloc.payloads c.loop-alloc.invariant (some_left (remaining c.loop-alloc.payloads) (λ nothing. c.if-remaining-eq0.false (c.remaining.ensures ∙ nothing))) none) c.from_residual-in_err-say_record.ensures.1 c.in_err-say_record.ensures.cause

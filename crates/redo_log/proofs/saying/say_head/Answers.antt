@@ -1,6 +1,7 @@
 use Rattle.std.proofs.Common.{◌∙◌}
 use Rattle.disk_model.specs.Moments.{stays_here}
 use Rattle.redo_log.specs.Saying.{says_front, says_nothing}
+use Rattle.redo_log.proofs.FaultLemmas.{stops_first}
 use Rattle.redo_log.proofs.Steps.{head_said}
 use Rattle.redo_log.proofs.saying.say_head.Goals as goal
 
@@ -18,3 +19,6 @@ returns-clause-said g c told all passed later stands some =
     let first = g.M.Machine.disk c.args.machine.now in
     head_said (first.reads c.args.payloads.now.file) c.args.payloads.now all passed later c.file.result c.place.result c.saturating_sub.result c.remaining.result _ first.said (g.M.Machine.disk c.say_line.new.machine).said
     c.file.ensures c.place.ensures c.saturating_sub.ensures c.remaining.ensures (c.as_slice.ensures.value ∙ c.in_ok-line.ensures) (c.in_ok-say_line.ensures.all told) stands some
+
+pub returns-in_err-say_line-clause-cause : goal.returns-in_err-say_line-clause-cause
+returns-in_err-say_line-clause-cause g c = stops_first (g.M.Machine.disk c.args.machine.now) (g.M.Machine.disk c.say_line.new.machine) _ _ c.from_residual-in_err-say_line.result c.in_err-say_line.field-0.0 (λ file place none. absurd none) c.from_residual-in_err-say_line.ensures.1 c.in_err-say_line.ensures.cause

@@ -2,6 +2,8 @@ use Rattle.std.proofs.Common.{◌∙◌, arith}
 use Rattle.disk_model.specs.Moments.{told_agrees}
 use Rattle.op_codec.specs.AllOps.{all_meaning}
 use Rattle.redo_log.specs.Saying.{says_front, says_nothing, says_then}
+use Rattle.redo_log.proofs.BrokenLemmas.{none_found}
+use Rattle.redo_log.proofs.FaultLemmas.{stops_first, stops_later}
 use Rattle.redo_log.proofs.ReadLemmas.{ahead_off, code_some, code_within, taken_off}
 use Rattle.redo_log.proofs.Steps.{says_record}
 use Rattle.redo_log.proofs.saying.say_record.Goals as goal
@@ -41,3 +43,9 @@ returns-clause-said g c told all passed taken later is some =
     c.in_ok-it.it c.file.result c.in_ok-it.length c.place.result _ told kept c.find_record.ensures.file c.in_ok-it.ensures.all.0 found.0 found.1 some
     (c.in_ok-it.ensures.read first.reads (told_agrees kept told) all passed taken later is) c.take.ensures.read c.take.ensures.took c.file.ensures c.place.ensures
     (c.as_slice.ensures.value ∙ c.in_ok-line.ensures) (c.in_ok-say_line.ensures.all (kept.time.files_told.0 told))
+
+pub returns-in_err-it-clause-cause : goal.returns-in_err-it-clause-cause
+returns-in_err-it-clause-cause g c = stops_first (g.M.Machine.disk c.args.machine.now) (g.M.Machine.disk c.find_record.new.machine) _ _ c.from_residual.result c.in_err-it.field-0.0 (λ file place finds. none_found (all_meaning c.args.b) (g.M.Machine.disk c.args.machine.now) (g.M.Machine.disk c.find_record.new.machine) c.args.payloads.now c.find_record.new.payloads c.find_record.ensures.kept c.find_record.ensures.file finds) c.from_residual.ensures.1 c.in_err-it.ensures.cause
+
+pub returns-in_err-say_line-clause-cause : goal.returns-in_err-say_line-clause-cause
+returns-in_err-say_line-clause-cause g c = stops_later (g.M.Machine.disk c.args.machine.now) (g.M.Machine.disk c.find_record.new.machine) (g.M.Machine.disk c.say_line.new.machine) _ _ c.from_residual-in_err-say_line.result c.in_err-say_line.field-0.0 c.find_record.ensures.kept.time (λ file place none. absurd none) c.from_residual-in_err-say_line.ensures.1 c.in_err-say_line.ensures.cause

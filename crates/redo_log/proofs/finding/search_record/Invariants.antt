@@ -1,7 +1,7 @@
 use Rattle.std.proofs.Common.{◌≡◌, ℕ, List}
 use Rattle.disk_model.specs.Disk.{Files, Disk, Stays}
 use Rattle.log_frames.specs.Payloads.{PayloadReaderView, IsInLog, remaining, ahead}
-use Rattle.redo_log.proofs.finding.find_record.Given as goal
+use Rattle.redo_log.proofs.finding.search_record.Given as goal
 
 -- since the search began only bytes came into memory
 pub record IsSearching (first now : Disk) (old it : PayloadReaderView) : Type 0 where

@@ -1,0 +1,37 @@
+use Rattle.std.proofs.Common.{◌≡◌, inl, rules, subst}
+use Rattle.std.specs.Prelude.{Err, IfErr, Result}
+use Rattle.op_codec.specs.AllOps.{all_meaning}
+use Rattle.redo_log.specs.Faults.{IsBroken}
+use Rattle.redo_log.specs.declared.stop.Stop.{Stop}
+use Rattle.redo_log.specs.declared.stop.Stop.TheVariants as stops
+use Rattle.redo_log.proofs.ListLemmas.{stopped_by}
+use Rattle.redo_log.proofs.BrokenLemmas.{if_ok, on_err}
+use Rattle.redo_log.proofs.listing.end_listing.Goals as goal
+
+pub returns-in-Ok-clause-whole : goal.returns-in-Ok-clause-whole
+returns-in-Ok-clause-whole g c told store = if_ok c.check_store.result (λ both. both.0) (c.check_store.ensures.whole told store)
+
+pub returns-in-Ok-clause-cause : goal.returns-in-Ok-clause-cause
+returns-in-Ok-clause-cause g c told store active header payloads holds broken = c.check_store.ensures.cause told store
+
+pub returns-in-Ok-clause-faults : goal.returns-in-Ok-clause-faults
+returns-in-Ok-clause-faults g c = on_err c.check_store.result (λ stop counts. inl counts) c.check_store.ensures.faults
+
+pub returns-in_err-check_store-in-Err-Damaged-clause-cause : goal.returns-in_err-check_store-in-Err-Damaged-clause-cause
+returns-in_err-check_store-in-Err-Damaged-clause-cause g c told store active header payloads holds broken = stopped_by c.from_residual.result c.in_err-check_store-in-Err-Damaged.field-0.0 _ c.from_residual.ensures.1 (c.in_err-check_store-in-Err-Damaged.ensures.cause told store)
+
+pub returns-in_err-check_store-in-Err-Damaged-clause-faults : goal.returns-in_err-check_store-in-Err-Damaged-clause-faults
+returns-in_err-check_store-in-Err-Damaged-clause-faults g c = stopped_by c.from_residual.result c.in_err-check_store-in-Err-Damaged.field-0.0 _ c.from_residual.ensures.1 (inl c.in_err-check_store-in-Err-Damaged.ensures.faults)
+
+pub returns-in_ok-check_store-in-Err-Damaged-clause-cause : goal.returns-in_ok-check_store-in-Err-Damaged-clause-cause
+returns-in_ok-check_store-in-Err-Damaged-clause-cause g c told store active header payloads holds broken =
+    let same : c.args.said ≡ Err (stops.Damaged c.in-Err-Damaged.file c.in-Err-Damaged.place) = search rules in
+    absurd ((c.in_ok-check_store-in-Err-Damaged.ensures.whole told store).1 active header payloads holds (subst (λ (r : Result _ Stop). IfErr r (IsBroken (all_meaning c.args.b) payloads)) same broken))
+
+pub returns-in_ok-check_store-in-Err-Damaged-clause-faults : goal.returns-in_ok-check_store-in-Err-Damaged-clause-faults
+returns-in_ok-check_store-in-Err-Damaged-clause-faults g c = inl tt
+
+pub returns-in-Err-NotAStore-clause-cause : goal.returns-in-Err-NotAStore-clause-cause
+returns-in-Err-NotAStore-clause-cause g c told store active header payloads holds broken =
+    let same : c.args.said ≡ Err stops.NotAStore = search rules in
+    absurd (subst (λ (r : Result _ Stop). IfErr r (IsBroken (all_meaning c.args.b) payloads)) same broken)
