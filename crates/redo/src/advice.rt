@@ -68,8 +68,12 @@ pub fn advice(status: Status) -> Option<&'static str> {
              says how many there are in all. Run again with the rest.",
         ),
         Status::Memory => Some(
-            "out of memory. All that was answered `forced` is there. Run again with more: a restart takes about 240 bytes for \
-             each record that it does again, beside the values.",
+            "out of memory. All that was answered `forced` is there. Run again with more, or with a `drain` now and then: a run takes \
+             about 240 bytes for each command that is not installed, beside the values.",
+        ),
+        Status::RestartMemory => Some(
+            "out of memory to open the store, also with as little as a restart takes: all that was answered `forced` is there, and \
+             nothing was done. Run again with more.",
         ),
         Status::TooLong => Some(
             "the input has 2^40 bytes or more. Run again with the rest of it: `redo dump` says how many commands are done.",

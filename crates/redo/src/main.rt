@@ -1,20 +1,22 @@
 //! The program `redo`: it gives the words of the command line, the files of the store's folder, those of a backup beside them,
 //! and standard input and output to `redo_shell::top`, and ends with the number of the status. The folder is the current one,
-//! or that of `-C`, and it is locked meanwhile. Standard error says why words are refused, and, where the status is one of trouble,
-//! which call on which file failed, what happened, and what to do next.
+//! or that of `-C`, and it is locked meanwhile. Standard error says why words are refused, which line of a script was the first
+//! that was bad, and, where the status is one of trouble, which call on which file failed, what happened, and what to do next.
 #![tactic(auto)]
 
 mod advice;
+mod bad_line;
 mod fault;
 mod folder;
 mod unstarted;
 
 use advice::advice;
+use bad_line::tell_bad_line;
 use command_words::{Asked, Unread, read_words};
 use disk_model::{FileMachine, StdSource};
 use fault::tell_fault;
 use folder::{enter, lacks_folder, lock};
-use redo_shell::{Status, top};
+use redo_shell::{Budget, Notes, Status, top};
 use std::alloc::AllocError;
 use std::env;
 use std::fs::File;
@@ -32,12 +34,34 @@ fn words<R: Env + AllocGlobal>(rt: &R) -> Result<Vec<String>, AllocError> {
     }
 }
 
-// Does what the words ask, with the files of the current folder.
+// Does what the words ask, with the files of the current folder. Where the restart is refused memory, it is made again with as
+// little as it takes.
 fn run(rt: HostRuntime, words: &[String]) -> Status {
     let mut input = StdSource::new(&rt);
     let mut machine = FileMachine::new(rt);
     let mut backup = FileMachine::backup(rt);
-    let status = top(rt.alloc(), words, &mut machine, &mut backup, &mut input);
+    let mut notes = Notes::new();
+    let mut status = top(
+        rt.alloc(),
+        Budget::Usual,
+        words,
+        &mut machine,
+        &mut backup,
+        &mut input,
+        &mut notes,
+    );
+    if status == Status::RestartMemory {
+        status = top(
+            rt.alloc(),
+            Budget::Least,
+            words,
+            &mut machine,
+            &mut backup,
+            &mut input,
+            &mut notes,
+        );
+    }
+    tell_bad_line(rt, &notes);
     tell_fault(rt, status, &machine, &backup);
     status
 }

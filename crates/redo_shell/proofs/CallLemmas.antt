@@ -17,12 +17,13 @@ use Rattle.redo_shell.specs.Following.{StandbyMoment, StreamMoment}
 use Rattle.redo_shell.specs.Keeps.{KeepsFiles}
 use Rattle.redo_shell.proofs.FollowingLemmas.{standby_moment}
 use Rattle.redo_shell.specs.Saving.{IsBackupCall, IsBackupFor, IsBesideRun}
-use Rattle.redo_shell.specs.Sessions.{run, init, reads, upgrade, follow}
+use Rattle.redo_shell.specs.Sessions.{AddsNothing, run, init, reads, upgrade, follow}
 use Rattle.redo_shell.specs.Shipping.{ShipMoment}
-use Rattle.redo_shell.specs.Status.{IsOfRun, IsOfDump, IsOfInit, IsOfUpgrade, IsOfShip, IsOfFollow}
+use Rattle.redo_shell.specs.Status.{IsOfRun, IsOfDump, IsOfInit, IsOfUpgrade, IsOfShip, IsOfFollow, LacksMemory}
 use Rattle.redo_shell.specs.Store.{Command, IsWellFormed, Opens, Stands}
+use Rattle.redo_shell.specs.declared.budget.Budget.{Budget}
 use Rattle.redo_shell.specs.declared.status.Status.{Status}
-use Rattle.redo_shell.specs.declared.status.Status.TheVariants.{Done, Usage, NotAStore, AlreadyStore, Damaged, DiskFault, ReadFault, SayFault, Memory, TooLong, AlreadyTwo, Smaller, BackupFault, Gone, BadStream, StandbyFull}
+use Rattle.redo_shell.specs.declared.status.Status.TheVariants.{Done, Usage, NotAStore, AlreadyStore, Damaged, DiskFault, ReadFault, SayFault, Memory, RestartMemory, TooLong, AlreadyTwo, Smaller, BackupFault, Gone, BadStream, StandbyFull}
 use Rattle.restart.specs.Starts.{at_start, or_weaker}
 use Rattle.redo_shell.specs.Dump.{DumpMoment}
 use Rattle.redo_shell.proofs.KeepLemmas.{keeps_once}
@@ -33,12 +34,12 @@ use Rattle.redo_shell.proofs.RunLemmas.{AreFew}
 use Rattle.redo_shell.proofs.SavedLemmas.{printed_backed}
 use Rattle.redo_shell.proofs.RestartLemmas.{image_begins}
 
-module _ (told : Type 0) (left rest : List ℕ) (old new : Disk) (status : Status) where
+module _ (budget : Budget) (told : Type 0) (left rest : List ℕ) (old new : Disk) (status : Status) where
   -- what was asked is this
-  pub call_for : {asked other : Asked} → asked ≡ other → IsCallFor asked told left rest old new status → IsCallFor other told left rest old new status
-  call_for is call = subst (λ (a : Asked). IsCallFor a told left rest old new status) is call
+  pub call_for : {asked other : Asked} → asked ≡ other → IsCallFor budget asked told left rest old new status → IsCallFor budget other told left rest old new status
+  call_for is call = subst (λ (a : Asked). IsCallFor budget a told left rest old new status) is call
 
-  not_usage : (asked : Asked) → IsCallFor asked told left rest old new status → status ≡ Usage → ⊥
+  not_usage : (asked : Asked) → IsCallFor budget asked told left rest old new status → status ≡ Usage → ⊥
   not_usage Run call is = subst IsOfRun is call.ends
   not_usage Dump call is = subst IsOfDump is call.ends
   not_usage (Init p) call is = subst IsOfInit is call.ends
@@ -51,7 +52,7 @@ module _ (told : Type 0) (left rest : List ℕ) (old new : Disk) (status : Statu
   no_store_judged : JudgesUpgrade old new status → status ≡ NotAStore → SaysNoStore old new
   no_store_judged judged is = ⊎_elim (λ (files : JudgesFiles old new status). files.no_store is) (λ (cut : (status ≡ Damaged) × SaysCut old new). absurd (cc (cut.0, is))) judged
 
-  no_store_said : (asked : Asked) → IsCallFor asked told left rest old new status → old.tells_files → status ≡ NotAStore → SaysNoStore old new
+  no_store_said : (asked : Asked) → IsCallFor budget asked told left rest old new status → old.tells_files → status ≡ NotAStore → SaysNoStore old new
   no_store_said Run call files is = (call.judged files).no_store is
   no_store_said Dump call files is = (call.judged files).no_store is
   no_store_said (Init p) call files is = absurd (subst IsOfInit is call.ends)
@@ -60,7 +61,7 @@ module _ (told : Type 0) (left rest : List ℕ) (old new : Disk) (status : Statu
   no_store_said (Ship from) call files is = (call.judged files).no_store is
   no_store_said Follow call files is = (call.judged files).no_store is
 
-  damage_said : (words : List (List ℕ)) (asked : Asked) → Asks words asked → IsCallFor asked told left rest old new status → old.tells_files → status ≡ Damaged → SaysDamage old new ⊎ IsCutUpgrade words old new
+  damage_said : (words : List (List ℕ)) (asked : Asked) → Asks words asked → IsCallFor budget asked told left rest old new status → old.tells_files → status ≡ Damaged → SaysDamage old new ⊎ IsCutUpgrade words old new
   damage_said words Run asks call files is = inl ((call.judged files).damaged is)
   damage_said words Dump asks call files is = inl ((call.judged files).damaged is)
   damage_said words (Init p) asks call files is = absurd (subst IsOfInit is call.ends)
@@ -69,7 +70,7 @@ module _ (told : Type 0) (left rest : List ℕ) (old new : Disk) (status : Statu
   damage_said words (Ship from) asks call files is = inl ((call.judged files).damaged is)
   damage_said words Follow asks call files is = inl ((call.judged files).damaged is)
 
-  store_said : (asked : Asked) → IsCallFor asked told left rest old new status → old.tells_files → status ≡ AlreadyStore → SaysStore old new
+  store_said : (asked : Asked) → IsCallFor budget asked told left rest old new status → old.tells_files → status ≡ AlreadyStore → SaysStore old new
   store_said Run call files is = absurd (subst IsOfRun is call.ends)
   store_said Dump call files is = absurd (subst IsOfDump is call.ends)
   store_said (Init p) call files is = call.already files is
@@ -79,7 +80,7 @@ module _ (told : Type 0) (left rest : List ℕ) (old new : Disk) (status : Statu
   store_said Follow call files is = absurd (subst IsOfFollow is call.ends)
 
   -- the statuses of a shipment and of the following of a stream come of these alone
-  gone_asked : (words : List (List ℕ)) (asked : Asked) → Asks words asked → IsCallFor asked told left rest old new status → status ≡ Gone → (from : ℕ) × Asks words (Ship from)
+  gone_asked : (words : List (List ℕ)) (asked : Asked) → Asks words asked → IsCallFor budget asked told left rest old new status → status ≡ Gone → (from : ℕ) × Asks words (Ship from)
   gone_asked words Run asks call is = absurd (subst IsOfRun is call.ends)
   gone_asked words Dump asks call is = absurd (subst IsOfDump is call.ends)
   gone_asked words (Init p) asks call is = absurd (subst IsOfInit is call.ends)
@@ -94,7 +95,7 @@ module _ (told : Type 0) (left rest : List ℕ) (old new : Disk) (status : Statu
   IsOfFrames StandbyFull = ⊤
   IsOfFrames status = ⊥
 
-  stream_asked : (words : List (List ℕ)) (asked : Asked) (is_of : Status) → IsOfFrames is_of → Asks words asked → IsCallFor asked told left rest old new status → status ≡ is_of → Asks words Follow
+  stream_asked : (words : List (List ℕ)) (asked : Asked) (is_of : Status) → IsOfFrames is_of → Asks words asked → IsCallFor budget asked told left rest old new status → status ≡ is_of → Asks words Follow
   stream_asked words Run BadStream of asks call is = absurd (subst IsOfRun is call.ends)
   stream_asked words Run StandbyFull of asks call is = absurd (subst IsOfRun is call.ends)
   stream_asked words Dump BadStream of asks call is = absurd (subst IsOfDump is call.ends)
@@ -111,14 +112,14 @@ module _ (told : Type 0) (left rest : List ℕ) (old new : Disk) (status : Statu
   stream_asked words asked is_of of asks call is = absurd of
 
 -- a demo that finds memory, in which no count of faults rises
-calm_demo : {old new : Disk} {before now : ℕ} {backup backed : Disk} (status : Status) → IsFaultless old new before now backup backed → status ≢ Memory → IsOfDemo status → CountsFaults old new status → status ≡ Done
+calm_demo : {old new : Disk} {before now : ℕ} {backup backed : Disk} (status : Status) → IsFaultless old new before now backup backed → (LacksMemory status → ⊥) → IsOfDemo status → CountsFaults old new status → status ≡ Done
 calm_demo Done calm memory of faults = refl
 calm_demo SayFault calm memory of faults = absurd (calm.output (faults.output refl))
-calm_demo Memory calm memory of faults = absurd (memory refl)
+calm_demo Memory calm memory of faults = absurd (memory tt)
 calm_demo status calm memory of faults = absurd of
 
 -- an upgrade of a store, with memory, in which no count of faults rises
-calm_upgrade : {old new : Disk} {before now : ℕ} {backup backed : Disk} (status : Status) → IsFaultless old new before now backup backed → status ≢ Memory → IsOfUpgrade status → CountsFaults old new status → status ≢ NotAStore → IsUpgradeEnd status
+calm_upgrade : {old new : Disk} {before now : ℕ} {backup backed : Disk} (status : Status) → IsFaultless old new before now backup backed → (LacksMemory status → ⊥) → IsOfUpgrade status → CountsFaults old new status → status ≢ NotAStore → IsUpgradeEnd status
 calm_upgrade Done calm memory of faults store = inl refl
 calm_upgrade AlreadyTwo calm memory of faults store = inr (inl refl)
 calm_upgrade Smaller calm memory of faults store = inr (inr (inl refl))
@@ -126,63 +127,64 @@ calm_upgrade Damaged calm memory of faults store = inr (inr (inr refl))
 calm_upgrade NotAStore calm memory of faults store = absurd (store refl)
 calm_upgrade DiskFault calm memory of faults store = absurd (calm.disk (faults.disk refl))
 calm_upgrade SayFault calm memory of faults store = absurd (calm.output (faults.output refl))
-calm_upgrade Memory calm memory of faults store = absurd (memory refl)
+calm_upgrade Memory calm memory of faults store = absurd (memory tt)
+calm_upgrade RestartMemory calm memory of faults store = absurd (memory tt)
 calm_upgrade status calm memory of faults store = absurd of
 
-module _ {words : List (List ℕ)} {told : Type 0} {left rest : List ℕ} {before now : ℕ} {old new backup backed : Disk} {status : Status} (asked : Asked) (call : IsCallFor asked told left rest old new status)
+module _ (budget : Budget) {words : List (List ℕ)} {told : Type 0} {left rest : List ℕ} {before now : ℕ} {old new backup backed : Disk} {status : Status} (asked : Asked) (call : IsCallFor budget asked told left rest old new status)
     (faults : CountsFaults old new status) (read_fault : status ≡ ReadFault → Rises before now) (beside : IsBesideRun backup backed status) (too_long : told → status ≡ TooLong → ReadsOn left rest 0 (2 ^ 40)) where
   -- each status of trouble comes only with its cause
   pub call_caused : Asks words asked → ComesByCause words told left rest before now backup backed old new status
   call_caused asks = record {
     nothing = λ none. absurd (none asked asks);
-    usage = λ is. absurd (not_usage told left rest old new status asked call is);
-    usage_said = λ files is. absurd (not_usage told left rest old new status asked call is);
-    no_store = no_store_said told left rest old new status asked call;
-    damaged = damage_said told left rest old new status words asked asks call;
-    already = store_said told left rest old new status asked call;
+    usage = λ is. absurd (not_usage budget told left rest old new status asked call is);
+    usage_said = λ files is. absurd (not_usage budget told left rest old new status asked call is);
+    no_store = no_store_said budget told left rest old new status asked call;
+    damaged = damage_said budget told left rest old new status words asked asks call;
+    already = store_said budget told left rest old new status asked call;
     faults = faults;
     read_fault = read_fault;
     backup_fault = beside.fault;
     too_long = too_long;
-    gone = gone_asked told left rest old new status words asked asks call;
-    stream = stream_asked told left rest old new status words asked BadStream tt asks call;
-    full = stream_asked told left rest old new status words asked StandbyFull tt asks call;
+    gone = gone_asked budget told left rest old new status words asked asks call;
+    stream = stream_asked budget told left rest old new status words asked BadStream tt asks call;
+    full = stream_asked budget told left rest old new status words asked StandbyFull tt asks call;
   }
 
   -- and where no count of faults rises, exactly there
   pub call_exactly : Asks words asked → ((other : Asked) → Asks words other → asked ≡ other) → HasOneDamage old.reads → ((p : Params) (commands : List Command) → Opens p old commands → IsWellFormed old.reads) → IsFaultless old new before now backup backed
       → ComesExactly words told left old new status
   call_exactly asks one damage format faultless = record {
-    usage = λ memory. (λ is. absurd (not_usage told left rest old new status asked call is), λ none. absurd (none asked asks));
+    usage = λ memory. (λ is. absurd (not_usage budget told left rest old new status asked call is), λ none. absurd (none asked asks));
     run = λ is files.
-        let it = call_for told left rest old new status (one Run is) call in
+        let it = call_for budget told left rest old new status (one Run is) call in
         inl (opens_exactly status (calm_run status faultless it.ends faults read_fault beside.fault) damage (it.judged files));
     runs = λ is memory.
-        let it = call_for told left rest old new status (one Run is) call in
+        let it = call_for budget told left rest old new status (one Run is) call in
         runs_exactly status (calm_run status faultless it.ends faults read_fault beside.fault) memory it too_long format;
     dump = λ is files.
-        let it = call_for told left rest old new status (one Dump is) call in
+        let it = call_for budget told left rest old new status (one Dump is) call in
         inl (opens_exactly status (calm_told status faultless it.ends faults) damage (it.judged files));
     dumps = λ is memory p commands opens.
-        let it = call_for told left rest old new status (one Dump is) call in
+        let it = call_for budget told left rest old new status (one Dump is) call in
         calm_dump status faultless memory it.ends faults ((it.judged opens.told).store (format p commands opens));
-    init = λ p is files. inl (makes_exactly status faultless (call_for told left rest old new status (one (Init p) is) call) faults files);
+    init = λ p is files. inl (makes_exactly status faultless (call_for budget told left rest old new status (one (Init p) is) call) faults files);
     upgrades = λ q is memory p commands opens.
-        let it = call_for told left rest old new status (one (Upgrade q) is) call in
+        let it = call_for budget told left rest old new status (one (Upgrade q) is) call in
         calm_upgrade status faultless memory it.ends faults (it.stands p commands opens).store;
     ship = λ from is files.
-        let it = call_for told left rest old new status (one (Ship from) is) call in
+        let it = call_for budget told left rest old new status (one (Ship from) is) call in
         inl (opens_exactly status (calm_shipped status faultless it.ends faults) damage (it.judged files));
     ships = λ from is memory p commands opens.
-        let it = call_for told left rest old new status (one (Ship from) is) call in
+        let it = call_for budget told left rest old new status (one (Ship from) is) call in
         whole_ship status (calm_shipped status faultless it.ends faults) it.ends memory ((it.judged opens.told).store (format p commands opens));
     follow = λ is files.
-        let it = call_for told left rest old new status (one Follow is) call in
+        let it = call_for budget told left rest old new status (one Follow is) call in
         inl (opens_exactly status (calm_followed status faultless it.ends faults read_fault) damage (it.judged files));
     follows = λ is memory p commands opens.
-        let it = call_for told left rest old new status (one Follow is) call in
+        let it = call_for budget told left rest old new status (one Follow is) call in
         whole_follow status (calm_followed status faultless it.ends faults read_fault) it.ends memory ((it.judged opens.told).store (format p commands opens));
-    demos = λ seed steps is memory. calm_demo status faultless memory (call_for told left rest old new status (one (Demo seed steps) is) call).ends faults;
+    demos = λ seed steps is memory. calm_demo status faultless memory (call_for budget told left rest old new status (one (Demo seed steps) is) call).ends faults;
   }
 
 -- files that do not meet their format are kept by an upgrade
@@ -190,8 +192,8 @@ keeps_judged : {old new : Disk} {status : Status} → JudgesUpgrade old new stat
 keeps_judged {old} {new} {status} judged broken = ⊎_elim (λ (files : JudgesFiles old new status). files.keeps broken) (λ (cut : (status ≡ Damaged) × SaysCut old new). absurd (broken cut.1.whole)) judged
 
 -- what it does goes on any calls before it
-pub call_goes_on : {T : Type 0} (disk : T → Disk) {words : List (List ℕ)} {told : Type 0} {left rest : List ℕ} {status : Status} (old new : T) → IsDisk (disk old) → Passes (disk old) (disk new)
-    → ((other : Asked) → Asks words other → IsCallFor other told left rest (disk old) (disk new) status) → GoesOn disk words told left rest old new
+pub call_goes_on : {T : Type 0} {budget : Budget} (disk : T → Disk) {words : List (List ℕ)} {told : Type 0} {left rest : List ℕ} {status : Status} (old new : T) → IsDisk (disk old) → Passes (disk old) (disk new)
+    → ((other : Asked) → Asks words other → IsCallFor budget other told left rest (disk old) (disk new) status) → GoesOn disk words told left rest old new
 call_goes_on disk {words} {told} {left} old new lawful time call = record {
   time = time;
   run = λ first next sizes runs bytes asks told begins before follows.
@@ -227,6 +229,27 @@ call_goes_on disk {words} {told} {left} old new lawful time call = record {
       (λ p commands opens. ((call (Upgrade q) asks).stands p commands opens).images) follows;
 }
 
+-- one whose restart was refused memory adds nothing to them
+pub call_adds_nothing : {T : Type 0} (disk : T → Disk) (budget : Budget) (told : Type 0) (left rest : List ℕ) {status : Status} (old new : T) (asked : Asked) → IsDisk (disk old) → IsCallFor budget asked told left rest (disk old) (disk new) status
+    → status ≡ RestartMemory → AddsNothing disk old new
+call_adds_nothing disk budget told left rest old new Run lawful call is = λ first next sizes runs said before follows.
+    reads old new next said before (λ none telling. (call.judged (lawful.telling telling)).keeps (λ image. none (image_begins image)))
+    (λ p commands opens telling. (call.untold.1 p commands opens).refused telling is) follows
+call_adds_nothing disk budget told left rest old new Dump lawful call is = λ first next sizes runs said before follows.
+    reads old new next said before (λ none telling. (call.judged (lawful.telling telling)).keeps (λ image. none (image_begins image)))
+    (λ p commands opens telling. or_weaker (disk old) (disk new) (DumpMoment p commands (disk old).said) (λ files bytes. Stands p files commands) ((call.table p commands opens).images telling) (λ files bytes moment. moment.stands)) follows
+call_adds_nothing disk budget told left rest old new (Init p) lawful call is = absurd (subst IsOfInit is call.ends)
+call_adds_nothing disk budget told left rest old new (Demo seed steps) lawful call is = absurd (subst IsOfDemo is call.ends)
+call_adds_nothing disk budget told left rest old new (Upgrade q) lawful call is = λ first next sizes runs said before follows.
+    reads old new next said before (λ none telling. keeps_judged (call.judged (lawful.telling telling)) (λ image. none (image_begins image)))
+    (λ p commands opens telling. (call.stands p commands opens).refused telling is) follows
+call_adds_nothing disk budget told left rest old new (Ship from) lawful call is = λ first next sizes runs said before follows.
+    reads old new next said before (λ none telling. (call.judged (lawful.telling telling)).keeps (λ image. none (image_begins image)))
+    (λ p commands opens telling. or_weaker (disk old) (disk new) (ShipMoment p commands from (disk old).said) (λ files bytes. Stands p files commands) ((call.log p commands opens).images telling) (λ files bytes moment. moment.0)) follows
+call_adds_nothing disk budget told left rest old new Follow lawful call is = λ first next sizes runs said before follows.
+    reads old new next said before (λ none telling. (call.judged (lawful.telling telling)).keeps (λ image. none (image_begins image)))
+    (λ p commands opens telling. (call.stream p commands opens).refused telling is) follows
+
 -- where there was no memory to read the words, it goes on them too
 pub unread_goes_on : {T : Type 0} (disk : T → Disk) {words : List (List ℕ)} {told : Type 0} {left : List ℕ} {status : Status} (old new : T) → IsUnread (disk old) (disk new) status
     → GoesOn disk words told left left old new
@@ -255,11 +278,11 @@ unread_goes_on disk {words} {left = left} old new unread = record {
 }
 
 -- Of the backup, by what was asked.
-module _ {T : Type 0} (disk : T → Disk) (told : Type 0) (script : List (List ℕ)) (old new : Disk) (before after : T) where
-  pub backup_for : {asked other : Asked} → asked ≡ other → IsBackupFor disk asked told script old new before after → IsBackupFor disk other told script old new before after
-  backup_for is here = subst (λ (a : Asked). IsBackupFor disk a told script old new before after) is here
+module _ {T : Type 0} (budget : Budget) (disk : T → Disk) (told : Type 0) (script : List (List ℕ)) (old new : Disk) (before after : T) where
+  pub backup_for : {asked other : Asked} → asked ≡ other → IsBackupFor budget disk asked told script old new before after → IsBackupFor budget disk other told script old new before after
+  backup_for is here = subst (λ (a : Asked). IsBackupFor budget disk a told script old new before after) is here
 
-  unless_run : {words : List (List ℕ)} (asked : Asked) → Asks words asked → IsBackupFor disk asked told script old new before after → (Asks words Run → ⊥) → after ≡ before
+  unless_run : {words : List (List ℕ)} (asked : Asked) → Asks words asked → IsBackupFor budget disk asked told script old new before after → (Asks words Run → ⊥) → after ≡ before
   unless_run Run asks here other = absurd (other asks)
   unless_run Dump asks here other = here
   unless_run (Init p) asks here other = here
@@ -268,8 +291,8 @@ module _ {T : Type 0} (disk : T → Disk) (told : Type 0) (script : List (List �
   unless_run (Ship from) asks here other = here
   unless_run Follow asks here other = here
 
-  pub backup_called : {words : List (List ℕ)} {status : Status} (asked : Asked) → Asks words asked → ((other : Asked) → Asks words other → asked ≡ other) → IsBesideRun (disk before) (disk after) status → IsBackupFor disk asked told script old new before after
-      → IsBackupCall disk words told script old new before after
+  pub backup_called : {words : List (List ℕ)} {status : Status} (asked : Asked) → Asks words asked → ((other : Asked) → Asks words other → asked ≡ other) → IsBesideRun (disk before) (disk after) status → IsBackupFor budget disk asked told script old new before after
+      → IsBackupCall budget disk words told script old new before after
   backup_called asked asks one beside here = record {
     time = beside.time;
     run = λ is. backup_for (one Run is) here;
@@ -277,11 +300,11 @@ module _ {T : Type 0} (disk : T → Disk) (told : Type 0) (script : List (List �
   }
 
 -- nothing is done with it
-pub backup_idle : {T : Type 0} (disk : T → Disk) {words script : List (List ℕ)} {told : Type 0} {old new : Disk} (backup : T) → (Asks words Run → ⊥) → IsBackupCall disk words told script old new backup backup
+pub backup_idle : {T : Type 0} {budget : Budget} (disk : T → Disk) {words script : List (List ℕ)} {told : Type 0} {old new : Disk} (backup : T) → (Asks words Run → ⊥) → IsBackupCall budget disk words told script old new backup backup
 backup_idle disk backup none = record { time = passes_none (disk backup); run = λ is. absurd (none is); other = λ none. refl }
 
 -- where there was no memory to read the words, nothing at all is done
-pub backup_unread : AreFew → {T : Type 0} (disk : T → Disk) {words script : List (List ℕ)} {told : Type 0} (old : Disk) (backup : T) → IsBackupCall disk words told script old old backup backup
+pub backup_unread : AreFew → {T : Type 0} {budget : Budget} (disk : T → Disk) {words script : List (List ℕ)} {told : Type 0} (old : Disk) (backup : T) → IsBackupCall budget disk words told script old old backup backup
 backup_unread few disk old backup = record {
   time = passes_none (disk backup);
   run = λ asks. record {

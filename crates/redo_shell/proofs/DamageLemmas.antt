@@ -1,5 +1,5 @@
 -- The first check that fails is said.
-use Rattle.std.proofs.Common.{◌≡◌, ◌⊎◌, ⊎_elim, ◌↔◌, ◌++◌, ℕ, ◌∙◌}
+use Rattle.std.proofs.Common.{◌≡◌, ◌≢◌, ◌⊎◌, ⊎_elim, ◌↔◌, ◌++◌, ℕ, ◌∙◌, subst, sym}
 use Rattle.disk_model.specs.Disk.{Disk, Files}
 use Rattle.disk_model.specs.declared.machine.FileNo.{FileNo}
 use Rattle.disk_model.specs.declared.machine.FileNo.TheVariants.{Objects}
@@ -7,6 +7,7 @@ use Rattle.op_codec.specs.AllOps.{all_meaning}
 use Rattle.formats.specs.Bytes.{IsOpenAt}
 use Rattle.formats.specs.FirstFault.{IsDamaged}
 use Rattle.redo_shell.specs.Notices.{damaged}
+use Rattle.redo_shell.specs.Status.{IsOfRun, IsOfOpened}
 use Rattle.redo_shell.specs.Store.{IsWellFormed}
 use Rattle.redo_shell.specs.declared.status.Status.{Status}
 use Rattle.redo_shell.specs.declared.status.Status.TheVariants.{Damaged, DiskFault, SayFault, Memory, BackupFault}
@@ -32,3 +33,9 @@ no_disk_fault status ends is = ⊎_elim (λ (a : status ≡ Damaged). cc (a, is)
 
 pub no_backup_fault : (status : Status) → (status ≡ Damaged) ⊎ ((status ≡ Memory) ⊎ (status ≡ SayFault)) → status ≡ BackupFault → ⊥
 no_backup_fault status ends is = ⊎_elim (λ (a : status ≡ Damaged). cc (a, is)) (λ (rest : (status ≡ Memory) ⊎ (status ≡ SayFault)). ⊎_elim (λ (a : status ≡ Memory). cc (a, is)) (λ (a : status ≡ SayFault). cc (a, is)) rest) ends
+
+pub damaged_status : (status : Status) → (status ≡ Damaged) ⊎ ((status ≡ Memory) ⊎ (status ≡ SayFault)) → IsOfRun status × IsOfOpened status
+damaged_status status ends = ⊎_elim
+    (λ (a : status ≡ Damaged). (subst IsOfRun (sym a) tt, subst IsOfOpened (sym a) tt))
+    (λ (rest : (status ≡ Memory) ⊎ (status ≡ SayFault)). ⊎_elim (λ (a : status ≡ Memory). (subst IsOfRun (sym a) tt, subst IsOfOpened (sym a) tt)) (λ (a : status ≡ SayFault). (subst IsOfRun (sym a) tt, subst IsOfOpened (sym a) tt)) rest)
+    ends

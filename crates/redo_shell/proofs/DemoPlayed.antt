@@ -9,12 +9,13 @@ use Rattle.script_lines.specs.Replies.{said_line}
 use Rattle.redo_shell.specs.Calls.{IsRunCall}
 use Rattle.redo_shell.specs.Demo.{demo_params, IsPlayed, SaysTotals, IsOfDemo, IsDemo}
 use Rattle.redo_shell.specs.Store.{Command, IsNewStore, Opens}
+use Rattle.redo_shell.specs.declared.budget.Budget.TheVariants.{Usual}
 use Rattle.redo_shell.specs.declared.status.Status.{Status}
 use Rattle.redo_shell.specs.declared.status.Status.TheVariants.{Done, DoneWithRefusals, SayFault, Memory}
 use Rattle.redo_shell.proofs.KeepLemmas.{keeps_once}
 
 -- what was said and added by a run that answered the whole script
-pub played : {told : Type 0} {left rest : List ℕ} {new : Disk} {status : Status} (machine : GrowMem) (last : Disk) (accepted : ℕ) → IsRunCall told left rest (disk_of machine) new status → told → IsNewStore demo_params (disk_of machine).reads → (disk_of machine).said ≡ []
+pub played : {told : Type 0} {left rest : List ℕ} {new : Disk} {status : Status} (machine : GrowMem) (last : Disk) (accepted : ℕ) → IsRunCall Usual told left rest (disk_of machine) new status → told → IsNewStore demo_params (disk_of machine).reads → (disk_of machine).said ≡ []
     → (status ≡ Done) ⊎ (status ≡ DoneWithRefusals) → new.tells_files → ((commands : List Command) → Opens demo_params new commands → (last.said ≡ new.said) × (accepted ≡ length commands)) → IsPlayed (lines_of left) last.said accepted
 played machine last accepted call tells fresh none done files counted =
     let on = call.script demo_params [] (record { told = tt; stands = fresh.stands }) tells in

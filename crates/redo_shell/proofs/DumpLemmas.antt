@@ -23,8 +23,9 @@ use Rattle.redo_shell.specs.Calls.{IsDumpOn}
 use Rattle.redo_shell.specs.Dump.{row_of, rows_below, dump_of, DumpMoment}
 use Rattle.redo_shell.specs.Keeps.{KeepsFiles}
 use Rattle.redo_shell.specs.Status.{IsOfUnopened, status_of}
+use Rattle.redo_shell.specs.declared.budget.Budget.{Budget}
 use Rattle.redo_shell.specs.declared.status.Status.{Status}
-use Rattle.redo_shell.specs.declared.status.Status.TheVariants.{Done, NotAStore, Damaged, SayFault}
+use Rattle.redo_shell.specs.declared.status.Status.TheVariants.{Done, NotAStore, Damaged, SayFault, Memory as OutOfMemory}
 use Rattle.redo_shell.proofs.HoldLemmas.{holds_stays, stays_between, told_by}
 use Rattle.redo_shell.proofs.OpenLemmas.{OpensSo, opening_failed}
 use Rattle.redo_shell.proofs.KeepLemmas.{settled_each}
@@ -130,7 +131,7 @@ dump_stands p mid new engine commands h all keeps settled =
     settled_each new (λ files. Stands p files commands) settled (subst (λ (f : Files). Stands p f commands) (sym (keeps.reads (told_by h))) here)
 
 -- What is done at each moment: the restart's course, and nothing after it.
-module _ (p : Params) (old mid new : Disk) (commands : List Command) (engine : EngineView) (opened : IsOpen p commands old mid engine) (files : OpensFiles p commands old mid) (keeps : KeepsFiles mid new) (first : Stage) (is : IsFirst p commands old first) where
+module _ {budget : Budget} (p : Params) (old mid new : Disk) (commands : List Command) (engine : EngineView) (opened : IsOpen budget p commands old mid engine) (files : OpensFiles budget p commands old mid) (keeps : KeepsFiles mid new) (first : Stage) (is : IsFirst budget p commands old first) where
   opened_shows : FilesShow (meaning_in p) p mid.reads first.world
   opened_shows =
       let shown = opened.shows first is in
@@ -139,23 +140,23 @@ module _ (p : Params) (old mid new : Disk) (commands : List Command) (engine : E
   pub dump_shows : mid.tells_files → FilesShow (meaning_in p) p new.reads first.world
   dump_shows told = subst (λ (f : Files). FilesShow (meaning_in p) p f first.world) (sym (keeps.reads told)) opened_shows
 
-  pub dump_steps : IsSettled mid → (old.tells_moments → mid.tells_moments) → old.tells_moments → LeavesOnly old new (OrAtStart old (TableMoment p commands old first is))
+  pub dump_steps : IsSettled mid → (old.tells_moments → mid.tells_moments) → old.tells_moments → LeavesOnly old new (OrAtStart old (TableMoment budget p commands old first is))
   dump_steps settled telling told =
-      runs_on old mid new (OrAtStart old (TableMoment p commands old first is))
-      (or_weaker old mid (OpeningMoment p commands old first is) (TableMoment p commands old first is) (files.steps told first is) (λ f s here. inl here))
-      (weaker mid new (λ f s. mid.left_since mid.clock f mid.said) (OrAtStart old (TableMoment p commands old first is)) (keeps.images (telling told))
+      runs_on old mid new (OrAtStart old (TableMoment budget p commands old first is))
+      (or_weaker old mid (OpeningMoment budget p commands old first is) (TableMoment budget p commands old first is) (files.steps told first is) (λ f s here. inl here))
+      (weaker mid new (λ f s. mid.left_since mid.clock f mid.said) (OrAtStart old (TableMoment budget p commands old first is)) (keeps.images (telling told))
       (λ f s left. inr (inr (subst (λ (x : Files). FilesShow (meaning_in p) p x first.world) (fun_ext (λ (n : FileNo). sym (settled n (telling told) f mid.said left))) opened_shows))))
 
 -- what the courses say of a dump
-abbrev pub GoesBy : Params → List Command → Disk → Disk → Status → Type 0
-GoesBy p commands old new status = (first : Stage) → (is : IsFirst p commands old first) → (old.tells_moments → LeavesOnly old new (OrAtStart old (TableMoment p commands old first is))) × (status ≡ Done → FilesShow (meaning_in p) p new.reads first.world)
+abbrev pub GoesBy : Budget → Params → List Command → Disk → Disk → Status → Type 0
+GoesBy budget p commands old new status = (first : Stage) → (is : IsFirst budget p commands old first) → (old.tells_moments → LeavesOnly old new (OrAtStart old (TableMoment budget p commands old first is))) × (status ≡ Done → FilesShow (meaning_in p) p new.reads first.world)
 
 -- a dump of files that stand for commands, from before they were opened
-pub dump_on : (p : Params) (old mid new : Disk) (commands : List Command) (status : Status) → GoesBy p commands old new status → IsDisk old → Opens p old commands → OpensSo p old mid commands → (old.tells_moments → mid.tells_moments) → mid.said ≡ old.said
+pub dump_on : {budget : Budget} (p : Params) (old mid new : Disk) (commands : List Command) (status : Status) → GoesBy budget p commands old new status → IsDisk old → Opens p old commands → OpensSo p old mid commands → (old.tells_moments → mid.tells_moments) → mid.said ≡ old.said
     → (mid.tells_moments → LeavesOnly mid new (DumpMoment p commands mid.said))
     → (count : ℕ) × (new.said ≡ mid.said ++ take count (dump_of p commands)) → (status ≡ Done → new.said ≡ mid.said ++ dump_of p commands) → (status ≢ NotAStore) × (status ≢ Damaged) → IsSettled new
-    → InEachImage new (λ files. Stands p files commands) → IsDumpOn p commands old new status
-dump_on p old mid new commands status goes lawful opens opening telling quiet dumping said all store settled stands =
+    → InEachImage new (λ files. Stands p files commands) → IsDumpOn budget p commands old new status
+dump_on {budget} p old mid new commands status goes lawful opens opening telling quiet dumping said all store settled stands =
     let images : old.tells_moments → LeavesOnly old new (OrAtStart old (DumpMoment p commands old.said)) = dump_from p old mid new commands opening telling quiet dumping in
     record {
       images = images;
@@ -169,9 +170,9 @@ dump_on p old mid new commands status goes lawful opens opening telling quiet du
       shows = λ first is done. (goes first is).1 done;
     }
 
-pub dump_unopened : (p : Params) (old mid : Disk) (commands : List Command) (status : Status) → IsDisk old → Opens p old commands → OpensFiles p commands old mid → mid.said ≡ old.said → IsOfUnopened status
-    → (status ≢ NotAStore) × (status ≢ Damaged) → status ≢ SayFault → IsDumpOn p commands old mid status
-dump_unopened p old mid commands status lawful opens files quiet of store output =
+pub dump_unopened : {budget : Budget} (p : Params) (old mid : Disk) (commands : List Command) (status : Status) → IsDisk old → Opens p old commands → OpensFiles budget p commands old mid → mid.said ≡ old.said → IsOfUnopened status
+    → (status ≢ NotAStore) × (status ≢ Damaged) → (status ≢ SayFault) × (status ≢ OutOfMemory) → IsDumpOn budget p commands old mid status
+dump_unopened {budget} p old mid commands status lawful opens files quiet of store output =
     let images : old.tells_moments → LeavesOnly old mid (OrAtStart old (DumpMoment p commands old.said)) = dump_opening p old mid commands files.images in
     record {
       images = images;
@@ -181,7 +182,7 @@ dump_unopened p old mid commands status lawful opens files quiet of store output
       store = store;
       settled = λ disk memory. absurd (opening_failed status of store output disk memory);
       stands = λ disk memory. absurd (opening_failed status of store output disk memory);
-      steps = λ told first is. or_weaker old mid (OpeningMoment p commands old first is) (TableMoment p commands old first is) (files.steps told first is) (λ f s here. inl here);
+      steps = λ told first is. or_weaker old mid (OpeningMoment budget p commands old first is) (TableMoment budget p commands old first is) (files.steps told first is) (λ f s here. inl here);
       shows = λ first is done. absurd (subst (λ (s : Status). IsOfUnopened s) done of);
     }
 

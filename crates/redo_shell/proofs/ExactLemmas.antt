@@ -9,14 +9,15 @@ use Rattle.script_lines.specs.Reading.{ReadsOn}
 use Rattle.redo_shell.specs.Calls.{IsRunCall, IsMaking}
 use Rattle.redo_shell.specs.Causes.{CountsFaults, JudgesFiles}
 use Rattle.redo_shell.specs.Store.{Command, IsWellFormed, Opens}
+use Rattle.redo_shell.specs.declared.budget.Budget.{Budget}
 use Rattle.redo_shell.specs.declared.status.Status.{Status}
-use Rattle.redo_shell.specs.declared.status.Status.TheVariants.{Done, DoneWithRefusals, Usage, NotAStore, AlreadyStore, Damaged, DiskFault, ReadFault, SayFault, Memory, TooLong, AlreadyTwo, Smaller, BackupFault, Gone, BadStream, StandbyFull}
+use Rattle.redo_shell.specs.declared.status.Status.TheVariants.{Done, DoneWithRefusals, Usage, NotAStore, AlreadyStore, Damaged, DiskFault, ReadFault, SayFault, Memory, RestartMemory, TooLong, AlreadyTwo, Smaller, BackupFault, Gone, BadStream, StandbyFull}
 use Rattle.redo_shell.specs.Following.{IsFollowEnd}
 use Rattle.redo_shell.specs.Shipping.{IsShipEnd}
 use Rattle.redo_shell.specs.Exactly.{IsFaultless, OpensExactly, MakesExactly, RunsExactly}
 use Rattle.redo_shell.proofs.DamageLemmas.{HasOneDamage, first_said}
 use Rattle.redo_shell.proofs.ScriptLemmas.{enough_taken, not_so_few}
-use Rattle.redo_shell.specs.Status.{IsOfRun, IsOfInit, IsOfDump, IsOfShip, IsOfFollow, IsOfStore, IsOfUnopened}
+use Rattle.redo_shell.specs.Status.{IsOfRun, IsOfInit, IsOfDump, IsOfShip, IsOfFollow, IsOfStore, IsOfUnopened, LacksMemory}
 
 -- where no store was opened the script is not read, and a run or a dump may end so
 pub unopened_reads_none : (status : Status) → IsOfUnopened status → IsOfStore status → ⊥
@@ -48,6 +49,7 @@ unopened_dump Damaged of = tt
 unopened_dump DiskFault of = tt
 unopened_dump SayFault of = tt
 unopened_dump Memory of = tt
+unopened_dump RestartMemory of = tt
 unopened_dump status of = absurd of
 
 -- a call that opens the store, in which no count of faults rises, ends with one of these
@@ -57,6 +59,7 @@ IsCalm DoneWithRefusals = ⊤
 IsCalm NotAStore = ⊤
 IsCalm Damaged = ⊤
 IsCalm Memory = ⊤
+IsCalm RestartMemory = ⊤
 IsCalm TooLong = ⊤
 IsCalm Gone = ⊤
 IsCalm BadStream = ⊤
@@ -72,11 +75,12 @@ calm_run DiskFault calm of faults input beside = absurd (calm.disk (faults.disk 
 calm_run ReadFault calm of faults input beside = absurd (calm.input (input refl))
 calm_run SayFault calm of faults input beside = absurd (calm.output (faults.output refl))
 calm_run Memory calm of faults input beside = tt
+calm_run RestartMemory calm of faults input beside = tt
 calm_run TooLong calm of faults input beside = tt
 calm_run BackupFault calm of faults input beside = absurd (calm.backup (beside refl))
 calm_run status calm of faults input beside = absurd of
 
-pub no_store_exactly : {gate image : Type 0} (status : Status) → IsCalm status → (status ≡ NotAStore → gate → ⊥) → (status ≡ Damaged → gate) → (status ≡ Memory → gate) → (IsOfStore status → image) → (image → gate)
+pub no_store_exactly : {gate image : Type 0} (status : Status) → IsCalm status → (status ≡ NotAStore → gate → ⊥) → (status ≡ Damaged → gate) → (LacksMemory status → gate) → (IsOfStore status → image) → (image → gate)
     → (status ≡ NotAStore) ↔ (gate → ⊥)
 no_store_exactly Done calm closed broken refused opened open_gate = (λ e. cc, λ closed. absurd (closed (open_gate (opened tt))))
 no_store_exactly DoneWithRefusals calm closed broken refused opened open_gate = (λ e. cc, λ closed. absurd (closed (open_gate (opened tt))))
@@ -86,10 +90,11 @@ no_store_exactly TooLong calm closed broken refused opened open_gate = (λ e. cc
 no_store_exactly Gone calm closed broken refused opened open_gate = (λ e. cc, λ closed. absurd (closed (open_gate (opened tt))))
 no_store_exactly BadStream calm closed broken refused opened open_gate = (λ e. cc, λ closed. absurd (closed (open_gate (opened tt))))
 no_store_exactly StandbyFull calm closed broken refused opened open_gate = (λ e. cc, λ closed. absurd (closed (open_gate (opened tt))))
-no_store_exactly Memory calm closed broken refused opened open_gate = (λ e. cc, λ closed. absurd (closed (refused refl)))
+no_store_exactly Memory calm closed broken refused opened open_gate = (λ e. cc, λ closed. absurd (closed (refused tt)))
+no_store_exactly RestartMemory calm closed broken refused opened open_gate = (λ e. cc, λ closed. absurd (closed (refused tt)))
 no_store_exactly status calm closed broken refused opened open_gate = absurd calm
 
-pub damaged_exactly : {gate image : Type 0} (status : Status) → IsCalm status → status ≢ Memory → (status ≡ NotAStore → gate → ⊥) → (status ≡ Damaged → gate) → (IsOfStore status → image) → (image → status ≢ Damaged)
+pub damaged_exactly : {gate image : Type 0} (status : Status) → IsCalm status → (LacksMemory status → ⊥) → (status ≡ NotAStore → gate → ⊥) → (status ≡ Damaged → gate) → (IsOfStore status → image) → (image → status ≢ Damaged)
     → (status ≡ Damaged) ↔ (gate × (image → ⊥))
 damaged_exactly Done calm memory closed broken opened whole = (λ e. cc, λ is. absurd (is.1 (opened tt)))
 damaged_exactly DoneWithRefusals calm memory closed broken opened whole = (λ e. cc, λ is. absurd (is.1 (opened tt)))
@@ -99,17 +104,19 @@ damaged_exactly TooLong calm memory closed broken opened whole = (λ e. cc, λ i
 damaged_exactly Gone calm memory closed broken opened whole = (λ e. cc, λ is. absurd (is.1 (opened tt)))
 damaged_exactly BadStream calm memory closed broken opened whole = (λ e. cc, λ is. absurd (is.1 (opened tt)))
 damaged_exactly StandbyFull calm memory closed broken opened whole = (λ e. cc, λ is. absurd (is.1 (opened tt)))
-damaged_exactly Memory calm memory closed broken opened whole = absurd (memory refl)
+damaged_exactly Memory calm memory closed broken opened whole = absurd (memory tt)
+damaged_exactly RestartMemory calm memory closed broken opened whole = absurd (memory tt)
 damaged_exactly status calm memory closed broken opened whole = absurd calm
 
 -- on a store that is whole
-pub whole_run : (status : Status) → IsCalm status → IsOfRun status → status ≢ Memory → (status ≢ NotAStore) × (status ≢ Damaged) → (status ≡ TooLong) ⊎ ((status ≡ Done) ⊎ (status ≡ DoneWithRefusals))
+pub whole_run : (status : Status) → IsCalm status → IsOfRun status → (LacksMemory status → ⊥) → (status ≢ NotAStore) × (status ≢ Damaged) → (status ≡ TooLong) ⊎ ((status ≡ Done) ⊎ (status ≡ DoneWithRefusals))
 whole_run Done calm of memory store = inr (inl refl)
 whole_run DoneWithRefusals calm of memory store = inr (inr refl)
 whole_run NotAStore calm of memory store = absurd (store.0 refl)
 whole_run Damaged calm of memory store = absurd (store.1 refl)
 whole_run TooLong calm of memory store = inl refl
-whole_run Memory calm of memory store = absurd (memory refl)
+whole_run Memory calm of memory store = absurd (memory tt)
+whole_run RestartMemory calm of memory store = absurd (memory tt)
 whole_run Gone calm of memory store = absurd of
 whole_run BadStream calm of memory store = absurd of
 whole_run StandbyFull calm of memory store = absurd of
@@ -123,16 +130,18 @@ calm_told Damaged calm of faults = tt
 calm_told DiskFault calm of faults = absurd (calm.disk (faults.disk refl))
 calm_told SayFault calm of faults = absurd (calm.output (faults.output refl))
 calm_told Memory calm of faults = tt
+calm_told RestartMemory calm of faults = tt
 calm_told status calm of faults = absurd of
 
 -- a dump of a store that is whole, which nothing disturbs
-pub calm_dump : {old new : Disk} {before now : ℕ} {backup backed : Disk} (status : Status) → IsFaultless old new before now backup backed → status ≢ Memory → IsOfDump status → CountsFaults old new status → (status ≢ NotAStore) × (status ≢ Damaged) → status ≡ Done
+pub calm_dump : {old new : Disk} {before now : ℕ} {backup backed : Disk} (status : Status) → IsFaultless old new before now backup backed → (LacksMemory status → ⊥) → IsOfDump status → CountsFaults old new status → (status ≢ NotAStore) × (status ≢ Damaged) → status ≡ Done
 calm_dump Done calm memory of faults store = refl
 calm_dump NotAStore calm memory of faults store = absurd (store.0 refl)
 calm_dump Damaged calm memory of faults store = absurd (store.1 refl)
 calm_dump DiskFault calm memory of faults store = absurd (calm.disk (faults.disk refl))
 calm_dump SayFault calm memory of faults store = absurd (calm.output (faults.output refl))
-calm_dump Memory calm memory of faults store = absurd (memory refl)
+calm_dump Memory calm memory of faults store = absurd (memory tt)
+calm_dump RestartMemory calm memory of faults store = absurd (memory tt)
 calm_dump status calm memory of faults store = absurd of
 
 -- so does a shipment, and the following of a stream
@@ -143,6 +152,7 @@ calm_shipped Damaged calm of faults = tt
 calm_shipped DiskFault calm of faults = absurd (calm.disk (faults.disk refl))
 calm_shipped SayFault calm of faults = absurd (calm.output (faults.output refl))
 calm_shipped Memory calm of faults = tt
+calm_shipped RestartMemory calm of faults = tt
 calm_shipped Gone calm of faults = tt
 calm_shipped status calm of faults = absurd of
 
@@ -154,27 +164,30 @@ calm_followed DiskFault calm of faults input = absurd (calm.disk (faults.disk re
 calm_followed ReadFault calm of faults input = absurd (calm.input (input refl))
 calm_followed SayFault calm of faults input = absurd (calm.output (faults.output refl))
 calm_followed Memory calm of faults input = tt
+calm_followed RestartMemory calm of faults input = tt
 calm_followed TooLong calm of faults input = tt
 calm_followed BadStream calm of faults input = tt
 calm_followed StandbyFull calm of faults input = tt
 calm_followed status calm of faults input = absurd of
 
 -- either of a store that is whole, with memory
-pub whole_ship : (status : Status) → IsCalm status → IsOfShip status → status ≢ Memory → (status ≢ NotAStore) × (status ≢ Damaged) → IsShipEnd status
+pub whole_ship : (status : Status) → IsCalm status → IsOfShip status → (LacksMemory status → ⊥) → (status ≢ NotAStore) × (status ≢ Damaged) → IsShipEnd status
 whole_ship Done calm of memory store = inl refl
 whole_ship NotAStore calm of memory store = absurd (store.0 refl)
 whole_ship Damaged calm of memory store = absurd (store.1 refl)
-whole_ship Memory calm of memory store = absurd (memory refl)
+whole_ship Memory calm of memory store = absurd (memory tt)
+whole_ship RestartMemory calm of memory store = absurd (memory tt)
 whole_ship Gone calm of memory store = inr refl
 whole_ship DiskFault calm of memory store = absurd calm
 whole_ship SayFault calm of memory store = absurd calm
 whole_ship status calm of memory store = absurd of
 
-pub whole_follow : (status : Status) → IsCalm status → IsOfFollow status → status ≢ Memory → (status ≢ NotAStore) × (status ≢ Damaged) → IsFollowEnd status
+pub whole_follow : (status : Status) → IsCalm status → IsOfFollow status → (LacksMemory status → ⊥) → (status ≢ NotAStore) × (status ≢ Damaged) → IsFollowEnd status
 whole_follow Done calm of memory store = inl refl
 whole_follow NotAStore calm of memory store = absurd (store.0 refl)
 whole_follow Damaged calm of memory store = absurd (store.1 refl)
-whole_follow Memory calm of memory store = absurd (memory refl)
+whole_follow Memory calm of memory store = absurd (memory tt)
+whole_follow RestartMemory calm of memory store = absurd (memory tt)
 whole_follow TooLong calm of memory store = inr (inl refl)
 whole_follow BadStream calm of memory store = inr (inr (inl refl))
 whole_follow StandbyFull calm of memory store = inr (inr (inr refl))
@@ -198,17 +211,20 @@ in_made status ends = ⊎_elim (λ (is : status ≡ AlreadyStore). subst IsOfIni
 pub not_made : (status : Status) → (status ≡ AlreadyStore) ⊎ (status ≡ SayFault) → status ≡ Done → ⊥
 not_made status ends done = ⊎_elim (λ (is : status ≡ AlreadyStore). cc (is, done)) (λ (is : status ≡ SayFault). cc (is, done)) ends
 
+pub not_failed : (status : Status) → (status ≡ AlreadyStore) ⊎ (status ≡ SayFault) → status ≡ DiskFault → ⊥
+not_failed status ends fault = ⊎_elim (λ (is : status ≡ AlreadyStore). cc (is, fault)) (λ (is : status ≡ SayFault). cc (is, fault)) ends
+
 -- what a call that opens the store says of the files, both ways
 pub opens_exactly : {old new : Disk} (status : Status) → IsCalm status → HasOneDamage old.reads → JudgesFiles old new status → OpensExactly old new status
 opens_exactly {old} {new} status calm one judged =
-    let broken = λ (memory : status ≢ Memory). damaged_exactly status calm memory (λ is. (judged.no_store is).0) (λ is. (judged.damaged is).2.gate) judged.opened (λ image. (judged.store image).1) in
+    let broken = λ (memory : LacksMemory status → ⊥). damaged_exactly status calm memory (λ is. (judged.no_store is).0) (λ is. (judged.damaged is).2.gate) judged.opened (λ image. (judged.store image).1) in
     record {
       no_store = no_store_exactly status calm (λ is. (judged.no_store is).0) (λ is. (judged.damaged is).2.gate) judged.memory judged.opened (opens_gate all_meaning);
       damaged = broken;
       said = λ memory. first_said old new status one (broken memory) judged.damaged;
     }
 
-pub runs_exactly : {told : Type 0} {left rest : List ℕ} {old new : Disk} (status : Status) → IsCalm status → status ≢ Memory → IsRunCall told left rest old new status → (told → status ≡ TooLong → ReadsOn left rest 0 (2 ^ 40))
+pub runs_exactly : {budget : Budget} {told : Type 0} {left rest : List ℕ} {old new : Disk} (status : Status) → IsCalm status → (LacksMemory status → ⊥) → IsRunCall budget told left rest old new status → (told → status ≡ TooLong → ReadsOn left rest 0 (2 ^ 40))
     → ((p : Params) (commands : List Command) → Opens p old commands → IsWellFormed old.reads) → RunsExactly told left old status
 runs_exactly status calm memory call taken image = record {
   succeeds = λ p commands opens told few. ⊎_elim (λ e. absurd (not_so_few few (enough_taken (taken told e)))) (λ e. e) (whole_run status calm call.ends memory ((call.judged opens.told).store (image p commands opens)));

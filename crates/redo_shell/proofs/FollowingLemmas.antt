@@ -35,9 +35,10 @@ use Rattle.redo_shell.specs.Following.{Begins, FollowMoment, FollowsFrames, HasE
 use Rattle.redo_shell.specs.Stages.{Stage, IsFirst}
 use Rattle.redo_shell.specs.Keeps.{SaysOnly}
 use Rattle.redo_shell.specs.Notices as notices
-use Rattle.redo_shell.specs.Status.{IsOfFollow, IsOfUnopened, status_of, stop_of_input}
+use Rattle.redo_shell.specs.Status.{IsOfFollow, IsOfUnopened, status_of, stop_of_input, IsOfOpened}
+use Rattle.redo_shell.specs.declared.budget.Budget.{Budget}
 use Rattle.redo_shell.specs.declared.status.Status.{Status}
-use Rattle.redo_shell.specs.declared.status.Status.TheVariants.{Done, NotAStore, Damaged as FilesDamaged, DiskFault as DiskFailed, SayFault, Memory as OutOfMemory, BadStream, StandbyFull}
+use Rattle.redo_shell.specs.declared.status.Status.TheVariants.{Done, NotAStore, Damaged as FilesDamaged, DiskFault as DiskFailed, SayFault, Memory as OutOfMemory, RestartMemory, BadStream, StandbyFull}
 use Rattle.redo_shell.specs.Store.{Between, Command, IsAttached, Opens, Says, Stands, meaning_in}
 use Rattle.redo_shell.specs.declared.cut.Cut.{Cut}
 use Rattle.redo_shell.specs.declared.cut.Cut.TheVariants as cuts
@@ -45,7 +46,7 @@ use Rattle.script_lines.specs.declared.read_error.ReadError.{ReadError}
 use Rattle.script_lines.specs.declared.read_error.ReadError.TheVariants as of_input
 use Rattle.redo_shell.proofs.FetchLemmas.{not_a_fault}
 use Rattle.redo_shell.proofs.HoldLemmas.{each_stays, shows_stays, still_settled}
-use Rattle.redo_shell.proofs.OpenLemmas.{opening_failed}
+use Rattle.redo_shell.proofs.OpenLemmas.{opening_failed, stands_alone}
 use Rattle.redo_shell.proofs.RestartLemmas.{restarted}
 
 -- records without bytes are none
@@ -159,9 +160,9 @@ begins_standing {p} {first} {d} {s} begins says =
 
 -- The standby that was opened begins with the history that a restart makes of the files: as many of its commands are stable as it
 -- accepted, so they are those of the files.
-pub first_begins : {p : Params} {old new : Disk} {s : StandbyView} {commands : List Command} (first : Stage) (is : IsFirst p commands old first) → IsFollowing all_meaning p (restarted is).history [] new s → BeginsOn all_meaning p new commands s
+pub first_begins : {budget : Budget} {p : Params} {old new : Disk} {s : StandbyView} {commands : List Command} (first : Stage) (is : IsFirst budget p commands old first) → IsFollowing all_meaning p (restarted is).history [] new s → BeginsOn all_meaning p new commands s
     → ((ops : List Command) → of_engine.Holds all_meaning p new s.engine ops → Says p new s.engine ops) → Begins p first.world.history new s
-first_begins {p} {old} {new} {s} {commands} first is following begins says =
+first_begins {budget} {p} {old} {new} {s} {commands} first is following begins says =
     let world : (restarted is).history ≡ first.world.history = ap (λ (w : World Command). w.history) (sym is.world_is) in
     let mine = (says (commands_of following.world.history) (held following (done_none following))).accepted in
     let other = (says (commands_of begins.following.world.history) (held begins.following (done_none begins.following))).accepted in
@@ -429,9 +430,13 @@ pub not_done : (cause : FollowErr) → status_of_refusal cause ≡ Done → ⊥
 not_done errors.DiskFault is = cc is
 not_done cause is = cc is
 
-pub not_none : (cause : FollowErr) → status_of_refusal cause ≡ NotAStore → ⊥
-not_none errors.DiskFault is = cc is
-not_none cause is = cc is
+found_cause : (cause : FollowErr) → IsOfOpened (status_of_refusal cause)
+found_cause errors.DiskFault = tt
+found_cause cause = tt
+
+-- an open store stays one
+pub refusal_found : {status : Status} (cause : FollowErr) → IsUnsaid status ⊎ (status ≡ status_of_refusal cause) → IsOfOpened status
+refusal_found cause ends = ⊎_elim (λ unsaid. ⊎_elim (λ e. subst IsOfOpened (sym e) tt) (λ e. subst IsOfOpened (sym e) tt) unsaid) (λ e. subst IsOfOpened (sym e) (found_cause cause)) ends
 
 -- an ending at which something was said is not silent
 said_end : {A status : Status} → (status ≡ A) ⊎ ((status ≡ OutOfMemory) ⊎ (status ≡ SayFault)) → (IsSilentEnd A → ⊥) → IsSilentEnd status → status ≡ OutOfMemory
@@ -590,8 +595,8 @@ module _ {p : Params} {commands : List Command} {old mid : Disk} (lawful : IsDis
       or_weaker old mid (Between p old None (length commands) (length commands) commands) (StandbyMoment p commands first bytes old new) (opening told)
       (λ files said b. let enough = b.enough in inl (subst (λ (l : List Command). Stands p files l) (take_all b.kept commands enough) b.stands, b.quiet))
 
-  pub follow_unopened : {ended : Type 0} {status : Status} → (first : Stage) × IsFirst p commands old first × (commands_of first.world.history ≡ commands) → mid.said ≡ old.said → IsOfUnopened status → (status ≢ NotAStore) × (status ≢ FilesDamaged) → status ≢ SayFault
-      → IsFollowOn ended [] p commands old mid status
+  pub follow_unopened : {budget : Budget} {ended : Type 0} {status : Status} → (first : Stage) × IsFirst budget p commands old first × (commands_of first.world.history ≡ commands) → mid.said ≡ old.said → IsOfUnopened status → (status ≢ NotAStore) × (status ≢ FilesDamaged) → (status ≢ SayFault) × (status ≢ OutOfMemory)
+      → IsFollowOn budget ended [] p commands old mid status
   follow_unopened {status = status} first quiet of store output = record {
     first = first;
     follows_it = λ stage is. record {
@@ -603,14 +608,15 @@ module _ {p : Params} {commands : List Command} {old mid : Disk} (lawful : IsDis
     images = λ told stage is. opening_moments stage.world.history [] mid told;
     from_settled = λ told settled stage is. from_settled old mid (StandbyMoment p commands stage.world.history [] old mid) lawful told settled (inl (opens.stands, refl)) (opening_moments stage.world.history [] mid told);
     opened = λ told disk memory. absurd (opening_failed status of store output disk memory);
+    refused = λ told is. stands_alone p commands opening told;
     store = store;
   }
 
-  pub follow_on : {told : Type 0} {left rest : List ℕ} {new : Disk} {standby : StandbyView} {status : Status} → IsDisk new → Passes old mid → Passes mid new → mid.said ≡ old.said
-      → (first : Stage) × IsFirst p commands old first × (commands_of first.world.history ≡ commands) → ((first : Stage) → IsFirst p commands old first → Begins p first.world.history mid standby)
-      → (it : IsFollowOpen told left rest mid new standby status) → (status ≢ NotAStore) × (status ≢ FilesDamaged) → IsFollowOn (HasEnded told left rest) it.bytes p commands old new status
-  follow_on {told} {left} {rest} {new} {standby} {status} lawful_new before time quiet first begins it store =
-      let images : old.tells_moments → (stage : Stage) → IsFirst p commands old stage → LeavesOnly old new (OrAtStart old (StandbyMoment p commands stage.world.history it.bytes old new))
+  pub follow_on : {budget : Budget} {told : Type 0} {left rest : List ℕ} {new : Disk} {standby : StandbyView} {status : Status} → IsDisk new → Passes old mid → Passes mid new → mid.said ≡ old.said
+      → (first : Stage) × IsFirst budget p commands old first × (commands_of first.world.history ≡ commands) → ((first : Stage) → IsFirst budget p commands old first → Begins p first.world.history mid standby)
+      → (it : IsFollowOpen told left rest mid new standby status) → (status ≢ NotAStore) × (status ≢ FilesDamaged) → IsOfOpened status → IsFollowOn budget (HasEnded told left rest) it.bytes p commands old new status
+  follow_on {budget} {told} {left} {rest} {new} {standby} {status} lawful_new before time quiet first begins it store fine =
+      let images : old.tells_moments → (stage : Stage) → IsFirst budget p commands old stage → LeavesOnly old new (OrAtStart old (StandbyMoment p commands stage.world.history it.bytes old new))
       = λ tells stage is. runs_on old mid new (OrAtStart old (StandbyMoment p commands stage.world.history it.bytes old new)) (opening_moments stage.world.history it.bytes new tells)
       (weaker mid new (FollowMoment p stage.world.history it.bytes mid new) (OrAtStart old (StandbyMoment p commands stage.world.history it.bytes old new)) (it.images (before.moments_told.0 tells) p stage.world.history (begins stage is))
       (λ files said m. inr (inr (m.0, ⊎_elim (λ (none : said ≡ mid.said). inl (none ∙ quiet)) (λ there. inr there) m.1)))) in
@@ -634,6 +640,7 @@ module _ {p : Params} {commands : List Command} {old mid : Disk} (lawful : IsDis
             let each : (files : Files) (said : List ℕ) → new.left_since new.clock files said → StreamMoment p stage.world.history it.bytes files
             = λ files said left. ((it.images told_mid p stage.world.history (begins stage is)).each files said (lawful_new.among mid.clock new.clock files said time.later (omega arith) left)).0 in
             (each new.reads new.said (lawful_new.as_read (time.moments_told.0 told_mid)), λ told_new. each);
+        refused = λ told is. absurd (subst IsOfOpened is fine);
         store = store;
       }
     where
@@ -657,4 +664,5 @@ unopened_follow FilesDamaged of = tt
 unopened_follow DiskFailed of = tt
 unopened_follow SayFault of = tt
 unopened_follow OutOfMemory of = tt
+unopened_follow RestartMemory of = tt
 unopened_follow status of = absurd of

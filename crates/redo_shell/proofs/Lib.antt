@@ -9,6 +9,7 @@ pub mod SavingCalls
 pub mod SavingDone
 pub mod SavingSaid
 pub mod LineLemmas
+pub mod NotedLemmas
 pub mod ScriptLemmas
 pub mod OpenLemmas
 pub mod CallLemmas

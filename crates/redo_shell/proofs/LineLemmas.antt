@@ -1,5 +1,5 @@
 -- What a line asks for, and what a reader has found.
-use Rattle.std.proofs.Common.{◌≡◌, ◌<◌, List, ℕ, length, subst, arith, Result, Ok, Err, IfErr}
+use Rattle.std.proofs.Common.{◌≡◌, ◌<◌, List, ℕ, length, refl, subst, sym, arith, Result, Ok, Err, IfErr, IfOk}
 use Rattle.std.specs.Prelude.{⊤, replicate}
 use Rattle.std.proofs.lemmas.List.{length-replicate}
 use Rattle.script_lines.specs.Grammar.{AsksFor, IsBad, Request}
@@ -43,6 +43,29 @@ found_line next stored line is found = let here = subst (λ (n : Next). IsLine n
 
 pub found_long : (next : Next) (stored line : List ℕ) → next ≡ Long → IsLine next stored line → IsBad line
 found_long next stored line is found = long_is_bad line (subst (λ (n : Next). IsLine n stored line) is found)
+
+-- what a line asks for that a reader has found
+pub asked_line : {E : Type 0} (next : Next) (stored : List ℕ) (result : Result Work E) → next ≡ Short → IfOk result (AsksWork stored) → IfOk result (λ work. (line : List ℕ) → IsLine next stored line → AsksWork line work)
+asked_line next stored (Ok work) is asks = λ line found. subst (λ (l : List ℕ). AsksWork l work) (sym (found_line next stored line is found)) asks
+asked_line next stored (Err error) is asks = tt
+
+pub some_asked : {E : Type 0} (stored : List ℕ) (result : Result Work E) → IfOk result (AsksWork stored) → IfOk result (λ work. (line : List ℕ) × AsksWork line work)
+some_asked stored (Ok work) asks = (stored, asks)
+some_asked stored (Err error) asks = tt
+
+-- a line that asks for other work is not bad
+pub asks_something : (line : List ℕ) (work : Work) → (work ≡ Bad → ⊥) → AsksWork line work → IsBad line → ⊥
+asks_something line (Run op) some asks bad = bad (run op) asks
+asks_something line (Make making) some asks bad = bad (made_request making) asks
+asks_something line (Ask question) some asks bad = bad (tree_request question) asks
+asks_something line (Tell object) some asks bad = bad (get object) asks
+asks_something line Force some asks bad = bad force asks
+asks_something line (Keep upkeep) some asks bad = bad (request_for upkeep) asks
+asks_something line (Group grouping) some asks bad = bad (group_request grouping) asks
+asks_something line (Save saving) some asks bad = bad (saving_request saving) asks
+asks_something line Count some asks bad = bad stat asks
+asks_something line Nothing some asks bad = bad skip asks
+asks_something line Bad some asks bad = some refl
 
 line_of : (n : ℕ) → (line : List ℕ) × (length line ≡ n)
 line_of n = (replicate n 0, length-replicate n 0)

@@ -19,9 +19,10 @@ use Rattle.redo_shell.specs.Calls.{IsRunOn}
 use Rattle.redo_shell.specs.Courses.{OpeningMoment, RunMoment, StageMoment}
 use Rattle.redo_shell.specs.Causes.{JudgesFiles}
 use Rattle.redo_shell.specs.Open.{OpensFiles, IsOpen, IsUnopened}
-use Rattle.redo_shell.specs.Status.{status_of, status_after, IsCut, IsOfUnopened}
+use Rattle.redo_shell.specs.Status.{status_of, status_after, IsCut, IsOfUnopened, IsOfOpened}
+use Rattle.redo_shell.specs.declared.budget.Budget.{Budget}
 use Rattle.redo_shell.specs.declared.status.Status.{Status}
-use Rattle.redo_shell.specs.declared.status.Status.TheVariants.{Done, DoneWithRefusals, NotAStore, Damaged, DiskFault as DiskFailed, SayFault as OutputFailed, Memory as OutOfMemory}
+use Rattle.redo_shell.specs.declared.status.Status.TheVariants.{Done, DoneWithRefusals, NotAStore, Damaged, DiskFault as DiskFailed, SayFault as OutputFailed, Memory as OutOfMemory, RestartMemory}
 use Rattle.redo_shell.specs.declared.stop.Stop.{Stop}
 use Rattle.redo_shell.specs.declared.stop.Stop.TheVariants.{DiskFault, Damaged as SlotDamaged, ReadFault, SayFault, BackupFault, Memory, TooLong}
 use Rattle.redo_shell.specs.Run.{IsRun, IsComplete, MomentSoFar}
@@ -176,12 +177,12 @@ ends_behind At old mid new lawful time quiet told leaves =
     (image new.reads new.said (lawful.as_read (time.moments_told.0 told)), λ told_new. image)
 
 -- what is done at each moment, after the opening by the courses of the lines
-run_steps : {p : Params} {first : Stage} {old mid new : Disk} {commands : List Command} (script : List (List ℕ)) {status : Status} → OpensFiles p commands old mid → Passes old mid → IsRun p first mid new commands script status
-    → old.tells_moments → (is : IsFirst p commands old first) → LeavesOnly old new (OrAtStart old (RunMoment p commands old first is script))
-run_steps {p} {first} {old} {mid} {new} {commands} script files before run told is =
-    runs_on old mid new (OrAtStart old (RunMoment p commands old first is script))
-    (or_weaker old mid (OpeningMoment p commands old first is) (RunMoment p commands old first is script) (files.steps told first is) (λ f s here. inl here))
-    (weaker mid new (StageMoment p first script old.said) (OrAtStart old (RunMoment p commands old first is script))
+run_steps : {budget : Budget} {p : Params} {first : Stage} {old mid new : Disk} {commands : List Command} (script : List (List ℕ)) {status : Status} → OpensFiles budget p commands old mid → Passes old mid → IsRun p first mid new commands script status
+    → old.tells_moments → (is : IsFirst budget p commands old first) → LeavesOnly old new (OrAtStart old (RunMoment budget p commands old first is script))
+run_steps {budget} {p} {first} {old} {mid} {new} {commands} script files before run told is =
+    runs_on old mid new (OrAtStart old (RunMoment budget p commands old first is script))
+    (or_weaker old mid (OpeningMoment budget p commands old first is) (RunMoment budget p commands old first is script) (files.steps told first is) (λ f s here. inl here))
+    (weaker mid new (StageMoment p first script old.said) (OrAtStart old (RunMoment budget p commands old first is script))
     (subst (λ (s : List ℕ). LeavesOnly mid new (StageMoment p first script s)) files.quiet (run.steps (before.moments_told.0 told))) (λ f s m. inr (inr m)))
 
 -- what a run on an open store says, from this stage
@@ -189,16 +190,16 @@ abbrev pub RunsFrom : Params → List Command → List (List ℕ) → Disk → D
 RunsFrom p commands script mid new status first = IsRun p first mid new commands script status × ((status ≡ Done) ⊎ (status ≡ DoneWithRefusals) → IsComplete p first mid new commands script status)
 
 -- so from each stage that the opening has
-pub runs_from_each : {p : Params} {commands : List Command} {old mid : Disk} {engine : EngineView} (script : List (List ℕ)) (new : Disk) (status : Status) → IsOpen p commands old mid engine
-    → ((holds : Holds p mid engine commands) → RunsFrom p commands script mid new status (stage_of engine holds.world)) → (first : Stage) → IsFirst p commands old first → RunsFrom p commands script mid new status first
-runs_from_each {p} {commands} {old} {mid} script new status opened runs first is =
+pub runs_from_each : {budget : Budget} {p : Params} {commands : List Command} {old mid : Disk} {engine : EngineView} (script : List (List ℕ)) (new : Disk) (status : Status) → IsOpen budget p commands old mid engine
+    → ((holds : Holds p mid engine commands) → RunsFrom p commands script mid new status (stage_of engine holds.world)) → (first : Stage) → IsFirst budget p commands old first → RunsFrom p commands script mid new status first
+runs_from_each {budget} {p} {commands} {old} {mid} script new status opened runs first is =
     let shown = opened.shows first is in
     subst (λ (s : Stage). RunsFrom p commands script mid new status s) (sym shown.1) (runs shown.0)
 
 -- a run on files that stand for commands, from before they were opened
-pub run_on : AreFew → {p : Params} (old mid new : Disk) {commands : List Command} (script : List (List ℕ)) (status : Status) → IsDisk old → IsDisk new → Opens p old commands → OpensFiles p commands old mid → Passes old mid → Passes mid new
-    → ((first : Stage) → IsFirst p commands old first → RunsFrom p commands script mid new status first) → (status ≢ NotAStore) × (status ≢ Damaged) → IsRunOn p commands script old new status
-run_on few {p} old mid new {commands} script status lawful ends opens files before time runs store =
+pub run_on : AreFew → {budget : Budget} {p : Params} (old mid new : Disk) {commands : List Command} (script : List (List ℕ)) (status : Status) → IsDisk old → IsDisk new → Opens p old commands → OpensFiles budget p commands old mid → Passes old mid → Passes mid new
+    → ((first : Stage) → IsFirst budget p commands old first → RunsFrom p commands script mid new status first) → (status ≢ NotAStore) × (status ≢ Damaged) → IsOfOpened status → IsRunOn budget p commands script old new status
+run_on few {budget} {p} old mid new {commands} script status lawful ends opens files before time runs store fine =
     let begun : IsRun p files.first.0 mid new commands script status = (runs files.first.0 files.first.1).0 in
     let images : old.tells_moments → LeavesOnly old new (OrAtStart old (Moment p commands script old.said)) = run_images few script files.images before files.quiet begun in
     let unclosed : old.tells_moments → IsCut status → LeavesOnly old new (OrAtStart old (MomentSoFar p commands script old.said))
@@ -214,16 +215,18 @@ run_on few {p} old mid new {commands} script status lawful ends opens files befo
       answers = λ first is. says_from lawful files.images before files.quiet (runs first is).0.says;
       steps = λ told first is. run_steps script files before (runs first is).0 told is;
       complete = λ first is done. complete_from files.quiet ((runs first is).1 done);
+      refused = λ told is. absurd (subst IsOfOpened is fine);
       store = store;
     }
 
--- where no store was opened, the disk or memory has failed
-pub opening_failed : (status : Status) → IsOfUnopened status → (status ≢ NotAStore) × (status ≢ Damaged) → status ≢ OutputFailed → status ≢ DiskFailed → status ≢ OutOfMemory → ⊥
+-- where no store was opened in files that stand for commands, the disk has failed or memory
+pub opening_failed : (status : Status) → IsOfUnopened status → (status ≢ NotAStore) × (status ≢ Damaged) → (status ≢ OutputFailed) × (status ≢ OutOfMemory) → status ≢ DiskFailed → status ≢ RestartMemory → ⊥
 opening_failed NotAStore of store output disk memory = store.0 refl
 opening_failed Damaged of store output disk memory = store.1 refl
 opening_failed DiskFailed of store output disk memory = disk refl
-opening_failed OutputFailed of store output disk memory = output refl
-opening_failed OutOfMemory of store output disk memory = memory refl
+opening_failed OutputFailed of store output disk memory = output.0 refl
+opening_failed OutOfMemory of store output disk memory = output.1 refl
+opening_failed RestartMemory of store output disk memory = memory refl
 opening_failed status of store output disk memory = of
 
 -- a run that ended where no store was opened
@@ -233,9 +236,16 @@ not_done status of done = ⊎_elim
     (λ (is : status ≡ DoneWithRefusals). subst (λ (s : Status). IsOfUnopened s) is of)
     done
 
-pub run_unopened : AreFew → {p : Params} (old mid : Disk) {commands : List Command} (script : List (List ℕ)) (status : Status) → IsDisk old → Opens p old commands → OpensFiles p commands old mid → Passes old mid
-    → IsWellFormed old.reads → IsUnopened old mid status → IsRunOn p commands script old mid status
-run_unopened few {p} old mid {commands} script status lawful opens files before image unopened =
+-- while a store is opened the files stand for the commands
+pub stands_alone : (p : Params) (commands : List Command) {old mid : Disk} → (old.tells_moments → LeavesOnly old mid (OrAtStart old (Between p old None (length commands) (length commands) commands))) → old.tells_moments
+    → LeavesOnly old mid (OrAtStart old (λ files said. Stands p files commands))
+stands_alone p commands {old} {mid} opening told =
+    or_weaker old mid (Between p old None (length commands) (length commands) commands) (λ files said. Stands p files commands) (opening told)
+    (λ f s b. let enough = b.enough in subst (λ (l : List Command). Stands p f l) (take_all b.kept commands enough) b.stands)
+
+pub run_unopened : AreFew → {budget : Budget} {p : Params} (old mid : Disk) {commands : List Command} (script : List (List ℕ)) (status : Status) → IsDisk old → Opens p old commands → OpensFiles budget p commands old mid → Passes old mid
+    → IsWellFormed old.reads → IsUnopened old mid status → IsRunOn budget p commands script old mid status
+run_unopened few {budget} {p} old mid {commands} script status lawful opens files before image unopened =
     let images : old.tells_moments → LeavesOnly old mid (OrAtStart old (Moment p commands script old.said)) = opening_images few script files.images in
     let store : (status ≢ NotAStore) × (status ≢ Damaged) = (unopened.judged opens.told).store image in
     record {
@@ -247,14 +257,15 @@ run_unopened few {p} old mid {commands} script status lawful opens files before 
       unclosed_now = λ told cut memory. absurd (opening_failed status unopened.ends store (unopened.quiet opens.told image) (λ is. subst IsCut is cut) memory);
       first = files.first;
       answers = λ first is. says_nothing script before files.quiet;
-      steps = λ told first is. or_weaker old mid (OpeningMoment p commands old first is) (RunMoment p commands old first is script) (files.steps told first is) (λ f s here. inl here);
+      steps = λ told first is. or_weaker old mid (OpeningMoment budget p commands old first is) (RunMoment budget p commands old first is script) (files.steps told first is) (λ f s here. inl here);
       complete = λ first is done. absurd (not_done status unopened.ends done);
+      refused = λ told is. stands_alone p commands files.images told;
       store = store;
     }
 
 -- a call on a store that was opened judges its files so
-pub judged_open : {old new : Disk} (status : Status) → IsWellFormed old.reads → (status ≢ NotAStore) × (status ≢ Damaged) → JudgesFiles old new status
-judged_open status image store = record {
+pub judged_open : {old new : Disk} (status : Status) → IsWellFormed old.reads → (status ≢ NotAStore) × (status ≢ Damaged) → IsOfOpened status → JudgesFiles old new status
+judged_open status image store fine = record {
   no_store = λ is. absurd (store.0 is);
   damaged = λ is. absurd (store.1 is);
   store = λ image. store;
@@ -262,17 +273,18 @@ judged_open status image store = record {
   keeps = λ broken. absurd (broken image);
   memory = λ is. opens_gate all_meaning image;
   silent = λ broken is. absurd (broken image);
+  refused = λ is. absurd (subst IsOfOpened is fine);
 }
 
 -- What was made of the backup, from before the store was opened.
 module _ {T : Type 0} (disk : T → Disk) {before after : T} {p : Params} {commands : List Command} {script : List (List ℕ)} {old mid : Disk} where
-  pub backed_from : {first : Stage} {new : Disk} → IsDisk old → OpensFiles p commands old mid → Passes old mid → IsBackedUp disk p first commands script mid new before after → IsBackedUp disk p first commands script old new before after
+  pub backed_from : {budget : Budget} {first : Stage} {new : Disk} → IsDisk old → OpensFiles budget p commands old mid → Passes old mid → IsBackedUp disk p first commands script mid new before after → IsBackedUp disk p first commands script old new before after
   backed_from lawful files time b = record { truly = says_from lawful files.images time files.quiet b.truly; passes = b.passes; says = b.says }
 
   -- from each stage that the opening has
-  pub backed_each : {new : Disk} {engine : EngineView} → IsOpen p commands old mid engine → ((holds : Holds p mid engine commands) → IsBackedUp disk p (stage_of engine holds.world) commands script mid new before after)
-      → (first : Stage) → IsFirst p commands old first → IsBackedUp disk p first commands script mid new before after
-  backed_each {new} opened runs first is =
+  pub backed_each : {budget : Budget} {new : Disk} {engine : EngineView} → IsOpen budget p commands old mid engine → ((holds : Holds p mid engine commands) → IsBackedUp disk p (stage_of engine holds.world) commands script mid new before after)
+      → (first : Stage) → IsFirst budget p commands old first → IsBackedUp disk p first commands script mid new before after
+  backed_each {budget} {new} opened runs first is =
       let shown = opened.shows first is in
       subst (λ (s : Stage). IsBackedUp disk p s commands script mid new before after) (sym shown.1) (runs shown.0)
 

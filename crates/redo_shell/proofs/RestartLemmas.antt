@@ -1,5 +1,5 @@
 -- What the opening of a store says of the files.
-use Rattle.std.proofs.Common.{◌≡◌, ◌≢◌, ◌⊎◌, Err, ⊎_elim, ◌∙◌, ◌++◌, List, [], ◌∷◌, ℕ, refl, ap, sym, subst, arith, length, take, drop, false, Option, None}
+use Rattle.std.proofs.Common.{◌≡◌, ◌≢◌, ◌⊎◌, Err, inr, ⊎_elim, ◌∙◌, ◌++◌, List, [], ◌∷◌, ℕ, refl, ap, sym, subst, arith, length, take, drop, false, Option, None}
 use Rattle.std.specs.Prelude.{IfSome}
 use Rattle.std.proofs.lemmas.List.{append-nil, length-append, take-append-drop}
 use Rattle.disk_model.specs.Disk.{Files, Disk, Passes, Rises, Stays}
@@ -17,6 +17,7 @@ use Rattle.running_store.specs.Parts.{Shows}
 use Rattle.running_store.specs.Taking.{IsAfter}
 use Rattle.stable_objects.specs.Reading.{IsNoDamage}
 use Rattle.restart.specs.Courses.{restart_course}
+use Rattle.restart.specs.Damage.{IsReported}
 use Rattle.restart.specs.Opening.{IsJudged, IsOpening, OpensOn}
 use Rattle.restart.specs.Reopened.{IsReopened}
 use Rattle.stable_objects.specs.declared.open_err.OpenErr.{OpenErr}
@@ -28,7 +29,8 @@ use Rattle.store_engine.specs.Grouping.{ungrouped_alone}
 use Rattle.redo_shell.specs.Keeps.{KeepsFiles}
 use Rattle.redo_shell.specs.Notices.{damaged, not_a_store}
 use Rattle.redo_shell.specs.Open.{IsUnopened}
-use Rattle.redo_shell.specs.Status.{IsOfUnopened}
+use Rattle.redo_shell.specs.Status.{IsOfUnopened, LacksMemory}
+use Rattle.redo_shell.specs.declared.budget.Budget.{Budget}
 use Rattle.redo_shell.specs.declared.status.Status.{Status}
 use Rattle.redo_shell.specs.declared.status.Status.TheVariants.{NotAStore as NoStore, Damaged as FilesDamaged, DiskFault as DiskFailed, SayFault, Memory as OutOfMemory}
 use Rattle.redo_shell.specs.Stages.{Stage, IsFirst, redo_dirty, stage_of}
@@ -42,17 +44,17 @@ abbrev pub Starts : Params → Disk → List Command → Type 0
 Starts p old commands = (used : ℕ) × (w : World Command) × IsFound (meaning_in p) p old.reads commands w × EndsAt old.reads used
 
 -- the stage that a restart makes of it
-abbrev pub first_of : {p : Params} {old : Disk} {commands : List Command} → Opens p old commands → Starts p old commands → (first : Stage) × IsFirst p commands old first
-first_of {p} {old} {commands} opens starts =
-    let course = restart_course (meaning_in p) (redo_dirty p) starts.1 starts.0 in
+abbrev pub first_of : {budget : Budget} {p : Params} {old : Disk} {commands : List Command} → Opens p old commands → Starts p old commands → (first : Stage) × IsFirst budget p commands old first
+first_of {budget} {p} {old} {commands} opens starts =
+    let course = restart_course (meaning_in p) (redo_dirty budget p) starts.1 starts.0 in
     let found : OpensOn (meaning_in p) p old starts.0 starts.1 = record { told = opens.told; sound = starts.2.sound; shows = starts.2.shows; ends = starts.3 } in (
       record { world = run (meaning_in p) starts.1 course.steps; used = course.used; identities = 0; copied = None },
       record { used = starts.0; world = starts.1; found = found; commands_are = starts.2.commands_are; world_is = refl; used_is = refl; none_logged = refl; none_copied = refl },
     )
 
 -- its commands are those of the files
-pub first_commands : {p : Params} {old : Disk} {commands : List Command} (opens : Opens p old commands) (starts : Starts p old commands) → IsReopened (meaning_in p) starts.1 (run (meaning_in p) starts.1 (restart_course (meaning_in p) (redo_dirty p) starts.1 starts.0).steps)
-    → (first : Stage) × IsFirst p commands old first × (commands_of first.world.history ≡ commands)
+pub first_commands : {budget : Budget} {p : Params} {old : Disk} {commands : List Command} (opens : Opens p old commands) (starts : Starts p old commands) → IsReopened (meaning_in p) starts.1 (run (meaning_in p) starts.1 (restart_course (meaning_in p) (redo_dirty budget p) starts.1 starts.0).steps)
+    → (first : Stage) × IsFirst budget p commands old first × (commands_of first.world.history ≡ commands)
 unfolding step
 first_commands opens starts reopened =
     let first = first_of opens starts in
@@ -73,8 +75,8 @@ all_in_front n h commands is same =
     whole_front (commands_of (take n h)) (commands_of (drop n h)) commands (split ∙ is) same
 
 -- the world that a restart makes of files that stand for commands
-abbrev pub restarted : {p : Params} {commands : List Command} {old : Disk} {first : Stage} → IsFirst p commands old first → World Command
-restarted {p} is = run (meaning_in p) is.world (restart_course (meaning_in p) (redo_dirty p) is.world is.used).steps
+abbrev pub restarted : {budget : Budget} {p : Params} {commands : List Command} {old : Disk} {first : Stage} → IsFirst budget p commands old first → World Command
+restarted {budget} {p} is = run (meaning_in p) is.world (restart_course (meaning_in p) (redo_dirty budget p) is.world is.used).steps
 
 -- where no group is open an engine shows what its parts show
 shown_alone : {p : Params} {d : Disk} {engine : EngineView} {w : World Command} → engine.broken ≡ false → engine.group ≡ None → Shows (meaning_in p) p d engine.parts w → ShowsIn p d engine w
@@ -88,12 +90,12 @@ shown_alone {p} {d} {engine} {w} unbroken alone shows = record {
 
 -- The engine that was opened shows each first stage: of the commands of that world no fewer are stable than the engine has
 -- accepted, so all of them are.
-pub shows_first : {p : Params} {old new : Disk} {engine : EngineView} {commands : List Command} (first : Stage) (is : IsFirst p commands old first) → engine.broken ≡ false → engine.group ≡ None → engine.copied ≡ None → engine.identities ≡ 0
-    → IsAfter (meaning_in p) p new engine.parts is.world (restart_course (meaning_in p) (redo_dirty p) is.world is.used)
+pub shows_first : {budget : Budget} {p : Params} {old new : Disk} {engine : EngineView} {commands : List Command} (first : Stage) (is : IsFirst budget p commands old first) → engine.broken ≡ false → engine.group ≡ None → engine.copied ≡ None → engine.identities ≡ 0
+    → IsAfter (meaning_in p) p new engine.parts is.world (restart_course (meaning_in p) (redo_dirty budget p) is.world is.used)
     → IsReopened (meaning_in p) is.world (restarted is) → of_engine.Holds all_meaning p new engine commands
     → ((others : List Command) → of_engine.Holds all_meaning p new engine others → Says p new engine others)
     → (holds : Holds p new engine commands) × (first ≡ stage_of engine holds.world)
-shows_first {p} {old} {new} {engine} {commands} first is unbroken alone uncopied none after reopened holds says =
+shows_first {budget} {p} {old} {new} {engine} {commands} first is unbroken alone uncopied none after reopened holds says =
     let shown = shown_alone unbroken alone after.shows in
     let mine : of_engine.Holds all_meaning p new engine (commands_of (restarted is).history) = record { world = restarted is; shows = shown; commands_are = refl } in
     let many : length (commands_of (restarted is).history) ≡ length commands = sym (says (commands_of (restarted is).history) mine).accepted ∙ (says commands holds).accepted in
@@ -122,16 +124,18 @@ pub record EndsUnopened (old new : Disk) (cause : OpenErr) (status : Status) : T
   pub keeps : KeepsFiles old new
   pub no_store : old.tells_files → status ≡ NoStore → (cause ≡ NotAStore) × (new.said ≡ old.said ++ not_a_store)
   pub damaged : old.tells_files → status ≡ FilesDamaged → (file : FileNo) × (place : ℕ) × (cause ≡ Damaged file place) × (new.said ≡ old.said ++ damaged file place)
-  pub quiet : cause ≢ NotAStore → IsNoDamage cause → (new.said ≡ old.said) × (status ≢ NoStore) × (status ≢ FilesDamaged) × (status ≢ SayFault)
-  pub silent : (status ≡ DiskFailed) ⊎ (status ≡ OutOfMemory) → new.said ≡ old.said
+  pub read : status ≡ NoStore → (cause ≡ NotAStore) × ((files : Files) → new.agrees files → old.agrees files)
+  pub quiet : cause ≢ NotAStore → IsNoDamage cause → (new.said ≡ old.said) × (status ≢ NoStore) × (status ≢ FilesDamaged) × (status ≢ SayFault) × (status ≢ OutOfMemory)
+  pub silent : (status ≡ DiskFailed) ⊎ LacksMemory status → new.said ≡ old.said
   pub ends : IsOfUnopened status
   pub disk_fault : status ≡ DiskFailed → cause ≡ DiskFault
   pub say_fault : status ≡ SayFault → Rises old.say_faults new.say_faults
-  pub memory : status ≡ OutOfMemory → (cause ≡ Memory) ⊎ ((file : FileNo) × (place : ℕ) × (cause ≡ Damaged file place))
+  pub memory : LacksMemory status → (cause ≡ Memory) ⊎ ((file : FileNo) × (place : ℕ) × (cause ≡ Damaged file place))
 
 -- why no store was opened
-pub unopened_so : {old mid new : Disk} {cause : OpenErr} {status : Status} → IsOpening all_meaning old mid (Err cause) → (old.tells_files → IsJudged all_meaning old mid (Err cause)) → EndsUnopened mid new cause status → IsUnopened old new status
-unopened_so {old} {mid} {new} {cause} {status} opening judges it = record {
+pub unopened_so : {old mid new : Disk} {cause : OpenErr} {status : Status} → IsOpening all_meaning old mid (Err cause) → (old.tells_files → IsJudged all_meaning old mid (Err cause)) → IsReported all_meaning old mid (Err cause)
+    → EndsUnopened mid new cause status → IsUnopened old new status
+unopened_so {old} {mid} {new} {cause} {status} opening judges reported it = record {
   ends = it.ends;
   judged = λ told.
       let told_mid = opening.time.files_told.0 told in
@@ -155,8 +159,10 @@ unopened_so {old} {mid} {new} {cause} {status} opening judges it = record {
         keeps = λ broken. keeps_behind old mid new (stays_unless judged.kept broken) it.keeps;
         memory = λ is. ⊎_elim (λ e. judged.memory (cc e)) (λ broken. (judged.damaged broken.0 broken.1 (cc (broken.2))).gate) (it.memory is);
         silent = λ broken is. it.silent is ∙ opening.quiet told;
+        refused = λ is. it.silent (inr (subst LacksMemory (sym is) tt)) ∙ opening.quiet told;
       };
-  quiet = λ told image. let whole = (judges told).whole image in (it.quiet (no_damage cause whole) whole).3;
+  read = λ is files agrees. let said = it.read is in reported.no_store (cc (said.0)) files (said.1 files agrees);
+  quiet = λ told image. let whole = (judges told).whole image in let quiet = it.quiet (no_damage cause whole) whole in (quiet.3, quiet.4);
   faults = record {
     disk = λ is. rises_within _ _ _ _ (omega arith) it.time.disk_faults (opening.fault (cc (it.disk_fault is)));
     output = λ is. rises_within _ _ _ _ opening.time.say_faults (omega arith) (it.say_fault is);

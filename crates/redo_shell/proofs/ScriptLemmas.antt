@@ -1,17 +1,18 @@
 -- The end of a script's run, and what was taken off its source.
-use Rattle.std.proofs.Common.{◌≡◌, ◌≢◌, ◌++◌, List, ℕ, [], ◌∷◌, length-append, append_assoc, refl, sym, ◌∙◌, ap, subst, arith, ◌<◌, ◌≤◌, ◌^◌, ◌==◌, if◌then◌else◌, true, false, length, Bool, Result, Ok, Err, IfErr}
+use Rattle.std.proofs.Common.{◌≡◌, ◌≢◌, ◌+◌, ◌++◌, List, ℕ, [], ◌∷◌, length-append, append_assoc, refl, sym, ◌∙◌, ap, subst, arith, ◌<◌, ◌≤◌, ◌^◌, ◌==◌, if◌then◌else◌, true, false, length, Bool, Result, Ok, Err, IfErr}
 use Rattle.std.specs.Result.{IsErrAnd, IsErrOf}
 use Rattle.disk_model.specs.Disk.{Disk, Passes, Rises}
 use Rattle.disk_model.specs.declared.machine.FileNo.{FileNo}
 use Rattle.script_lines.specs.Grammar.{lines_of, before_first}
-use Rattle.script_lines.specs.Reading.{ReadsOn, IsNext, IsLine}
+use Rattle.script_lines.specs.Reader.{Reader}
+use Rattle.script_lines.specs.Reading.{ReadsOn, IsNext, IsLine, still_to_give}
 use Rattle.script_lines.specs.declared.next.Next.{Next}
 use Rattle.script_lines.specs.declared.next.Next.TheVariants.{Line, Long, End}
 use Rattle.script_lines.specs.declared.read_error.ReadError.{ReadError}
 use Rattle.script_lines.specs.declared.read_error.ReadError.TheVariants.{ReadFault as ReadFailed, TooLong as ReadTooMuch, Memory as NoMemoryToRead}
 use Rattle.redo_shell.specs.declared.stop.Stop.{Stop}
 use Rattle.redo_shell.specs.declared.stop.Stop.TheVariants.{DiskFault, Damaged, ReadFault, SayFault, BackupFault, Memory, TooLong}
-use Rattle.redo_shell.specs.Status.{IsCut, status_after, status_of, stop_of_input}
+use Rattle.redo_shell.specs.Status.{IsCut, IsOfRun, status_after, status_of, stop_of_input, IsOfOpened}
 use Rattle.redo_shell.specs.Run.{IsCausedBeside, StopsWith, IsUndamaged}
 use Rattle.redo_shell.specs.Causes.{CountsFaults}
 use Rattle.redo_shell.specs.Saving.{IsBesideRun}
@@ -26,6 +27,10 @@ takes_on {a} {b} {c} first second = record {
   front = first.front ∙ ap (λ (l : List ℕ). first.bytes ++ l) second.front ∙ sym (append_assoc first.bytes second.bytes c);
   count = omega (arith, first.count, second.count, length-append first.bytes second.bytes);
 }
+
+-- a reader that has taken nothing has 2^40 bytes to give
+pub few_begin : {n : ℕ} (reader : Reader) → reader.ahead ≡ [] → reader.taken ≡ 0 → n ≡ 0 → n + still_to_give reader ≤ 2 ^ 40
+few_begin reader ahead taken none = omega (arith, ap (λ (l : List ℕ). length l) ahead, taken, none)
 
 -- a line was found
 pub next_line : (next : Next) (stored old new : List ℕ) → IsNext next stored old new → next ≢ End → (line : List ℕ) × IsLine next stored line × (lines_of old ≡ line ∷ lines_of new)
@@ -160,3 +165,18 @@ module _ (old new : Disk) (reads_before reads_now : ℕ) (backup backed : Disk) 
   run_beside (Ok true) status is cause time = record { time = time; fault = λ same. cc }
   run_beside (Ok false) status is cause time = record { time = time; fault = λ same. cc }
   run_beside (Err stop) status is cause time = record { time = time; fault = λ same. stop_beside stop cause (sym is ∙ same) }
+
+-- a run on an open store finds one
+pub stop_status : (stop : Stop) → IsOfRun (status_of stop) × IsOfOpened (status_of stop)
+stop_status DiskFault = (tt, tt)
+stop_status (Damaged file place) = (tt, tt)
+stop_status ReadFault = (tt, tt)
+stop_status SayFault = (tt, tt)
+stop_status BackupFault = (tt, tt)
+stop_status Memory = (tt, tt)
+stop_status TooLong = (tt, tt)
+
+pub run_status : (outcome : Result Bool Stop) (status : Status) → status ≡ status_after outcome → IsOfRun status × IsOfOpened status
+run_status (Ok true) status is = subst (λ (s : Status). IsOfRun s × IsOfOpened s) (sym is) (tt, tt)
+run_status (Ok false) status is = subst (λ (s : Status). IsOfRun s × IsOfOpened s) (sym is) (tt, tt)
+run_status (Err stop) status is = subst (λ (s : Status). IsOfRun s × IsOfOpened s) (sym is) (stop_status stop)

@@ -36,8 +36,9 @@ use Rattle.redo_shell.specs.Run.{IsCaused, IsUndamaged}
 use Rattle.redo_shell.specs.Shipping.{AreFirstBlocks, IsShipOn, SaysBlocks, SaysFrames, SaysGone, SaysOfLog, SaysPart, SaysPartGone, ShipMoment}
 use Rattle.redo_shell.specs.Status.{IsOfShip, IsOfUnopened, status_of, stop_from_read}
 use Rattle.redo_shell.specs.Store.{Between, Command, Holds, IsAttached, Opens, Stands, meaning_in}
+use Rattle.redo_shell.specs.declared.budget.Budget.{Budget}
 use Rattle.redo_shell.specs.declared.status.Status.{Status}
-use Rattle.redo_shell.specs.declared.status.Status.TheVariants.{Done, NotAStore, Damaged, DiskFault, SayFault, Memory, Gone}
+use Rattle.redo_shell.specs.declared.status.Status.TheVariants.{Done, NotAStore, Damaged, DiskFault, SayFault, Memory, RestartMemory, Gone}
 use Rattle.redo_shell.specs.declared.stop.Stop.{Stop}
 use Rattle.redo_shell.specs.declared.stop.Stop.TheVariants as stops
 use Rattle.redo_shell.proofs.HoldLemmas.{attached_said, rises_within, told_by}
@@ -398,8 +399,8 @@ module _ (p : Params) (commands : List Command) (old : Disk) where
       or_weaker old mid (Between p old None (length commands) (length commands) commands) (ShipMoment p commands from old.said) (opening told)
       (λ f s b. let enough = b.enough in (subst (λ (l : List Command). Stands p f l) (take_all b.kept commands enough) b.stands, inl b.quiet))
 
-  pub ship_unopened : (from : ℕ) (mid : Disk) (status : Status) → IsDisk old → Opens p old commands → OpensFiles p commands old mid → IsOfUnopened status → (status ≢ NotAStore) × (status ≢ Damaged) → status ≢ SayFault → IsShipOn from p commands old mid status
-  ship_unopened from mid status lawful opens files of store output =
+  pub ship_unopened : {budget : Budget} (from : ℕ) (mid : Disk) (status : Status) → IsDisk old → Opens p old commands → OpensFiles budget p commands old mid → IsOfUnopened status → (status ≢ NotAStore) × (status ≢ Damaged) → (status ≢ SayFault) × (status ≢ Memory) → IsShipOn budget from p commands old mid status
+  ship_unopened {budget} from mid status lawful opens files of store output =
       let images = opens_standing from mid files.images in
       record {
         done = λ is. absurd (subst IsOfUnopened is of);
@@ -410,12 +411,12 @@ module _ (p : Params) (commands : List Command) (old : Disk) where
         store = store;
         settled = λ disk memory. absurd (opening_failed status of store output disk memory);
         stands = λ disk memory. absurd (opening_failed status of store output disk memory);
-        steps = λ told first is. or_weaker old mid (OpeningMoment p commands old first is) (TableMoment p commands old first is) (files.steps told first is) (λ f s here. inl here);
+        steps = λ told first is. or_weaker old mid (OpeningMoment budget p commands old first is) (TableMoment budget p commands old first is) (files.steps told first is) (λ f s here. inl here);
       }
 
-  pub ship_on : (from : ℕ) (mid new : Disk) (engine : EngineView) (status : Status) → IsDisk old → IsDisk mid → IsDisk new → Passes old mid → Passes mid new → Opens p old commands → OpensFiles p commands old mid → IsOpen p commands old mid engine → Holds p mid engine commands
+  pub ship_on : {budget : Budget} (from : ℕ) (mid new : Disk) (engine : EngineView) (status : Status) → IsDisk old → IsDisk mid → IsDisk new → Passes old mid → Passes mid new → Opens p old commands → OpensFiles budget p commands old mid → IsOpen budget p commands old mid engine → Holds p mid engine commands
       → IsSettled mid → KeepsFiles mid new → (status ≡ Done → SaysFrames p from mid new) → (status ≡ Gone → SaysGone p from mid new) → SaysOfLog p from mid.said new.reads new.said
-      → (mid.tells_moments → LeavesOnly mid new (λ files said. (files ≡ mid.reads) × SaysOfLog p from mid.said files said)) → (status ≢ NotAStore) × (status ≢ Damaged) → IsShipOn from p commands old new status
+      → (mid.tells_moments → LeavesOnly mid new (λ files said. (files ≡ mid.reads) × SaysOfLog p from mid.said files said)) → (status ≢ NotAStore) × (status ≢ Damaged) → IsShipOn budget from p commands old new status
   ship_on from mid new engine status lawful lawful_mid lawful_new first second opens files opened holds settled_mid keeps done gone said moments store =
       let settled = keeps_settled mid new lawful_mid lawful_new second keeps settled_mid in
       let here : Stands p mid.reads commands = (dump_stands p mid mid engine commands holds opened.all (keeps_none mid lawful_mid) settled_mid).0 in
@@ -462,4 +463,5 @@ unopened_ship Damaged of = tt
 unopened_ship DiskFault of = tt
 unopened_ship SayFault of = tt
 unopened_ship Memory of = tt
+unopened_ship RestartMemory of = tt
 unopened_ship status of = absurd of

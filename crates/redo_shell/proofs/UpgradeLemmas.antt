@@ -16,11 +16,12 @@ use Rattle.redo_shell.specs.Calls.{IsUpgradeOn}
 use Rattle.redo_shell.specs.Causes.{Sometime, IsCutStore, JudgesFiles, SaysCut}
 use Rattle.redo_shell.specs.Keeps.{KeepsFiles}
 use Rattle.redo_shell.specs.Open.{OpensFiles}
-use Rattle.redo_shell.specs.Status.{IsOfSecond, IsOfUnopened, IsOfUpgrade}
+use Rattle.redo_shell.specs.Status.{IsOfSecond, IsOfUnopened, IsOfUpgrade, IsOfOpened}
 use Rattle.redo_shell.specs.Store.{Command, Between, Holds, IsAttached, IsUpgraded, IsWellFormed, Opens, Stands, StandsInEither}
+use Rattle.redo_shell.specs.declared.budget.Budget.{Budget}
 use Rattle.redo_shell.specs.declared.status.Status.{Status}
-use Rattle.redo_shell.specs.declared.status.Status.TheVariants.{NotAStore, Damaged, DiskFault, SayFault, Memory, AlreadyTwo, Smaller}
-use Rattle.redo_shell.proofs.OpenLemmas.{opening_failed}
+use Rattle.redo_shell.specs.declared.status.Status.TheVariants.{NotAStore, Damaged, DiskFault, SayFault, Memory, RestartMemory, AlreadyTwo, Smaller}
+use Rattle.redo_shell.proofs.OpenLemmas.{opening_failed, stands_alone}
 
 module _ (P : Files → Type 0) where
   -- at each moment of a call that says nothing the files have P
@@ -92,9 +93,9 @@ two_second AlreadyTwo of = tt
 two_second SayFault of = tt
 two_second status of = absurd of
 
-pub two_upgrade : (status : Status) → IsOfTwo status → IsOfUpgrade status × (status ≢ NotAStore)
-two_upgrade AlreadyTwo of = (tt, λ e. cc e)
-two_upgrade SayFault of = (tt, λ e. cc e)
+pub two_upgrade : (status : Status) → IsOfTwo status → IsOfUpgrade status × IsOfOpened status
+two_upgrade AlreadyTwo of = (tt, tt)
+two_upgrade SayFault of = (tt, tt)
 two_upgrade status of = absurd of
 
 abbrev pub IsOfSmaller : Status → Type 0
@@ -107,10 +108,10 @@ pub smaller_ends : (status : Status) → (status ≡ Smaller) ⊎ ((status ≡ M
 smaller_ends status ends = ⊎_elim (λ (is : status ≡ Smaller). subst IsOfSmaller (sym is) tt)
     (λ other. ⊎_elim (λ (is : status ≡ Memory). subst IsOfSmaller (sym is) tt) (λ (is : status ≡ SayFault). subst IsOfSmaller (sym is) tt) other) ends
 
-pub smaller_upgrade : (status : Status) → IsOfSmaller status → IsOfUpgrade status × (status ≢ NotAStore)
-smaller_upgrade Smaller of = (tt, λ e. cc e)
-smaller_upgrade Memory of = (tt, λ e. cc e)
-smaller_upgrade SayFault of = (tt, λ e. cc e)
+pub smaller_upgrade : (status : Status) → IsOfSmaller status → IsOfUpgrade status × IsOfOpened status
+smaller_upgrade Smaller of = (tt, tt)
+smaller_upgrade Memory of = (tt, tt)
+smaller_upgrade SayFault of = (tt, tt)
 smaller_upgrade status of = absurd of
 
 abbrev pub IsOfDamage : Status → Type 0
@@ -123,10 +124,10 @@ pub damage_ends : (status : Status) → (status ≡ Damaged) ⊎ ((status ≡ Me
 damage_ends status ends = ⊎_elim (λ (is : status ≡ Damaged). subst IsOfDamage (sym is) tt)
     (λ other. ⊎_elim (λ (is : status ≡ Memory). subst IsOfDamage (sym is) tt) (λ (is : status ≡ SayFault). subst IsOfDamage (sym is) tt) other) ends
 
-pub damage_upgrade : (status : Status) → IsOfDamage status → IsOfUpgrade status × (status ≢ NotAStore)
-damage_upgrade Damaged of = (tt, λ e. cc e)
-damage_upgrade Memory of = (tt, λ e. cc e)
-damage_upgrade SayFault of = (tt, λ e. cc e)
+pub damage_upgrade : (status : Status) → IsOfDamage status → IsOfUpgrade status × IsOfOpened status
+damage_upgrade Damaged of = (tt, tt)
+damage_upgrade Memory of = (tt, tt)
+damage_upgrade SayFault of = (tt, tt)
 damage_upgrade status of = absurd of
 
 pub unopened_upgrade : (status : Status) → IsOfUnopened status → IsOfUpgrade status
@@ -135,6 +136,7 @@ unopened_upgrade Damaged of = tt
 unopened_upgrade DiskFault of = tt
 unopened_upgrade SayFault of = tt
 unopened_upgrade Memory of = tt
+unopened_upgrade RestartMemory of = tt
 unopened_upgrade status of = absurd of
 
 unopened_second : (status : Status) → IsOfUnopened status → (status ≢ NotAStore) × (status ≢ Damaged) → IsOfSecond status
@@ -143,24 +145,26 @@ unopened_second Damaged of store = absurd (store.1 refl)
 unopened_second DiskFault of store = tt
 unopened_second SayFault of store = tt
 unopened_second Memory of store = tt
+unopened_second RestartMemory of store = tt
 unopened_second status of store = absurd of
 
 -- a call on a store that was opened judges its files so, where it does not call them damaged
-pub judged_whole : {old new : Disk} (status : Status) → IsWellFormed old.reads → status ≢ NotAStore → (status ≡ Damaged → SaysCut old new) → JudgesFiles old new status ⊎ ((status ≡ Damaged) × SaysCut old new)
-judged_whole Damaged image store cut = inr (refl, cut refl)
-judged_whole status image store cut = inl (record {
-  no_store = λ is. absurd (store is);
+pub judged_whole : {old new : Disk} (status : Status) → IsWellFormed old.reads → IsOfOpened status → (status ≡ Damaged → SaysCut old new) → JudgesFiles old new status ⊎ ((status ≡ Damaged) × SaysCut old new)
+judged_whole Damaged image fine cut = inr (refl, cut refl)
+judged_whole status image fine cut = inl (record {
+  no_store = λ is. absurd (subst IsOfOpened is fine);
   damaged = λ is. cc is;
-  store = λ image. (store, λ is. cc is);
+  store = λ image. (λ is. subst IsOfOpened is fine, λ is. cc is);
   opened = λ of. image;
   keeps = λ broken. absurd (broken image);
   memory = λ is. opens_gate all_meaning image;
   silent = λ broken is. absurd (broken image);
+  refused = λ is. absurd (subst IsOfOpened is fine);
 })
 
 module _ (p q : Params) (commands : List Command) (old : Disk) where
   -- while the store is opened the files stand for the commands in the store that was there
-  opens_either : (mid : Disk) → OpensFiles p commands old mid → old.tells_moments → LeavesOnly old mid (OrAtStart old (λ files said. StandsInEither p q commands files))
+  opens_either : {budget : Budget} (mid : Disk) → OpensFiles budget p commands old mid → old.tells_moments → LeavesOnly old mid (OrAtStart old (λ files said. StandsInEither p q commands files))
   opens_either mid files told =
       or_weaker old mid (Between p old None (length commands) (length commands) commands) (λ files said. StandsInEither p q commands files) (files.images told)
       (λ f s b. let enough = b.enough in inl (subst (λ (l : List Command). Stands p f l) (take_all b.kept commands enough) b.stands))
@@ -168,7 +172,7 @@ module _ (p q : Params) (commands : List Command) (old : Disk) where
   start_either : Opens p old commands → StandsInEither p q commands old.reads
   start_either opens = inl opens.stands
 
-  pub upgrade_unopened : (mid : Disk) (status : Status) → IsDisk old → Opens p old commands → OpensFiles p commands old mid → IsOfUnopened status → (status ≢ NotAStore) × (status ≢ Damaged) → status ≢ SayFault → IsUpgradeOn p q commands old mid status
+  pub upgrade_unopened : {budget : Budget} (mid : Disk) (status : Status) → IsDisk old → Opens p old commands → OpensFiles budget p commands old mid → IsOfUnopened status → (status ≢ NotAStore) × (status ≢ Damaged) → (status ≢ SayFault) × (status ≢ Memory) → IsUpgradeOn p q commands old mid status
   upgrade_unopened mid status lawful opens files of store output = record {
     images = opens_either mid files;
     from_settled = λ told settled. from_settled old mid (λ files said. StandsInEither p q commands files) lawful told settled (start_either opens) (opens_either mid files told);
@@ -179,11 +183,12 @@ module _ (p q : Params) (commands : List Command) (old : Disk) where
     smaller = λ is. absurd (subst IsOfUnopened is of);
     already = λ is. absurd (subst IsOfUnopened is of);
     second = λ is. unopened_second status of store;
+    refused = λ told is. stands_alone p commands files.images told;
     idle = λ is. absurd (⊎_elim (λ (e : status ≡ AlreadyTwo). subst IsOfUnopened e of) (λ (e : status ≡ Smaller). subst IsOfUnopened e of) is);
     store = store.0;
   }
 
-  pub upgrade_images : (mid new : Disk) → OpensFiles p commands old mid → Passes old mid → (mid.tells_moments → LeavesOnly mid new (λ files said. StandsInEither p q commands files)) → old.tells_moments
+  pub upgrade_images : {budget : Budget} (mid new : Disk) → OpensFiles budget p commands old mid → Passes old mid → (mid.tells_moments → LeavesOnly mid new (λ files said. StandsInEither p q commands files)) → old.tells_moments
       → LeavesOnly old new (OrAtStart old (λ files said. StandsInEither p q commands files))
   upgrade_images mid new files time growing told =
       runs_on old mid new (OrAtStart old (λ files said. StandsInEither p q commands files)) (opens_either mid files told)

@@ -13,9 +13,10 @@ use Rattle.store_engine.specs.Engine.{InEachImage}
 use Rattle.store_engine.specs.Upgrading.{IsSecond}
 use Rattle.stable_objects.specs.Larger.{IsLarger}
 use Rattle.restart.specs.Starts.{OrAtStart}
+use Rattle.redo_shell.specs.declared.budget.Budget.{Budget}
 use Rattle.redo_shell.specs.Store.{Command, meaning_in, Stands, StandsInEither, Opens, IsNew, IsNewStore, IsUpgraded}
 use Rattle.redo_shell.specs.Answers.{Moment, SaysTruly}
-use Rattle.redo_shell.specs.Causes.{JudgesFiles, JudgesUpgrade, SaysStore}
+use Rattle.redo_shell.specs.Causes.{JudgesFiles, JudgesUpgrade, ReadsNoStore, ReadsStore, SaysStore}
 use Rattle.redo_shell.specs.Demo.{IsDemo}
 use Rattle.redo_shell.specs.Dump.{dump_of, DumpMoment}
 use Rattle.redo_shell.specs.Keeps.{KeepsFiles}
@@ -28,51 +29,55 @@ use Rattle.redo_shell.specs.Shipping.{IsShipCall}
 use Rattle.redo_shell.specs.Following.{IsFollowCall}
 use Rattle.redo_shell.specs.Status.{IsCut, IsOfRun, IsOfSecond, IsOfDump, IsOfInit, IsOfUpgrade}
 use Rattle.redo_shell.specs.declared.status.Status.{Status}
-use Rattle.redo_shell.specs.declared.status.Status.TheVariants.{Done, DoneWithRefusals, NotAStore, AlreadyStore, Damaged, DiskFault, Memory, AlreadyTwo, Smaller}
+use Rattle.redo_shell.specs.declared.status.Status.TheVariants.{Done, DoneWithRefusals, NotAStore, AlreadyStore, Damaged, DiskFault, RestartMemory, AlreadyTwo, Smaller}
 
 -- A run of a script of these lines, on files that stand for commands as they are read, whatever a process before this one
 -- left unsynced.
-pub record IsRunOn (p : Params) (commands : List Command) (script : List (List ℕ)) (old new : Disk) (status : Status) : Type 0 where
+pub record IsRunOn (budget : Budget) (p : Params) (commands : List Command) (script : List (List ℕ)) (old new : Disk) (status : Status) : Type 0 where
   -- what a crash at any moment leaves is what a crash at the start could leave, with nothing said since, or it stands for
   -- these commands and a beginning of those that the script has added, which splits no group and is no shorter than any number
   -- that was printed to be forced, and what was said is the answers to the script's lines
   pub images : old.tells_moments → LeavesOnly old new (OrAtStart old (Moment p commands script old.said))
   -- from a settled start what a crash at the start could leave is what reads give
   pub from_settled : old.tells_moments → IsSettled old → LeavesOnly old new (Moment p commands script old.said)
-  -- but where the disk or memory may have failed the opening, the syncs at its start are done: what a crash then leaves
+  -- but where the disk may have failed, or memory the opening, the syncs at its start are done: what a crash then leaves
   -- stands for these commands and a beginning of those that the script has added, with all that was said
-  pub opened : old.tells_moments → status ≢ DiskFault → status ≢ Memory → InEachImage new (λ files. Moment p commands script old.said files new.said)
+  pub opened : old.tells_moments → status ≢ DiskFault → status ≢ RestartMemory → InEachImage new (λ files. Moment p commands script old.said files new.said)
   -- where the input or the output failed, the input was too long or memory ran out, nothing of an open group is stable at any
   -- moment: it was neither closed nor forced
   pub unclosed : old.tells_moments → IsCut status → LeavesOnly old new (OrAtStart old (MomentSoFar p commands script old.said))
   pub unclosed_from_settled : old.tells_moments → IsSettled old → IsCut status → LeavesOnly old new (MomentSoFar p commands script old.said)
-  pub unclosed_now : old.tells_moments → IsCut status → status ≢ Memory → InEachImage new (λ files. MomentSoFar p commands script old.said files new.said)
+  pub unclosed_now : old.tells_moments → IsCut status → status ≢ RestartMemory → InEachImage new (λ files. MomentSoFar p commands script old.said files new.said)
   -- from each stage that a restart may make of the files, of which there is one, what was said is the answers to the
   -- script's lines, whatever the status
-  pub first : (first : Stage) × IsFirst p commands old first
-  pub answers : (first : Stage) → IsFirst p commands old first → SaysTruly p first commands script old new
+  pub first : (first : Stage) × IsFirst budget p commands old first
+  pub answers : (first : Stage) → IsFirst budget p commands old first → SaysTruly p first commands script old new
   -- from each of them, what a crash at any moment leaves is what one at the start could leave, or it is made by the courses
   -- of the restart and of the lines: at each moment some first steps of the course that is due then are done, and all of it
   -- before anything is said of the answer
-  pub steps : old.tells_moments → (first : Stage) → (is : IsFirst p commands old first) → LeavesOnly old new (OrAtStart old (RunMoment p commands old first is script))
+  pub steps : old.tells_moments → (first : Stage) → (is : IsFirst budget p commands old first) → LeavesOnly old new (OrAtStart old (RunMoment budget p commands old first is script))
   -- with status 0 or 1 the whole script is answered, and the files stand for all of it
-  pub complete : (first : Stage) → IsFirst p commands old first → (status ≡ Done) ⊎ (status ≡ DoneWithRefusals) → IsComplete p first old new commands script status
+  pub complete : (first : Stage) → IsFirst budget p commands old first → (status ≡ Done) ⊎ (status ≡ DoneWithRefusals) → IsComplete p first old new commands script status
+  -- where the restart was refused memory, what a crash at any moment leaves is what one at the start could leave, or it stands
+  -- for these commands alone
+  pub refused : old.tells_moments → status ≡ RestartMemory → LeavesOnly old new (OrAtStart old (λ files said. Stands p files commands))
   -- such files are never taken for no store or for damaged
   pub store : (status ≢ NotAStore) × (status ≢ Damaged)
 
 -- A run of the script that a source gives. The input had `left` at its start and has `rest` at its end, where the source
 -- reports that (`told`).
-pub record IsRunCall (told : Type 0) (left rest : List ℕ) (old new : Disk) (status : Status) : Type 0 where
-  pub script : (p : Params) (commands : List Command) → Opens p old commands → told → IsRunOn p commands (lines_of left) old new status
+pub record IsRunCall (budget : Budget) (told : Type 0) (left rest : List ℕ) (old new : Disk) (status : Status) : Type 0 where
+  pub script : (p : Params) (commands : List Command) → Opens p old commands → told → IsRunOn budget p commands (lines_of left) old new status
   -- of a source that reports nothing the same holds with some script
-  pub untold : (script : List (List ℕ)) × ((p : Params) (commands : List Command) → Opens p old commands → IsRunOn p commands script old new status)
+  pub untold : (script : List (List ℕ)) × ((p : Params) (commands : List Command) → Opens p old commands → IsRunOn budget p commands script old new status)
   -- with status 0 or 1 the input is read to its end, and has fewer bytes than it may have
   pub input : told → (status ≡ Done) ⊎ (status ≡ DoneWithRefusals) → (rest ≡ []) × (length left < 2 ^ 40)
   pub ends : IsOfRun status
   pub judged : old.tells_files → JudgesFiles old new status
+  pub read : status ≡ NotAStore → ReadsNoStore new
 
 -- A dump of files that stand for commands as they are read.
-pub record IsDumpOn (p : Params) (commands : List Command) (old new : Disk) (status : Status) : Type 0 where
+pub record IsDumpOn (budget : Budget) (p : Params) (commands : List Command) (old new : Disk) (status : Status) : Type 0 where
   -- what a crash at any moment leaves is what one at the start could leave, or it stands for these commands
   pub images : old.tells_moments → LeavesOnly old new (OrAtStart old (DumpMoment p commands old.said))
   pub from_settled : old.tells_moments → IsSettled old → LeavesOnly old new (DumpMoment p commands old.said)
@@ -80,28 +85,30 @@ pub record IsDumpOn (p : Params) (commands : List Command) (old new : Disk) (sta
   pub said : (count : ℕ) × (new.said ≡ old.said ++ take count (dump_of p commands))
   pub all : status ≡ Done → new.said ≡ old.said ++ dump_of p commands
   pub store : (status ≢ NotAStore) × (status ≢ Damaged)
-  -- but where the disk or memory may have failed the opening, the machine is settled then, and the files stand for these
+  -- but where the disk may have failed, or memory the opening, the machine is settled then, and the files stand for these
   -- commands
-  pub settled : status ≢ DiskFault → status ≢ Memory → IsSettled new
-  pub stands : status ≢ DiskFault → status ≢ Memory → InEachImage new (λ files. Stands p files commands)
+  pub settled : status ≢ DiskFault → status ≢ RestartMemory → IsSettled new
+  pub stands : status ≢ DiskFault → status ≢ RestartMemory → InEachImage new (λ files. Stands p files commands)
   -- the restart takes its course, and nothing else is done: a crash at any moment leaves what one at the start could leave,
   -- or the world after some first steps of it, and with status 0 the files show the world after all of it
-  pub steps : old.tells_moments → (first : Stage) → (is : IsFirst p commands old first) → LeavesOnly old new (OrAtStart old (TableMoment p commands old first is))
-  pub shows : (first : Stage) → IsFirst p commands old first → status ≡ Done → FilesShow (meaning_in p) p new.reads first.world
+  pub steps : old.tells_moments → (first : Stage) → (is : IsFirst budget p commands old first) → LeavesOnly old new (OrAtStart old (TableMoment budget p commands old first is))
+  pub shows : (first : Stage) → IsFirst budget p commands old first → status ≡ Done → FilesShow (meaning_in p) p new.reads first.world
 
 -- A dump of any files.
-pub record IsDumpCall (old new : Disk) (status : Status) : Type 0 where
-  pub table : (p : Params) (commands : List Command) → Opens p old commands → IsDumpOn p commands old new status
+pub record IsDumpCall (budget : Budget) (old new : Disk) (status : Status) : Type 0 where
+  pub table : (p : Params) (commands : List Command) → Opens p old commands → IsDumpOn budget p commands old new status
   pub settled : status ≡ Done → IsSettled new
   pub ends : IsOfDump status
   pub judged : old.tells_files → JudgesFiles old new status
+  pub read : status ≡ NotAStore → ReadsNoStore new
 
 -- The making of a store with these numbers.
 pub record IsMaking (p : Params) (old new : Disk) (status : Status) : Type 0 where
   pub ends : IsOfInit status
-  -- the files are those of a new store, which stand for no commands, and nothing is said
+  -- the files are those of a new store, which stand for no commands
   pub done : old.tells_files → status ≡ Done → InEachImage new (IsNewStore p)
-  pub quiet : old.tells_files → status ≡ Done → new.said ≡ old.said
+  -- nothing is said then, nor where the disk fails
+  pub quiet : old.tells_files → (status ≡ Done) ⊎ (status ≡ DiskFault) → new.said ≡ old.said
   -- at each moment there is what a crash at the start could leave, no store, or one without commands; nothing is said
   pub images : old.tells_moments → (BeginsStore (old.reads Objects) → ⊥) → LeavesOnly old new (OrAtStart old (λ files said. IsNew p files × (said ≡ old.said)))
   pub from_settled : old.tells_moments → IsSettled old → (BeginsStore (old.reads Objects) → ⊥) → LeavesOnly old new (λ files said. IsNew p files × (said ≡ old.said))
@@ -111,6 +118,7 @@ pub record IsMaking (p : Params) (old new : Disk) (status : Status) : Type 0 whe
   pub keeps : old.tells_files → BeginsStore (old.reads Objects) → KeepsFiles old new
   pub fresh : old.tells_files → status ≡ Done → BeginsStore (old.reads Objects) → ⊥
   pub already : old.tells_files → status ≡ AlreadyStore → SaysStore old new
+  pub read : status ≡ AlreadyStore → ReadsStore new
 
 -- A store is made larger, with the numbers q, of files that stand for commands.
 pub record IsUpgradeOn (p q : Params) (commands : List Command) (old new : Disk) (status : Status) : Type 0 where
@@ -118,8 +126,8 @@ pub record IsUpgradeOn (p q : Params) (commands : List Command) (old new : Disk)
   -- was there or in the larger one
   pub images : old.tells_moments → LeavesOnly old new (OrAtStart old (λ files said. StandsInEither p q commands files))
   pub from_settled : old.tells_moments → IsSettled old → LeavesOnly old new (λ files said. StandsInEither p q commands files)
-  -- but where the disk or memory may have failed, that is so of the files then
-  pub stands : status ≢ DiskFault → status ≢ Memory → InEachImage new (StandsInEither p q commands)
+  -- but where the disk may have failed, or memory the opening, that is so of the files then
+  pub stands : status ≢ DiskFault → status ≢ RestartMemory → InEachImage new (StandsInEither p q commands)
   -- with status 0 they are those of the larger store, and nothing is said
   pub done : status ≡ Done → InEachImage new (IsUpgraded q commands)
   pub quiet : status ≡ Done → new.said ≡ old.said
@@ -129,6 +137,9 @@ pub record IsUpgradeOn (p q : Params) (commands : List Command) (old new : Disk)
   -- no number of the store is greater than it was to get; where one is, that is said
   pub larger : status ≡ Done → IsLarger p q
   pub smaller : status ≡ Smaller → (IsLarger p q → ⊥) × (new.said ≡ old.said ++ notices.smaller p.objects p.cap)
+  -- where the restart was refused memory, what a crash at any moment leaves is what one at the start could leave, or it stands
+  -- for these commands alone
+  pub refused : old.tells_moments → status ≡ RestartMemory → LeavesOnly old new (OrAtStart old (λ files said. Stands p files commands))
   -- with each of these two it is left as it was
   pub idle : (status ≡ AlreadyTwo) ⊎ (status ≡ Smaller) → InEachImage new (λ files. Stands p files commands)
   pub store : status ≢ NotAStore
@@ -138,16 +149,17 @@ pub record IsUpgradeCall (q : Params) (old new : Disk) (status : Status) : Type 
   pub stands : (p : Params) (commands : List Command) → Opens p old commands → IsUpgradeOn p q commands old new status
   pub ends : IsOfUpgrade status
   pub judged : old.tells_files → JudgesUpgrade old new status
+  pub read : status ≡ NotAStore → ReadsNoStore new
 
--- what a call makes of the files and says, by what it was asked
-abbrev pub IsCallFor : Asked → Type 0 → List ℕ → List ℕ → Disk → Disk → Status → Type 0
-IsCallFor Run told left rest old new status = IsRunCall told left rest old new status
-IsCallFor Dump told left rest old new status = IsDumpCall old new status
-IsCallFor (Init p) told left rest old new status = IsMaking p old new status
-IsCallFor (Upgrade q) told left rest old new status = IsUpgradeCall q old new status
-IsCallFor (Demo seed steps) told left rest old new status = IsDemo seed steps old new status
-IsCallFor (Ship from) told left rest old new status = IsShipCall from old new status
-IsCallFor Follow told left rest old new status = IsFollowCall told left rest old new status
+-- what a call makes of the files and says, by what it was asked and the budget of its restart
+abbrev pub IsCallFor : Budget → Asked → Type 0 → List ℕ → List ℕ → Disk → Disk → Status → Type 0
+IsCallFor budget Run told left rest old new status = IsRunCall budget told left rest old new status
+IsCallFor budget Dump told left rest old new status = IsDumpCall budget old new status
+IsCallFor budget (Init p) told left rest old new status = IsMaking p old new status
+IsCallFor budget (Upgrade q) told left rest old new status = IsUpgradeCall q old new status
+IsCallFor budget (Demo seed steps) told left rest old new status = IsDemo seed steps old new status
+IsCallFor budget (Ship from) told left rest old new status = IsShipCall budget from old new status
+IsCallFor budget Follow told left rest old new status = IsFollowCall budget told left rest old new status
 
 -- A call with these words, whose input had `left` at its start and has `rest` at its end where its source reports it, goes on any calls
 -- before it, whatever follows it: nothing, a kill at one of its moments, or a crash.

@@ -17,10 +17,10 @@ use Rattle.stable_objects.specs.Larger.{HasLastHead}
 use Rattle.stable_objects.specs.SlotsView.{SlotsView, AreOf}
 use Rattle.redo_shell.specs.Keeps.{KeepsFiles}
 use Rattle.redo_shell.specs.Notices as notices
-use Rattle.redo_shell.specs.Status.{IsOfStore}
+use Rattle.redo_shell.specs.Status.{IsOfStore, LacksMemory}
 use Rattle.redo_shell.specs.Store.{IsWellFormed}
 use Rattle.redo_shell.specs.declared.status.Status.{Status}
-use Rattle.redo_shell.specs.declared.status.Status.TheVariants.{Usage, NotAStore, AlreadyStore, Damaged, DiskFault, ReadFault, SayFault, BackupFault, Memory, TooLong, Gone, BadStream, StandbyFull}
+use Rattle.redo_shell.specs.declared.status.Status.TheVariants.{Usage, NotAStore, AlreadyStore, Damaged, DiskFault, ReadFault, SayFault, BackupFault, Memory, RestartMemory, TooLong, Gone, BadStream, StandbyFull}
 
 -- the words ask for nothing that the program does
 abbrev pub AsksNothing : List (List ℕ) → Type 0
@@ -29,6 +29,14 @@ AsksNothing words = (asked : Asked) → Asks words asked → ⊥
 -- no store is there: the objects gate is not open; the files read as before, and that is said
 abbrev pub SaysNoStore : Disk → Disk → Type 0
 SaysNoStore old new = IsClosedAt 0 (old.reads Objects) × (new.reads ≡ old.reads) × (new.said ≡ old.said ++ notices.not_a_store)
+
+-- in all files that agree with what was read the objects gate is closed
+abbrev pub ReadsNoStore : Disk → Type 0
+ReadsNoStore d = (files : Files) → d.agrees files → IsClosedAt 0 (files Objects)
+
+-- or a store begins
+abbrev pub ReadsStore : Disk → Type 0
+ReadsStore d = (files : Files) → d.agrees files → BeginsStore (files Objects)
 
 -- a store is there that breaks its format: the first check that fails is said, and the files read as before
 abbrev pub SaysDamage : Disk → Disk → Type 0
@@ -78,9 +86,11 @@ pub record JudgesFiles (old new : Disk) (status : Status) : Type 0 where
   pub opened : IsOfStore status → IsWellFormed old.reads
   pub keeps : (IsWellFormed old.reads → ⊥) → KeepsFiles old new
   -- memory runs out only where the objects gate is open
-  pub memory : status ≡ Memory → IsOpenAt 0 (old.reads Objects)
+  pub memory : LacksMemory status → IsOpenAt 0 (old.reads Objects)
   -- of files that do not meet their format nothing is said where the disk fails or memory runs out
-  pub silent : (IsWellFormed old.reads → ⊥) → (status ≡ DiskFault) ⊎ (status ≡ Memory) → new.said ≡ old.said
+  pub silent : (IsWellFormed old.reads → ⊥) → (status ≡ DiskFault) ⊎ LacksMemory status → new.said ≡ old.said
+  -- nor is anything where the restart was refused memory
+  pub refused : status ≡ RestartMemory → new.said ≡ old.said
 
 -- An upgrade says of the files that it finds what a run says, or that they are cut.
 abbrev pub JudgesUpgrade : Disk → Disk → Status → Type 0

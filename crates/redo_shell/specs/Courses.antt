@@ -12,6 +12,7 @@ use Rattle.restart.specs.Courses.{restart_course}
 use Rattle.script_lines.specs.Grammar.{Request, AsksFor}
 use Rattle.script_lines.specs.declared.line.Line.TheVariants.{Force as force, BackupStart as bstart, BackupFinish as bfinish}
 use Rattle.script_lines.specs.Replies.{Reply, said_line}
+use Rattle.redo_shell.specs.declared.budget.Budget.{Budget}
 use Rattle.redo_shell.specs.Store.{Command, meaning_in}
 use Rattle.redo_shell.specs.Stages.{Stage, HasCourse, Leads, AllGoBy, IsFirst, finish_course, redo_dirty}
 
@@ -62,10 +63,10 @@ pub record StageMoment (p : Params) (first : Stage) (script : List (List ℕ)) (
   pub goes : AllGoBy p first lines replies stage
   pub work : IsAtWork p stage todo part files
 
-module _ (p : Params) (commands : List Command) (old : Disk) (first : Stage) (is : IsFirst p commands old first) where
+module _ (budget : Budget) (p : Params) (commands : List Command) (old : Disk) (first : Stage) (is : IsFirst budget p commands old first) where
   -- while the store is opened nothing is said, and the image shows the world after some first steps of the restart's course
   abbrev pub OpeningMoment : Files → List ℕ → Type 0
-  OpeningMoment files said = IsSilent (ShowsSome (meaning_in p) p is.world (restart_course (meaning_in p) (redo_dirty p) is.world is.used).steps) old.said files said
+  OpeningMoment files said = IsSilent (ShowsSome (meaning_in p) p is.world (restart_course (meaning_in p) (redo_dirty budget p) is.world is.used).steps) old.said files said
 
   -- a moment of a run of a script
   abbrev pub RunMoment : List (List ℕ) → Files → List ℕ → Type 0

@@ -9,6 +9,7 @@ use Rattle.script_lines.specs.Grammar.{lines_of}
 use Rattle.script_lines.specs.Replies.{Reply, summary, said_line}
 use Rattle.script_lines.specs.declared.answer.Totals.{Totals}
 use Rattle.script_lines.specs.DemoScript.{script_of}
+use Rattle.redo_shell.specs.declared.budget.Budget.TheVariants.{Usual}
 use Rattle.redo_shell.specs.Store.{Command, IsNewStore}
 use Rattle.redo_shell.specs.Replies.{is_refusing}
 use Rattle.redo_shell.specs.Answers.{Answers}
@@ -24,7 +25,7 @@ abbrev pub demo_params : Params
 demo_params = record { objects = 16; cap = 64; limit = 536870912 }
 
 -- A script of these lines gets these answers on a new store of these numbers, in memory, and adds these commands. They are
--- those of the plain map, and go by the stages of the store, from the one that a restart makes of it: so `full` comes exactly
+-- those of the plain map, and go by the stages of the store, from the one that a usual restart makes of it: so `full` comes exactly
 -- where what is asked for does not fit.
 pub record IsAnsweredAnew (script : List (List ℕ)) (replies : List Reply) (added : List Command) : Type 0 where
   pub waits : List (List Command)
@@ -34,7 +35,7 @@ pub record IsAnsweredAnew (script : List (List ℕ)) (replies : List Reply) (add
   pub machine : GrowMem
   pub new : IsNewStore demo_params (disk_of machine).reads
   pub first : Stage
-  pub is_first : IsFirst demo_params [] (disk_of machine) first
+  pub is_first : IsFirst Usual demo_params [] (disk_of machine) first
   pub last : Stage
   pub goes : AllGoBy demo_params first script replies last
 

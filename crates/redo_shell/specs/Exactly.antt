@@ -14,9 +14,10 @@ use Rattle.redo_shell.specs.Causes.{AsksNothing, OrUnread}
 use Rattle.redo_shell.specs.Following.{IsFollowEnd}
 use Rattle.redo_shell.specs.Notices as notices
 use Rattle.redo_shell.specs.Shipping.{IsShipEnd}
+use Rattle.redo_shell.specs.Status.{LacksMemory}
 use Rattle.redo_shell.specs.Store.{Command, IsWellFormed, Opens}
 use Rattle.redo_shell.specs.declared.status.Status.{Status}
-use Rattle.redo_shell.specs.declared.status.Status.TheVariants.{Done, DoneWithRefusals, Usage, NotAStore, AlreadyStore, Damaged, Memory, TooLong, AlreadyTwo, Smaller}
+use Rattle.redo_shell.specs.declared.status.Status.TheVariants.{Done, DoneWithRefusals, Usage, NotAStore, AlreadyStore, Damaged, TooLong, AlreadyTwo, Smaller}
 
 -- no count of faults rose, that of the disk, of the output, of the input or of the backup's disk
 pub record IsFaultless (old new : Disk) (reads_before reads_now : ℕ) (before now : Disk) : Type 0 where
@@ -29,8 +30,8 @@ pub record IsFaultless (old new : Disk) (reads_before reads_now : ℕ) (before n
 -- it is the first check that fails that is said
 pub record OpensExactly (old new : Disk) (status : Status) : Type 0 where
   pub no_store : (status ≡ NotAStore) ↔ IsClosedAt 0 (old.reads Objects)
-  pub damaged : status ≢ Memory → (status ≡ Damaged) ↔ (IsOpenAt 0 (old.reads Objects) × (IsWellFormed old.reads → ⊥))
-  pub said : status ≢ Memory → (file : FileNo) (place : ℕ) → IsDamaged all_meaning old.reads file place → (status ≡ Damaged) × (new.said ≡ old.said ++ notices.damaged file place)
+  pub damaged : (LacksMemory status → ⊥) → (status ≡ Damaged) ↔ (IsOpenAt 0 (old.reads Objects) × (IsWellFormed old.reads → ⊥))
+  pub said : (LacksMemory status → ⊥) → (file : FileNo) (place : ℕ) → IsDamaged all_meaning old.reads file place → (status ≡ Damaged) × (new.said ≡ old.said ++ notices.damaged file place)
 
 -- a store is made exactly where none begins
 pub record MakesExactly (old : Disk) (status : Status) : Type 0 where
@@ -50,16 +51,16 @@ IsUpgradeEnd status = (status ≡ Done) ⊎ ((status ≡ AlreadyTwo) ⊎ ((statu
 
 -- Where no count of faults rises, each status comes exactly where its cause holds.
 pub record ComesExactly (words : List (List ℕ)) (told : Type 0) (left : List ℕ) (old new : Disk) (status : Status) : Type 0 where
-  pub usage : status ≢ Memory → (status ≡ Usage) ↔ AsksNothing words
+  pub usage : (LacksMemory status → ⊥) → (status ≡ Usage) ↔ AsksNothing words
   pub run : Asks words Run → old.tells_files → OrUnread (OpensExactly old new status) old new status
-  pub runs : Asks words Run → status ≢ Memory → RunsExactly told left old status
+  pub runs : Asks words Run → (LacksMemory status → ⊥) → RunsExactly told left old status
   pub dump : Asks words Dump → old.tells_files → OrUnread (OpensExactly old new status) old new status
-  pub dumps : Asks words Dump → status ≢ Memory → (p : Params) (commands : List Command) → Opens p old commands → status ≡ Done
+  pub dumps : Asks words Dump → (LacksMemory status → ⊥) → (p : Params) (commands : List Command) → Opens p old commands → status ≡ Done
   pub init : (p : Params) → Asks words (Init p) → old.tells_files → OrUnread (MakesExactly old status) old new status
   -- a demo that finds memory succeeds
-  pub demos : (seed steps : ℕ) → Asks words (Demo seed steps) → status ≢ Memory → status ≡ Done
-  pub upgrades : (q : Params) → Asks words (Upgrade q) → status ≢ Memory → (p : Params) (commands : List Command) → Opens p old commands → IsUpgradeEnd status
+  pub demos : (seed steps : ℕ) → Asks words (Demo seed steps) → (LacksMemory status → ⊥) → status ≡ Done
+  pub upgrades : (q : Params) → Asks words (Upgrade q) → (LacksMemory status → ⊥) → (p : Params) (commands : List Command) → Opens p old commands → IsUpgradeEnd status
   pub ship : (from : ℕ) → Asks words (Ship from) → old.tells_files → OrUnread (OpensExactly old new status) old new status
-  pub ships : (from : ℕ) → Asks words (Ship from) → status ≢ Memory → (p : Params) (commands : List Command) → Opens p old commands → IsShipEnd status
+  pub ships : (from : ℕ) → Asks words (Ship from) → (LacksMemory status → ⊥) → (p : Params) (commands : List Command) → Opens p old commands → IsShipEnd status
   pub follow : Asks words Follow → old.tells_files → OrUnread (OpensExactly old new status) old new status
-  pub follows : Asks words Follow → status ≢ Memory → (p : Params) (commands : List Command) → Opens p old commands → IsFollowEnd status
+  pub follows : Asks words Follow → (LacksMemory status → ⊥) → (p : Params) (commands : List Command) → Opens p old commands → IsFollowEnd status

@@ -17,13 +17,14 @@ use Rattle.standby_node.specs.Standby.{AreFramesOf, IsFollowing, StandbyView}
 use Rattle.standby_node.specs.declared.follow_err.FollowErr.{FollowErr}
 use Rattle.standby_node.specs.declared.follow_err.FollowErr.TheVariants as errors
 use Rattle.store_engine.specs.Engine.{InEachImage, forced_in}
-use Rattle.redo_shell.specs.Causes.{JudgesFiles}
+use Rattle.redo_shell.specs.declared.budget.Budget.{Budget}
+use Rattle.redo_shell.specs.Causes.{JudgesFiles, ReadsNoStore}
 use Rattle.redo_shell.specs.Notices as notices
 use Rattle.redo_shell.specs.Stages.{Stage, IsFirst}
 use Rattle.redo_shell.specs.Status.{IsOfFollow}
 use Rattle.redo_shell.specs.Store.{Command, Opens, Stands, meaning_in}
 use Rattle.redo_shell.specs.declared.status.Status.{Status}
-use Rattle.redo_shell.specs.declared.status.Status.TheVariants.{Done, NotAStore, Damaged as FilesDamaged, DiskFault as DiskFailed, ReadFault as InputFailed, SayFault, Memory as OutOfMemory, TooLong, BadStream, StandbyFull}
+use Rattle.redo_shell.specs.declared.status.Status.TheVariants.{Done, NotAStore, Damaged as FilesDamaged, DiskFault as DiskFailed, ReadFault as InputFailed, SayFault, Memory as OutOfMemory, RestartMemory, TooLong, BadStream, StandbyFull}
 use Rattle.script_lines.specs.declared.read_error.ReadError.{ReadError}
 use Rattle.script_lines.specs.declared.read_error.ReadError.TheVariants.{ReadFault, TooLong as InputTooLong, Memory as NoMemory}
 use Rattle.redo_shell.specs.declared.cut.Cut.{Cut}
@@ -161,6 +162,7 @@ abbrev pub IsSilentEnd : Status → Type 0
 IsSilentEnd DiskFailed = ⊤
 IsSilentEnd InputFailed = ⊤
 IsSilentEnd OutOfMemory = ⊤
+IsSilentEnd RestartMemory = ⊤
 IsSilentEnd TooLong = ⊤
 IsSilentEnd status = ⊥
 
@@ -187,28 +189,32 @@ abbrev pub StandbyMoment : Params → List Command → List (Member Command) →
 StandbyMoment p commands first bytes old new files said = (Stands p files commands × (said ≡ old.said)) ⊎ FollowMoment p first bytes old new files said
 
 -- Files that stand for commands follow a stream.
-pub record IsFollowOn (ended : Type 0) (bytes : List ℕ) (p : Params) (commands : List Command) (old new : Disk) (status : Status) : Type 0 where
+pub record IsFollowOn (budget : Budget) (ended : Type 0) (bytes : List ℕ) (p : Params) (commands : List Command) (old new : Disk) (status : Status) : Type 0 where
   -- from each stage that a restart may make of the files, of which there is one, by its history, it is followed so
-  pub first : (first : Stage) × IsFirst p commands old first × (commands_of first.world.history ≡ commands)
-  pub follows_it : (first : Stage) → IsFirst p commands old first → FollowsFrom ended bytes p first.world.history old new status
+  pub first : (first : Stage) × IsFirst budget p commands old first × (commands_of first.world.history ≡ commands)
+  pub follows_it : (first : Stage) → IsFirst budget p commands old first → FollowsFrom ended bytes p first.world.history old new status
   -- what a crash at any moment leaves is what one at the start could leave, or it stands for these commands, and then for what
   -- some first whole frames make of them; once something is said, it is what is there at the end
-  pub images : old.tells_moments → (first : Stage) → IsFirst p commands old first → LeavesOnly old new (OrAtStart old (StandbyMoment p commands first.world.history bytes old new))
-  pub from_settled : old.tells_moments → IsSettled old → (first : Stage) → IsFirst p commands old first → LeavesOnly old new (StandbyMoment p commands first.world.history bytes old new)
-  -- but where the disk or memory may have failed the opening, it stands for what some first whole frames make of them
-  pub opened : old.tells_moments → status ≢ DiskFailed → status ≢ OutOfMemory → (first : Stage) → IsFirst p commands old first → InEachImage new (StreamMoment p first.world.history bytes)
+  pub images : old.tells_moments → (first : Stage) → IsFirst budget p commands old first → LeavesOnly old new (OrAtStart old (StandbyMoment p commands first.world.history bytes old new))
+  pub from_settled : old.tells_moments → IsSettled old → (first : Stage) → IsFirst budget p commands old first → LeavesOnly old new (StandbyMoment p commands first.world.history bytes old new)
+  -- but where the disk may have failed, or memory the opening, it stands for what some first whole frames make of them
+  pub opened : old.tells_moments → status ≢ DiskFailed → status ≢ RestartMemory → (first : Stage) → IsFirst budget p commands old first → InEachImage new (StreamMoment p first.world.history bytes)
+  -- where the restart was refused memory, what a crash at any moment leaves is what one at the start could leave, or it stands
+  -- for these commands alone
+  pub refused : old.tells_moments → status ≡ RestartMemory → LeavesOnly old new (OrAtStart old (λ files said. Stands p files commands))
   pub store : (status ≢ NotAStore) × (status ≢ FilesDamaged)
 
 -- A stream is followed by any files. The input had `left` at its start and has `rest` at its end, where the source reports that
 -- (`told`).
-pub record IsFollowCall (told : Type 0) (left rest : List ℕ) (old new : Disk) (status : Status) : Type 0 where
+pub record IsFollowCall (budget : Budget) (told : Type 0) (left rest : List ℕ) (old new : Disk) (status : Status) : Type 0 where
   -- these bytes were taken
   pub bytes : List ℕ
   pub taken : told → left ≡ bytes ++ rest
   pub few : length bytes ≤ 2 ^ 40
-  pub stream : (p : Params) (commands : List Command) → Opens p old commands → IsFollowOn (HasEnded told left rest) bytes p commands old new status
+  pub stream : (p : Params) (commands : List Command) → Opens p old commands → IsFollowOn budget (HasEnded told left rest) bytes p commands old new status
   pub ends : IsOfFollow status
   pub judged : old.tells_files → JudgesFiles old new status
+  pub read : status ≡ NotAStore → ReadsNoStore new
 
 -- such a call that finds memory ends so
 abbrev pub IsFollowEnd : Status → Type 0

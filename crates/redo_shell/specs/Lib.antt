@@ -3,6 +3,7 @@ pub mod Groups
 pub mod Made
 pub mod Replies
 pub mod Work
+pub mod Noted
 pub mod Printed
 pub mod Stages
 pub mod Courses

@@ -24,6 +24,7 @@ use Rattle.command_words.specs.declared.asked.Asked.TheVariants.{Run}
 use Rattle.backup_copy.specs.Copies.{Copies}
 use Rattle.backup_copy.specs.declared.backup_err.BackupErr.{BackupErr}
 use Rattle.backup_copy.specs.declared.backup_err.BackupErr.TheVariants as errors
+use Rattle.redo_shell.specs.declared.budget.Budget.{Budget}
 use Rattle.redo_shell.specs.Store.{Between, Command, Holds, IsAttached, IsWellFormed, Opens, ShowsIn, Stands, meaning_in}
 use Rattle.redo_shell.specs.Groups.{open_in}
 use Rattle.redo_shell.specs.Replies.{IsOfBackup}
@@ -171,22 +172,22 @@ pub record IsSavedAsSaid {T : Type 0} (disk : T → Disk) (p : Params) (first : 
       × InEachImage (disk after) (λ files. Stands p files (take n (backed.truly.says.story.account.commands ++ backed.truly.says.story.added)))
 
 -- What a run makes of the backup, where the source reports that it has this script.
-pub record IsBackupOfRun {T : Type 0} (disk : T → Disk) (told : Type 0) (script : List (List ℕ)) (old new : Disk) (before after : T) : Type 0 where
-  pub opened : (p : Params) (commands : List Command) → Opens p old commands → told → (first : Stage) → IsFirst p commands old first → IsSavedAsSaid disk p first commands script old new before after
+pub record IsBackupOfRun {T : Type 0} (budget : Budget) (disk : T → Disk) (told : Type 0) (script : List (List ℕ)) (old new : Disk) (before after : T) : Type 0 where
+  pub opened : (p : Params) (commands : List Command) → Opens p old commands → told → (first : Stage) → IsFirst budget p commands old first → IsSavedAsSaid disk p first commands script old new before after
   -- of a source that reports nothing the same holds with some script
-  pub untold : (some : List (List ℕ)) × ((p : Params) (commands : List Command) → Opens p old commands → (first : Stage) → IsFirst p commands old first → IsSavedAsSaid disk p first commands some old new before after)
+  pub untold : (some : List (List ℕ)) × ((p : Params) (commands : List Command) → Opens p old commands → (first : Stage) → IsFirst budget p commands old first → IsSavedAsSaid disk p first commands some old new before after)
   -- no store is opened in files that break their format, and then nothing is done with the backup
   pub unopened : old.tells_files → (IsWellFormed old.reads → ⊥) → after ≡ before
 
 -- What a call makes of the backup, by what it was asked: only a run does anything with it.
-abbrev pub IsBackupFor : {T : Type 0} → (T → Disk) → Asked → Type 0 → List (List ℕ) → Disk → Disk → T → T → Type 0
-IsBackupFor disk Run told script old new before after = IsBackupOfRun disk told script old new before after
-IsBackupFor disk asked told script old new before after = after ≡ before
+abbrev pub IsBackupFor : {T : Type 0} → Budget → (T → Disk) → Asked → Type 0 → List (List ℕ) → Disk → Disk → T → T → Type 0
+IsBackupFor budget disk Run told script old new before after = IsBackupOfRun budget disk told script old new before after
+IsBackupFor budget disk asked told script old new before after = after ≡ before
 
 -- What a call with these words makes of the backup.
-pub record IsBackupCall {T : Type 0} (disk : T → Disk) (words : List (List ℕ)) (told : Type 0) (script : List (List ℕ)) (old new : Disk) (before after : T) : Type 0 where
+pub record IsBackupCall {T : Type 0} (budget : Budget) (disk : T → Disk) (words : List (List ℕ)) (told : Type 0) (script : List (List ℕ)) (old new : Disk) (before after : T) : Type 0 where
   pub time : Passes (disk before) (disk after)
-  pub run : Asks words Run → IsBackupOfRun disk told script old new before after
+  pub run : Asks words Run → IsBackupOfRun budget disk told script old new before after
   pub other : (Asks words Run → ⊥) → after ≡ before
 
 -- What holds of the backup's machine on every call of the program: time passes, and the status says that its disk failed only

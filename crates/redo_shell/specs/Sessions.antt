@@ -121,6 +121,10 @@ pub data Sessions {T : Type 0} (disk : T → Disk) (first : T) : List Sizing →
   other : {sizes : List Sizing} {runs : List Ran} → (old new next : T) (said : List ℕ) → Sessions disk first sizes runs old → KeepsFiles (disk old) (disk new)
       → Follows (disk old) (disk new) (disk next) said → Sessions disk first sizes runs next
 
+-- A call goes on any calls before it as one that adds nothing, whatever follows it.
+abbrev pub AddsNothing : {T : Type 0} → (T → Disk) → T → T → Type 0
+AddsNothing {T} disk old new = (first next : T) (sizes : List Sizing) (runs : List Ran) (said : List ℕ) → Sessions disk first sizes runs old → Follows (disk old) (disk new) (disk next) said → Sessions disk first sizes runs next
+
 -- no run has said anything yet
 abbrev pub AllSilent : List Ran → Type 0
 AllSilent [] = ⊤

@@ -13,14 +13,15 @@ use Rattle.oper_core.specs.Meaning.{Meaning}
 use Rattle.log_records.specs.BlockReader.{payloads_from}
 use Rattle.restart.specs.Starts.{OrAtStart}
 use Rattle.store_engine.specs.Engine.{InEachImage}
-use Rattle.redo_shell.specs.Causes.{JudgesFiles}
+use Rattle.redo_shell.specs.declared.budget.Budget.{Budget}
+use Rattle.redo_shell.specs.Causes.{JudgesFiles, ReadsNoStore}
 use Rattle.redo_shell.specs.Courses.{TableMoment}
 use Rattle.redo_shell.specs.Notices as notices
 use Rattle.redo_shell.specs.Stages.{Stage, IsFirst}
 use Rattle.redo_shell.specs.Status.{IsOfShip}
 use Rattle.redo_shell.specs.Store.{Command, Opens, Stands, meaning_in}
 use Rattle.redo_shell.specs.declared.status.Status.{Status}
-use Rattle.redo_shell.specs.declared.status.Status.TheVariants.{Done, NotAStore, Damaged, DiskFault, Memory, Gone}
+use Rattle.redo_shell.specs.declared.status.Status.TheVariants.{Done, NotAStore, Damaged, DiskFault, RestartMemory, Gone}
 
 -- The log in the files begins with no later number than this one, and the frames of what its blocks have from that number on
 -- were said: a frame for each block that has a command or an identity write with such a number.
@@ -72,7 +73,7 @@ abbrev pub ShipMoment : Params → List Command → ℕ → List ℕ → Files �
 ShipMoment p commands from before files said = Stands p files commands × SaysOfLog p from before files said
 
 -- The log of files that stand for commands is shipped from a number on.
-pub record IsShipOn (from : ℕ) (p : Params) (commands : List Command) (old new : Disk) (status : Status) : Type 0 where
+pub record IsShipOn (budget : Budget) (from : ℕ) (p : Params) (commands : List Command) (old new : Disk) (status : Status) : Type 0 where
   -- with status 0 the frames of the log that the restart left were said; with status 12 it begins later, and that was said
   pub done : status ≡ Done → SaysFrames p from old new
   pub gone : status ≡ Gone → SaysGone p from old new
@@ -82,19 +83,20 @@ pub record IsShipOn (from : ℕ) (p : Params) (commands : List Command) (old new
   pub images : old.tells_moments → LeavesOnly old new (OrAtStart old (ShipMoment p commands from old.said))
   pub from_settled : old.tells_moments → IsSettled old → LeavesOnly old new (ShipMoment p commands from old.said)
   pub store : (status ≢ NotAStore) × (status ≢ Damaged)
-  -- but where the disk or memory may have failed the opening, the machine is settled then, and the files stand for these
+  -- but where the disk may have failed, or memory the opening, the machine is settled then, and the files stand for these
   -- commands
-  pub settled : status ≢ DiskFault → status ≢ Memory → IsSettled new
-  pub stands : status ≢ DiskFault → status ≢ Memory → InEachImage new (λ files. Stands p files commands)
+  pub settled : status ≢ DiskFault → status ≢ RestartMemory → IsSettled new
+  pub stands : status ≢ DiskFault → status ≢ RestartMemory → InEachImage new (λ files. Stands p files commands)
   -- the restart takes its course, and nothing else is done: a crash at any moment leaves what one at the start could leave, or
   -- the world after some first steps of it
-  pub steps : old.tells_moments → (first : Stage) → (is : IsFirst p commands old first) → LeavesOnly old new (OrAtStart old (TableMoment p commands old first is))
+  pub steps : old.tells_moments → (first : Stage) → (is : IsFirst budget p commands old first) → LeavesOnly old new (OrAtStart old (TableMoment budget p commands old first is))
 
 -- The log of any files is shipped.
-pub record IsShipCall (from : ℕ) (old new : Disk) (status : Status) : Type 0 where
-  pub log : (p : Params) (commands : List Command) → Opens p old commands → IsShipOn from p commands old new status
+pub record IsShipCall (budget : Budget) (from : ℕ) (old new : Disk) (status : Status) : Type 0 where
+  pub log : (p : Params) (commands : List Command) → Opens p old commands → IsShipOn budget from p commands old new status
   pub ends : IsOfShip status
   pub judged : old.tells_files → JudgesFiles old new status
+  pub read : status ≡ NotAStore → ReadsNoStore new
 
 -- These payloads are those of a log's first blocks, as far as such files agree with what was read.
 pub record AreFirstBlocks (m : Meaning Command) (d : Disk) (log : LogView) (from : ℕ) (given : List (List ℕ)) : Type 0 where

@@ -24,6 +24,8 @@ use Rattle.restart.specs.Opening.{OpensOn}
 use Rattle.store_engine.specs.Calls.{begin_course, end_course}
 use Rattle.store_engine.specs.Engine.{EngineView, is_name, so_far, used_in}
 use Rattle.backup_copy.specs.Length.{backup_length}
+use Rattle.redo_shell.specs.declared.budget.Budget.{Budget}
+use Rattle.redo_shell.specs.declared.budget.Budget.TheVariants.{Usual, Least}
 use Rattle.redo_shell.specs.Store.{Command, meaning_in}
 use Rattle.store_engine.specs.Lists.{commands_course}
 use Rattle.redo_shell.specs.Made.{Made, AsksMade}
@@ -171,18 +173,19 @@ AllGoBy p first (line ∷ lines) (reply ∷ replies) last = (mid : Stage) × Lea
 AllGoBy p first [] (reply ∷ replies) last = ⊥
 AllGoBy p first (line ∷ lines) [] last = ⊥
 
--- How many objects may be dirty in a redo before it installs: as many as have at most 64 MiB together, and at least 64. A
--- store of version 1 has no more, so its redo installs nothing.
-abbrev pub redo_dirty : Params → ℕ
-redo_dirty p = max 64 (2 ^ 26 / p.cap)
+-- How many objects may be dirty in a redo before it installs: as many as have at most 64 MiB together, and at least 64; or none.
+-- A store of version 1 has no more than the first, so its usual redo installs nothing.
+abbrev pub redo_dirty : Budget → Params → ℕ
+redo_dirty Usual p = max 64 (2 ^ 26 / p.cap)
+redo_dirty Least p = 0
 
--- The first stage of a run: that of a restart, from a world that the files show, with these commands.
-pub record IsFirst (p : Params) (commands : List Command) (old : Disk) (first : Stage) : Type 0 where
+-- The first stage of a call: that of a restart with this budget, from a world that the files show, with these commands.
+pub record IsFirst (budget : Budget) (p : Params) (commands : List Command) (old : Disk) (first : Stage) : Type 0 where
   pub used : ℕ
   pub world : World Command
   pub found : OpensOn (meaning_in p) p old used world
   pub commands_are : commands_of world.history ≡ commands
-  pub world_is : first.world ≡ run (meaning_in p) world (restart_course (meaning_in p) (redo_dirty p) world used).steps
-  pub used_is : first.used ≡ (restart_course (meaning_in p) (redo_dirty p) world used).used
+  pub world_is : first.world ≡ run (meaning_in p) world (restart_course (meaning_in p) (redo_dirty budget p) world used).steps
+  pub used_is : first.used ≡ (restart_course (meaning_in p) (redo_dirty budget p) world used).used
   pub none_logged : first.identities ≡ 0
   pub none_copied : first.copied ≡ None

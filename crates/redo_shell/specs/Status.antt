@@ -7,7 +7,7 @@ use Rattle.script_lines.specs.declared.read_error.ReadError.TheVariants.{ReadFau
 use Rattle.redo_shell.specs.declared.stop.Stop.{Stop}
 use Rattle.redo_shell.specs.declared.stop.Stop.TheVariants.{DiskFault, Damaged as SlotDamaged, ReadFault, SayFault, BackupFault, Memory, TooLong}
 use Rattle.redo_shell.specs.declared.status.Status.{Status}
-use Rattle.redo_shell.specs.declared.status.Status.TheVariants.{Done, DoneWithRefusals, Usage, NotAStore, AlreadyStore, Damaged, DiskFault as DiskFailed, ReadFault as InputFailed, SayFault as OutputFailed, Memory as OutOfMemory, TooLong as InputTooLong, AlreadyTwo, Smaller, BackupFault as BackupFailed, Gone, BadStream, StandbyFull}
+use Rattle.redo_shell.specs.declared.status.Status.TheVariants.{Done, DoneWithRefusals, Usage, NotAStore, AlreadyStore, Damaged, DiskFault as DiskFailed, ReadFault as InputFailed, SayFault as OutputFailed, Memory as OutOfMemory, RestartMemory, TooLong as InputTooLong, AlreadyTwo, Smaller, BackupFault as BackupFailed, Gone, BadStream, StandbyFull}
 
 -- the number that the process ends with
 abbrev pub number_of : Status → ℕ
@@ -21,6 +21,7 @@ number_of DiskFailed = 5
 number_of InputFailed = 6
 number_of OutputFailed = 7
 number_of OutOfMemory = 8
+number_of RestartMemory = 8
 number_of InputTooLong = 9
 number_of AlreadyTwo = 3
 number_of Smaller = 10
@@ -57,12 +58,19 @@ status_after (Ok true) = DoneWithRefusals
 status_after (Ok false) = Done
 status_after (Err stop) = status_of stop
 
+-- memory ran out, in the restart or later
+abbrev pub LacksMemory : Status → Type 0
+LacksMemory OutOfMemory = ⊤
+LacksMemory RestartMemory = ⊤
+LacksMemory status = ⊥
+
 -- a run ended with this status before its script did, and the disk did not fail: the input, the output or the disk of a backup
 -- failed, the input was too long, or memory ran out
 abbrev pub IsCut : Status → Type 0
 IsCut InputFailed = ⊤
 IsCut OutputFailed = ⊤
 IsCut OutOfMemory = ⊤
+IsCut RestartMemory = ⊤
 IsCut InputTooLong = ⊤
 IsCut BackupFailed = ⊤
 IsCut status = ⊥
@@ -109,6 +117,7 @@ IsOfUpgrade Damaged = ⊤
 IsOfUpgrade DiskFailed = ⊤
 IsOfUpgrade OutputFailed = ⊤
 IsOfUpgrade OutOfMemory = ⊤
+IsOfUpgrade RestartMemory = ⊤
 IsOfUpgrade AlreadyTwo = ⊤
 IsOfUpgrade Smaller = ⊤
 IsOfUpgrade status = ⊥
@@ -119,6 +128,7 @@ IsOfSecond AlreadyTwo = ⊤
 IsOfSecond DiskFailed = ⊤
 IsOfSecond OutputFailed = ⊤
 IsOfSecond OutOfMemory = ⊤
+IsOfSecond RestartMemory = ⊤
 IsOfSecond status = ⊥
 
 -- a shipment may end with this status
@@ -129,6 +139,7 @@ IsOfShip Damaged = ⊤
 IsOfShip DiskFailed = ⊤
 IsOfShip OutputFailed = ⊤
 IsOfShip OutOfMemory = ⊤
+IsOfShip RestartMemory = ⊤
 IsOfShip Gone = ⊤
 IsOfShip status = ⊥
 
@@ -141,10 +152,17 @@ IsOfFollow DiskFailed = ⊤
 IsOfFollow InputFailed = ⊤
 IsOfFollow OutputFailed = ⊤
 IsOfFollow OutOfMemory = ⊤
+IsOfFollow RestartMemory = ⊤
 IsOfFollow InputTooLong = ⊤
 IsOfFollow BadStream = ⊤
 IsOfFollow StandbyFull = ⊤
 IsOfFollow status = ⊥
+
+-- a call that has opened the store may end with this status
+abbrev pub IsOfOpened : Status → Type 0
+IsOfOpened NotAStore = ⊥
+IsOfOpened RestartMemory = ⊥
+IsOfOpened status = ⊤
 
 -- a call ends with this status only where it has opened the store
 abbrev pub IsOfStore : Status → Type 0
@@ -167,4 +185,5 @@ IsOfUnopened Damaged = ⊤
 IsOfUnopened DiskFailed = ⊤
 IsOfUnopened OutputFailed = ⊤
 IsOfUnopened OutOfMemory = ⊤
+IsOfUnopened RestartMemory = ⊤
 IsOfUnopened status = ⊥

@@ -8,7 +8,9 @@ ghost use Rattle.redo_shell.specs.Causes.{CountsFaults};
 ghost use Rattle.redo_shell.specs.Demo.{demo_params, IsPlayed, AreTotals, SaysTotals, IsDemo};
 ghost use Rattle.redo_shell.specs.Store.{Command, IsNewStore, Opens};
 
+use crate::budget::Budget;
 use crate::init::init;
+use crate::notes::Notes;
 use crate::opening::open_store;
 use crate::run::run;
 use crate::say::end_with;
@@ -43,7 +45,7 @@ fn accepted_count(alloc: Global, machine: &mut GrowMem) -> Result<u64, Memory>
     ensures quiet { (p : OfStore) (commands : List Command) → Opens p (disk_of machine.old) commands → (disk_of machine.new).said ≡ (disk_of machine.old).said }
     ensures count { (p : OfStore) (commands : List Command) → Opens p (disk_of machine.old) commands → IfOk result (λ count. count ≡ length commands) }
 {
-    match open_store(alloc, machine) {
+    match open_store(alloc, Budget::Usual, machine) {
         Ok(engine) => {
             let accepted = engine.accepted();
             drop(engine);
@@ -60,7 +62,15 @@ fn play(alloc: Global, script: Vec<u8>) -> Result<(GrowMem, u64), Memory>
     let mut machine = new_store(alloc)?;
     let mut backup = GrowMem::new(alloc)?;
     let mut input = MemSource::new(script, Vec::new(alloc))?;
-    match run(alloc, &mut machine, &mut backup, &mut input) {
+    let mut notes = Notes::new();
+    match run(
+        alloc,
+        Budget::Usual,
+        &mut machine,
+        &mut backup,
+        &mut input,
+        &mut notes,
+    ) {
         Status::Done | Status::DoneWithRefusals => {
             let accepted = accepted_count(alloc, &mut machine)?;
             Ok((machine, accepted))

@@ -12,8 +12,9 @@ ghost use Rattle.redo_shell.specs.Causes.{CountsFaults};
 ghost use Rattle.redo_shell.specs.Dump.{row_of, dump_of, DumpMoment};
 ghost use Rattle.redo_shell.specs.Keeps.{KeepsFiles};
 ghost use Rattle.redo_shell.specs.Run.{IsCaused, IsUndamaged};
-ghost use Rattle.redo_shell.specs.Status.{IsOfDump};
+ghost use Rattle.redo_shell.specs.Status.{IsOfDump, IsOfOpened};
 
+use crate::budget::Budget;
 use crate::damage::end_damaged;
 use crate::fetching::fetched;
 use crate::opening::open_store;
@@ -108,6 +109,7 @@ fn dump_open<M: Machine>(alloc: Global, engine: &mut Engine<AllOps>, machine: &m
     // No slot of the files that were opened is damaged.
     ensures store { (M.disk machine.old).tells_files → IsAttached (M.disk machine.old) engine.old → (result ≢ Status.NotAStore) × (result ≢ Status.Damaged) }
     ensures status { IsOfDump result }
+    ensures found { IsOfOpened result }
     ensures disk_fault { result ≡ Status.DiskFault → Rises (M.disk machine.old).disk_faults (M.disk machine.new).disk_faults }
     ensures say_fault { result ≡ Status.SayFault → Rises (M.disk machine.old).say_faults (M.disk machine.new).say_faults }
 {
@@ -118,14 +120,14 @@ fn dump_open<M: Machine>(alloc: Global, engine: &mut Engine<AllOps>, machine: &m
     }
 }
 
-/// Opens the store and says its table. Where there is no store to open it says a line.
-pub fn dump<M: Machine>(alloc: Global, machine: &mut M) -> Status
+/// Opens the store with this budget, and says its table. Where there is no store to open it says a line.
+pub fn dump<M: Machine>(alloc: Global, budget: Budget, machine: &mut M) -> Status
     ensures time { Passes (M.disk machine.old) (M.disk machine.new) }
-    ensures call { IsDumpCall (M.disk machine.old) (M.disk machine.new) result }
+    ensures call { IsDumpCall budget (M.disk machine.old) (M.disk machine.new) result }
     ensures faults { CountsFaults (M.disk machine.old) (M.disk machine.new) result }
 {
     standing_files_meet_their_format::<AllOps>();
-    match open_store(alloc, machine) {
+    match open_store(alloc, budget, machine) {
         Ok(mut engine) => {
             let status = dump_open(alloc, &mut engine, machine);
             drop(engine);

@@ -12,16 +12,17 @@ ghost use Rattle.redo_shell.specs.Following.{Begins, IsFailure, IsFollowCall, Is
 ghost use Rattle.redo_shell.specs.Keeps.{SaysOnly};
 ghost use Rattle.redo_shell.specs.Open.{IsUnopened};
 ghost use Rattle.redo_shell.specs.Stages.{Stage, IsFirst};
-ghost use Rattle.redo_shell.specs.Status.{IsOfFollow};
+ghost use Rattle.redo_shell.specs.Status.{IsOfFollow, IsOfOpened};
 ghost use Rattle.redo_shell.specs.Store.{Between, Command, IsAttached, IsWellFormed, Opens};
 ghost use Rattle.redo_shell.specs.declared.cut.Cut.TheVariants.{Refused as IsRefused, Unread as IsUnread};
 ghost use Rattle.standby_node.specs.declared.follow_err.FollowErr.TheVariants.{DiskFault as DiskFailed, Damaged as SlotDamaged};
 ghost use Rattle.script_lines.specs.declared.read_error.ReadError.TheVariants.{ReadFault as InputFailed, TooLong as InputTooLong};
 
+use crate::budget::Budget;
 use crate::cut::Cut;
 use crate::damage::end_damaged;
 use crate::notice::end_numbered;
-use crate::opening::{TUNING, end_unopened};
+use crate::opening::end_unopened;
 use crate::status::Status;
 use crate::stop::Stop;
 use disk_model::{Machine, Source};
@@ -170,6 +171,7 @@ fn follow_open<M: Machine, S: Source>(
     // No slot of the files that were opened is damaged.
     ensures store { (M.disk machine.old).tells_files → IsAttached (M.disk machine.old) standby.old.engine → (result ≢ Status.NotAStore) × (result ≢ Status.Damaged) }
     ensures status { IsOfFollow result }
+    ensures found { IsOfOpened result }
     ensures faults { CountsFaults (M.disk machine.old) (M.disk machine.new) result }
     ensures read_fault { result ≡ Status.ReadFault → Rises (S.faults input.old) (S.faults input.new) }
     ensures too_long { S.tells input.old → result ≡ Status.TooLong → ReadsOn (S.left input.old) (S.left input.new) 0 (2 ^ 40) }
@@ -184,14 +186,19 @@ fn follow_open<M: Machine, S: Source>(
     }
 }
 
-/// Opens the store as a standby. Where there is none to open it says a line, and answers the status that the program ends with.
-fn attach_store<M: Machine>(alloc: Global, machine: &mut M) -> Result<Standby<AllOps>, Status>
+/// Opens the store as a standby, with this budget. Where there is none to open it says a line, and answers the status that the
+/// program ends with.
+fn attach_store<M: Machine>(
+    alloc: Global,
+    budget: Budget,
+    machine: &mut M,
+) -> Result<Standby<AllOps>, Status>
     ensures time { Passes (M.disk machine.old) (M.disk machine.new) }
     ensures images { (M.disk machine.old).tells_moments → (p : Params) (commands : List Command) → Opens p (M.disk machine.old) commands →
         LeavesOnly (M.disk machine.old) (M.disk machine.new) (OrAtStart (M.disk machine.old) (Between p (M.disk machine.old) None (length commands) (length commands) commands)) }
-    ensures first { (p : Params) (commands : List Command) → Opens p (M.disk machine.old) commands → (first : Stage) × IsFirst p commands (M.disk machine.old) first × (commands_of first.world.history ≡ commands) }
+    ensures first { (p : Params) (commands : List Command) → Opens p (M.disk machine.old) commands → (first : Stage) × IsFirst budget p commands (M.disk machine.old) first × (commands_of first.world.history ≡ commands) }
     ensures begins { (p : Params) (commands : List Command) → Opens p (M.disk machine.old) commands →
-        IfOk result (λ s. (first : Stage) → IsFirst p commands (M.disk machine.old) first → Begins p first.world.history (M.disk machine.new) s) }
+        IfOk result (λ s. (first : Stage) → IsFirst budget p commands (M.disk machine.old) first → Begins p first.world.history (M.disk machine.new) s) }
     ensures ready { IfOk result (λ s. (s.engine.broken ≡ false) × (s.stopped ≡ None) × (taken_by s.frames ≡ 0)) }
     ensures attached { IfOk result (λ s. IsAttached (M.disk machine.new) s.engine) }
     ensures quiet { (M.disk machine.old).tells_files → OnOk result ((M.disk machine.new).said ≡ (M.disk machine.old).said) }
@@ -202,7 +209,7 @@ fn attach_store<M: Machine>(alloc: Global, machine: &mut M) -> Result<Standby<Al
     standing_files_meet_their_format::<AllOps>();
     opens_on_a_world::<AllOps>();
     a_restart_may_be_made::<AllOps>();
-    match Standby::<AllOps>::attach(alloc, machine, TUNING) {
+    match Standby::<AllOps>::attach(alloc, machine, budget.tuning()) {
         Ok(standby) => {
             standby_stands(machine, &standby);
             Ok(standby)
@@ -211,17 +218,23 @@ fn attach_store<M: Machine>(alloc: Global, machine: &mut M) -> Result<Standby<Al
     }
 }
 
-/// Opens the store and follows the stream of frames that the input is. It says a line at its end, also where there is no store
-/// to open.
-pub fn follow<M: Machine, S: Source>(alloc: Global, machine: &mut M, input: &mut S) -> Status
+/// Opens the store with this budget, and follows the stream of frames that the input is. It says a line at its end, also where
+/// there is no store to open.
+pub fn follow<M: Machine, S: Source>(
+    alloc: Global,
+    budget: Budget,
+    machine: &mut M,
+    input: &mut S,
+) -> Status
     ensures time { Passes (M.disk machine.old) (M.disk machine.new) }
-    ensures call { IsFollowCall (S.tells input.old) (S.left input.old) (S.left input.new) (M.disk machine.old) (M.disk machine.new) result }
+    ensures call { IsFollowCall budget (S.tells input.old) (S.left input.old) (S.left input.new) (M.disk machine.old) (M.disk machine.new) result }
+    ensures refused { result ≡ Status.RestartMemory → input.new ≡ input.old }
     ensures faults { CountsFaults (M.disk machine.old) (M.disk machine.new) result }
     ensures read_fault { result ≡ Status.ReadFault → Rises (S.faults input.old) (S.faults input.new) }
     ensures too_long { S.tells input.old → result ≡ Status.TooLong → ReadsOn (S.left input.old) (S.left input.new) 0 (2 ^ 40) }
 {
     standing_files_meet_their_format::<AllOps>();
-    match attach_store(alloc, machine) {
+    match attach_store(alloc, budget, machine) {
         Ok(mut standby) => {
             let status = follow_open(alloc, &mut standby, machine, input);
             drop(standby);

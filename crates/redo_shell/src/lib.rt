@@ -15,23 +15,30 @@
 //! second machine, and a store that was there as the run began stays as it is. What is said of the first machine holds
 //! whatever the second one does.
 //!
+//! A call says with which [`Budget`] its restart is made. Where the restart is refused memory the call ends with a status of
+//! its own: nothing was said, nothing of the input was taken, and nothing is added to the store, so it may be made again.
+//!
 //! The log of a store is shipped as frames, one for each of its blocks, from a number on. A store that follows a stream of
 //! frames stands at every moment for what some first whole frames make of its commands, and says why the rest is refused.
 #![tactic(auto)]
 
 mod answers;
 mod asking;
+mod bad_line;
+mod budget;
 mod cut;
 mod damage;
 mod demo;
 mod dump;
 mod fetching;
 mod following;
+mod forms;
 mod grouping;
 mod init;
 mod laws;
 mod line;
 mod making;
+mod notes;
 mod notice;
 mod opening;
 mod program;
@@ -47,10 +54,13 @@ mod upgrade;
 mod upkeep;
 mod work;
 
+pub use bad_line::{BadCause, BadLine};
+pub use budget::Budget;
 pub use laws::{
     a_backup_line_gets_the_answer_of_its_cause, a_call_is_followed, a_fuse_is_its_machine,
     a_line_gets_the_answer_of_its_cause, sessions_keep_what_was_forced,
     the_lines_said_are_the_answers,
 };
+pub use notes::Notes;
 pub use program::top;
 pub use status::Status;

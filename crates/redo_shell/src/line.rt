@@ -1,5 +1,5 @@
 // A line is answered.
-ghost use Rattle.std.specs.Prelude.{◌≡◌, ◌≢◌, false, List, ℕ, OnOk, IfErr};
+ghost use Rattle.std.specs.Prelude.{◌≡◌, ◌≢◌, ◌<◌, ◌^◌, false, List, ℕ, OnOk, IfErr};
 ghost use Rattle.disk_model.specs.Disk.{Passes};
 ghost use Rattle.formats.specs.declared.params.Params.{Params};
 ghost use Rattle.script_lines.specs.Grammar.{AsksFor};
@@ -7,16 +7,18 @@ ghost use Rattle.script_lines.specs.declared.line.Line.TheVariants.{Force as for
 ghost use Rattle.script_lines.specs.Reading.{IsLine};
 ghost use Rattle.redo_shell.specs.Store.{IsAttached};
 ghost use Rattle.redo_shell.specs.Store.{Command, Holds};
+ghost use Rattle.redo_shell.specs.Noted.{TakesLineIf};
 ghost use Rattle.redo_shell.specs.Replies.{AsksCommand};
 ghost use Rattle.redo_shell.specs.Run.{Answering, IsCaused, IsCausedBeside, IsUndamaged};
 ghost use Rattle.redo_shell.specs.Saving.{AnsweringBeside, AsksBackup};
-ghost use Rattle.redo_shell.specs.Work.{group_request, made_request, request_for};
+ghost use Rattle.redo_shell.specs.Work.{AsksWork, group_request, made_request, request_for};
 
 use crate::answers::{command_answer, force_answer};
 use crate::asking::say_found;
 use crate::fetching::fetched;
 use crate::grouping::group_answer;
 use crate::making::made_answer;
+use crate::notes::Notes;
 use crate::saving::run_saving;
 use crate::say::say_answer;
 use crate::stop::Stop;
@@ -188,21 +190,21 @@ fn say_value<M: Machine>(
     say_answer(alloc, machine, &Answer::Refused(Refusal::NoObject))
 }
 
-/// Answers a line. It reports whether the answer is a refusal. Fails where the disk or the output does, and by lack of
-/// memory.
-fn answer_request<M: Machine, T: Machine>(
+/// Does what a line asks for, and says the answer to it. It reports whether the answer is a refusal. Fails where the disk or
+/// the output does, and by lack of memory.
+fn answer_work<M: Machine, T: Machine>(
     alloc: Global,
     engine: &mut Engine<AllOps>,
     machine: &mut M,
     backup: &mut T,
-    line: &[u8],
+    work: Work,
 ) -> Result<bool, Stop>
     requires { engine.old.broken ≡ false }
     ensures time { Passes (M.disk machine.old) (M.disk machine.new) }
     ensures backup_time { Passes (T.disk backup.old) (T.disk backup.new) }
-    ensures answers { (start : T) (p : Params) (commands : List Command) → (holds : Holds p (M.disk machine.old) engine.old commands) →
-        AnsweringBeside p (T.disk start) (M.disk machine.old) (M.disk machine.new) engine.old engine.new holds.world commands line.now (T.disk backup.old) (T.disk backup.new) result }
-    ensures idle { (AsksBackup line.now → ⊥) → backup.new ≡ backup.old }
+    ensures answers { (start : T) (p : Params) (commands : List Command) (line : List ℕ) → AsksWork line work → (holds : Holds p (M.disk machine.old) engine.old commands) →
+        AnsweringBeside p (T.disk start) (M.disk machine.old) (M.disk machine.new) engine.old engine.new holds.world commands line (T.disk backup.old) (T.disk backup.new) result }
+    ensures idle { (line : List ℕ) → AsksWork line work → (AsksBackup line → ⊥) → backup.new ≡ backup.old }
     ensures cause { IfErr result (λ stop. IsCausedBeside stop (M.disk machine.old) (M.disk machine.new) (T.disk backup.old) (T.disk backup.new)) }
     ensures undamaged { (M.disk machine.old).tells_files → IsAttached (M.disk machine.old) engine.old → IfErr result IsUndamaged }
     ensures attached { IsAttached (M.disk machine.old) engine.old → OnOk result (IsAttached (M.disk machine.new) engine.new) }
@@ -211,7 +213,6 @@ fn answer_request<M: Machine, T: Machine>(
     a_line_asks_one_thing();
     calls_go_beside_a_copy::<AllOps>();
     copies_go_on::<AllOps, M, T>();
-    let work = Work::of_line(alloc, line)?;
     match work {
         Work::Run(op) => run_command(alloc, engine, machine, op),
         Work::Make(making) => run_list(alloc, engine, machine, making),
@@ -227,7 +228,7 @@ fn answer_request<M: Machine, T: Machine>(
     }
 }
 
-/// Answers the line that a reader has found, whose bytes are these where it is not too long.
+/// Answers the line that a reader has found, whose bytes are these where it is not too long, and notes it.
 pub fn answer_next<M: Machine, T: Machine>(
     alloc: Global,
     engine: &mut Engine<AllOps>,
@@ -235,8 +236,10 @@ pub fn answer_next<M: Machine, T: Machine>(
     backup: &mut T,
     next: Next,
     bytes: &[u8],
+    notes: &mut Notes,
 ) -> Result<bool, Stop>
-    requires { engine.old.broken ≡ false }
+    requires sound { engine.old.broken ≡ false }
+    requires few { notes.old.lines < 2 ^ 40 }
     ensures time { Passes (M.disk machine.old) (M.disk machine.new) }
     ensures backup_time { Passes (T.disk backup.old) (T.disk backup.new) }
     ensures answers { (start : T) (p : Params) (commands : List Command) (line : List ℕ) → IsLine next bytes.now line → (holds : Holds p (M.disk machine.old) engine.old commands) →
@@ -246,16 +249,13 @@ pub fn answer_next<M: Machine, T: Machine>(
     ensures some { next ≢ Next.End → (line : List ℕ) × ((start : T) (p : Params) (commands : List Command) → (holds : Holds p (M.disk machine.old) engine.old commands) →
         AnsweringBeside p (T.disk start) (M.disk machine.old) (M.disk machine.new) engine.old engine.new holds.world commands line (T.disk backup.old) (T.disk backup.new) result)
         × ((AsksBackup line → ⊥) → backup.new ≡ backup.old) }
+    ensures noted { TakesLineIf result next bytes.now notes.old notes.new }
     ensures cause { IfErr result (λ stop. IsCausedBeside stop (M.disk machine.old) (M.disk machine.new) (T.disk backup.old) (T.disk backup.new)) }
     ensures undamaged { (M.disk machine.old).tells_files → IsAttached (M.disk machine.old) engine.old → IfErr result IsUndamaged }
     ensures attached { IsAttached (M.disk machine.old) engine.old → OnOk result (IsAttached (M.disk machine.new) engine.new) }
     ensures unbroken { OnOk result (engine.new.broken ≡ false) }
 {
-    calls_go_beside_a_copy::<AllOps>();
-    copies_go_on::<AllOps, M, T>();
-    match next {
-        Next::Line => answer_request(alloc, engine, machine, backup, bytes),
-        Next::Long => say_answer(alloc, machine, &Answer::Bad),
-        Next::End => Ok(false),
-    }
+    let work = Work::of_next(alloc, next, bytes)?;
+    notes.take(&work, next, bytes);
+    answer_work(alloc, engine, machine, backup, work)
 }

@@ -1,6 +1,6 @@
 // How a store is opened, and what is printed where it is not.
 ghost use Rattle.std.specs.Prelude.{◌≡◌, ◌≢◌, ◌⊎◌, ◌++◌, false, List, ℕ, OnOk, IfOk, IfErr};
-ghost use Rattle.disk_model.specs.Disk.{Rises, Passes, IsSettled};
+ghost use Rattle.disk_model.specs.Disk.{Files, Rises, Passes, IsSettled};
 ghost use Rattle.disk_model.specs.declared.machine.FileNo.{FileNo};
 ghost use Rattle.disk_model.specs.declared.machine.FileNo.TheVariants.{Objects};
 ghost use Rattle.restart.specs.Opening.{KeepsLayout};
@@ -11,8 +11,9 @@ ghost use Rattle.redo_shell.specs.Open.{OpensFiles, IsOpen, IsUnopened};
 ghost use Rattle.redo_shell.specs.Store.{Command, IsWellFormed, Opens};
 ghost use Rattle.redo_shell.specs.Keeps.{KeepsFiles};
 ghost use Rattle.redo_shell.specs.Notices.{not_a_store, damaged};
-ghost use Rattle.redo_shell.specs.Status.{IsOfUnopened};
+ghost use Rattle.redo_shell.specs.Status.{IsOfUnopened, LacksMemory};
 
+use crate::budget::Budget;
 use crate::damage::end_damaged;
 use crate::say::end_with;
 use crate::status::Status;
@@ -21,17 +22,7 @@ use op_codec::AllOps;
 use restart::a_restart_may_be_made;
 use std::alloc::Global;
 use store_engine::{
-    Engine, OpenErr, Tuning, engine_stands, opens_on_a_world, standing_files_meet_their_format,
-};
-
-// How much of a store the program keeps in memory: 16 MiB of clean values, and in a redo 64 MiB of dirty ones, but 64 values
-// of each, however long they are. While more are dirty a redo installs, and each install waits for three syncs. A store of
-// version 1 has at most 4,096 objects of at most 16,384 bytes, 64 MiB in all: so its redo installs nothing.
-pub const TUNING: Tuning = Tuning {
-    clean: 64,
-    clean_bytes: 1 << 24,
-    redo_dirty: 64,
-    redo_bytes: 1 << 26,
+    Engine, OpenErr, engine_stands, opens_on_a_world, standing_files_meet_their_format,
 };
 
 /// Says why a store was not opened, where there is a line for that, and ends with the status that reports it. Without memory
@@ -44,26 +35,32 @@ pub fn end_unopened<M: Machine>(alloc: Global, machine: &mut M, cause: OpenErr) 
     ensures damaged { (M.disk machine.old).tells_files → result ≡ Status.Damaged → (file : FileNo) × (place : ℕ) × (cause ≡ OpenErr.Damaged file place)
         × ((M.disk machine.new).said ≡ (M.disk machine.old).said ++ damaged file place) }
     // A fault of the disk and out of memory are reported by the status alone.
-    ensures quiet { cause ≢ OpenErr.NotAStore → IsNoDamage cause → (machine.new ≡ machine.old) × (result ≢ Status.NotAStore) × (result ≢ Status.Damaged) × (result ≢ Status.SayFault) }
-    ensures silent { (result ≡ Status.DiskFault) ⊎ (result ≡ Status.Memory) → machine.new ≡ machine.old }
+    ensures quiet { cause ≢ OpenErr.NotAStore → IsNoDamage cause → (machine.new ≡ machine.old) × (result ≢ Status.NotAStore) × (result ≢ Status.Damaged) × (result ≢ Status.SayFault) × (result ≢ Status.Memory) }
+    ensures silent { (result ≡ Status.DiskFault) ⊎ LacksMemory result → machine.new ≡ machine.old }
+    ensures read { result ≡ Status.NotAStore → (cause ≡ OpenErr.NotAStore) × ((files : Files) → (M.disk machine.new).agrees files → (M.disk machine.old).agrees files) }
     ensures status { IsOfUnopened result }
     ensures disk_fault { result ≡ Status.DiskFault → cause ≡ OpenErr.DiskFault }
     ensures say_fault { result ≡ Status.SayFault → Rises (M.disk machine.old).say_faults (M.disk machine.new).say_faults }
-    ensures memory { result ≡ Status.Memory → (cause ≡ OpenErr.Memory) ⊎ ((file : FileNo) × (place : ℕ) × (cause ≡ OpenErr.Damaged file place)) }
+    ensures memory { LacksMemory result → (cause ≡ OpenErr.Memory) ⊎ ((file : FileNo) × (place : ℕ) × (cause ≡ OpenErr.Damaged file place)) }
 {
     match cause {
         OpenErr::NotAStore => end_with(machine, b"not a store\n", Status::NotAStore),
         OpenErr::Damaged { file, place } => end_damaged(alloc, machine, file, place),
         OpenErr::DiskFault => Status::DiskFault,
-        OpenErr::Memory => Status::Memory,
+        OpenErr::Memory => Status::RestartMemory,
     }
 }
 
-/// Opens the store. Where there is none to open it says a line, and answers the status that the program ends with.
-pub fn open_store<M: Machine>(alloc: Global, machine: &mut M) -> Result<Engine<AllOps>, Status>
+/// Opens the store with this budget. Where there is none to open it says a line, and answers the status that the program ends
+/// with.
+pub fn open_store<M: Machine>(
+    alloc: Global,
+    budget: Budget,
+    machine: &mut M,
+) -> Result<Engine<AllOps>, Status>
     ensures time { Passes (M.disk machine.old) (M.disk machine.new) }
-    ensures opens { (p : Params) (commands : List Command) → Opens p (M.disk machine.old) commands → OpensFiles p commands (M.disk machine.old) (M.disk machine.new) }
-    ensures ok { (p : Params) (commands : List Command) → Opens p (M.disk machine.old) commands → IfOk result (IsOpen p commands (M.disk machine.old) (M.disk machine.new)) }
+    ensures opens { (p : Params) (commands : List Command) → Opens p (M.disk machine.old) commands → OpensFiles budget p commands (M.disk machine.old) (M.disk machine.new) }
+    ensures ok { (p : Params) (commands : List Command) → Opens p (M.disk machine.old) commands → IfOk result (IsOpen budget p commands (M.disk machine.old) (M.disk machine.new)) }
     ensures ready { IfOk result (λ engine. (engine.broken ≡ false) × IsAttached (M.disk machine.new) engine) }
     ensures layout { (M.disk machine.old).tells_files → OnOk result (KeepsLayout ((M.disk machine.old).reads Objects) ((M.disk machine.new).reads Objects)) }
     ensures settled { OnOk result (IsSettled (M.disk machine.new)) }
@@ -74,7 +71,7 @@ pub fn open_store<M: Machine>(alloc: Global, machine: &mut M) -> Result<Engine<A
     standing_files_meet_their_format::<AllOps>();
     opens_on_a_world::<AllOps>();
     a_restart_may_be_made::<AllOps>();
-    match Engine::restart(alloc, machine, TUNING) {
+    match Engine::restart(alloc, machine, budget.tuning()) {
         Ok(engine) => {
             engine_stands(machine, &engine);
             Ok(engine)

@@ -1,5 +1,5 @@
 // A script is run on a store.
-ghost use Rattle.std.specs.Prelude.{◌≡◌, ◌≢◌, ◌^◌, ◌⊎◌, ◌<◌, [], false, List, ℕ, None, length};
+ghost use Rattle.std.specs.Prelude.{◌≡◌, ◌≢◌, ◌^◌, ◌⊎◌, false, List, ℕ, None, length};
 ghost use Rattle.disk_model.specs.Disk.{Rises, Passes};
 ghost use Rattle.formats.specs.declared.params.Params.{Params};
 ghost use Rattle.script_lines.specs.Grammar.{lines_of};
@@ -10,11 +10,14 @@ ghost use Rattle.redo_shell.specs.Stages.{stage_of};
 ghost use Rattle.redo_shell.specs.Store.{Command, Holds};
 ghost use Rattle.redo_shell.specs.Calls.{IsRunCall};
 ghost use Rattle.redo_shell.specs.Causes.{CountsFaults};
+ghost use Rattle.redo_shell.specs.Noted.{HasNoted, TakesInput, none_noted};
 ghost use Rattle.redo_shell.specs.Run.{IsRun, IsComplete};
 ghost use Rattle.redo_shell.specs.Saving.{IsBackedUp, IsBackupOfRun, IsBesideRun};
-ghost use Rattle.redo_shell.specs.Status.{IsOfRun};
+ghost use Rattle.redo_shell.specs.Status.{IsOfOpened, IsOfRun};
 
+use crate::budget::Budget;
 use crate::damage::end_damaged;
+use crate::notes::Notes;
 use crate::opening::open_store;
 use crate::script::answer_script;
 use crate::status::{Status, status_after};
@@ -24,16 +27,18 @@ use op_codec::AllOps;
 use std::alloc::Global;
 use store_engine::{Engine, standing_files_meet_their_format};
 
-/// Answers the lines of a script on an open store, of which no backup is made yet, and forces the log at its end. Where a
-/// slot breaks its format it says a line.
+/// Answers the lines of a script on an open store, of which no backup is made yet, notes them, and forces the log at its end.
+/// Where a slot breaks its format it says a line.
 fn run_open<M: Machine, T: Machine, S: Source>(
     alloc: Global,
     engine: &mut Engine<AllOps>,
     machine: &mut M,
     backup: &mut T,
     input: &mut S,
+    notes: &mut Notes,
 ) -> Status
-    requires { engine.old.broken ≡ false }
+    requires sound { engine.old.broken ≡ false }
+    requires fresh { notes.old ≡ none_noted }
     ensures time { Passes (M.disk machine.old) (M.disk machine.new) }
     ensures beside { IsBesideRun (T.disk backup.old) (T.disk backup.new) result }
     ensures answers { (p : Params) (commands : List Command) → (holds : Holds p (M.disk machine.old) engine.old commands) → forced_in engine.old ≡ length commands → engine.old.group ≡ None → S.tells input.old →
@@ -49,41 +54,46 @@ fn run_open<M: Machine, T: Machine, S: Source>(
         × ((result ≡ Status.Done) ⊎ (result ≡ Status.DoneWithRefusals) → IsComplete p (stage_of engine.old holds.world) (M.disk machine.old) (M.disk machine.new) commands script result))
         × ((p : Params) (commands : List Command) → (holds : Holds p (M.disk machine.old) engine.old commands) → forced_in engine.old ≡ length commands → engine.old.group ≡ None → engine.old.copied ≡ None →
         IsBackedUp T.disk p (stage_of engine.old holds.world) commands script (M.disk machine.old) (M.disk machine.new) backup.old backup.new) }
-    ensures input { S.tells input.old → (result ≡ Status.Done) ⊎ (result ≡ Status.DoneWithRefusals) → (S.left input.new ≡ []) × (length (S.left input.old) < 2 ^ 40) }
+    ensures input { S.tells input.old → TakesInput (S.left input.old) (S.left input.new) notes.new result }
     // No slot of the files that were opened is damaged.
     ensures store { (M.disk machine.old).tells_files → IsAttached (M.disk machine.old) engine.old → (result ≢ Status.NotAStore) × (result ≢ Status.Damaged) }
-    ensures status { IsOfRun result }
+    ensures status { IsOfRun result × IsOfOpened result }
     ensures faults { CountsFaults (M.disk machine.old) (M.disk machine.new) result }
     ensures read_fault { result ≡ Status.ReadFault → Rises (S.faults input.old) (S.faults input.new) }
     ensures too_long { S.tells input.old → result ≡ Status.TooLong → ReadsOn (S.left input.old) (S.left input.new) 0 (2 ^ 40) }
 {
-    let outcome = answer_script(alloc, engine, machine, backup, input);
+    let outcome = answer_script(alloc, engine, machine, backup, input, notes);
     match outcome {
         Err(Stop::Damaged { file, place }) => end_damaged(alloc, machine, file, place),
         _ => status_after(outcome),
     }
 }
 
-/// Opens the store, answers the lines of a script, and forces the log at its end. Where there is no store to open it
-/// says a line.
+/// Opens the store with this budget, answers the lines of a script, notes them, and forces the log at its end. Where there is no
+/// store to open it says a line.
 pub fn run<M: Machine, T: Machine, S: Source>(
     alloc: Global,
+    budget: Budget,
     machine: &mut M,
     backup: &mut T,
     input: &mut S,
+    notes: &mut Notes,
 ) -> Status
+    requires { notes.old ≡ none_noted }
     ensures time { Passes (M.disk machine.old) (M.disk machine.new) }
     ensures beside { IsBesideRun (T.disk backup.old) (T.disk backup.new) result }
-    ensures backup { IsBackupOfRun T.disk (S.tells input.old) (lines_of (S.left input.old)) (M.disk machine.old) (M.disk machine.new) backup.old backup.new }
-    ensures call { IsRunCall (S.tells input.old) (S.left input.old) (S.left input.new) (M.disk machine.old) (M.disk machine.new) result }
+    ensures backup { IsBackupOfRun budget T.disk (S.tells input.old) (lines_of (S.left input.old)) (M.disk machine.old) (M.disk machine.new) backup.old backup.new }
+    ensures call { IsRunCall budget (S.tells input.old) (S.left input.old) (S.left input.new) (M.disk machine.old) (M.disk machine.new) result }
+    ensures noted { S.tells input.old → HasNoted (lines_of (S.left input.old)) notes.new result }
+    ensures refused { result ≡ Status.RestartMemory → (input.new ≡ input.old) × (backup.new ≡ backup.old) }
     ensures faults { CountsFaults (M.disk machine.old) (M.disk machine.new) result }
     ensures read_fault { result ≡ Status.ReadFault → Rises (S.faults input.old) (S.faults input.new) }
     ensures too_long { S.tells input.old → result ≡ Status.TooLong → ReadsOn (S.left input.old) (S.left input.new) 0 (2 ^ 40) }
 {
     standing_files_meet_their_format::<AllOps>();
-    match open_store(alloc, machine) {
+    match open_store(alloc, budget, machine) {
         Ok(mut engine) => {
-            let status = run_open(alloc, &mut engine, machine, backup, input);
+            let status = run_open(alloc, &mut engine, machine, backup, input, notes);
             drop(engine);
             status
         }

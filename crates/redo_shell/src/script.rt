@@ -1,5 +1,5 @@
 // A script is answered, line by line.
-ghost use Rattle.std.specs.Prelude.{◌≡◌, ◌<◌, ◌^◌, [], false, List, ℕ, length, None, Ok, OnOk, IfOk, IfErr, IsErrOf};
+ghost use Rattle.std.specs.Prelude.{◌≡◌, ◌^◌, [], false, List, ℕ, length, None, Ok, OnOk, IfOk, IfErr, IsErrOf};
 ghost use Rattle.disk_model.specs.Disk.{LeavesOnly, Passes, Rises};
 ghost use Rattle.formats.specs.declared.params.Params.{Params};
 ghost use Rattle.script_lines.specs.Grammar.{lines_of};
@@ -12,10 +12,12 @@ ghost use Rattle.redo_shell.specs.Store.{IsAttached};
 ghost use Rattle.redo_shell.specs.Stages.{finish_course, stage_of};
 ghost use Rattle.redo_shell.specs.Store.{Between, Command, Holds, ShowsIn, meaning_in};
 ghost use Rattle.redo_shell.specs.Status.{status_after};
+ghost use Rattle.redo_shell.specs.Noted.{TakesScript, none_noted};
 ghost use Rattle.redo_shell.specs.Run.{IsRun, IsComplete, StopsWith, IsUndamaged};
 ghost use Rattle.redo_shell.specs.Saving.{IsBackedUp};
 
 use crate::line::answer_next;
+use crate::notes::Notes;
 use crate::stop::Stop;
 use disk_model::{Machine, Source};
 use op_codec::AllOps;
@@ -49,16 +51,18 @@ fn close_script<M: Machine>(engine: &mut Engine<AllOps>, machine: &mut M) -> Res
     }
 }
 
-/// Answers the lines of a script, where no group is open and no backup is made. At its end an open group is closed, and the
-/// log is forced. It reports whether some answer was a refusal.
+/// Answers the lines of a script, where no group is open and no backup is made, and notes them. At its end an open group is
+/// closed, and the log is forced. It reports whether some answer was a refusal.
 pub fn answer_script<M: Machine, T: Machine, S: Source>(
     alloc: Global,
     engine: &mut Engine<AllOps>,
     machine: &mut M,
     backup: &mut T,
     input: &mut S,
+    notes: &mut Notes,
 ) -> Result<bool, Stop>
-    requires { engine.old.broken ≡ false }
+    requires sound { engine.old.broken ≡ false }
+    requires fresh { notes.old ≡ none_noted }
     ensures time { Passes (M.disk machine.old) (M.disk machine.new) }
     ensures backup_time { Passes (T.disk backup.old) (T.disk backup.new) }
     ensures answers { (p : Params) (commands : List Command) → (holds : Holds p (M.disk machine.old) engine.old commands) → forced_in engine.old ≡ length commands → engine.old.group ≡ None → S.tells input.old →
@@ -73,7 +77,7 @@ pub fn answer_script<M: Machine, T: Machine, S: Source>(
         × IfOk result (λ refusing. IsComplete p (stage_of engine.old holds.world) (M.disk machine.old) (M.disk machine.new) commands script (status_after (Ok refusing))))
         × ((p : Params) (commands : List Command) → (holds : Holds p (M.disk machine.old) engine.old commands) → forced_in engine.old ≡ length commands → engine.old.group ≡ None → engine.old.copied ≡ None →
         IsBackedUp T.disk p (stage_of engine.old holds.world) commands script (M.disk machine.old) (M.disk machine.new) backup.old backup.new) }
-    ensures input { S.tells input.old → IfOk result (λ _. (S.left input.new ≡ []) × (length (S.left input.old) < 2 ^ 40)) }
+    ensures input { S.tells input.old → TakesScript (S.left input.old) (S.left input.new) notes.new result }
     ensures cause { IfErr result (λ stop. StopsWith stop (M.disk machine.old) (M.disk machine.new) (S.faults input.old) (S.faults input.new) (T.disk backup.old) (T.disk backup.new)) }
     ensures undamaged { (M.disk machine.old).tells_files → IsAttached (M.disk machine.old) engine.old → IfErr result IsUndamaged }
     ensures too_long { S.tells input.old → IsErrOf result Stop.TooLong → ReadsOn (S.left input.old) (S.left input.new) 0 (2 ^ 40) }
@@ -85,7 +89,9 @@ pub fn answer_script<M: Machine, T: Machine, S: Source>(
     loop {
         match lines.next(input)? {
             Next::End => break,
-            next => refusing |= answer_next(alloc, engine, machine, backup, next, lines.line())?,
+            next => {
+                refusing |= answer_next(alloc, engine, machine, backup, next, lines.line(), notes)?;
+            }
         }
     }
     close_script(engine, machine)?;

@@ -10,9 +10,10 @@ ghost use Rattle.redo_shell.specs.Causes.{CountsFaults};
 ghost use Rattle.redo_shell.specs.Keeps.{KeepsFiles};
 ghost use Rattle.redo_shell.specs.Run.{IsCaused, IsUndamaged};
 ghost use Rattle.redo_shell.specs.Shipping.{IsShipCall, SaysBlocks, SaysFrames, SaysGone, SaysOfLog};
-ghost use Rattle.redo_shell.specs.Status.{IsOfShip};
+ghost use Rattle.redo_shell.specs.Status.{IsOfOpened, IsOfShip};
 ghost use Rattle.redo_shell.specs.Store.{Command, Holds, IsAttached};
 
+use crate::budget::Budget;
 use crate::damage::end_damaged;
 use crate::notice::end_numbered;
 use crate::opening::open_store;
@@ -80,6 +81,7 @@ fn ship_open<M: Machine>(
     // No block of the log that was opened is damaged.
     ensures store { (M.disk machine.old).tells_files → IsAttached (M.disk machine.old) engine.old → (result ≢ Status.NotAStore) × (result ≢ Status.Damaged) }
     ensures status { IsOfShip result }
+    ensures found { IsOfOpened result }
     ensures faults { CountsFaults (M.disk machine.old) (M.disk machine.new) result }
 {
     let reader = match engine.ship(machine, from) {
@@ -98,15 +100,15 @@ fn ship_open<M: Machine>(
     }
 }
 
-/// Opens the store, and says as frames the commands and identity writes of its log from a number on. Where the log begins
-/// later, or there is no store to open, it says a line.
-pub fn ship<M: Machine>(alloc: Global, machine: &mut M, from: u64) -> Status
+/// Opens the store with this budget, and says as frames the commands and identity writes of its log from a number on. Where the
+/// log begins later, or there is no store to open, it says a line.
+pub fn ship<M: Machine>(alloc: Global, budget: Budget, machine: &mut M, from: u64) -> Status
     ensures time { Passes (M.disk machine.old) (M.disk machine.new) }
-    ensures call { IsShipCall from (M.disk machine.old) (M.disk machine.new) result }
+    ensures call { IsShipCall budget from (M.disk machine.old) (M.disk machine.new) result }
     ensures faults { CountsFaults (M.disk machine.old) (M.disk machine.new) result }
 {
     standing_files_meet_their_format::<AllOps>();
-    match open_store(alloc, machine) {
+    match open_store(alloc, budget, machine) {
         Ok(mut engine) => {
             let status = ship_open(alloc, &mut engine, machine, from);
             drop(engine);

@@ -26,6 +26,8 @@ pub enum Status {
     SayFault,
     /// Out of memory.
     Memory,
+    /// Out of memory in the restart: nothing was said, and nothing of the input was taken.
+    RestartMemory,
     /// The input has 2^40 bytes or more.
     TooLong,
     /// The store is of version 2 already.
@@ -56,7 +58,7 @@ impl Status {
             Status::DiskFault => 5,
             Status::ReadFault => 6,
             Status::SayFault => 7,
-            Status::Memory => 8,
+            Status::Memory | Status::RestartMemory => 8,
             Status::TooLong => 9,
             Status::AlreadyTwo => 3,
             Status::Smaller => 10,

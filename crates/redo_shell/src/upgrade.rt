@@ -11,9 +11,10 @@ ghost use Rattle.redo_shell.specs.Calls.{IsUpgradeCall};
 ghost use Rattle.redo_shell.specs.Causes.{CountsFaults, last_length};
 ghost use Rattle.redo_shell.specs.Keeps.{KeepsFiles};
 ghost use Rattle.redo_shell.specs.Notices.{already_version_two, damaged, smaller};
-ghost use Rattle.redo_shell.specs.Status.{IsOfSecond, IsOfUpgrade};
+ghost use Rattle.redo_shell.specs.Status.{IsOfOpened, IsOfSecond, IsOfUpgrade};
 ghost use Rattle.redo_shell.specs.Store.{Command, Holds, IsAttached, IsUpgraded, Stands, StandsInEither};
 
+use crate::budget::Budget;
 use crate::damage::end_damaged;
 use crate::opening::open_store;
 use crate::say::end_with;
@@ -79,7 +80,7 @@ fn upgrade_open<M: Machine>(
         IsSecond (M.disk machine.old).reads × ((M.disk machine.new).said ≡ (M.disk machine.old).said ++ already_version_two) }
     ensures damaged { (M.disk machine.old).tells_files → IsAttached (M.disk machine.old) engine → result ≡ Status.Damaged →
         (IsUncut (M.disk machine.old) engine → ⊥) × ((M.disk machine.new).said ≡ (M.disk machine.old).said ++ damaged Objects (last_length ((M.disk machine.old).reads Objects))) }
-    ensures status { IsOfUpgrade result × (result ≢ Status.NotAStore) }
+    ensures status { IsOfUpgrade result × IsOfOpened result }
     ensures faults { CountsFaults (M.disk machine.old) (M.disk machine.new) result }
 {
     match engine.upgrade(machine, params) {
@@ -94,15 +95,16 @@ fn upgrade_open<M: Machine>(
     }
 }
 
-/// Opens the store and makes it larger. Where there is no store to open, or it is not made larger, it says a line.
-pub fn upgrade<M: Machine>(alloc: Global, machine: &mut M, params: Params) -> Status
+/// Opens the store with this budget, and makes it larger. Where there is no store to open, or it is not made larger, it says a
+/// line.
+pub fn upgrade<M: Machine>(alloc: Global, budget: Budget, machine: &mut M, params: Params) -> Status
     requires { IsInRange params }
     ensures time { Passes (M.disk machine.old) (M.disk machine.new) }
     ensures call { IsUpgradeCall params (M.disk machine.old) (M.disk machine.new) result }
     ensures faults { CountsFaults (M.disk machine.old) (M.disk machine.new) result }
 {
     standing_files_meet_their_format::<AllOps>();
-    match open_store(alloc, machine) {
+    match open_store(alloc, budget, machine) {
         Ok(engine) => upgrade_open(alloc, engine, machine, params),
         Err(status) => status,
     }

@@ -1,11 +1,12 @@
-ghost use Rattle.std.specs.Prelude.{IfOk, List, ℕ};
+ghost use Rattle.std.specs.Prelude.{◌≢◌, IfOk, List, ℕ};
 ghost use Rattle.script_lines.specs.Grammar.{AsksFor};
+ghost use Rattle.script_lines.specs.Reading.{IsLine};
 ghost use Rattle.redo_shell.specs.Work.{AsksWork};
 
 use key_entries::Short;
 use op_codec::AllOps;
 use oper_core::Memory;
-use script_lines::{Line, LineErr, parse_line};
+use script_lines::{Line, LineErr, Next, parse_line};
 use std::alloc::Global;
 
 /// What changes no value and adds no command.
@@ -135,8 +136,22 @@ pub enum Work {
 }
 
 impl Work {
+    /// What the line that a reader has found asks for, whose bytes are these where it is not too long. Fails where memory for
+    /// the bytes of a put runs out.
+    pub fn of_next(alloc: Global, next: Next, bytes: &[u8]) -> Result<Self, Memory>
+        ensures asks { IfOk result (λ work. (line : List ℕ) → IsLine next bytes.now line → AsksWork line work) }
+        // Whatever a source that reports nothing gave, it is some line.
+        ensures some { next ≢ Next.End → IfOk result (λ work. (line : List ℕ) × AsksWork line work) }
+    {
+        match next {
+            Next::Line => Work::of_line(alloc, bytes),
+            Next::Long => Ok(Work::Bad),
+            Next::End => Ok(Work::Nothing),
+        }
+    }
+
     /// What a line asks for. Fails where memory for the bytes of a put runs out.
-    pub fn of_line(alloc: Global, line: &[u8]) -> Result<Self, Memory>
+    fn of_line(alloc: Global, line: &[u8]) -> Result<Self, Memory>
         ensures { IfOk result (AsksWork line.now) }
     {
         match parse_line(alloc, line) {

@@ -8,6 +8,8 @@
 #[cfg(test)]
 mod backups;
 #[cfg(test)]
+mod budgets;
+#[cfg(test)]
 mod damage;
 #[cfg(test)]
 mod demo;

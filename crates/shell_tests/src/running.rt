@@ -1,6 +1,6 @@
 // The program in a folder in memory.
 use disk_model::{Crash, Failed, GrowMem, Machine, MemMachine, MemSource, Source};
-use redo_shell::{Status, top};
+use redo_shell::{Budget, Notes, Status, top};
 use std::alloc::{AllocError, Global};
 
 pub const INIT: &str = "redo init 8 64 65536";
@@ -50,7 +50,34 @@ fn given(alloc: Global, line: &str, input: &[u8]) -> Result<(Vec<String>, MemSou
     Ok((words, source))
 }
 
-// The program with these words, this input, and a machine for a backup. Out of memory for them is reported as its own.
+// The program with this budget, these words, this input, and a machine for a backup. Out of memory for them is reported as its
+// own.
+pub fn run_within<M: Machine, T: Machine>(
+    alloc: Global,
+    budget: Budget,
+    machine: &mut M,
+    backup: &mut T,
+    line: &str,
+    input: &[u8],
+) -> Status {
+    match given(alloc, line, input) {
+        Ok((words, mut source)) => {
+            let mut notes = Notes::new();
+            top(
+                alloc,
+                budget,
+                words.as_slice(),
+                machine,
+                backup,
+                &mut source,
+                &mut notes,
+            )
+        }
+        Err(_) => Status::Memory,
+    }
+}
+
+// The same with the usual budget.
 pub fn run_beside<M: Machine, T: Machine>(
     alloc: Global,
     machine: &mut M,
@@ -58,10 +85,7 @@ pub fn run_beside<M: Machine, T: Machine>(
     line: &str,
     input: &[u8],
 ) -> Status {
-    match given(alloc, line, input) {
-        Ok((words, mut source)) => top(alloc, words.as_slice(), machine, backup, &mut source),
-        Err(_) => Status::Memory,
-    }
+    run_within(alloc, Budget::Usual, machine, backup, line, input)
 }
 
 // The same with an empty folder for the backup.
@@ -84,7 +108,16 @@ pub fn run_in_pieces<M: Machine>(
         return Status::Memory;
     };
     let mut source = Pieces { left: input, size };
-    top(alloc, words.as_slice(), machine, &mut backup, &mut source)
+    let mut notes = Notes::new();
+    top(
+        alloc,
+        Budget::Usual,
+        words.as_slice(),
+        machine,
+        &mut backup,
+        &mut source,
+        &mut notes,
+    )
 }
 
 // A folder with a store of 8 objects. Nothing is printed yet, and all is synced.

@@ -1,6 +1,6 @@
 // The program on machines in memory, and what is left after a process.
 use disk_model::{Crash, FileNo, GrowMem, Machine, MemMachine, MemSource};
-use redo_shell::{Status, top};
+use redo_shell::{Budget, Notes, Status, top};
 use std::alloc::{AllocError, Global};
 
 /// How much room a machine has.
@@ -112,7 +112,16 @@ fn run_all<M: Machine, T: Machine>(
 ) -> (Status, u64) {
     match given(alloc, line, input, read) {
         Ok((words, mut source)) => {
-            let status = top(alloc, words.as_slice(), machine, backup, &mut source);
+            let mut notes = Notes::new();
+            let status = top(
+                alloc,
+                Budget::Usual,
+                words.as_slice(),
+                machine,
+                backup,
+                &mut source,
+                &mut notes,
+            );
             (status, source.read_faults())
         }
         Err(_) => (Status::Memory, 0),

@@ -1,6 +1,6 @@
 use Rattle.std.proofs.Common.{arith, subst}
 use Rattle.disk_model.specs.Moments.{passes_twice}
-use Rattle.redo_shell.specs.Status.{IsOfUnopened}
+use Rattle.redo_shell.specs.Status.{IsOfUnopened, IsOfOpened}
 use Rattle.redo_shell.proofs.DumpLemmas.{dump_steps, dump_on, dump_shows, dump_stands, dump_unopened}
 use Rattle.redo_shell.proofs.ExactLemmas.{unopened_dump}
 use Rattle.redo_shell.proofs.HoldLemmas.{rises_within}
@@ -33,7 +33,8 @@ returns-in-Ok-clause-call g c =
           (dump_stands p mid new _ commands holds opened.all c.dump_open-status.ensures.keeps settled);
       settled = λ done. settled;
       ends = c.dump_open-status.ensures.status;
-      judged = λ told. judged_open c.dump_open-status.result (c.in-Ok.ensures.read told) (c.dump_open-status.ensures.store (c.open_store.ensures.time.files_told.0 told) attached);
+      judged = λ told. judged_open c.dump_open-status.result (c.in-Ok.ensures.read told) (c.dump_open-status.ensures.store (c.open_store.ensures.time.files_told.0 told) attached) c.dump_open-status.ensures.found;
+      read = λ is. absurd (subst IsOfOpened is c.dump_open-status.ensures.found);
     }
 
 pub returns-in-Ok-clause-faults : goal.returns-in-Ok-clause-faults
@@ -55,6 +56,7 @@ returns-in-Err-clause-call g c =
       settled = λ done. absurd (subst IsOfUnopened done unopened.ends);
       ends = unopened_dump c.in-Err.status unopened.ends;
       judged = unopened.judged;
+      read = unopened.read;
     }
 
 pub returns-in-Err-clause-faults : goal.returns-in-Err-clause-faults

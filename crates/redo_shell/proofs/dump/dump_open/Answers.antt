@@ -1,8 +1,11 @@
-use Rattle.std.proofs.Common.{◌++◌, List, ℕ, ap, subst, sym, ◌∙◌}
+use Rattle.std.proofs.Common.{⊎_elim, ◌++◌, List, ℕ, ap, subst, sym, ◌∙◌}
+use Rattle.redo_shell.specs.Status.{IsOfOpened}
 use Rattle.redo_shell.specs.Run.{IsUndamaged}
+use Rattle.redo_shell.proofs.DamageLemmas.{damaged_status}
 use Rattle.redo_shell.proofs.HoldLemmas.{told_by, attached_of}
 use Rattle.redo_shell.proofs.DumpLemmas.{dump_reads, dump_says, dump_begun, dump_quiet, never_done}
 use Rattle.redo_shell.proofs.KeepLemmas.{keeps_once, keeps_behind}
+use Rattle.redo_shell.proofs.ScriptLemmas.{stop_status}
 use Rattle.redo_shell.proofs.dump.dump_open.Goals as goal
 
 pub returns-in-Ok-clause-images : goal.returns-in-Ok-clause-images
@@ -49,3 +52,12 @@ returns-in-Err-Damaged-clause-all g c = λ p commands holds done.
 
 pub returns-in-Err-clause-all : goal.returns-in-Err-clause-all
 returns-in-Err-clause-all g c = λ p commands holds done. absurd (never_done c.in-Err.stop (sym c.status.ensures ∙ done))
+
+pub returns-in-Ok-clause-found : goal.returns-in-Ok-clause-found
+returns-in-Ok-clause-found g c = ⊎_elim (λ e. subst IsOfOpened (sym e) tt) (λ e. subst IsOfOpened (sym e) tt) c.end_with.ensures.status
+
+pub returns-in-Err-Damaged-clause-found : goal.returns-in-Err-Damaged-clause-found
+returns-in-Err-Damaged-clause-found g c = (damaged_status c.end_damaged.result c.end_damaged.ensures.status).1
+
+pub returns-in-Err-clause-found : goal.returns-in-Err-clause-found
+returns-in-Err-clause-found g c = subst IsOfOpened (sym c.status.ensures) (stop_status c.in-Err.stop).1

@@ -1,11 +1,15 @@
-use Rattle.std.proofs.Common.{◌∙◌, length, None, ap, sym, subst}
+use Rattle.std.proofs.Common.{◌∙◌, ℕ, [], length, None, ap, sym, subst}
 use Rattle.disk_model.specs.Disk.{Disk, LeavesOnly}
 use Rattle.disk_model.specs.Moments.{passes_twice}
 use Rattle.restart.specs.Starts.{OrAtStart}
-use Rattle.redo_shell.specs.Store.{Between}
+use Rattle.redo_shell.specs.Store.{Between, meaning_in}
 use Rattle.disk_model.specs.declared.machine.FileNo.TheVariants.{Objects}
 use Rattle.formats.specs.Objects.{bounds_of}
 use Rattle.standing.specs.OneStable.{small_store}
+use Rattle.explain_core.specs.World.{run}
+use Rattle.op_codec.specs.AllOps.{all_meaning}
+use Rattle.restart.specs.Courses.{restart_course}
+use Rattle.standby_node.specs.Standby.{IsFollowing}
 use Rattle.redo_shell.specs.Stages.{redo_dirty}
 use Rattle.redo_shell.proofs.FollowingLemmas.{first_begins}
 use Rattle.redo_shell.proofs.RestartLemmas.{first_commands, no_damage, unopened_so}
@@ -36,12 +40,13 @@ pub returns-in-Ok-clause-read : goal.returns-in-Ok-clause-read
 returns-in-Ok-clause-read g c = λ told. (c.in-Ok.ensures.judged told).read
 
 pub returns-in-Err-clause-unopened : goal.returns-in-Err-clause-unopened
-returns-in-Err-clause-unopened g c = unopened_so c.in-Err.ensures.opening c.in-Err.ensures.judged (record {
+returns-in-Err-clause-unopened g c = unopened_so c.in-Err.ensures.opening c.in-Err.ensures.judged c.in-Err.ensures.reported (record {
   time = c.end_unopened.ensures.time;
   keeps = c.end_unopened.ensures.keeps;
   no_store = c.end_unopened.ensures.no_store;
   damaged = c.end_unopened.ensures.damaged;
-  quiet = λ none no. let quiet = c.end_unopened.ensures.quiet none no in (ap (λ (d : Disk). d.said) (ap g.M.Machine.disk quiet.0), quiet.1, quiet.2, quiet.3);
+  read = c.end_unopened.ensures.read;
+  quiet = λ none no. let quiet = c.end_unopened.ensures.quiet none no in (ap (λ (d : Disk). d.said) (ap g.M.Machine.disk quiet.0), quiet.1, quiet.2, quiet.3, quiet.4);
   silent = λ is. ap (λ (d : Disk). d.said) (ap g.M.Machine.disk (c.end_unopened.ensures.silent is));
   ends = c.end_unopened.ensures.status;
   disk_fault = c.end_unopened.ensures.disk_fault;
@@ -53,17 +58,17 @@ pub returns-in-Ok-clause-first : goal.returns-in-Ok-clause-first
 returns-in-Ok-clause-first g c = λ p commands opens.
     let old = g.M.Machine.disk c.args.machine.now in
     let starts = c.opens_on_a_world.ensures.world p old.reads commands opens.stands in
-    first_commands opens starts (c.a_restart_may_be_made.ensures.reopened (bounds_of p) starts.1 (redo_dirty p) starts.0 (small_store p (old.reads Objects) starts.2.shows.objects) starts.2.sound)
+    first_commands opens starts (c.a_restart_may_be_made.ensures.reopened (bounds_of p) starts.1 (redo_dirty c.args.budget p) starts.0 (small_store p (old.reads Objects) starts.2.shows.objects) starts.2.sound)
 
 pub returns-in-Err-clause-first : goal.returns-in-Err-clause-first
 returns-in-Err-clause-first g c = λ p commands opens.
     let old = g.M.Machine.disk c.args.machine.now in
     let starts = c.opens_on_a_world.ensures.world p old.reads commands opens.stands in
-    first_commands opens starts (c.a_restart_may_be_made.ensures.reopened (bounds_of p) starts.1 (redo_dirty p) starts.0 (small_store p (old.reads Objects) starts.2.shows.objects) starts.2.sound)
+    first_commands opens starts (c.a_restart_may_be_made.ensures.reopened (bounds_of p) starts.1 (redo_dirty c.args.budget p) starts.0 (small_store p (old.reads Objects) starts.2.shows.objects) starts.2.sound)
 
 pub returns-in-Ok-clause-begins : goal.returns-in-Ok-clause-begins
 returns-in-Ok-clause-begins g c = λ p commands opens first is.
-    first_begins first is (c.in-Ok.ensures.follows p is.used is.world is.found) (c.in-Ok.ensures.begins p commands opens) (c.standby_stands.ensures p)
+    first_begins first is (subst (λ (n : ℕ). IsFollowing all_meaning p (run (meaning_in p) is.world (restart_course (meaning_in p) n is.world is.used).steps).history [] (g.M.Machine.disk c.attach.new.machine) c.in-Ok.standby) (c.tuning.ensures.dirty p) (c.in-Ok.ensures.follows p is.used is.world is.found)) (c.in-Ok.ensures.begins p commands opens) (c.standby_stands.ensures p)
 
 pub returns-in-Err-clause-silent : goal.returns-in-Err-clause-silent
 returns-in-Err-clause-silent g c = λ p commands opens.

@@ -1,6 +1,6 @@
 use Rattle.std.proofs.Common.{arith, [], refl, subst}
 use Rattle.disk_model.specs.Moments.{passes_twice}
-use Rattle.redo_shell.specs.Status.{IsOfUnopened}
+use Rattle.redo_shell.specs.Status.{IsOfUnopened, IsOfOpened}
 use Rattle.redo_shell.proofs.FollowingLemmas.{follow_on, follow_unopened, unopened_follow}
 use Rattle.redo_shell.proofs.HoldLemmas.{rises_within}
 use Rattle.redo_shell.proofs.OpenLemmas.{judged_open}
@@ -23,9 +23,10 @@ returns-in-Ok-clause-call g c =
       taken = followed.followed.taken;
       few = followed.followed.few;
       stream = λ p commands opens. follow_on (g.met.M.Machine.lawful c.args.machine.now) opens (λ telling. c.attach_store.ensures.images telling p commands opens) (g.met.M.Machine.lawful c.follow_open-status.new.machine) before followed.time (c.in-Ok.ensures.quiet opens.told)
-          (c.attach_store.ensures.first p commands opens) (c.in-Ok.ensures.begins p commands opens) followed.followed (followed.store (before.files_told.0 opens.told) c.in-Ok.ensures.attached);
+          (c.attach_store.ensures.first p commands opens) (c.in-Ok.ensures.begins p commands opens) followed.followed (followed.store (before.files_told.0 opens.told) c.in-Ok.ensures.attached) followed.found;
       ends = followed.status;
-      judged = λ told. judged_open c.follow_open-status.result (c.in-Ok.ensures.read told) (followed.store (before.files_told.0 told) c.in-Ok.ensures.attached);
+      judged = λ told. judged_open c.follow_open-status.result (c.in-Ok.ensures.read told) (followed.store (before.files_told.0 told) c.in-Ok.ensures.attached) followed.found;
+      read = λ is. absurd (subst IsOfOpened is followed.found);
     }
 
 pub returns-in-Ok-clause-faults : goal.returns-in-Ok-clause-faults
@@ -46,6 +47,7 @@ returns-in-Err-clause-call g c =
           follow_unopened (g.met.M.Machine.lawful c.args.machine.now) opens (λ telling. c.attach_store.ensures.images telling p commands opens) (c.attach_store.ensures.first p commands opens) (c.in-Err.ensures.silent p commands opens) unopened.ends ((unopened.judged opens.told).store image) (unopened.quiet opens.told image);
       ends = unopened_follow c.in-Err.status unopened.ends;
       judged = unopened.judged;
+      read = unopened.read;
     }
 
 pub returns-in-Err-clause-faults : goal.returns-in-Err-clause-faults
@@ -56,3 +58,9 @@ returns-in-Err-clause-read_fault g c = λ is. absurd (subst IsOfUnopened is c.in
 
 pub returns-in-Err-clause-too_long : goal.returns-in-Err-clause-too_long
 returns-in-Err-clause-too_long g c = λ told is. absurd (subst IsOfUnopened is c.in-Err.ensures.unopened.ends)
+
+pub returns-in-Ok-clause-refused : goal.returns-in-Ok-clause-refused
+returns-in-Ok-clause-refused g c = λ is. absurd (subst IsOfOpened is c.follow_open-status.ensures.found)
+
+pub returns-in-Err-clause-refused : goal.returns-in-Err-clause-refused
+returns-in-Err-clause-refused g c = λ is. refl

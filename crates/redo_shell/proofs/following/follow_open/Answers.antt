@@ -1,10 +1,11 @@
-use Rattle.std.proofs.Common.{◌∙◌, ⊎_elim, Err, ap, subst}
+use Rattle.std.proofs.Common.{◌∙◌, ⊎_elim, Err, ap, subst, sym}
 use Rattle.disk_model.specs.Disk.{Disk}
 use Rattle.disk_model.specs.Moments.{passes_twice}
 use Rattle.redo_shell.specs.Following.{IsInputFollowed}
-use Rattle.redo_shell.specs.Status.{status_of}
+use Rattle.redo_shell.specs.Status.{status_of, IsOfOpened}
 use Rattle.redo_shell.specs.declared.cut.Cut.{Cut}
-use Rattle.redo_shell.proofs.FollowingLemmas.{damage_cause, not_none, open_done, open_refused, open_short, open_unread, refusal_is, refused_silent}
+use Rattle.redo_shell.proofs.FollowingLemmas.{damage_cause, open_done, open_refused, open_short, open_unread, refusal_found, refusal_is, refused_silent}
+use Rattle.redo_shell.proofs.ScriptLemmas.{stop_status}
 use Rattle.redo_shell.proofs.following.follow_open.Goals as goal
 
 pub returns-in-Ok-clause-time : goal.returns-in-Ok-clause-time
@@ -35,7 +36,7 @@ returns-in-Err-Refused-clause-followed g c =
 
 pub returns-in-Err-Refused-clause-store : goal.returns-in-Err-Refused-clause-store
 returns-in-Err-Refused-clause-store g c = λ told attached. (
-  λ is. not_none c.in-Err-Refused.cause (refusal_is c.in-Err-Refused.cause (λ e. cc e) (λ e. cc e) c.end_refused.ensures.ends is),
+  λ is. subst IsOfOpened is (refusal_found c.in-Err-Refused.cause c.end_refused.ensures.ends),
   λ is.
       let damage = damage_cause c.in-Err-Refused.cause (refusal_is c.in-Err-Refused.cause (λ e. cc e) (λ e. cc e) c.end_refused.ensures.ends is) in
       c.in-Err-Refused.ensures.undamaged told attached damage.0 damage.1 (cc (c.in-Err-Refused.field-0-is, damage.2)),
@@ -44,3 +45,15 @@ returns-in-Err-Refused-clause-store g c = λ told attached. (
 pub returns-in-Err-Unread-clause-followed : goal.returns-in-Err-Unread-clause-followed
 returns-in-Err-Unread-clause-followed g c =
     open_unread c.follow_input.ensures.quiet c.in-Err-Unread.error (subst (λ (cut : Cut). IsInputFollowed (g.S.Source.tells c.args.input.now) (g.S.Source.left c.args.input.now) (g.S.Source.left c.follow_input.new.input) (g.M.Machine.disk c.args.machine.now) (g.M.Machine.disk c.follow_input.new.machine) c.args.standby.now c.follow_input.new.standby (Err cut)) c.in-Err-Unread.field-0-is c.in-Err-Unread.ensures.followed) (c.status.ensures ∙ ap status_of c.from.ensures)
+
+pub returns-in-Err-Refused-clause-found : goal.returns-in-Err-Refused-clause-found
+returns-in-Err-Refused-clause-found g c = refusal_found c.in-Err-Refused.cause c.end_refused.ensures.ends
+
+pub returns-in-Ok-clause-found : goal.returns-in-Ok-clause-found
+returns-in-Ok-clause-found g c = ⊎_elim (λ e. subst IsOfOpened (sym e) tt) (λ rest. ⊎_elim (λ e. subst IsOfOpened (sym e) tt) (λ e. subst IsOfOpened (sym e) tt) rest) c.end_numbered.ensures.status
+
+pub returns-in-Err-Short-clause-found : goal.returns-in-Err-Short-clause-found
+returns-in-Err-Short-clause-found g c = ⊎_elim (λ e. subst IsOfOpened (sym e) tt) (λ rest. ⊎_elim (λ e. subst IsOfOpened (sym e) tt) (λ e. subst IsOfOpened (sym e) tt) rest) c.end_numbered-in-Err-Short.ensures.status
+
+pub returns-in-Err-Unread-clause-found : goal.returns-in-Err-Unread-clause-found
+returns-in-Err-Unread-clause-found g c = subst IsOfOpened (sym c.status.ensures) (stop_status _).1

@@ -1,11 +1,11 @@
-use Rattle.std.proofs.Common.{◌≡◌, ◌++◌, ◌∙◌, inl, List, ℕ, ap, refl, sym, subst}
+use Rattle.std.proofs.Common.{◌≡◌, ◌++◌, ◌∙◌, ⊎_elim, inl, List, ℕ, ap, refl, sym, subst}
 use Rattle.disk_model.specs.Disk.{Files, IsSettled}
 use Rattle.disk_model.specs.declared.machine.FileNo.TheVariants.{Objects}
 use Rattle.formats.specs.Objects.{BeginsStore}
 use Rattle.restart.specs.Starts.{from_settled}
 use Rattle.redo_shell.specs.Notices.{already_a_store}
 use Rattle.redo_shell.specs.Store.{IsNew}
-use Rattle.redo_shell.proofs.ExactLemmas.{in_made, not_made}
+use Rattle.redo_shell.proofs.ExactLemmas.{in_made, not_failed, not_made}
 use Rattle.redo_shell.proofs.KeepLemmas.{keeps_once, keeps_behind, settled_each}
 use Rattle.redo_shell.proofs.HoldLemmas.{still_settled}
 use Rattle.redo_shell.proofs.init.init.Goals as goal
@@ -17,7 +17,7 @@ returns-in-Ok-clause-making g c =
     record {
       ends = tt;
       done = λ told is. c.in-Ok.ensures.ok told;
-      quiet = λ told is. c.init.ensures.quiet told;
+      quiet = λ told ends. c.init.ensures.quiet told;
       images = c.init.ensures.images;
       from_settled = λ telling settled none.
           from_settled old new (λ files said. IsNew c.args.params files × (said ≡ old.said)) (g.met.M.Machine.lawful c.args.machine.now) telling settled (inl none, refl) (c.init.ensures.images telling none);
@@ -25,6 +25,7 @@ returns-in-Ok-clause-making g c =
       keeps = λ told begins. absurd (c.in-Ok.ensures.fresh told begins);
       fresh = λ told is. c.in-Ok.ensures.fresh told;
       already = λ told is. cc is;
+      read = λ is. cc is;
     }
 
 pub returns-in-Err-DiskFault-clause-making : goal.returns-in-Err-DiskFault-clause-making
@@ -34,7 +35,7 @@ returns-in-Err-DiskFault-clause-making g c =
     record {
       ends = tt;
       done = λ told is. cc is;
-      quiet = λ told is. cc is;
+      quiet = λ told ends. c.init.ensures.quiet told;
       images = c.init.ensures.images;
       from_settled = λ telling settled none.
           from_settled old new (λ files said. IsNew c.args.params files × (said ≡ old.said)) (g.met.M.Machine.lawful c.args.machine.now) telling settled (inl none, refl) (c.init.ensures.images telling none);
@@ -42,6 +43,7 @@ returns-in-Err-DiskFault-clause-making g c =
       keeps = λ told begins. keeps_once old new (c.init.ensures.kept told begins);
       fresh = λ told is. cc is;
       already = λ told is. cc is;
+      read = λ is. cc is;
     }
 
 pub returns-in-Err-AlreadyStore-clause-making : goal.returns-in-Err-AlreadyStore-clause-making
@@ -54,7 +56,7 @@ returns-in-Err-AlreadyStore-clause-making g c =
     record {
       ends = in_made c.end_with.result c.end_with.ensures.status;
       done = λ told is. absurd (not_made c.end_with.result c.end_with.ensures.status is);
-      quiet = λ told is. absurd (not_made c.end_with.result c.end_with.ensures.status is);
+      quiet = λ told ends. absurd (⊎_elim (λ is. not_made c.end_with.result c.end_with.ensures.status is) (λ is. not_failed c.end_with.result c.end_with.ensures.status is) ends);
       images = λ telling none. absurd (none (begins ((g.met.M.Machine.lawful c.args.machine.now).telling telling)));
       from_settled = λ telling settled none. absurd (none (begins ((g.met.M.Machine.lawful c.args.machine.now).telling telling)));
       settled = λ told fault. settled told;
@@ -70,4 +72,7 @@ returns-in-Err-AlreadyStore-clause-making g c =
             said = c.end_with.ensures.all told_now (λ e. cc (is, e)) ∙ ap (λ (l : List ℕ). l ++ already_a_store) (c.init.ensures.quiet told);
             each = settled_each new (λ (files : Files). BeginsStore (files Objects)) (settled told) (subst (λ (files : Files). BeginsStore (files Objects)) (sym reads) (begins told));
           };
+      read = λ is files agrees.
+          let from = c.end_with.ensures.runs.agreed files agrees in
+          subst (λ (f : Files). BeginsStore (f Objects)) (sym from.2) ((c.in-Err-AlreadyStore.ensures.already (cc (c.in-Err-AlreadyStore.field-0-is))).2 from.0 from.1);
     }

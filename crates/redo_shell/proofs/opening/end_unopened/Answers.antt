@@ -1,9 +1,17 @@
-use Rattle.std.proofs.Common.{rules}
+use Rattle.std.proofs.Common.{⊎_elim, rules, subst, sym}
+use Rattle.disk_model.specs.Disk.{Files}
 use Rattle.redo_shell.proofs.KeepLemmas.{keeps_once, keeps_none}
 use Rattle.redo_shell.proofs.opening.end_unopened.Goals as goal
 
 pub returns-in-NotAStore-clause-keeps : goal.returns-in-NotAStore-clause-keeps
 returns-in-NotAStore-clause-keeps g c = keeps_once (g.M.Machine.disk c.args.machine.now) (g.M.Machine.disk c.end_with.new.machine) c.end_with.ensures.runs
+
+pub returns-in-NotAStore-clause-read : goal.returns-in-NotAStore-clause-read
+returns-in-NotAStore-clause-read g c = λ is.
+    (c.in-NotAStore.is, λ files agrees. let from = c.end_with.ensures.runs.agreed files agrees in subst (λ (f : Files). (g.M.Machine.disk c.args.machine.now).agrees f) (sym from.2) from.1)
+
+pub returns-in-Damaged-clause-read : goal.returns-in-Damaged-clause-read
+returns-in-Damaged-clause-read g c = λ is. absurd (⊎_elim (λ e. cc (e, is)) (λ rest. ⊎_elim (λ e. cc (e, is)) (λ e. cc (e, is)) rest) c.end_damaged.ensures.status)
 
 pub returns-in-DiskFault-clause-keeps : goal.returns-in-DiskFault-clause-keeps
 returns-in-DiskFault-clause-keeps g c = keeps_none (g.M.Machine.disk c.args.machine.now) (g.met.M.Machine.lawful c.args.machine.now)

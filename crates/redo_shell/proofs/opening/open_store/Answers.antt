@@ -1,4 +1,4 @@
-use Rattle.std.proofs.Common.{length, None, ap, sym, subst, ◌∙◌}
+use Rattle.std.proofs.Common.{ℕ, length, None, ap, sym, subst, ◌∙◌}
 use Rattle.disk_model.specs.Disk.{Disk, LeavesOnly}
 use Rattle.disk_model.specs.Moments.{passes_twice}
 use Rattle.disk_model.specs.declared.machine.FileNo.TheVariants.{Objects}
@@ -6,8 +6,11 @@ use Rattle.formats.specs.Objects.{bounds_of}
 use Rattle.restart.specs.Starts.{OrAtStart}
 use Rattle.standing.specs.OneStable.{small_store}
 use Rattle.redo_shell.specs.Courses.{OpeningMoment}
+use Rattle.restart.specs.Courses.{restart_course}
+use Rattle.restart.specs.Opening.{OpensThrough}
+use Rattle.running_store.specs.Taking.{IsAfter}
 use Rattle.redo_shell.specs.Stages.{redo_dirty}
-use Rattle.redo_shell.specs.Store.{Between}
+use Rattle.redo_shell.specs.Store.{Between, meaning_in}
 use Rattle.redo_shell.proofs.RestartLemmas.{first_of, no_damage, shows_first, unopened_so}
 use Rattle.redo_shell.proofs.opening.open_store.Goals as goal
 
@@ -22,7 +25,7 @@ returns-in-Ok-clause-opens g c = λ p commands opens. record {
   quiet = c.restart.ensures.opening.quiet opens.told;
   images = λ telling. c.restart.ensures.images telling p commands opens;
   first = first_of opens (c.opens_on_a_world.ensures.world p (g.M.Machine.disk c.args.machine.now).reads commands opens.stands);
-  steps = λ telling first is. c.restart.ensures.steps telling p is.used is.world is.found;
+  steps = λ telling first is. subst (λ (n : ℕ). OpensThrough (meaning_in p) p (g.M.Machine.disk c.args.machine.now) (g.M.Machine.disk c.restart.new.machine) is.world (restart_course (meaning_in p) n is.world is.used).steps) (c.tuning.ensures.dirty p) (c.restart.ensures.steps telling p is.used is.world is.found);
 }
 
 pub returns-in-Err-clause-opens : goal.returns-in-Err-clause-opens
@@ -34,8 +37,8 @@ returns-in-Err-clause-opens g c = λ p commands opens.
       images = λ telling. subst (λ (d : Disk). LeavesOnly (g.M.Machine.disk c.args.machine.now) d (OrAtStart (g.M.Machine.disk c.args.machine.now) (Between p (g.M.Machine.disk c.args.machine.now) None (length commands) (length commands) commands))) (sym same) (c.restart.ensures.images telling p commands opens);
       first = first_of opens (c.opens_on_a_world.ensures.world p (g.M.Machine.disk c.args.machine.now).reads commands opens.stands);
       steps = λ telling first is.
-          subst (λ (d : Disk). LeavesOnly (g.M.Machine.disk c.args.machine.now) d (OrAtStart (g.M.Machine.disk c.args.machine.now) (OpeningMoment p commands (g.M.Machine.disk c.args.machine.now) first is))) (sym same)
-          (c.restart.ensures.steps telling p is.used is.world is.found);
+          subst (λ (d : Disk). LeavesOnly (g.M.Machine.disk c.args.machine.now) d (OrAtStart (g.M.Machine.disk c.args.machine.now) (OpeningMoment c.args.budget p commands (g.M.Machine.disk c.args.machine.now) first is))) (sym same)
+          (subst (λ (n : ℕ). OpensThrough (meaning_in p) p (g.M.Machine.disk c.args.machine.now) (g.M.Machine.disk c.restart.new.machine) is.world (restart_course (meaning_in p) n is.world is.used).steps) (c.tuning.ensures.dirty p) (c.restart.ensures.steps telling p is.used is.world is.found));
     }
 
 pub returns-in-Ok-clause-ok : goal.returns-in-Ok-clause-ok
@@ -45,8 +48,8 @@ returns-in-Ok-clause-ok g c = λ p commands opens.
       all = stands.1;
       alone = c.in-Ok.ensures.ready.1;
       uncopied = c.in-Ok.ensures.ready.2;
-      shows = λ first is. shows_first first is c.in-Ok.ensures.ready.0 c.in-Ok.ensures.ready.1 c.in-Ok.ensures.ready.2 c.in-Ok.ensures.ready.3 (c.in-Ok.ensures.follows p is.used is.world is.found)
-          (c.a_restart_may_be_made.ensures.reopened (bounds_of p) is.world (redo_dirty p) is.used (small_store p ((g.M.Machine.disk c.args.machine.now).reads Objects) is.found.shows.objects) is.found.sound) stands.0 (c.engine_stands.ensures p);
+      shows = λ first is. shows_first first is c.in-Ok.ensures.ready.0 c.in-Ok.ensures.ready.1 c.in-Ok.ensures.ready.2 c.in-Ok.ensures.ready.3 (subst (λ (n : ℕ). IsAfter (meaning_in p) p (g.M.Machine.disk c.restart.new.machine) c.in-Ok.engine.parts is.world (restart_course (meaning_in p) n is.world is.used)) (c.tuning.ensures.dirty p) (c.in-Ok.ensures.follows p is.used is.world is.found))
+          (c.a_restart_may_be_made.ensures.reopened (bounds_of p) is.world (redo_dirty c.args.budget p) is.used (small_store p ((g.M.Machine.disk c.args.machine.now).reads Objects) is.found.shows.objects) is.found.sound) stands.0 (c.engine_stands.ensures p);
     }
 
 pub returns-in-Ok-clause-ready : goal.returns-in-Ok-clause-ready
@@ -65,12 +68,13 @@ pub returns-in-Ok-clause-read : goal.returns-in-Ok-clause-read
 returns-in-Ok-clause-read g c = λ told. (c.in-Ok.ensures.judged told).read
 
 pub returns-in-Err-clause-unopened : goal.returns-in-Err-clause-unopened
-returns-in-Err-clause-unopened g c = unopened_so c.in-Err.ensures.opening c.in-Err.ensures.judged (record {
+returns-in-Err-clause-unopened g c = unopened_so c.in-Err.ensures.opening c.in-Err.ensures.judged c.in-Err.ensures.reported (record {
   time = c.end_unopened.ensures.time;
   keeps = c.end_unopened.ensures.keeps;
   no_store = c.end_unopened.ensures.no_store;
   damaged = c.end_unopened.ensures.damaged;
-  quiet = λ none no. let quiet = c.end_unopened.ensures.quiet none no in (ap (λ (d : Disk). d.said) (ap g.M.Machine.disk quiet.0), quiet.1, quiet.2, quiet.3);
+  read = c.end_unopened.ensures.read;
+  quiet = λ none no. let quiet = c.end_unopened.ensures.quiet none no in (ap (λ (d : Disk). d.said) (ap g.M.Machine.disk quiet.0), quiet.1, quiet.2, quiet.3, quiet.4);
   silent = λ is. ap (λ (d : Disk). d.said) (ap g.M.Machine.disk (c.end_unopened.ensures.silent is));
   ends = c.end_unopened.ensures.status;
   disk_fault = c.end_unopened.ensures.disk_fault;

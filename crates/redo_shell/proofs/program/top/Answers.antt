@@ -2,42 +2,46 @@ use Rattle.std.proofs.Common.{⊎_elim, inl, inr, subst, sym, refl, map, string_
 use Rattle.disk_model.specs.Moments.{stays_here}
 use Rattle.command_words.specs.Refusals.{IsRefusal}
 use Rattle.command_words.specs.declared.asked.Asked.TheVariants.{Run}
-use Rattle.redo_shell.proofs.CallLemmas.{backup_called, backup_idle, backup_unread, call_for, call_caused, call_exactly, call_goes_on, unread_goes_on}
+use Rattle.redo_shell.proofs.CallLemmas.{call_adds_nothing, backup_called, backup_idle, backup_unread, call_for, call_caused, call_exactly, call_goes_on, unread_goes_on}
 use Rattle.redo_shell.specs.Causes.{IsUnread}
 use Rattle.redo_shell.specs.declared.status.Status.TheVariants.{Memory}
 use Rattle.redo_shell.proofs.ExactLemmas.{IsOfUsage, usage_ends}
 use Rattle.redo_shell.proofs.KeepLemmas.{keeps_once}
+use Rattle.redo_shell.proofs.NotedLemmas.{noted_called, none_called}
 use Rattle.redo_shell.proofs.program.top.Goals as goal
 
 pub serve-requires : goal.serve-requires
-serve-requires g c = c.in-Ok.ensures.ok.named.allowed
+serve-requires g c = record { allowed = c.in-Ok.ensures.ok.named.allowed; fresh = c.new.ensures }
 
 pub returns-in-Ok-clause-images : goal.returns-in-Ok-clause-images
 returns-in-Ok-clause-images g c = λ p commands asks opens told.
-    let call = call_for _ _ _ _ _ _ (c.words_ask_one_thing.ensures (map string_bytes c.args.words.now) c.in-Ok.asked Run c.in-Ok.ensures.ok asks) c.serve.ensures.call in
+    let call = call_for _ _ _ _ _ _ _ (c.words_ask_one_thing.ensures (map string_bytes c.args.words.now) c.in-Ok.asked Run c.in-Ok.ensures.ok asks) c.serve.ensures.call in
     (call.script p commands opens told).images
 
 pub returns-in-Ok-clause-run : goal.returns-in-Ok-clause-run
-returns-in-Ok-clause-run g c = λ asks. inl (call_for _ _ _ _ _ _ (c.words_ask_one_thing.ensures (map string_bytes c.args.words.now) c.in-Ok.asked Run c.in-Ok.ensures.ok asks) c.serve.ensures.call)
+returns-in-Ok-clause-run g c = λ asks. inl (call_for _ _ _ _ _ _ _ (c.words_ask_one_thing.ensures (map string_bytes c.args.words.now) c.in-Ok.asked Run c.in-Ok.ensures.ok asks) c.serve.ensures.call)
 
 pub returns-in-Ok-clause-call : goal.returns-in-Ok-clause-call
-returns-in-Ok-clause-call g c = λ asked asks. inl (call_for _ _ _ _ _ _ (c.words_ask_one_thing.ensures (map string_bytes c.args.words.now) c.in-Ok.asked asked c.in-Ok.ensures.ok asks) c.serve.ensures.call)
+returns-in-Ok-clause-call g c = λ asked asks. inl (call_for _ _ _ _ _ _ _ (c.words_ask_one_thing.ensures (map string_bytes c.args.words.now) c.in-Ok.asked asked c.in-Ok.ensures.ok asks) c.serve.ensures.call)
 
 pub returns-in-Ok-clause-backup : goal.returns-in-Ok-clause-backup
-returns-in-Ok-clause-backup g c = backup_called g.T.Machine.disk _ _ _ _ _ _ c.in-Ok.asked c.in-Ok.ensures.ok (λ other asks. c.words_ask_one_thing.ensures (map string_bytes c.args.words.now) c.in-Ok.asked other c.in-Ok.ensures.ok asks) c.serve.ensures.beside c.serve.ensures.backup
+returns-in-Ok-clause-backup g c = backup_called _ g.T.Machine.disk _ _ _ _ _ _ c.in-Ok.asked c.in-Ok.ensures.ok (λ other asks. c.words_ask_one_thing.ensures (map string_bytes c.args.words.now) c.in-Ok.asked other c.in-Ok.ensures.ok asks) c.serve.ensures.beside c.serve.ensures.backup
+
+pub returns-in-Ok-clause-noted : goal.returns-in-Ok-clause-noted
+returns-in-Ok-clause-noted g c = noted_called _ _ _ _ c.in-Ok.asked c.in-Ok.ensures.ok (λ other asks. c.words_ask_one_thing.ensures (map string_bytes c.args.words.now) c.in-Ok.asked other c.in-Ok.ensures.ok asks) c.serve.ensures.noted
 
 pub returns-in-Ok-clause-cause : goal.returns-in-Ok-clause-cause
-returns-in-Ok-clause-cause g c = call_caused c.in-Ok.asked c.serve.ensures.call c.serve.ensures.faults c.serve.ensures.read_fault c.serve.ensures.beside c.serve.ensures.too_long c.in-Ok.ensures.ok
+returns-in-Ok-clause-cause g c = call_caused c.args.budget c.in-Ok.asked c.serve.ensures.call c.serve.ensures.faults c.serve.ensures.read_fault c.serve.ensures.beside c.serve.ensures.too_long c.in-Ok.ensures.ok
 
 pub returns-in-Ok-clause-exactly : goal.returns-in-Ok-clause-exactly
-returns-in-Ok-clause-exactly g c = call_exactly c.in-Ok.asked c.serve.ensures.call c.serve.ensures.faults c.serve.ensures.read_fault c.serve.ensures.beside c.serve.ensures.too_long
+returns-in-Ok-clause-exactly g c = call_exactly c.args.budget c.in-Ok.asked c.serve.ensures.call c.serve.ensures.faults c.serve.ensures.read_fault c.serve.ensures.beside c.serve.ensures.too_long
     c.in-Ok.ensures.ok (λ other asks. c.words_ask_one_thing.ensures (map string_bytes c.args.words.now) c.in-Ok.asked other c.in-Ok.ensures.ok asks)
     (record { place = c.one_damage.ensures.place (g.M.Machine.disk c.args.machine.now).reads; none = c.one_damage.ensures.none (g.M.Machine.disk c.args.machine.now).reads })
     (λ p commands opens. c.standing_files_meet_their_format.ensures.format p _ commands opens.stands)
 
 pub returns-in-Ok-clause-session : goal.returns-in-Ok-clause-session
 returns-in-Ok-clause-session g c = call_goes_on g.M.Machine.disk c.args.machine.now c.serve.new.machine (g.met.M.Machine.lawful c.args.machine.now) c.serve.ensures.time
-    (λ other asks. call_for _ _ _ _ _ _ (c.words_ask_one_thing.ensures (map string_bytes c.args.words.now) c.in-Ok.asked other c.in-Ok.ensures.ok asks) c.serve.ensures.call)
+    (λ other asks. call_for _ _ _ _ _ _ _ (c.words_ask_one_thing.ensures (map string_bytes c.args.words.now) c.in-Ok.asked other c.in-Ok.ensures.ok asks) c.serve.ensures.call)
 
 pub returns-in-Err-Refused-clause-images : goal.returns-in-Err-Refused-clause-images
 returns-in-Err-Refused-clause-images g c = λ p commands asks. absurd (c.in-Err-Refused.ensures.refused (subst IsRefusal (sym c.in-Err-Refused.field-0-is) tt) _ asks)
@@ -50,6 +54,9 @@ returns-in-Err-Refused-clause-call g c = λ asked asks. absurd (c.in-Err-Refused
 
 pub returns-in-Err-Refused-clause-backup : goal.returns-in-Err-Refused-clause-backup
 returns-in-Err-Refused-clause-backup g c = backup_idle g.T.Machine.disk c.args.backup.now (λ asks. c.in-Err-Refused.ensures.refused (subst IsRefusal (sym c.in-Err-Refused.field-0-is) tt) _ asks)
+
+pub returns-in-Err-Refused-clause-noted : goal.returns-in-Err-Refused-clause-noted
+returns-in-Err-Refused-clause-noted g c = record { run = λ asks. absurd (c.in-Err-Refused.ensures.refused (subst IsRefusal (sym c.in-Err-Refused.field-0-is) tt) _ asks); other = λ none. c.new.ensures }
 
 pub returns-in-Err-Refused-clause-cause : goal.returns-in-Err-Refused-clause-cause
 returns-in-Err-Refused-clause-cause g c = record {
@@ -109,24 +116,27 @@ pub returns-clause-exactly : goal.returns-clause-exactly
 returns-clause-exactly g c = λ faultless.
     let unread : IsUnread (g.M.Machine.disk c.args.machine.now) (g.M.Machine.disk c.args.machine.now) Memory = record { ends = refl; stays = stays_here (g.M.Machine.disk c.args.machine.now) (g.met.M.Machine.lawful c.args.machine.now) } in
     record {
-      usage = λ memory. absurd (memory refl);
+      usage = λ memory. absurd (memory tt);
       run = λ asks told. inr unread;
-      runs = λ asks memory. absurd (memory refl);
+      runs = λ asks memory. absurd (memory tt);
       dump = λ asks told. inr unread;
-      dumps = λ asks memory. absurd (memory refl);
+      dumps = λ asks memory. absurd (memory tt);
       init = λ p asks told. inr unread;
-      demos = λ seed steps asks memory. absurd (memory refl);
-      upgrades = λ q asks memory. absurd (memory refl);
+      demos = λ seed steps asks memory. absurd (memory tt);
+      upgrades = λ q asks memory. absurd (memory tt);
       ship = λ from asks told. inr unread;
-      ships = λ from asks memory. absurd (memory refl);
+      ships = λ from asks memory. absurd (memory tt);
       follow = λ asks told. inr unread;
-      follows = λ asks memory. absurd (memory refl);
+      follows = λ asks memory. absurd (memory tt);
     }
 
 pub returns-clause-session : goal.returns-clause-session
 returns-clause-session g c =
     let unread : IsUnread (g.M.Machine.disk c.args.machine.now) (g.M.Machine.disk c.args.machine.now) Memory = record { ends = refl; stays = stays_here (g.M.Machine.disk c.args.machine.now) (g.met.M.Machine.lawful c.args.machine.now) } in
     unread_goes_on g.M.Machine.disk c.args.machine.now c.args.machine.now unread
+
+pub returns-clause-noted : goal.returns-clause-noted
+returns-clause-noted g c = none_called Memory (λ done. ⊎_elim (λ e. cc e) (λ e. cc e) done) c.new.ensures
 
 pub returns-clause-backup : goal.returns-clause-backup
 returns-clause-backup g c = backup_unread c.standing_files_meet_their_format.ensures.few g.T.Machine.disk (g.M.Machine.disk c.args.machine.now) c.args.backup.now
@@ -147,3 +157,14 @@ returns-clause-cause g c = record {
   stream = λ is. cc;
   full = λ is. cc;
 }
+
+pub returns-in-Ok-clause-refused : goal.returns-in-Ok-clause-refused
+returns-in-Ok-clause-refused g c = λ is.
+    let same = c.serve.ensures.refused is in
+    (same.0, same.1, call_adds_nothing g.M.Machine.disk c.args.budget (g.S.Source.tells c.args.input.now) (g.S.Source.left c.args.input.now) (g.S.Source.left c.serve.new.input) c.args.machine.now c.serve.new.machine c.in-Ok.asked (g.met.M.Machine.lawful c.args.machine.now) c.serve.ensures.call is)
+
+pub returns-in-Err-Refused-clause-refused : goal.returns-in-Err-Refused-clause-refused
+returns-in-Err-Refused-clause-refused g c = λ is. absurd (subst IsOfUsage is (usage_ends c.end_with.result c.end_with.ensures.status))
+
+pub returns-clause-refused : goal.returns-clause-refused
+returns-clause-refused g c = λ is. absurd (cc is)

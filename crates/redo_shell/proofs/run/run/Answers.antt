@@ -1,13 +1,17 @@
 use Rattle.std.proofs.Common.{[], arith, refl, subst}
 use Rattle.disk_model.specs.Moments.{passes_twice}
 use Rattle.script_lines.specs.Grammar.{lines_of}
-use Rattle.redo_shell.specs.Status.{IsOfUnopened}
+use Rattle.redo_shell.specs.Status.{IsOfUnopened, IsOfOpened}
 use Rattle.redo_shell.proofs.ExactLemmas.{unopened_run}
 use Rattle.redo_shell.proofs.HoldLemmas.{rises_within}
 use Rattle.redo_shell.proofs.CallLemmas.{beside_none}
+use Rattle.redo_shell.proofs.NotedLemmas.{notes_begin}
 use Rattle.redo_shell.proofs.OpenLemmas.{backed_each, backed_from, none_backed, run_on, run_unopened, runs_from_each, judged_open, not_done}
 use Rattle.redo_shell.proofs.SavedLemmas.{printed_backed}
 use Rattle.redo_shell.proofs.run.run.Goals as goal
+
+pub run_open-status-requires : goal.run_open-status-requires
+run_open-status-requires g c = record { sound = c.in-Ok.ensures.ready.0; fresh = c.requires }
 
 pub returns-in-Ok-clause-time : goal.returns-in-Ok-clause-time
 returns-in-Ok-clause-time g c =
@@ -28,7 +32,7 @@ returns-in-Ok-clause-call g c =
           let opened = c.in-Ok.ensures.ok p commands opens in
           run_on few old mid new (lines_of (g.S.Source.left c.args.input.now)) c.run_open-status.result lawful ends opens (c.open_store.ensures.opens p commands opens) c.open_store.ensures.time c.run_open-status.ensures.time
           (runs_from_each (lines_of (g.S.Source.left c.args.input.now)) new c.run_open-status.result opened (λ holds. (c.run_open-status.ensures.answers p commands holds opened.all opened.alone told, c.run_open-status.ensures.complete p commands holds opened.all opened.alone told)))
-          (c.run_open-status.ensures.store (c.open_store.ensures.time.files_told.0 opens.told) attached);
+          (c.run_open-status.ensures.store (c.open_store.ensures.time.files_told.0 opens.told) attached) c.run_open-status.ensures.status.1;
       untold =
           let (script, each, backed) = c.run_open-status.ensures.some in (
             script,
@@ -36,11 +40,12 @@ returns-in-Ok-clause-call g c =
                 let opened = c.in-Ok.ensures.ok p commands opens in
                 run_on few old mid new script c.run_open-status.result lawful ends opens (c.open_store.ensures.opens p commands opens) c.open_store.ensures.time c.run_open-status.ensures.time
                 (runs_from_each script new c.run_open-status.result opened (λ holds. each p commands holds opened.all opened.alone))
-                (c.run_open-status.ensures.store (c.open_store.ensures.time.files_told.0 opens.told) attached),
+                (c.run_open-status.ensures.store (c.open_store.ensures.time.files_told.0 opens.told) attached) c.run_open-status.ensures.status.1,
           );
-      input = c.run_open-status.ensures.input;
-      ends = c.run_open-status.ensures.status;
-      judged = λ told. judged_open c.run_open-status.result (c.in-Ok.ensures.read told) (c.run_open-status.ensures.store (c.open_store.ensures.time.files_told.0 told) attached);
+      input = λ told. (c.run_open-status.ensures.input told).all;
+      ends = c.run_open-status.ensures.status.0;
+      judged = λ told. judged_open c.run_open-status.result (c.in-Ok.ensures.read told) (c.run_open-status.ensures.store (c.open_store.ensures.time.files_told.0 told) attached) c.run_open-status.ensures.status.1;
+      read = λ is. absurd (subst IsOfOpened is c.run_open-status.ensures.status.1);
     }
 
 pub returns-in-Ok-clause-backup : goal.returns-in-Ok-clause-backup
@@ -61,6 +66,9 @@ returns-in-Ok-clause-backup g c = record {
       );
   unopened = λ tells broken. absurd (broken (c.in-Ok.ensures.read tells));
 }
+
+pub returns-in-Ok-clause-noted : goal.returns-in-Ok-clause-noted
+returns-in-Ok-clause-noted g c = λ told. (c.run_open-status.ensures.input told).notes
 
 pub returns-in-Ok-clause-faults : goal.returns-in-Ok-clause-faults
 returns-in-Ok-clause-faults g c = record {
@@ -85,6 +93,7 @@ returns-in-Err-clause-call g c =
       input = λ told done. absurd (not_done c.in-Err.status c.in-Err.ensures.unopened.ends done);
       ends = unopened_run c.in-Err.status c.in-Err.ensures.unopened.ends;
       judged = c.in-Err.ensures.unopened.judged;
+      read = c.in-Err.ensures.unopened.read;
     }
 
 pub returns-in-Err-clause-backup : goal.returns-in-Err-clause-backup
@@ -97,6 +106,9 @@ returns-in-Err-clause-backup g c = record {
 pub returns-in-Err-clause-beside : goal.returns-in-Err-clause-beside
 returns-in-Err-clause-beside g c = beside_none (g.T.Machine.disk c.args.backup.now) c.in-Err.status (λ is. subst IsOfUnopened is c.in-Err.ensures.unopened.ends)
 
+pub returns-in-Err-clause-noted : goal.returns-in-Err-clause-noted
+returns-in-Err-clause-noted g c = λ told. record { todo = _; front = notes_begin c.requires; all = λ done. absurd (not_done c.in-Err.status c.in-Err.ensures.unopened.ends done) }
+
 pub returns-in-Err-clause-faults : goal.returns-in-Err-clause-faults
 returns-in-Err-clause-faults g c = c.in-Err.ensures.unopened.faults
 
@@ -105,3 +117,9 @@ returns-in-Err-clause-read_fault g c = λ is. absurd (subst IsOfUnopened is c.in
 
 pub returns-in-Err-clause-too_long : goal.returns-in-Err-clause-too_long
 returns-in-Err-clause-too_long g c = λ told is. absurd (subst IsOfUnopened is c.in-Err.ensures.unopened.ends)
+
+pub returns-in-Ok-clause-refused : goal.returns-in-Ok-clause-refused
+returns-in-Ok-clause-refused g c = λ is. absurd (subst IsOfOpened is c.run_open-status.ensures.status.1)
+
+pub returns-in-Err-clause-refused : goal.returns-in-Err-clause-refused
+returns-in-Err-clause-refused g c = λ is. (refl, refl)

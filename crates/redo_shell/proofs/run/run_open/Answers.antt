@@ -1,8 +1,9 @@
 use Rattle.std.proofs.Common.{[], arith, rules}
-use Rattle.redo_shell.proofs.DamageLemmas.{no_backup_fault, no_disk_fault}
+use Rattle.redo_shell.proofs.DamageLemmas.{damaged_status, no_backup_fault, no_disk_fault}
 use Rattle.redo_shell.proofs.HoldLemmas.{told_by, attached_of, rises_within}
+use Rattle.redo_shell.proofs.NotedLemmas.{damage_undone, script_input, undone_input}
 use Rattle.redo_shell.proofs.OpenLemmas.{run_completes, run_ends}
-use Rattle.redo_shell.proofs.ScriptLemmas.{run_beside, run_faults, whole_end}
+use Rattle.redo_shell.proofs.ScriptLemmas.{run_beside, run_faults, run_status, whole_end}
 use Rattle.redo_shell.proofs.run.run_open.Goals as goal
 
 pub returns-in_default-clause-answers : goal.returns-in_default-clause-answers
@@ -62,3 +63,18 @@ returns-in-Err-Damaged-clause-faults g c = record {
   disk = λ is. absurd (no_disk_fault c.end_damaged.result c.end_damaged.ensures.status is);
   output = λ is. rises_within _ _ _ _ c.answer_script-outcome.ensures.time.say_faults (omega arith) (c.end_damaged.ensures.cause is);
 }
+
+pub returns-in_default-clause-status : goal.returns-in_default-clause-status
+returns-in_default-clause-status g c = run_status c.answer_script-outcome.result c.status_after.result c.status_after.ensures
+
+pub returns-in-Err-Damaged-clause-status : goal.returns-in-Err-Damaged-clause-status
+returns-in-Err-Damaged-clause-status g c = damaged_status c.end_damaged.result c.end_damaged.ensures.status
+
+pub answer_script-outcome-requires : goal.answer_script-outcome-requires
+answer_script-outcome-requires g c = record { sound = c.requires.sound; fresh = c.requires.fresh }
+
+pub returns-in_default-clause-input : goal.returns-in_default-clause-input
+returns-in_default-clause-input g c = λ told. script_input c.answer_script-outcome.result c.status_after.result c.status_after.ensures (c.answer_script-outcome.ensures.input told)
+
+pub returns-in-Err-Damaged-clause-input : goal.returns-in-Err-Damaged-clause-input
+returns-in-Err-Damaged-clause-input g c = λ told. undone_input c.end_damaged.result (damage_undone c.end_damaged.result c.end_damaged.ensures.status) (c.answer_script-outcome.ensures.input told)

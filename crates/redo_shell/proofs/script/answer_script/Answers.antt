@@ -3,12 +3,14 @@ use Rattle.std.proofs.lemmas.Result.{IfOk-from_err}
 use Rattle.disk_model.specs.Moments.{passes_none, passes_twice}
 use Rattle.script_lines.specs.Grammar.{lines_of}
 use Rattle.script_lines.specs.Reading.{IsLine, ReadsOn}
+use Rattle.redo_shell.specs.Noted.{Noted, NotesFront}
 use Rattle.redo_shell.specs.Run.{Going}
 use Rattle.redo_shell.specs.Stages.{stage_of}
 use Rattle.redo_shell.proofs.BackupLemmas.{GoingBeside, answering_of, ends_here_beside, ends_in_finish_beside, ends_in_line_beside, goes_on_beside, goes_to_beside, next_beside, opened_beside}
 use Rattle.redo_shell.proofs.HoldLemmas.{told_by}
+use Rattle.redo_shell.proofs.NotedLemmas.{line_taken, notes_begin, notes_on, notes_to}
 use Rattle.redo_shell.proofs.RunLemmas.{opened, goes_to, with_next, goes_on, ends_here, ends_in_line, ends_in_finish, completes}
-use Rattle.redo_shell.proofs.ScriptLemmas.{takes_on, next_line, ended, input_end, too_much, whole_uncut, finish_stops, finish_uncut, line_stops, line_not_long, line_undamaged}
+use Rattle.redo_shell.proofs.ScriptLemmas.{few_begin, takes_on, next_line, ended, input_end, too_much, whole_uncut, finish_stops, finish_uncut, line_stops, line_not_long, line_undamaged}
 use Rattle.redo_shell.proofs.script.answer_script.Goals as goal
 
 pub returns-in_err-lines-clause-answers : goal.returns-in_err-lines-clause-answers
@@ -29,7 +31,7 @@ returns-in_err-lines-clause-some g c = (
 pub loop-lines-init : goal.loop-lines-init
 loop-lines-init g c = record {
   told = λ told. told;
-  unbroken = c.requires;
+  unbroken = c.requires.sound;
   attached = λ attached. attached;
   time = passes_none (g.M.Machine.disk c.args.machine.now);
   going = λ p commands holds all alone told.
@@ -46,7 +48,16 @@ loop-lines-init g c = record {
   );
   reads = omega arith;
   takes = λ told. record { bytes = []; front = refl; count = omega (arith, c.in_ok-lines.ensures.1) };
+  noted = λ told.
+      subst (λ (l : List ℕ). NotesFront (lines_of (g.S.Source.left c.args.input.now)) (lines_of (l ++ g.S.Source.left c.args.input.now)) c.args.notes.now) (sym c.in_ok-lines.ensures.0) (notes_begin c.requires.fresh);
+  lines = few_begin c.in_ok-lines.lines c.in_ok-lines.ensures.0 c.in_ok-lines.ensures.1 (ap (λ (n : Noted). n.lines) c.requires.fresh);
 }
+
+pub answer_next-requires-clause-few : goal.answer_next-requires-clause-few
+answer_next-requires-clause-few g c = omega (arith, c.loop-lines.invariant.lines, c.in_ok-next.ensures.less c.in_default.not-End)
+
+pub returns-in_err-lines-clause-input : goal.returns-in_err-lines-clause-input
+returns-in_err-lines-clause-input g c = λ told. record { todo = _; front = notes_begin c.requires.fresh; all = IfOk-from_err c.from_residual.result _ c.from_residual.ensures.0 }
 
 pub returns-in_err-next-clause-answers : goal.returns-in_err-next-clause-answers
 returns-in_err-next-clause-answers g c = λ p commands holds all alone told. ends_here (c.loop-lines.invariant.going p commands holds all alone told)
@@ -61,6 +72,9 @@ returns-in_err-next-clause-some g c =
       λ p commands holds all alone. (ends_here (so_far p commands holds all alone), IfOk-from_err c.from_residual-in_err-next.result _ c.from_residual-in_err-next.ensures.0),
       λ p commands holds all alone none. ends_here_beside g.T.Machine.disk (beside p commands holds all alone none),
     )
+
+pub returns-in_err-next-clause-input : goal.returns-in_err-next-clause-input
+returns-in_err-next-clause-input g c = λ told. record { todo = _; front = c.loop-lines.invariant.noted told; all = IfOk-from_err c.from_residual-in_err-next.result _ c.from_residual-in_err-next.ensures.0 }
 
 pub returns-in_err-next-clause-too_long : goal.returns-in_err-next-clause-too_long
 returns-in_err-next-clause-too_long g c = λ told long.
@@ -100,7 +114,11 @@ returns-in_err-refusing-in_default g c = record {
             ends_in_line_beside g.T.Machine.disk c.standing_files_meet_their_format.ensures.few line here c.loop-lines.invariant.time c.loop-lines.invariant.backup_time (answering c.args.backup.now p here.going.account.commands here.going.holds) idle
             c.in_err-refusing-in_default.was,
       );
-  input = λ told. IfOk-from_err c.from_residual-in_err-refusing-in_default.result _ c.from_residual-in_err-refusing-in_default.ensures.0;
+  input = λ told.
+      let l = next_line c.in_ok-next.next _ _ _ (c.in_ok-next.ensures.next (c.loop-lines.invariant.told told)) c.in_default.not-End in
+      let is_line = subst (λ (s : List ℕ). IsLine c.in_ok-next.next s l.0) (sym c.line.ensures) l.1 in
+      let front = notes_to c.answer_next.result l.0 c.answer_next.ensures.noted is_line l.2 (c.loop-lines.invariant.noted told) in
+      record { todo = front.0; front = front.1; all = IfOk-from_err c.from_residual-in_err-refusing-in_default.result _ c.from_residual-in_err-refusing-in_default.ensures.0 };
   cause = line_stops (g.M.Machine.disk c.answer_next.new.machine) (g.T.Machine.disk c.answer_next.new.backup) (g.S.Source.faults c.args.input.now) (g.S.Source.faults c.next.new.input) c.loop-lines.invariant.time c.loop-lines.invariant.backup_time c.from_residual-in_err-refusing-in_default.result c.answer_next.result
       c.in_err-refusing-in_default.field-0.0 c.from_residual-in_err-refusing-in_default.ensures.1 c.in_err-refusing-in_default.was c.answer_next.ensures.cause;
   undamaged = λ told attached. line_undamaged c.from_residual-in_err-refusing-in_default.result c.answer_next.result c.in_err-refusing-in_default.field-0.0 c.from_residual-in_err-refusing-in_default.ensures.1 c.in_err-refusing-in_default.was
@@ -143,6 +161,11 @@ loop-lines-preserved g c = record {
       );
   reads = omega (arith, c.loop-lines.invariant.reads, c.next.ensures.later);
   takes = λ told. takes_on (c.loop-lines.invariant.takes told) (c.next.ensures.takes (c.loop-lines.invariant.told told));
+  noted = λ told.
+      let l = next_line c.in_ok-next.next _ _ _ (c.in_ok-next.ensures.next (c.loop-lines.invariant.told told)) c.in_default.not-End in
+      let is_line = subst (λ (s : List ℕ). IsLine c.in_ok-next.next s l.0) (sym c.line.ensures) l.1 in
+      notes_on l.0 (line_taken _ c.in_ok-refusing-in_default.was c.answer_next.ensures.noted) is_line l.2 (c.loop-lines.invariant.noted told);
+  lines = omega (arith, c.loop-lines.invariant.lines, c.in_ok-next.ensures.less c.in_default.not-End, (line_taken _ c.in_ok-refusing-in_default.was c.answer_next.ensures.noted).lines);
 }
 
 pub returns-in_err-close_script-clause-answers : goal.returns-in_err-close_script-clause-answers
@@ -215,11 +238,15 @@ returns-clause-complete g c = λ p commands holds all alone told.
     let (after, forced, emptied) = c.in_ok-close_script.ensures.forced p here.account.commands here.holds in
     completes here (c.close_script.ensures.quiet (told_by here.holds)) forced after emptied (c.in_ok-close_script.ensures.follows p here.holds.world here.holds.shows)
 
+pub returns-in_err-close_script-clause-input : goal.returns-in_err-close_script-clause-input
+returns-in_err-close_script-clause-input g c = λ told. record { todo = _; front = c.loop-lines.invariant.noted told; all = IfOk-from_err c.from_residual-in_err-close_script.result _ c.from_residual-in_err-close_script.ensures.0 }
+
 pub returns-clause-input : goal.returns-clause-input
 returns-clause-input g c = λ told.
     let here = c.loop-lines.invariant.told told in
-    input_end c.in_ok-next.next _ _ c.next.new.self.ahead (g.S.Source.left c.args.input.now) (g.S.Source.left c.next.new.input) c.next.new.self.taken (c.in_ok-next.ensures.next here) c.in-End.is
-    (takes_on (c.loop-lines.invariant.takes told) (c.next.ensures.takes here)) (c.next.ensures.before (c.in_ok-next.was ∙ ap (λ n. Ok n) c.in-End.is))
+    let read = input_end c.in_ok-next.next _ _ c.next.new.self.ahead (g.S.Source.left c.args.input.now) (g.S.Source.left c.next.new.input) c.next.new.self.taken (c.in_ok-next.ensures.next here) c.in-End.is
+    (takes_on (c.loop-lines.invariant.takes told) (c.next.ensures.takes here)) (c.next.ensures.before (c.in_ok-next.was ∙ ap (λ n. Ok n) c.in-End.is)) in
+    record { todo = _; front = c.loop-lines.invariant.noted told; all = (ended c.in_ok-next.next _ _ _ (c.in_ok-next.ensures.next here) c.in-End.is, read.0, read.1) }
 
 pub returns-in_err-close_script-clause-cause : goal.returns-in_err-close_script-clause-cause
 returns-in_err-close_script-clause-cause g c =

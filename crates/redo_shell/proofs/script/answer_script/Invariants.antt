@@ -1,4 +1,4 @@
-use Rattle.std.proofs.Common.{◌≡◌, ◌≤◌, ◌++◌, List, ℕ, [], length, false, None}
+use Rattle.std.proofs.Common.{◌≡◌, ◌≤◌, ◌+◌, ◌^◌, ◌++◌, List, ℕ, [], length, false, None}
 use Rattle.disk_model.specs.Disk.{Passes}
 use Rattle.formats.specs.declared.params.Params.{Params}
 use Rattle.script_lines.specs.Grammar.{lines_of}
@@ -7,6 +7,7 @@ use Rattle.store_engine.specs.Engine.{forced_in}
 use Rattle.redo_shell.specs.Store.{IsAttached}
 use Rattle.redo_shell.specs.Stages.{stage_of}
 use Rattle.redo_shell.specs.Store.{Command, Holds}
+use Rattle.redo_shell.specs.Noted.{NotesFront}
 use Rattle.redo_shell.specs.Run.{Going}
 use Rattle.redo_shell.proofs.BackupLemmas.{GoingBeside}
 use Rattle.redo_shell.proofs.script.answer_script.Given as goal
@@ -28,6 +29,8 @@ invariant-loop-lines g l = record {
       GoingBeside g.T.Machine.disk l.fn.backup l.backup p (stage_of l.fn.engine holds.world) (g.M.Machine.disk l.fn.machine) (g.M.Machine.disk l.machine) l.engine commands script [] l.refusing);
   reads : g.S.Source.faults l.fn.input ≤ g.S.Source.faults l.input;
   takes : g.S.Source.tells l.fn.input → ReadsOn (g.S.Source.left l.fn.input) (g.S.Source.left l.input) 0 l.lines.taken;
+  noted : g.S.Source.tells l.fn.input → NotesFront (lines_of (g.S.Source.left l.fn.input)) (lines_of (l.lines.ahead ++ g.S.Source.left l.input)) l.notes;
+  lines : l.notes.lines + still_to_give l.lines ≤ 2 ^ 40;
 }
 
 abbrev pub decreases-loop-lines : goal.decreases-loop-lines

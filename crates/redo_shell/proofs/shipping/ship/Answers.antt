@@ -1,5 +1,6 @@
-use Rattle.std.proofs.Common.{arith}
+use Rattle.std.proofs.Common.{arith, subst}
 use Rattle.disk_model.specs.Moments.{passes_twice}
+use Rattle.redo_shell.specs.Status.{IsOfOpened}
 use Rattle.redo_shell.proofs.HoldLemmas.{rises_within}
 use Rattle.redo_shell.proofs.OpenLemmas.{judged_open}
 use Rattle.redo_shell.proofs.ShippingLemmas.{ship_on, ship_unopened, unopened_ship}
@@ -25,7 +26,8 @@ returns-in-Ok-clause-call g c =
           ship_on p commands old c.args.from mid new _ c.ship_open-status.result (g.met.M.Machine.lawful c.args.machine.now) (g.met.M.Machine.lawful c.open_store.new.machine) (g.met.M.Machine.lawful c.ship_open-status.new.machine)
           c.open_store.ensures.time shipped.time opens files opened holds c.in-Ok.ensures.settled shipped.keeps (shipped.done p commands holds) (shipped.gone p commands holds) (shipped.said p commands holds) (shipped.images p commands holds) (shipped.store (c.open_store.ensures.time.files_told.0 opens.told) attached);
       ends = shipped.status;
-      judged = λ told. judged_open c.ship_open-status.result (c.in-Ok.ensures.read told) (shipped.store (c.open_store.ensures.time.files_told.0 told) attached);
+      judged = λ told. judged_open c.ship_open-status.result (c.in-Ok.ensures.read told) (shipped.store (c.open_store.ensures.time.files_told.0 told) attached) shipped.found;
+      read = λ is. absurd (subst IsOfOpened is shipped.found);
     }
 
 pub returns-in-Ok-clause-faults : goal.returns-in-Ok-clause-faults
@@ -46,6 +48,7 @@ returns-in-Err-clause-call g c =
           ship_unopened p commands old c.args.from mid c.in-Err.status (g.met.M.Machine.lawful c.args.machine.now) opens files unopened.ends ((unopened.judged opens.told).store image) (unopened.quiet opens.told image);
       ends = unopened_ship c.in-Err.status unopened.ends;
       judged = unopened.judged;
+      read = unopened.read;
     }
 
 pub returns-in-Err-clause-faults : goal.returns-in-Err-clause-faults

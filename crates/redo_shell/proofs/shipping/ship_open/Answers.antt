@@ -1,15 +1,18 @@
-use Rattle.std.proofs.Common.{ℕ, ap, inl, inr, subst, sym}
+use Rattle.std.proofs.Common.{◌∙◌, ℕ, ap, inl, inr, subst, sym}
 use Rattle.disk_model.specs.Disk.{Disk, Runs, Same, SaysFront}
 use Rattle.disk_model.specs.Moments.{passes_twice}
 use Rattle.store_engine.specs.Engine.{EngineView}
 use Rattle.store_engine.specs.Shipping.{base_of}
+use Rattle.redo_shell.specs.Status.{IsOfOpened}
 use Rattle.redo_shell.specs.Notices.{gone}
 use Rattle.redo_shell.specs.Run.{IsUndamaged}
 use Rattle.redo_shell.specs.Store.{IsAttached}
+use Rattle.redo_shell.proofs.DamageLemmas.{damaged_status}
 use Rattle.redo_shell.proofs.FetchLemmas.{not_a_fault}
 use Rattle.redo_shell.proofs.HoldLemmas.{attached_of, attached_said, told_by}
 use Rattle.redo_shell.proofs.KeepLemmas.{keeps_behind, keeps_once, says_once, says_twice}
 use Rattle.redo_shell.proofs.ShippingLemmas.{ended_counts, ended_early, ended_ship, ended_store, gone_cause, images_gone, images_none, images_part, reader_of, said_gone, said_none, said_part, same_engine, ship_done}
+use Rattle.redo_shell.proofs.ScriptLemmas.{stop_status}
 use Rattle.redo_shell.proofs.shipping.ship_open.Goals as goal
 
 pub say_frames-requires-clause-reads : goal.say_frames-requires-clause-reads
@@ -58,9 +61,13 @@ returns-in-Err g c =
       said = λ p commands holds. said_part c.in-Ok.reader holds stays same c.in-Ok.ensures.reader.from_is c.in-Ok.ensures.cause c.say_frames.ensures.says;
       images = λ p commands holds. images_part c.in-Ok.reader holds stays same c.in-Ok.ensures.reader.from_is c.in-Ok.ensures.cause c.say_frames.ensures.says;
       store = λ told attached. ended_store c.in-Err.stop c.status.ensures (c.in-Err.ensures.undamaged (stays.time.files_told.0 told) (subst (λ (e : EngineView). IsAttached mid e) (sym same) (attached_said old mid c.args.engine.now stays attached)));
+      found = subst IsOfOpened (sym c.status.ensures) (stop_status c.in-Err.stop).1;
       status = ended_ship c.in-Err.stop c.status.ensures mid new c.in-Err.ensures.cause;
       faults = ended_counts c.in-Err.stop c.status.ensures old mid new stays.time c.in-Err.ensures.cause;
     }
+
+pub returns-in-Err-Damaged-say_frames-clause-found : goal.returns-in-Err-Damaged-say_frames-clause-found
+returns-in-Err-Damaged-say_frames-clause-found g c = (damaged_status c.end_damaged-in-Err-Damaged-say_frames.result c.end_damaged-in-Err-Damaged-say_frames.ensures.status).1
 
 pub returns-in-Ok-say_frames-clause-said : goal.returns-in-Ok-say_frames-clause-said
 returns-in-Ok-say_frames-clause-said g c = λ p commands holds. said_part c.in-Ok.reader holds c.ship.ensures.read.kept (same_engine c.args.engine.now c.ship.new.self c.ship.ensures.read.engine c.requires (not_a_fault c.ship.new.self.broken (λ e. cc (c.in-Ok.ensures.read.broken.0 e)))) c.in-Ok.ensures.reader.from_is c.in-Ok.ensures.cause c.say_frames.ensures.says

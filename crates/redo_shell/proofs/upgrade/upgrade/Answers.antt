@@ -1,7 +1,8 @@
-use Rattle.std.proofs.Common.{◌+◌, ◌++◌, ◌∙◌, inl, List, ℕ, ap, sym, arith}
+use Rattle.std.proofs.Common.{◌+◌, ◌++◌, ◌∙◌, inl, List, ℕ, ap, sym, subst, arith}
 use Rattle.disk_model.specs.Moments.{passes_twice}
 use Rattle.disk_model.specs.declared.machine.FileNo.TheVariants.{Objects}
 use Rattle.formats.specs.Objects.{last_slot}
+use Rattle.redo_shell.specs.Status.{IsOfOpened}
 use Rattle.redo_shell.specs.Causes.{IsCutStore}
 use Rattle.redo_shell.specs.Notices.{already_version_two, damaged, smaller}
 use Rattle.redo_shell.proofs.HoldLemmas.{rises_within}
@@ -42,7 +43,8 @@ returns-in-Ok-clause-call g c =
                 (sym (c.in-Ok.ensures.layout opens.told).version ∙ said.0, said.1 ∙ ap (λ (l : List ℕ). l ++ already_version_two) files.quiet);
             second = λ is. c.upgrade_open.ensures.second told_mid attached ((c.in-Ok.ensures.layout opens.told).version ∙ is);
             idle = λ is. c.upgrade_open.ensures.idle p commands holds opened.all is;
-            store = c.upgrade_open.ensures.status.1;
+            refused = λ told is. absurd (subst IsOfOpened is c.upgrade_open.ensures.status.1);
+            store = λ is. subst IsOfOpened is c.upgrade_open.ensures.status.1;
           };
       ends = c.upgrade_open.ensures.status.0;
       judged = λ told.
@@ -55,6 +57,7 @@ returns-in-Ok-clause-call g c =
             cut = in_between IsCutStore old mid new lawful first second (cut_store mid c.in-Ok.engine told_mid attached said.0);
             said = said.1 ∙ (λ i. c.in-Ok.ensures.quiet told i ++ damaged Objects (last_slot ((c.in-Ok.ensures.layout told).layout i) + 9));
           });
+      read = λ is. absurd (subst IsOfOpened is c.upgrade_open.ensures.status.1);
     }
 
 pub returns-in-Ok-clause-faults : goal.returns-in-Ok-clause-faults
@@ -75,6 +78,7 @@ returns-in-Err-clause-call g c =
           upgrade_unopened p c.args.params commands old mid c.in-Err.status (g.met.M.Machine.lawful c.args.machine.now) opens files unopened.ends ((unopened.judged opens.told).store image) (unopened.quiet opens.told image);
       ends = unopened_upgrade c.in-Err.status unopened.ends;
       judged = λ told. inl (unopened.judged told);
+      read = unopened.read;
     }
 
 pub returns-in-Err-clause-faults : goal.returns-in-Err-clause-faults
