@@ -1,0 +1,6 @@
+pub mod Failures
+pub mod Fronts
+pub mod Left
+pub mod Named
+pub mod OnHandles
+pub mod Values

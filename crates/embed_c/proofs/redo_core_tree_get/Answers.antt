@@ -1,0 +1,12 @@
+use Rattle.std.proofs.Common.{nat_le}
+use Rattle.key_entries.specs.Short.{is_short}
+use Rattle.embed_c.specs.Calls.{IsCalled}
+use Rattle.embed_c.specs.Ranges.{DoesTreeGet, IfNamed, TellsFound, of_tree, told_found}
+use Rattle.embed_c.proofs.OnHandles.{was_closed, was_open}
+use Rattle.embed_c.proofs.redo_core_tree_get.Goals as goal
+
+pub returns-in-None : goal.returns-in-None
+returns-in-None c = was_closed (IfNamed (nat_le c.args.range.now.low c.args.range.now.high) (is_short c.args.key.now) (IsCalled (told_found of_tree) (λ old new made. DoesTreeGet c.args.range.now.low c.args.range.now.high c.args.key.now old new made × TellsFound made c.args.into.now c.args.into.now c.args.length.now))) c.in-None.ensures.none c.in-None.ensures.left
+
+pub returns-in-Some : goal.returns-in-Some
+returns-in-Some c = was_open (IfNamed (nat_le c.args.range.now.low c.args.range.now.high) (is_short c.args.key.now) (IsCalled (told_found of_tree) (λ old new made. DoesTreeGet c.args.range.now.low c.args.range.now.high c.args.key.now old new made × TellsFound made c.args.into.now c.tree_get-answer.new.into c.tree_get-answer.new.length))) c.in-Some.ensures.some c.deref_mut.ensures.value c.put_back.ensures c.tree_get-answer.ensures

@@ -1,0 +1,13 @@
+use Rattle.std.proofs.Common.{ap, refl}
+use Rattle.embed_c.specs.declared.answer.Answer.{Answer}
+use Rattle.embed_c.proofs.session.Session.checkpoint.Goals as goal
+
+pub returns : goal.returns
+returns c = record {
+  made = c.checkpoint.result;
+  store = record { in_group = c.checkpoint.ensures.in_group; alone = c.checkpoint.ensures.alone; broken = c.checkpoint.ensures.broken };
+  number = ap (λ (a : Answer). a.number) c.work_answer-answer.ensures;
+  detail = ap (λ (a : Answer). a.detail) c.work_answer-answer.ensures;
+  taken = refl;
+  pairs = refl;
+}

@@ -1,0 +1,667 @@
+//! What C calls: each function translates numbers, pointers and lengths, and makes one call of a store in memory.
+//!
+//! No function here touches a file. C holds a [`Redo`], which it begins with zeros; of it C promises that it is all zeros, or as
+//! the last call here left it. A slice is a pointer and a length. What is answered is 0, or a number of specs/Answers.antt; 64 where
+//! the handle is closed. After each call C makes on its files the calls that [`redo_core_next`] tells, in order, before it reports
+//! the answer.
+#![tactic(auto)]
+
+ghost use Rattle.std.specs.Prelude.{◌≡◌, ◌⊎◌, ◌&&◌, None, Ok, IfErr, drop, nat_le, nat_lt};
+ghost use Rattle.key_entries.specs.Short.{is_short};
+ghost use Rattle.app_program.specs.declared.program_op.ProgramOp.TheVariants.{Step as StepOp, Feed as FeedOp, Drain as DrainOp};
+ghost use Rattle.app_steps.specs.Steps.{program_step, step_of};
+ghost use Rattle.op_codec.specs.AllOps.{plain, program as program_command};
+ghost use Rattle.op_meaning.specs.declared.plain_op.PlainOp.TheVariants.{Append as AppendOp, AppRead as AppReadOp, AppWrite as AppWriteOp, Copy as CopyOp, Cut as CutOp, Exec as ExecOp, Put as PutOp, Sort as SortOp, Swap as SwapOp};
+ghost use Rattle.store_engine.specs.Engine.{accepted_in, forced_in, params_of, used_in};
+ghost use Rattle.embed_c.specs.Answers.{alone, of_exec, of_work, told, told_end, told_value};
+ghost use Rattle.embed_c.specs.Calls.{DoesBegin, DoesCheckpoint, DoesDrain, DoesEnd, DoesExec, DoesForce, DoesGet, DoesInstall, DoesNothing, DoesRun, DoesTrim, IsCalled, TellsCount, TellsInstall, TellsLength, TellsSteps};
+ghost use Rattle.embed_c.specs.Handles.{ClosesHandle, OnSession, OpensHandle, session_of};
+ghost use Rattle.embed_c.specs.Ranges.{DoesHashDelete, DoesHashGet, DoesHashPut, DoesInsert, DoesTreeDelete, DoesTreeGet, GivesFirst, IfNamed, IsRanged, TellsFound, of_hash, of_tree, told_found};
+ghost use Rattle.embed_c.specs.Opening.{IsCreated, IsFailure, IsOpened};
+ghost use Rattle.embed_c.specs.Waiting.{TellsNext};
+ghost use Rattle.write_queue.specs.Handed.{handed};
+
+mod answer;
+mod handle;
+mod maps;
+mod session;
+mod taken;
+
+use answer::{Answer, Detail};
+use app_program::ProgramOp;
+use formats::Params;
+use handle::Redo;
+use maps::{Lengths, Range};
+use op_codec::{AllOps, plain_op, program_op};
+use op_meaning::PlainOp;
+use session::Session;
+use std::alloc::Global;
+use taken::Call;
+
+const NOT_OPEN: u32 = 64;
+
+const ALREADY_OPEN: u32 = 65;
+
+/// What a store reports of itself.
+#[repr(C)]
+#[derive(Clone, Copy)]
+pub struct Counts {
+    pub nodes: u64,
+    pub dirty: u64,
+    pub uninstalled: u64,
+    pub forced: u64,
+    pub accepted: u64,
+    pub used: u64,
+    pub identities: u64,
+}
+
+/// How many objects a store has, how many bytes each may hold, and how long the log may be.
+#[repr(C)]
+#[derive(Clone, Copy)]
+pub struct Numbers {
+    pub objects: u32,
+    pub cap: u32,
+    pub limit: u32,
+}
+
+// Puts a session behind a handle that is closed.
+fn opened(
+    alloc: Global,
+    redo: &mut Redo,
+    session: Result<Session, Answer>,
+    detail: &mut Detail,
+) -> u32
+    requires closed { session_of redo.old ≡ None }
+    requires fails { IfErr session IsFailure }
+    ensures { OpensHandle (λ s. session ≡ Ok s) (session_of redo.old) (session_of redo.new) result }
+{
+    let session = match session {
+        Ok(session) => session,
+        Err(answer) => {
+            *detail = answer.detail;
+            return answer.number;
+        }
+    };
+    match Box::new(alloc, session) {
+        Ok(session) => {
+            redo.put_back(session);
+            0
+        }
+        Err(_) => 8,
+    }
+}
+
+// Does a command on the session behind a handle.
+fn exec(alloc: Global, redo: &mut Redo, op: AllOps) -> u32
+    ensures { OnSession (IsCalled (told of_exec) (DoesExec op)) (session_of redo.old) (session_of redo.new) result }
+{
+    match redo.take(alloc) {
+        None => NOT_OPEN,
+        Some(mut session) => {
+            let answer = session.exec(op);
+            redo.put_back(session);
+            answer
+        }
+    }
+}
+
+#[unsafe(no_mangle)]
+pub extern "C" fn redo_core_create(
+    alloc: Global,
+    redo: &mut Redo,
+    objects: &[u8],
+    log_a: &[u8],
+    log_b: &[u8],
+    params: &Numbers,
+    detail: &mut Detail,
+) -> u32
+    ensures { OpensHandle (IsCreated (record { objects = params.now.objects; cap = params.now.cap; limit = params.now.limit }) (handed objects.now log_a.now log_b.now)) (session_of redo.old) (session_of redo.new) result }
+{
+    if redo.is_open() {
+        return ALREADY_OPEN;
+    }
+    let params = Params {
+        objects: params.objects,
+        cap: params.cap,
+        limit: params.limit,
+    };
+    let session = Session::create(alloc, objects, log_a, log_b, params);
+    opened(alloc, redo, session, detail)
+}
+
+#[unsafe(no_mangle)]
+pub extern "C" fn redo_core_open(
+    alloc: Global,
+    redo: &mut Redo,
+    objects: &[u8],
+    log_a: &[u8],
+    log_b: &[u8],
+    detail: &mut Detail,
+) -> u32
+    ensures { OpensHandle (IsOpened (handed objects.now log_a.now log_b.now)) (session_of redo.old) (session_of redo.new) result }
+{
+    if redo.is_open() {
+        return ALREADY_OPEN;
+    }
+    let session = Session::open(alloc, objects, log_a, log_b);
+    opened(alloc, redo, session, detail)
+}
+
+#[unsafe(no_mangle)]
+pub extern "C" fn redo_core_close(alloc: Global, redo: &mut Redo) -> u32
+    ensures { ClosesHandle (session_of redo.old) (session_of redo.new) result }
+{
+    match redo.take(alloc) {
+        None => NOT_OPEN,
+        Some(session) => {
+            drop(session);
+            0
+        }
+    }
+}
+
+/// Tells the next call that C has to make on its files: 1 where there is one, 0 where none waits. Its bytes are given where
+/// there is room for them; else it is told again.
+#[unsafe(no_mangle)]
+pub extern "C" fn redo_core_next(
+    alloc: Global,
+    redo: &mut Redo,
+    call: &mut Call,
+    into: &mut [u8],
+) -> u32
+    ensures { OnSession (TellsNext call.new into.old into.new) (session_of redo.old) (session_of redo.new) result }
+{
+    match redo.take(alloc) {
+        None => NOT_OPEN,
+        Some(mut session) => {
+            let answer = session.next_call(call, into);
+            redo.put_back(session);
+            answer
+        }
+    }
+}
+
+#[unsafe(no_mangle)]
+pub extern "C" fn redo_core_put(alloc: Global, redo: &mut Redo, object: u32, value: &[u8]) -> u32
+    ensures { OnSession (λ old new answer. IsCalled (told of_exec) (DoesExec (plain (PutOp object value.now))) old new answer ⊎ DoesNothing (alone 8) old new answer) (session_of redo.old) (session_of redo.new) result }
+{
+    match redo.take(alloc) {
+        None => NOT_OPEN,
+        Some(mut session) => {
+            let answer = session.put(object, value);
+            redo.put_back(session);
+            answer
+        }
+    }
+}
+
+#[unsafe(no_mangle)]
+pub extern "C" fn redo_core_copy(alloc: Global, redo: &mut Redo, from: u32, to: u32) -> u32
+    ensures { OnSession (IsCalled (told of_exec) (DoesExec (plain (CopyOp from to)))) (session_of redo.old) (session_of redo.new) result }
+{
+    exec(alloc, redo, plain_op(PlainOp::Copy { from, to }))
+}
+
+#[unsafe(no_mangle)]
+pub extern "C" fn redo_core_append(alloc: Global, redo: &mut Redo, from: u32, to: u32) -> u32
+    ensures { OnSession (IsCalled (told of_exec) (DoesExec (plain (AppendOp from to)))) (session_of redo.old) (session_of redo.new) result }
+{
+    exec(alloc, redo, plain_op(PlainOp::Append { from, to }))
+}
+
+#[unsafe(no_mangle)]
+pub extern "C" fn redo_core_cut(
+    alloc: Global,
+    redo: &mut Redo,
+    from: u32,
+    to: u32,
+    place: u32,
+) -> u32
+    ensures { OnSession (IsCalled (told of_exec) (DoesExec (plain (CutOp from to place)))) (session_of redo.old) (session_of redo.new) result }
+{
+    exec(alloc, redo, plain_op(PlainOp::Cut { from, to, place }))
+}
+
+#[unsafe(no_mangle)]
+pub extern "C" fn redo_core_sort(
+    alloc: Global,
+    redo: &mut Redo,
+    from: u32,
+    to: u32,
+    width: u32,
+) -> u32
+    ensures { OnSession (IsCalled (told of_exec) (DoesExec (plain (SortOp from to width)))) (session_of redo.old) (session_of redo.new) result }
+{
+    exec(alloc, redo, plain_op(PlainOp::Sort { from, to, width }))
+}
+
+#[unsafe(no_mangle)]
+pub extern "C" fn redo_core_swap(alloc: Global, redo: &mut Redo, first: u32, second: u32) -> u32
+    ensures { OnSession (IsCalled (told of_exec) (DoesExec (plain (SwapOp first second)))) (session_of redo.old) (session_of redo.new) result }
+{
+    exec(alloc, redo, plain_op(PlainOp::Swap { first, second }))
+}
+
+#[unsafe(no_mangle)]
+pub extern "C" fn redo_core_app_exec(alloc: Global, redo: &mut Redo, app: u32) -> u32
+    ensures { OnSession (IsCalled (told of_exec) (DoesExec (plain (ExecOp app)))) (session_of redo.old) (session_of redo.new) result }
+{
+    exec(alloc, redo, plain_op(PlainOp::Exec { app }))
+}
+
+#[unsafe(no_mangle)]
+pub extern "C" fn redo_core_app_read(alloc: Global, redo: &mut Redo, app: u32, from: u32) -> u32
+    ensures { OnSession (IsCalled (told of_exec) (DoesExec (plain (AppReadOp app from)))) (session_of redo.old) (session_of redo.new) result }
+{
+    exec(alloc, redo, plain_op(PlainOp::AppRead { app, from }))
+}
+
+#[unsafe(no_mangle)]
+pub extern "C" fn redo_core_app_write(alloc: Global, redo: &mut Redo, app: u32, to: u32) -> u32
+    ensures { OnSession (IsCalled (told of_exec) (DoesExec (plain (AppWriteOp app to)))) (session_of redo.old) (session_of redo.new) result }
+{
+    exec(alloc, redo, plain_op(PlainOp::AppWrite { app, to }))
+}
+
+#[unsafe(no_mangle)]
+pub extern "C" fn redo_core_app_run(
+    alloc: Global,
+    redo: &mut Redo,
+    app: u32,
+    most: u64,
+    steps: &mut u64,
+) -> u32
+    ensures { OnSession (IsCalled (told of_exec) (λ old new made. DoesRun (step_of app) most old new made × TellsSteps made steps.new)) (session_of redo.old) (session_of redo.new) result }
+{
+    match redo.take(alloc) {
+        None => NOT_OPEN,
+        Some(mut session) => {
+            let answer = session.app_run(app, most, steps);
+            redo.put_back(session);
+            answer
+        }
+    }
+}
+
+#[unsafe(no_mangle)]
+pub extern "C" fn redo_core_program_run(
+    alloc: Global,
+    redo: &mut Redo,
+    app: u32,
+    program: u32,
+    most: u64,
+    steps: &mut u64,
+) -> u32
+    ensures { OnSession (IsCalled (told of_exec) (λ old new made. DoesRun (program_step app program) most old new made × TellsSteps made steps.new)) (session_of redo.old) (session_of redo.new) result }
+{
+    match redo.take(alloc) {
+        None => NOT_OPEN,
+        Some(mut session) => {
+            let answer = session.program_run(app, program, most, steps);
+            redo.put_back(session);
+            answer
+        }
+    }
+}
+
+#[unsafe(no_mangle)]
+pub extern "C" fn redo_core_program_exec(
+    alloc: Global,
+    redo: &mut Redo,
+    app: u32,
+    program: u32,
+) -> u32
+    ensures { OnSession (IsCalled (told of_exec) (DoesExec (program_command (StepOp app program)))) (session_of redo.old) (session_of redo.new) result }
+{
+    exec(alloc, redo, program_op(ProgramOp::Step { app, program }))
+}
+
+#[unsafe(no_mangle)]
+pub extern "C" fn redo_core_program_read(alloc: Global, redo: &mut Redo, app: u32, from: u32) -> u32
+    ensures { OnSession (IsCalled (told of_exec) (DoesExec (program_command (FeedOp app from)))) (session_of redo.old) (session_of redo.new) result }
+{
+    exec(alloc, redo, program_op(ProgramOp::Feed { app, from }))
+}
+
+#[unsafe(no_mangle)]
+pub extern "C" fn redo_core_program_write(alloc: Global, redo: &mut Redo, app: u32, to: u32) -> u32
+    ensures { OnSession (IsCalled (told of_exec) (DoesExec (program_command (DrainOp app to)))) (session_of redo.old) (session_of redo.new) result }
+{
+    exec(alloc, redo, program_op(ProgramOp::Drain { app, to }))
+}
+
+#[unsafe(no_mangle)]
+pub extern "C" fn redo_core_get(
+    alloc: Global,
+    redo: &mut Redo,
+    object: u32,
+    into: &mut [u8],
+    length: &mut u64,
+) -> u32
+    ensures { OnSession (IsCalled told_value (λ old new made. DoesGet object into.old into.new old new made × TellsLength made length.new)) (session_of redo.old) (session_of redo.new) result }
+{
+    match redo.take(alloc) {
+        None => NOT_OPEN,
+        Some(mut session) => {
+            let answer = session.get(object, into, length);
+            redo.put_back(session);
+            answer
+        }
+    }
+}
+
+#[unsafe(no_mangle)]
+pub extern "C" fn redo_core_force(alloc: Global, redo: &mut Redo, count: &mut u64) -> u32
+    ensures { OnSession (IsCalled (told of_work) (λ old new made. DoesForce old new made × TellsCount made count.new)) (session_of redo.old) (session_of redo.new) result }
+{
+    match redo.take(alloc) {
+        None => NOT_OPEN,
+        Some(mut session) => {
+            let answer = session.force(count);
+            redo.put_back(session);
+            answer
+        }
+    }
+}
+
+#[unsafe(no_mangle)]
+pub extern "C" fn redo_core_begin(alloc: Global, redo: &mut Redo) -> u32
+    ensures { OnSession (IsCalled (told of_work) DoesBegin) (session_of redo.old) (session_of redo.new) result }
+{
+    match redo.take(alloc) {
+        None => NOT_OPEN,
+        Some(mut session) => {
+            let answer = session.begin();
+            redo.put_back(session);
+            answer
+        }
+    }
+}
+
+#[unsafe(no_mangle)]
+pub extern "C" fn redo_core_end(alloc: Global, redo: &mut Redo) -> u32
+    ensures { OnSession (IsCalled told_end DoesEnd) (session_of redo.old) (session_of redo.new) result }
+{
+    match redo.take(alloc) {
+        None => NOT_OPEN,
+        Some(mut session) => {
+            let answer = session.end();
+            redo.put_back(session);
+            answer
+        }
+    }
+}
+
+#[unsafe(no_mangle)]
+pub extern "C" fn redo_core_install(alloc: Global, redo: &mut Redo, installed: &mut u64) -> u32
+    ensures { OnSession (IsCalled (told of_work) (λ old new made. DoesInstall old new made × TellsInstall made installed.new)) (session_of redo.old) (session_of redo.new) result }
+{
+    match redo.take(alloc) {
+        None => NOT_OPEN,
+        Some(mut session) => {
+            let answer = session.install(installed);
+            redo.put_back(session);
+            answer
+        }
+    }
+}
+
+#[unsafe(no_mangle)]
+pub extern "C" fn redo_core_drain(alloc: Global, redo: &mut Redo) -> u32
+    ensures { OnSession (IsCalled (told of_work) DoesDrain) (session_of redo.old) (session_of redo.new) result }
+{
+    match redo.take(alloc) {
+        None => NOT_OPEN,
+        Some(mut session) => {
+            let answer = session.drain();
+            redo.put_back(session);
+            answer
+        }
+    }
+}
+
+#[unsafe(no_mangle)]
+pub extern "C" fn redo_core_checkpoint(alloc: Global, redo: &mut Redo) -> u32
+    ensures { OnSession (IsCalled (told of_work) DoesCheckpoint) (session_of redo.old) (session_of redo.new) result }
+{
+    match redo.take(alloc) {
+        None => NOT_OPEN,
+        Some(mut session) => {
+            let answer = session.checkpoint();
+            redo.put_back(session);
+            answer
+        }
+    }
+}
+
+#[unsafe(no_mangle)]
+pub extern "C" fn redo_core_trim(alloc: Global, redo: &mut Redo) -> u32
+    ensures { OnSession (IsCalled (told of_work) DoesTrim) (session_of redo.old) (session_of redo.new) result }
+{
+    match redo.take(alloc) {
+        None => NOT_OPEN,
+        Some(mut session) => {
+            let answer = session.trim();
+            redo.put_back(session);
+            answer
+        }
+    }
+}
+
+#[unsafe(no_mangle)]
+pub extern "C" fn redo_core_stat(alloc: Global, redo: &mut Redo, counts: &mut Counts) -> u32
+    ensures { OnSession (λ old new answer. (answer ≡ 0) × (new ≡ old) × (counts.new.used ≡ used_in old.store.engine) × (counts.new.accepted ≡ accepted_in old.store.engine) × (counts.new.forced ≡ forced_in old.store.engine) × (counts.new.identities ≡ old.store.engine.identities)) (session_of redo.old) (session_of redo.new) result }
+{
+    match redo.take(alloc) {
+        None => NOT_OPEN,
+        Some(session) => {
+            let stat = session.stat();
+            redo.put_back(session);
+            *counts = Counts {
+                nodes: stat.nodes,
+                dirty: stat.dirty,
+                uninstalled: stat.uninstalled,
+                forced: stat.forced,
+                accepted: stat.accepted,
+                used: stat.used,
+                identities: stat.identities,
+            };
+            0
+        }
+    }
+}
+
+#[unsafe(no_mangle)]
+pub extern "C" fn redo_core_params(alloc: Global, redo: &mut Redo, params: &mut Numbers) -> u32
+    ensures { OnSession (λ old new answer. (answer ≡ 0) × (new ≡ old) × (params.new.objects ≡ (params_of old.store.engine).objects) × (params.new.cap ≡ (params_of old.store.engine).cap) × (params.new.limit ≡ (params_of old.store.engine).limit)) (session_of redo.old) (session_of redo.new) result }
+{
+    match redo.take(alloc) {
+        None => NOT_OPEN,
+        Some(session) => {
+            let now = session.params();
+            redo.put_back(session);
+            *params = Numbers {
+                objects: now.objects,
+                cap: now.cap,
+                limit: now.limit,
+            };
+            0
+        }
+    }
+}
+
+#[unsafe(no_mangle)]
+pub extern "C" fn redo_core_detail(alloc: Global, redo: &mut Redo, detail: &mut Detail) -> u32
+    ensures { OnSession (λ old new answer. (answer ≡ 0) × (new ≡ old) × (detail.new ≡ old.detail)) (session_of redo.old) (session_of redo.new) result }
+{
+    match redo.take(alloc) {
+        None => NOT_OPEN,
+        Some(session) => {
+            *detail = session.detail();
+            redo.put_back(session);
+            0
+        }
+    }
+}
+
+#[unsafe(no_mangle)]
+pub extern "C" fn redo_core_tree_insert(
+    alloc: Global,
+    redo: &mut Redo,
+    range: &Range,
+    key: &[u8],
+    value: &[u8],
+) -> u32
+    ensures { OnSession (IfNamed (nat_le range.now.low range.now.high) (is_short key.now && is_short value.now) (IsCalled (told of_tree) (DoesInsert range.now.low range.now.high key.now value.now))) (session_of redo.old) (session_of redo.new) result }
+{
+    match redo.take(alloc) {
+        None => NOT_OPEN,
+        Some(mut session) => {
+            let answer = session.tree_insert(*range, key, value);
+            redo.put_back(session);
+            answer
+        }
+    }
+}
+
+#[unsafe(no_mangle)]
+pub extern "C" fn redo_core_tree_delete(
+    alloc: Global,
+    redo: &mut Redo,
+    range: &Range,
+    key: &[u8],
+) -> u32
+    ensures { OnSession (IfNamed (nat_le range.now.low range.now.high) (is_short key.now) (IsCalled (told of_tree) (DoesTreeDelete range.now.low range.now.high key.now))) (session_of redo.old) (session_of redo.new) result }
+{
+    match redo.take(alloc) {
+        None => NOT_OPEN,
+        Some(mut session) => {
+            let answer = session.tree_delete(*range, key);
+            redo.put_back(session);
+            answer
+        }
+    }
+}
+
+#[unsafe(no_mangle)]
+pub extern "C" fn redo_core_tree_get(
+    alloc: Global,
+    redo: &mut Redo,
+    range: &Range,
+    key: &[u8],
+    into: &mut [u8],
+    length: &mut u64,
+) -> u32
+    ensures { OnSession (IfNamed (nat_le range.now.low range.now.high) (is_short key.now) (IsCalled (told_found of_tree) (λ old new made. DoesTreeGet range.now.low range.now.high key.now old new made × TellsFound made into.old into.new length.new))) (session_of redo.old) (session_of redo.new) result }
+{
+    match redo.take(alloc) {
+        None => NOT_OPEN,
+        Some(mut session) => {
+            let answer = session.tree_get(*range, key, into, length);
+            redo.put_back(session);
+            answer
+        }
+    }
+}
+
+#[unsafe(no_mangle)]
+pub extern "C" fn redo_core_tree_range(
+    alloc: Global,
+    redo: &mut Redo,
+    range: &Range,
+    from: &[u8],
+    to: &[u8],
+    count: &mut u64,
+) -> u32
+    ensures { OnSession (IfNamed (nat_le range.now.low range.now.high) (is_short from.now && is_short to.now) (IsRanged range.now.low range.now.high from.now to.now count.new)) (session_of redo.old) (session_of redo.new) result }
+{
+    match redo.take(alloc) {
+        None => NOT_OPEN,
+        Some(mut session) => {
+            let answer = session.tree_range(*range, from, to, count);
+            redo.put_back(session);
+            answer
+        }
+    }
+}
+
+#[unsafe(no_mangle)]
+pub extern "C" fn redo_core_tree_pair(
+    alloc: Global,
+    redo: &mut Redo,
+    pair: u64,
+    key: &mut [u8],
+    value: &mut [u8],
+    lengths: &mut Lengths,
+) -> u32
+    ensures { OnSession (λ old new answer. GivesFirst key.old key.new value.old value.new lengths.new (drop pair old.pairs.items) answer × (new ≡ old)) (session_of redo.old) (session_of redo.new) result }
+{
+    match redo.take(alloc) {
+        None => NOT_OPEN,
+        Some(session) => {
+            let answer = session.tree_pair(pair, key, value, lengths);
+            redo.put_back(session);
+            answer
+        }
+    }
+}
+
+#[unsafe(no_mangle)]
+pub extern "C" fn redo_core_hash_put(
+    alloc: Global,
+    redo: &mut Redo,
+    range: &Range,
+    key: &[u8],
+    value: &[u8],
+) -> u32
+    ensures { OnSession (IfNamed (nat_lt range.now.low range.now.high) (is_short key.now && is_short value.now) (IsCalled (told of_hash) (DoesHashPut range.now.low range.now.high key.now value.now))) (session_of redo.old) (session_of redo.new) result }
+{
+    match redo.take(alloc) {
+        None => NOT_OPEN,
+        Some(mut session) => {
+            let answer = session.hash_put(*range, key, value);
+            redo.put_back(session);
+            answer
+        }
+    }
+}
+
+#[unsafe(no_mangle)]
+pub extern "C" fn redo_core_hash_delete(
+    alloc: Global,
+    redo: &mut Redo,
+    range: &Range,
+    key: &[u8],
+) -> u32
+    ensures { OnSession (IfNamed (nat_lt range.now.low range.now.high) (is_short key.now) (IsCalled (told of_hash) (DoesHashDelete range.now.low range.now.high key.now))) (session_of redo.old) (session_of redo.new) result }
+{
+    match redo.take(alloc) {
+        None => NOT_OPEN,
+        Some(mut session) => {
+            let answer = session.hash_delete(*range, key);
+            redo.put_back(session);
+            answer
+        }
+    }
+}
+
+#[unsafe(no_mangle)]
+pub extern "C" fn redo_core_hash_get(
+    alloc: Global,
+    redo: &mut Redo,
+    range: &Range,
+    key: &[u8],
+    into: &mut [u8],
+    length: &mut u64,
+) -> u32
+    ensures { OnSession (IfNamed (nat_lt range.now.low range.now.high) (is_short key.now) (IsCalled (told_found of_hash) (λ old new made. DoesHashGet range.now.low range.now.high key.now old new made × TellsFound made into.old into.new length.new))) (session_of redo.old) (session_of redo.new) result }
+{
+    match redo.take(alloc) {
+        None => NOT_OPEN,
+        Some(mut session) => {
+            let answer = session.hash_get(*range, key, into, length);
+            redo.put_back(session);
+            answer
+        }
+    }
+}
