@@ -1,0 +1,80 @@
+"""Calls a second of processor time, the least of three runs: library.py redo|sqlite3, as bench/library.c has it."""
+import os
+import sqlite3
+import sys
+import time
+
+OBJECTS, LENGTH, COMMANDS, KEYS, FORCED, RUNS = 64, 64, 100_000, 20_000, 2_000, 3
+
+
+def key_of(i):
+    i = (i + 1) * 0x9E3779B97F4A7C15 & (1 << 64) - 1
+    i = (i ^ i >> 29) * 0xBF58476D1CE4E5B9 & (1 << 64) - 1
+    return i.to_bytes(8, "little")
+
+
+def measured(count, each, commit):
+    start = time.process_time()
+    for i in range(count):
+        each(i)
+    commit()
+    return time.process_time() - start
+
+
+def redo_work():
+    import redo
+
+    with redo.create(".", objects=OBJECTS + 4095, cap=1024, limit=536870912) as s:
+        tree = s.tree(OBJECTS, OBJECTS + 4094)
+
+        def forced(i):
+            s.put(i % OBJECTS, VALUES[i & 255])
+            s.force()
+
+        yield "put", COMMANDS, lambda i: s.put(i % OBJECTS, VALUES[i & 255]), s.force
+        yield "put forced", FORCED, forced, s.force
+        yield "copy", COMMANDS, lambda i: s.copy(i % 7, 8 + i % (OBJECTS - 8)), s.force
+        yield "get", COMMANDS, lambda i: s.get(i % OBJECTS), s.force
+        yield "tree set", KEYS, lambda i: tree.__setitem__(WORDS[i], WORDS[i]), s.force
+        yield "tree get", COMMANDS, lambda i: tree[WORDS[i * 7919 % KEYS]], s.force
+
+
+def sqlite_work():
+    base = sqlite3.connect("base", isolation_level=None)
+    run = base.execute
+    for line in ("PRAGMA journal_mode=WAL", "PRAGMA synchronous=FULL", "PRAGMA wal_autocheckpoint=0",
+                 "CREATE TABLE o (x INTEGER PRIMARY KEY, v BLOB NOT NULL)",
+                 "CREATE TABLE t (k BLOB PRIMARY KEY, v BLOB NOT NULL) WITHOUT ROWID", "BEGIN"):
+        run(line)
+
+    def commit():
+        run("COMMIT")
+        run("BEGIN")
+
+    def forced(i):
+        put(i)
+        commit()
+
+    def put(i):
+        run("REPLACE INTO o VALUES (?, ?)", (i % OBJECTS, VALUES[i & 255]))
+
+    yield "put", COMMANDS, put, commit
+    yield "put forced", FORCED, forced, commit
+    yield "copy", COMMANDS, lambda i: run("REPLACE INTO o SELECT ?, v FROM o WHERE x = ?", (8 + i % (OBJECTS - 8), i % 7)), commit
+    yield "get", COMMANDS, lambda i: run("SELECT v FROM o WHERE x = ?", (i % OBJECTS,)).fetchone()[0], commit
+    yield "tree set", KEYS, lambda i: run("REPLACE INTO t VALUES (?, ?)", (WORDS[i], WORDS[i])), commit
+    yield "tree get", COMMANDS, lambda i: run("SELECT v FROM t WHERE k = ?", (WORDS[i * 7919 % KEYS],)).fetchone()[0], commit
+    base.close()
+
+
+VALUES = [bytes([i]) * LENGTH for i in range(256)]
+WORDS = [key_of(i) for i in range(KEYS)]
+least = {}
+for number in range(RUNS):
+    os.mkdir(str(number))
+    os.chdir(str(number))
+    for work, count, each, commit in {"redo": redo_work, "sqlite3": sqlite_work}[sys.argv[1]]():
+        least[work] = max(least.get(work, 0), count / measured(count, each, commit))
+    os.chdir("..")
+for work, speed in least.items():
+    print(f"{work}: {speed:.0f}")

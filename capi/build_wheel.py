@@ -1,0 +1,54 @@
+"""Packs the module and the built library into a wheel, for pip (pyproject.toml)."""
+from __future__ import annotations
+
+import base64
+import hashlib
+import os
+import zipfile
+
+HERE = os.path.dirname(os.path.abspath(__file__))
+LIBRARIES = [os.path.join(HERE, os.pardir, "release", "libredo-x86_64-linux.so"), os.path.join(HERE, "build", "libredo.so.1")]
+NAME, TAG = "redo_store", "py3-none-linux_x86_64"
+
+
+def _read(path: str) -> bytes:
+    with open(path, "rb") as file:
+        return file.read()
+
+
+def _version() -> str:
+    """That of the program."""
+    try:
+        with open(os.path.join(HERE, os.pardir, "release", "start")) as file:
+            return next(line[len("version="):].strip() for line in file if line.startswith("version="))
+    except FileNotFoundError:
+        return "0"
+
+
+def _files(version: str) -> dict[str, bytes]:
+    library = next((path for path in LIBRARIES if os.path.exists(path)), None)
+    if library is None:
+        raise FileNotFoundError("release/ has no library, and capi/make has made none")
+    info = f"{NAME}-{version}.dist-info"
+    files = {
+        "redo/__init__.py": _read(os.path.join(HERE, "redo.py")),
+        "redo/py.typed": b"",
+        "redo/libredo.so.1": _read(library),
+        f"{info}/METADATA": f"Metadata-Version: 2.1\nName: redo-store\nVersion: {version}\nRequires-Python: >=3.9\n".encode(),
+        f"{info}/WHEEL": f"Wheel-Version: 1.0\nGenerator: redo\nRoot-Is-Purelib: false\nTag: {TAG}\n".encode(),
+    }
+    record = "".join(
+        f"{name},sha256={base64.urlsafe_b64encode(hashlib.sha256(data).digest()).rstrip(b'=').decode()},{len(data)}\n"
+        for name, data in files.items()
+    )
+    files[f"{info}/RECORD"] = f"{record}{info}/RECORD,,\n".encode()
+    return files
+
+
+def build_wheel(wheel_directory: str, config_settings: object = None, metadata_directory: object = None) -> str:
+    version = _version()
+    wheel = f"{NAME}-{version}-{TAG}.whl"
+    with zipfile.ZipFile(os.path.join(wheel_directory, wheel), "w", zipfile.ZIP_DEFLATED) as archive:
+        for name, data in _files(version).items():
+            archive.writestr(zipfile.ZipInfo(name, (2026, 1, 1, 0, 0, 0)), data)
+    return wheel

@@ -1,0 +1,184 @@
+/* The files of a store. The proved library (redo_core_*) keeps a store in memory and touches no file: this page reads the files
+ * when a store is opened, and then makes on them what the library asks for before an answer is given. It is the one page of the
+ * library that is trusted and not proved. It is right if
+ *   - once `open_files` has answered REDO_OK, no other process has the folder, and the bytes that it read are those of the files
+ *     on the disk: each file was synced before it was read, and their names by a sync of the folder;
+ *   - `make_calls` makes the calls in the order of redo_core_next, each of them whole before the next one;
+ *   - where a call fails no later one is made, the answer is REDO_DISK_FAULT, and the handle answers nothing else any more.
+ * redo_calls.c hands the other calls of redo.h on, each through `redo_report`. */
+#define _GNU_SOURCE
+#include "redo.h"
+#include "redo_core.h"
+#include <errno.h>
+#include <fcntl.h>
+#include <stdbool.h>
+#include <stdlib.h>
+#include <string.h>
+#include <sys/file.h>
+#include <sys/stat.h>
+#include <unistd.h>
+
+_Static_assert(sizeof(redo_t) == 128, "the size of a handle is the same in all versions");
+
+enum { CLOSED = 0, OPEN = 1, FAILED = 2 };
+static const char *const names[3] = {"objects.rdo", "log_a.rdo", "log_b.rdo"};
+static const redo_files_t no_files = {-1, {-1, -1, -1}};
+typedef struct bytes { uint8_t *at; size_t length; } bytes_t;
+
+/* Answers with the system's reason beside it. */
+static int32_t because(redo_t *db, int32_t answer) {
+    db->detail_ = (redo_detail_t){(uint64_t)errno, 0, 0};
+    return answer;
+}
+
+/* A number above those of the standard streams, which the program may close and print to. */
+static int above_streams(int fd) {
+    if (fd < 0 || fd > 2) return fd;
+    int higher = fcntl(fd, F_DUPFD_CLOEXEC, 3);
+    close(fd);
+    return higher;
+}
+
+/* Opens a file of the folder; with O_CREAT it is made if it is not there. False leaves errno. */
+static bool open_file(redo_files_t *files, uint32_t i, int how) {
+    files->file_[i] = above_streams(openat(files->folder_, names[i], O_RDWR | O_CLOEXEC | how, 0666));
+    return files->file_[i] >= 0;
+}
+
+/* Ends the lock too. */
+static void close_files(redo_files_t *files) {
+    for (int i = 0; i < 3; i++)
+        if (files->file_[i] >= 0) close(files->file_[i]);
+    if (files->folder_ >= 0) close(files->folder_);
+    *files = no_files;
+}
+
+/* The whole of a file, once what was written to it is on the disk. A file that is not there has no bytes. */
+static int32_t read_file(redo_t *db, uint32_t i, bytes_t *bytes) {
+    struct stat st;
+    if (!open_file(&db->files_, i, 0)) return errno == ENOENT ? REDO_OK : because(db, REDO_DISK_FAULT);
+    int fd = db->files_.file_[i];
+    if (fsync(fd) != 0 || fstat(fd, &st) != 0) return because(db, REDO_DISK_FAULT);
+    size_t size = (size_t)st.st_size;
+    if (size == 0) return REDO_OK;
+    if (!(bytes->at = malloc(size))) return REDO_MEMORY;
+    while (bytes->length < size) {
+        errno = 0;
+        ssize_t n = pread(fd, bytes->at + bytes->length, size - bytes->length, (off_t)bytes->length);
+        if (n < 0 && errno == EINTR) continue;
+        if (n <= 0) return because(db, REDO_DISK_FAULT);
+        bytes->length += (size_t)n;
+    }
+    return REDO_OK;
+}
+
+/* Locks the folder, and reads the files. */
+static int32_t open_files(redo_t *db, const char *path, bytes_t bytes[3]) {
+    int folder = db->files_.folder_ = above_streams(open(path, O_RDONLY | O_DIRECTORY | O_CLOEXEC));
+    if (folder < 0) return because(db, REDO_NO_FOLDER);
+    if (flock(folder, LOCK_EX | LOCK_NB) != 0) return because(db, errno == EWOULDBLOCK ? REDO_LOCKED : REDO_NO_FOLDER);
+    if (fsync(folder) != 0) return because(db, REDO_DISK_FAULT);           /* the names are on the disk */
+    for (uint32_t i = 0; i < 3; i++) {
+        int32_t answer = read_file(db, i, &bytes[i]);
+        if (answer != REDO_OK) return answer;
+    }
+    return REDO_OK;
+}
+
+/* A file that a write makes: its name is on the disk before anything is written to it. */
+static bool is_there(redo_files_t *files, uint32_t i) {
+    return files->file_[i] >= 0 || (open_file(files, i, O_CREAT) && fsync(files->folder_) == 0);
+}
+
+static bool write_all(int fd, const uint8_t *bytes, size_t length, uint64_t at) {
+    while (length > 0) {
+        ssize_t n = pwrite(fd, bytes, length, (off_t)at);
+        if (n < 0 && errno == EINTR) continue;
+        if (n <= 0) return false;
+        bytes += n, length -= (size_t)n, at += (uint64_t)n;
+    }
+    return true;
+}
+
+/* A write of no bytes past the end lengthens the file. */
+static bool lengthen(int fd, uint64_t at) {
+    struct stat st;
+    return fstat(fd, &st) == 0 && ((uint64_t)st.st_size >= at || ftruncate(fd, (off_t)at) == 0);
+}
+
+/* What is said is on no file. A file that is not there has nothing to sync. */
+static bool make_call(redo_files_t *files, const redo_call_t *call, const uint8_t *bytes) {
+    uint32_t i = call->file;
+    if (call->kind == REDO_CALL_SAY) return true;
+    if (call->kind == REDO_CALL_SYNC) return files->file_[i] < 0 || fdatasync(files->file_[i]) == 0;
+    if (!is_there(files, i)) return false;
+    return call->length ? write_all(files->file_[i], bytes, call->length, call->at) : lengthen(files->file_[i], call->at);
+}
+
+/* Makes all calls that wait, in order. False leaves errno. */
+static bool make_calls(redo_t *db) {
+    redo_call_t call;
+    uint8_t none;
+    errno = 0;
+    while (redo_core_next(&db->core_, &call, db->buffer_ ? db->buffer_ : &none, db->room_) == 1) {
+        if (call.length > db->room_) {                         /* there was no room for its bytes: it is told again */
+            uint8_t *buffer = realloc(db->buffer_, call.length);
+            if (!buffer) return false;
+            db->buffer_ = buffer, db->room_ = call.length;
+        } else if (!make_call(&db->files_, &call, db->buffer_)) {
+            return false;
+        }
+    }
+    return true;
+}
+
+/* Gives the answer, once all that it stands on was made. At a disk fault the files are a front of what was asked for: the store
+ * is let go, with its lock, and a new handle may open it. */
+int32_t redo_report(redo_t *db, uint32_t answer) {
+    if (db->state_ == FAILED) return REDO_DISK_FAULT;
+    if (db->state_ == CLOSED) return db->detail_ = (redo_detail_t){0, 0, 0}, REDO_NOT_OPEN;
+    if (answer != REDO_OK) redo_core_detail(&db->core_, &db->detail_);
+    if (answer != REDO_DISK_FAULT) {
+        if (make_calls(db)) return (int32_t)answer;
+        because(db, REDO_DISK_FAULT);
+    }
+    redo_core_close(&db->core_);
+    close_files(&db->files_);
+    free(db->buffer_);
+    *db = (redo_t){.state_ = FAILED, .files_ = no_files, .detail_ = db->detail_};
+    return REDO_DISK_FAULT;
+}
+
+/* Whether the bytes are a log with an open header and a block behind it. */
+static bool is_log(bytes_t bytes) { return bytes.length > 33 && memcmp(bytes.at, "\1RDOLOG01", 9) == 0 && bytes.at[33] == 1; }
+
+#define FILES(b) redo_some(b[0].at), b[0].length, redo_some(b[1].at), b[1].length, redo_some(b[2].at), b[2].length
+
+/* Opens a store, or makes one with these numbers: not where a log tells of a store whose objects file is spoilt. */
+static int32_t start(redo_t *db, const char *path, const redo_params_t *numbers) {
+    bytes_t bytes[3] = {{0, 0}, {0, 0}, {0, 0}};
+    if (db->state_ != CLOSED) return REDO_ALREADY_OPEN;
+    *db = (redo_t){.files_ = no_files};
+    int32_t answer = open_files(db, path, bytes);
+    if (answer == REDO_OK)
+        answer = (int32_t)(numbers ? redo_core_create(&db->core_, FILES(bytes), numbers, &db->detail_)
+                                   : redo_core_open(&db->core_, FILES(bytes), &db->detail_));
+    if (answer == REDO_OK && numbers && (is_log(bytes[1]) || is_log(bytes[2]))) redo_core_close(&db->core_), answer = REDO_OLD_LOG;
+    for (int i = 0; i < 3; i++) free(bytes[i].at);
+    if (answer == REDO_OK) db->state_ = OPEN, answer = redo_report(db, REDO_OK);
+    if (answer != REDO_OK) close_files(&db->files_), *db = (redo_t){.detail_ = db->detail_};
+    return answer;
+}
+
+int32_t redo_create(redo_t *db, const char *path, uint32_t objects, uint32_t cap, uint32_t limit) {
+    redo_params_t numbers = {objects, cap, limit};
+    return start(db, path, &numbers);
+}
+int32_t redo_open(redo_t *db, const char *path) { return start(db, path, 0); }
+int32_t redo_close(redo_t *db) {
+    if (db->state_ == CLOSED) return REDO_NOT_OPEN;
+    if (db->state_ == OPEN) redo_core_close(&db->core_), close_files(&db->files_), free(db->buffer_);
+    *db = (redo_t)REDO_CLOSED;
+    return REDO_OK;
+}
+int32_t redo_last_detail(const redo_t *db, redo_detail_t *detail) { return *detail = db->detail_, REDO_OK; }

@@ -1,0 +1,161 @@
+/* A store of objects within a program: commands, values, durability, groups, ordered maps, hash files, applications.
+ *
+ * redo_close forces nothing: what no redo_force has answered for may be lost, as by a kill.
+ * A handle is used by one thread at a time, and never after fork; a second handle on a store is refused (REDO_LOCKED).
+ * docs/LIBRARY.md says more, and docs/OPERATIONS.md what the commands do. */
+#ifndef REDO_H
+#define REDO_H
+#include <stddef.h>
+#include <stdint.h>
+#ifdef __cplusplus
+extern "C" {
+#endif
+
+/* Of this header: greater where something was added, which never changes what was there. */
+#define REDO_VERSION 1
+uint32_t redo_version(void);            /* of the library that runs */
+size_t redo_handle_size(void);          /* sizeof(redo_t) in it, which is 128 in all versions */
+
+/* Numbers beside an answer. */
+typedef struct redo_detail { uint64_t first, second, third; } redo_detail_t;
+
+/* A handle: memory of the caller that begins as REDO_CLOSED (zeros) and that the library alone reads and writes. It is not
+ * copied or moved between redo_open and redo_close. */
+typedef struct redo_core { uint8_t opened_; void *at_; } redo_core_t;
+typedef struct redo_files { int32_t folder_, file_[3]; } redo_files_t;
+typedef struct redo {
+    int32_t state_, spare_;
+    redo_files_t files_;
+    redo_core_t core_;
+    uint8_t *buffer_;
+    size_t room_;
+    redo_detail_t detail_;
+    uint64_t later_[6];
+} redo_t;
+#ifdef __cplusplus
+#define REDO_CLOSED {}
+#else
+#define REDO_CLOSED {0}
+#endif
+
+/* The answers: 0, or why a call was not done. A number is never used again for something else. Below 32 the store or the machine
+ * speaks (numbers below 16 are the statuses of the program, and 20 to 22 are kept for backups), from 32 on a command is refused,
+ * and from 64 on a call is misused. What is refused or misused has changed nothing; of a call that is several commands (maps, hash
+ * files, runs of an application) those before the refusal stay. After REDO_DISK_FAULT a handle answers that until it is closed. */
+enum {
+    REDO_OK = 0,
+    REDO_BAD_PARAMS = 2,     /* redo_create: numbers that no store may have */
+    REDO_NOT_A_STORE = 3,    /* redo_open: the folder has none */
+    REDO_DAMAGED = 4,        /* a file is damaged; detail: the file (0 objects, 1 log A, 2 log B) and the place */
+    REDO_DISK_FAULT = 5,     /* a file could not be read, written or synced, or there was no memory to do so; detail: errno, or 0 */
+    REDO_ALREADY_STORE = 6,  /* redo_create: the folder has one */
+    REDO_MEMORY = 8,         /* out of memory */
+    REDO_LOG_FULL = 16,      /* detail: bytes used, bytes needed, limit; redo_drain and redo_trim make room */
+    REDO_EXHAUSTED = 17,     /* no number is left for a command; detail: the last one */
+    REDO_IN_GROUP = 18,      /* not within a group; detail: how many commands the group has */
+    REDO_NO_GROUP = 19,      /* redo_end: no group is open */
+    REDO_NO_OBJECT = 32,     /* the store has no such object, or the range is none */
+    REDO_SAME = 33,          /* the two objects are one */
+    REDO_BAD_PLACE = 34,     /* redo_cut: the value is not that long */
+    REDO_BAD_WIDTH = 35,     /* redo_sort: the value is not made of records of this width */
+    REDO_NOT_APP = 36,       /* the value is no state of an application */
+    REDO_NO_INPUT = 37,      /* the application has no input left */
+    REDO_NOT_NODE = 38,      /* the value is no node of a tree and no bucket of a hash file */
+    REDO_NO_KEY = 39,        /* the key is not there; redo_tree_pair: there is no such pair */
+    REDO_NODE_FULL = 40,     /* the node takes no key more */
+    REDO_TOO_LARGE = 41,     /* the value would be longer than the store's values may be */
+    REDO_NOT_CODE = 42,      /* the value is no program */
+    REDO_HALTED = 43,        /* the program has halted */
+    REDO_BAD_TREE = 44,      /* an object of the range is no node of the tree; detail: the object */
+    REDO_TREE_FULL = 45,     /* detail: how many objects more the insert needs, how many are empty */
+    REDO_BAD_HASH = 46,      /* an object of the range is not of the hash file; detail: the object */
+    REDO_HASH_FULL = 47,     /* a bucket cannot be split once more; detail: the object */
+    REDO_NO_ROOM = 48,       /* the range has too few empty objects; detail: how many */
+    REDO_BAD_KEY = 49,       /* a key, or the value of a key, has 1 to 32 bytes */
+    REDO_NOT_OPEN = 64,      /* the handle is closed */
+    REDO_ALREADY_OPEN = 65,  /* the handle is open */
+    REDO_LOCKED = 71,        /* another handle, or another process, has the store */
+    REDO_NO_FOLDER = 72,     /* the folder is not there, or cannot be locked; detail: errno */
+    REDO_OLD_LOG = 73        /* redo_create: the folder has no store, but the log of one: see docs/SCRIPT.md */
+};
+const char *redo_strerror(int32_t answer);      /* a constant text for each number */
+/* What the last answer of this handle that was not 0 says beside its number; zeros where it says nothing. */
+int32_t redo_last_detail(const redo_t *db, redo_detail_t *detail);
+
+/* A store is the files objects.rdo, log_a.rdo and log_b.rdo of a folder. redo_create makes one in a folder that is there, and
+ * leaves it open: 1 to 65535 objects, each of at most `cap` bytes (16 to 1048576), a log of at most `limit` bytes (2 cap + 4096
+ * to 536870912). Opening a store reads its files into memory. */
+int32_t redo_create(redo_t *db, const char *folder, uint32_t objects, uint32_t cap, uint32_t limit);
+int32_t redo_open(redo_t *db, const char *folder);
+int32_t redo_close(redo_t *db);                 /* forces nothing: what was not forced may be lost */
+
+/* Commands on values. With REDO_OK a command is accepted, and redo_get sees it; it is durable once redo_force says so. Bytes are
+ * a pointer and a length, and are copied; those of length 0 may be at no place. */
+int32_t redo_put(redo_t *db, uint32_t object, const void *value, size_t length);
+int32_t redo_copy(redo_t *db, uint32_t from, uint32_t to);
+int32_t redo_append(redo_t *db, uint32_t from, uint32_t to);                    /* the value of `from` behind that of `to` */
+int32_t redo_cut(redo_t *db, uint32_t from, uint32_t to, uint32_t place);       /* what is past `place` goes to `to` */
+int32_t redo_sort(redo_t *db, uint32_t from, uint32_t to, uint32_t width);
+int32_t redo_swap(redo_t *db, uint32_t first, uint32_t second);
+
+/* A value: as much of it as there is room for is copied. `length` says how many bytes it has, so room 0 asks for that alone.
+ * Here and below, a number that is told is told where its pointer is not null, and only with REDO_OK. */
+int32_t redo_get(redo_t *db, uint32_t object, void *into, size_t room, uint64_t *length);
+
+/* Durability. None of these, nor a begin, goes within a group (REDO_IN_GROUP). */
+int32_t redo_force(redo_t *db, uint64_t *commands);     /* all accepted commands are durable: so many since redo_create */
+int32_t redo_install(redo_t *db, uint64_t *installed);  /* one node of the write graph: 1, or 0 where none was left */
+int32_t redo_drain(redo_t *db);                         /* all of them */
+int32_t redo_checkpoint(redo_t *db);                    /* logs where a restart begins */
+int32_t redo_trim(redo_t *db);                          /* rewrites the log without the records that no restart needs */
+
+/* A group: of the commands between the two a crash leaves all or none. redo_begin forces first; redo_end forces nothing. */
+int32_t redo_begin(redo_t *db);
+int32_t redo_end(redo_t *db);
+
+typedef struct redo_stat {
+    uint64_t nodes, dirty, uninstalled;     /* of the write graph: nodes, objects to be flushed, records not installed */
+    uint64_t forced, accepted;              /* commands since redo_create: durable, all */
+    uint64_t used, identities;              /* bytes of the log in use, identity writes logged since the store was opened */
+} redo_stat_t;
+int32_t redo_stat(redo_t *db, redo_stat_t *stat);
+typedef struct redo_params { uint32_t objects, cap, limit; } redo_params_t;
+int32_t redo_params(redo_t *db, redo_params_t *params);
+
+/* The objects low to high of a map, in which nothing else is put. Keys and values of a map have 1 to 32 bytes. */
+typedef struct redo_range { uint32_t low, high; } redo_range_t;
+
+/* An ordered map, a tree. An empty range is an empty map. */
+int32_t redo_tree_insert(redo_t *db, redo_range_t tree, const void *key, size_t key_length, const void *value, size_t length);
+int32_t redo_tree_delete(redo_t *db, redo_range_t tree, const void *key, size_t key_length);
+int32_t redo_tree_get(redo_t *db, redo_range_t tree, const void *key, size_t key_length, void *into, size_t room,
+                      uint64_t *length);
+/* The pairs whose keys are not below `from` and below `to`, by rising key: `count` of them, which the handle keeps until its
+ * next redo_tree_range, and which redo_tree_pair copies, counted from 0. */
+int32_t redo_tree_range(redo_t *db, redo_range_t tree, const void *from, size_t from_length, const void *to, size_t to_length,
+                        uint64_t *count);
+typedef struct redo_lengths { uint64_t key, value; } redo_lengths_t;
+int32_t redo_tree_pair(redo_t *db, uint64_t pair, void *key, size_t key_room, void *value, size_t room, redo_lengths_t *lengths);
+
+/* A map without an order, a hash file: one object is read for a key, beside the directory. */
+int32_t redo_hash_put(redo_t *db, redo_range_t hash, const void *key, size_t key_length, const void *value, size_t length);
+int32_t redo_hash_delete(redo_t *db, redo_range_t hash, const void *key, size_t key_length);
+int32_t redo_hash_get(redo_t *db, redo_range_t hash, const void *key, size_t key_length, void *into, size_t room,
+                      uint64_t *length);
+
+/* An application whose state is the value of `app`: a step, input added from an object, output taken to one, and steps until
+ * `most` are done or one is refused for want of input. */
+int32_t redo_app_exec(redo_t *db, uint32_t app);
+int32_t redo_app_read(redo_t *db, uint32_t app, uint32_t from);
+int32_t redo_app_write(redo_t *db, uint32_t app, uint32_t to);
+int32_t redo_app_run(redo_t *db, uint32_t app, uint64_t most, uint64_t *steps);
+
+/* The same of an application that is interpreted: its program is the value of `program`. */
+int32_t redo_program_exec(redo_t *db, uint32_t app, uint32_t program);
+int32_t redo_program_read(redo_t *db, uint32_t app, uint32_t from);
+int32_t redo_program_write(redo_t *db, uint32_t app, uint32_t to);
+int32_t redo_program_run(redo_t *db, uint32_t app, uint32_t program, uint64_t most, uint64_t *steps);
+#ifdef __cplusplus
+}
+#endif
+#endif

@@ -1,0 +1,65 @@
+/* The proved library under redo.c, which keeps a store in memory: no function of it touches a file. It is not for programs. */
+#ifndef REDO_CORE_H
+#define REDO_CORE_H
+#include "redo.h"
+
+/* A call that has to be made on the files: `length` bytes written at a place of a file (0 objects, 1 log A, 2 log B), a file
+ * synced, or bytes that may be printed. */
+enum { REDO_CALL_WRITE = 0, REDO_CALL_SYNC = 1, REDO_CALL_SAY = 2 };
+typedef struct redo_call { uint32_t kind, file; uint64_t at, length; } redo_call_t;
+
+/* Bytes: the place, which is never null, and behind it in the list of parameters the length. */
+typedef const uint8_t *redo_bytes_t;
+static inline redo_bytes_t redo_some(const void *at) { return at ? at : (redo_bytes_t)""; }
+
+uint32_t redo_core_create(redo_core_t *, redo_bytes_t, size_t, redo_bytes_t, size_t, redo_bytes_t, size_t, const redo_params_t *,
+                         redo_detail_t *);
+uint32_t redo_core_open(redo_core_t *, redo_bytes_t, size_t, redo_bytes_t, size_t, redo_bytes_t, size_t, redo_detail_t *);
+uint32_t redo_core_close(redo_core_t *);
+/* 1 where a call waits, which is told, and its bytes where there is room for them: then it waits no more. 0 where none does. */
+uint32_t redo_core_next(redo_core_t *, redo_call_t *, uint8_t *, size_t);
+/* What the last answer says beside its number. */
+uint32_t redo_core_detail(redo_core_t *, redo_detail_t *);
+
+/* Of redo.c: what a call of redo.h answers, where the library has answered this. */
+int32_t redo_report(redo_t *, uint32_t);
+
+uint32_t redo_core_put(redo_core_t *, uint32_t, redo_bytes_t, size_t);
+uint32_t redo_core_copy(redo_core_t *, uint32_t, uint32_t);
+uint32_t redo_core_append(redo_core_t *, uint32_t, uint32_t);
+uint32_t redo_core_cut(redo_core_t *, uint32_t, uint32_t, uint32_t);
+uint32_t redo_core_sort(redo_core_t *, uint32_t, uint32_t, uint32_t);
+uint32_t redo_core_swap(redo_core_t *, uint32_t, uint32_t);
+uint32_t redo_core_get(redo_core_t *, uint32_t, uint8_t *, size_t, uint64_t *);
+
+uint32_t redo_core_begin(redo_core_t *);
+uint32_t redo_core_end(redo_core_t *);
+uint32_t redo_core_force(redo_core_t *, uint64_t *);
+uint32_t redo_core_install(redo_core_t *, uint64_t *);
+uint32_t redo_core_drain(redo_core_t *);
+uint32_t redo_core_checkpoint(redo_core_t *);
+uint32_t redo_core_trim(redo_core_t *);
+uint32_t redo_core_stat(redo_core_t *, redo_stat_t *);
+uint32_t redo_core_params(redo_core_t *, redo_params_t *);
+
+uint32_t redo_core_app_exec(redo_core_t *, uint32_t);
+uint32_t redo_core_app_read(redo_core_t *, uint32_t, uint32_t);
+uint32_t redo_core_app_write(redo_core_t *, uint32_t, uint32_t);
+uint32_t redo_core_app_run(redo_core_t *, uint32_t, uint64_t, uint64_t *);
+uint32_t redo_core_program_exec(redo_core_t *, uint32_t, uint32_t);
+uint32_t redo_core_program_read(redo_core_t *, uint32_t, uint32_t);
+uint32_t redo_core_program_write(redo_core_t *, uint32_t, uint32_t);
+uint32_t redo_core_program_run(redo_core_t *, uint32_t, uint32_t, uint64_t, uint64_t *);
+
+/* A key that is not there: REDO_NO_KEY. No range of objects: REDO_NO_OBJECT. A key or value not of 1 to 32 bytes: REDO_BAD_KEY. */
+uint32_t redo_core_tree_insert(redo_core_t *, const redo_range_t *, redo_bytes_t, size_t, redo_bytes_t, size_t);
+uint32_t redo_core_tree_delete(redo_core_t *, const redo_range_t *, redo_bytes_t, size_t);
+uint32_t redo_core_tree_get(redo_core_t *, const redo_range_t *, redo_bytes_t, size_t, uint8_t *, size_t, uint64_t *);
+/* The pairs from a key up to another, that one left out, are kept until the next call of this function: so many. */
+uint32_t redo_core_tree_range(redo_core_t *, const redo_range_t *, redo_bytes_t, size_t, redo_bytes_t, size_t, uint64_t *);
+/* One of them, counted from 0, as much of it as there is room for; past the last one REDO_NO_KEY. */
+uint32_t redo_core_tree_pair(redo_core_t *, uint64_t, uint8_t *, size_t, uint8_t *, size_t, redo_lengths_t *);
+uint32_t redo_core_hash_put(redo_core_t *, const redo_range_t *, redo_bytes_t, size_t, redo_bytes_t, size_t);
+uint32_t redo_core_hash_delete(redo_core_t *, const redo_range_t *, redo_bytes_t, size_t);
+uint32_t redo_core_hash_get(redo_core_t *, const redo_range_t *, redo_bytes_t, size_t, uint8_t *, size_t, uint64_t *);
+#endif

@@ -1,0 +1,46 @@
+/* What the answers are called, and which library this is. */
+#include "redo.h"
+
+uint32_t redo_version(void) { return REDO_VERSION; }
+
+size_t redo_handle_size(void) { return sizeof(redo_t); }
+
+const char *redo_strerror(int32_t answer) {
+    switch (answer) {
+    case REDO_OK: return "done";
+    case REDO_BAD_PARAMS: return "no store may have these numbers";
+    case REDO_NOT_A_STORE: return "the folder has no store";
+    case REDO_DAMAGED: return "a file of the store is damaged";
+    case REDO_DISK_FAULT: return "a file of the store could not be read, written or synced";
+    case REDO_ALREADY_STORE: return "the folder has a store already";
+    case REDO_MEMORY: return "out of memory";
+    case REDO_LOG_FULL: return "the log is full";
+    case REDO_EXHAUSTED: return "no number is left for a command";
+    case REDO_IN_GROUP: return "not within a group";
+    case REDO_NO_GROUP: return "no group is open";
+    case REDO_NO_OBJECT: return "the store has no such object";
+    case REDO_SAME: return "the two objects are one";
+    case REDO_BAD_PLACE: return "the value is not that long";
+    case REDO_BAD_WIDTH: return "the value is not made of records of this width";
+    case REDO_NOT_APP: return "the value is no state of an application";
+    case REDO_NO_INPUT: return "the application has no input left";
+    case REDO_NOT_NODE: return "the value is no node of a tree and no bucket";
+    case REDO_NO_KEY: return "the key is not there";
+    case REDO_NODE_FULL: return "the node takes no key more";
+    case REDO_TOO_LARGE: return "the value would be too long";
+    case REDO_NOT_CODE: return "the value is no program";
+    case REDO_HALTED: return "the program has halted";
+    case REDO_BAD_TREE: return "an object of the range is no node of the tree";
+    case REDO_TREE_FULL: return "the tree has too few empty objects";
+    case REDO_BAD_HASH: return "an object of the range is not of the hash file";
+    case REDO_HASH_FULL: return "a bucket of the hash file cannot be split once more";
+    case REDO_NO_ROOM: return "the hash file has too few empty objects";
+    case REDO_BAD_KEY: return "a key, or the value of a key, has 1 to 32 bytes";
+    case REDO_NOT_OPEN: return "the handle is closed";
+    case REDO_ALREADY_OPEN: return "the handle is open";
+    case REDO_LOCKED: return "another handle or process has the store";
+    case REDO_NO_FOLDER: return "the folder is not there, or cannot be locked";
+    case REDO_OLD_LOG: return "the folder has no store, but the log of one";
+    default: return "no answer of this library";
+    }
+}

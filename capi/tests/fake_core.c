@@ -1,0 +1,374 @@
+/* A small store in place of the proved library, so that redo.c, redo.h and redo.py can be tested without it. It keeps one map from
+ * names to values (an object, a key of a tree, a key of a hash file), and logs each change of the map in blocks with a checksum. */
+#include "../redo_core.h"
+#include <stdbool.h>
+#include <stdlib.h>
+#include <string.h>
+
+typedef struct { uint8_t *at; size_t n; } bytes_t;
+typedef struct { bytes_t name, value; } entry_t;
+typedef struct waiting { redo_call_t call; uint8_t *bytes; struct waiting *next; } waiting_t;
+typedef struct {
+    redo_params_t numbers;
+    entry_t *map; size_t count;                 /* rising names */
+    bytes_t block;                              /* changes that are not written */
+    uint64_t epoch, end, accepted, forced;      /* of the log in force */
+    bool in_group; uint64_t group;
+    waiting_t *first, **last;
+    entry_t *pairs; size_t pair_count;
+    redo_detail_t detail;
+} store_t;
+
+static bytes_t dup_bytes(const void *at, size_t n) {
+    bytes_t b = {malloc(n + 1), n};
+    if (n) memcpy(b.at, at, n);
+    return b;
+}
+static void add(bytes_t *to, const void *at, size_t n) {
+    to->at = realloc(to->at, to->n + n + 1);
+    if (n) memcpy(to->at + to->n, at, n);
+    to->n += n;
+}
+static int order(bytes_t a, bytes_t b) {
+    int o = memcmp(a.at, b.at, a.n < b.n ? a.n : b.n);
+    return o ? o : a.n < b.n ? -1 : a.n > b.n;
+}
+static size_t place(store_t *s, bytes_t name) {
+    size_t i = 0;
+    while (i < s->count && order(s->map[i].name, name) < 0) i++;
+    return i;
+}
+static bytes_t value_of(store_t *s, bytes_t name, bool *found) {
+    size_t i = place(s, name);
+    *found = i < s->count && order(s->map[i].name, name) == 0;
+    return *found ? s->map[i].value : (bytes_t){(uint8_t *)"", 0};
+}
+/* An empty value of no use: `gone` takes the name out. */
+static void change(store_t *s, bytes_t name, bytes_t value, bool gone) {
+    size_t i = place(s, name);
+    if (i < s->count && order(s->map[i].name, name) == 0) {
+        free(s->map[i].name.at), free(s->map[i].value.at);
+        memmove(s->map + i, s->map + i + 1, (--s->count - i) * sizeof *s->map);
+    }
+    if (gone) return;
+    s->map = realloc(s->map, (s->count + 1) * sizeof *s->map);
+    memmove(s->map + i + 1, s->map + i, (s->count++ - i) * sizeof *s->map);
+    s->map[i] = (entry_t){dup_bytes(name.at, name.n), dup_bytes(value.at, value.n)};
+}
+static void log_change(bytes_t *block, bytes_t name, bytes_t value, bool gone) {
+    uint32_t head[2] = {(uint32_t)name.n, gone ? UINT32_MAX : (uint32_t)value.n};
+    add(block, head, 8), add(block, name.at, name.n);
+    if (!gone) add(block, value.at, value.n);
+}
+static void redo_changes(store_t *s, bytes_t block) {
+    for (size_t at = 0; at < block.n;) {
+        uint32_t head[2];
+        memcpy(head, block.at + at, 8);
+        bool gone = head[1] == UINT32_MAX;
+        bytes_t name = {block.at + at + 8, head[0]}, value = {block.at + at + 8 + head[0], gone ? 0 : head[1]};
+        change(s, name, value, gone);
+        at += 8 + name.n + value.n;
+    }
+}
+
+static void ask(store_t *s, uint32_t kind, uint32_t file, uint64_t at, const void *bytes, size_t n) {
+    waiting_t *w = malloc(sizeof *w);
+    *w = (waiting_t){{kind, file, at, n}, dup_bytes(bytes, n).at, 0};
+    *s->last = w, s->last = &w->next;
+}
+
+/* A block of the log: epoch, commands so far, length, checksum, changes. */
+enum { HEAD = 32 };
+static uint64_t sum_of(const uint64_t head[4], bytes_t changes) {
+    uint64_t sum = 14695981039346656037u;
+    for (int i = 0; i < 3; i++) sum = (sum ^ head[i]) * 1099511628211u;
+    for (size_t i = 0; i < changes.n; i++) sum = (sum ^ changes.at[i]) * 1099511628211u;
+    return sum;
+}
+static void write_block(store_t *s, bytes_t changes) {
+    uint64_t head[4] = {s->epoch, s->accepted, changes.n, 0};
+    uint32_t file = 1 + (s->epoch & 1);
+    bytes_t all = {0, 0};
+    head[3] = sum_of(head, changes);
+    add(&all, head, HEAD), add(&all, changes.at, changes.n);
+    ask(s, REDO_CALL_WRITE, file, s->end, all.at, all.n), ask(s, REDO_CALL_SYNC, file, 0, 0, 0);
+    s->end += all.n, s->forced = s->accepted;
+    free(all.at);
+}
+static bool block_at(bytes_t log, size_t at, uint64_t head[4], bytes_t *changes) {
+    if (at > log.n || log.n - at < HEAD) return false;
+    memcpy(head, log.at + at, HEAD);
+    if (head[2] > log.n - at - HEAD) return false;
+    *changes = (bytes_t){log.at + at + HEAD, head[2]};
+    return head[3] == sum_of(head, *changes);
+}
+static void force(store_t *s) {
+    if (s->block.n) write_block(s, s->block);
+    ask(s, REDO_CALL_SAY, 0, 0, "forced\n", 7);
+    s->block.n = 0, s->forced = s->accepted;
+}
+static void trim(store_t *s) {
+    bytes_t all = {0, 0};
+    for (size_t i = 0; i < s->count; i++) log_change(&all, s->map[i].name, s->map[i].value, false);
+    s->epoch++, s->end = 0, s->block.n = 0;
+    write_block(s, all);
+    free(all.at);
+}
+
+static store_t *new_store(void) {
+    store_t *s = calloc(1, sizeof *s);
+    s->last = &s->first;
+    return s;
+}
+static void drop_pairs(store_t *s) {
+    for (size_t i = 0; i < s->pair_count; i++) free(s->pairs[i].name.at), free(s->pairs[i].value.at);
+    free(s->pairs);
+    s->pairs = 0, s->pair_count = 0;
+}
+static void drop(store_t *s) {
+    for (size_t i = 0; i < s->count; i++) free(s->map[i].name.at), free(s->map[i].value.at);
+    while (s->first) {
+        waiting_t *w = s->first;
+        s->first = w->next, free(w->bytes), free(w);
+    }
+    drop_pairs(s), free(s->map), free(s->block.at), free(s);
+}
+static uint32_t opened(redo_core_t *c, store_t *s) { return c->opened_ = 1, c->at_ = s, REDO_OK; }
+
+uint32_t redo_core_create(redo_core_t *c, redo_bytes_t o, size_t n, redo_bytes_t a, size_t an, redo_bytes_t b, size_t bn,
+                         const redo_params_t *p, redo_detail_t *d) {
+    (void)a, (void)an, (void)b, (void)bn, (void)d;
+    if (p->objects < 1 || p->objects > 65535 || p->cap < 16 || p->cap > 1048576 || p->limit > 536870912 ||
+        p->limit < 2 * p->cap + 4096) return REDO_BAD_PARAMS;
+    if (n && o[0] == 'F') return REDO_ALREADY_STORE;
+    store_t *s = new_store();
+    s->numbers = *p;
+    write_block(s, (bytes_t){0, 0});
+    ask(s, REDO_CALL_WRITE, 2, 3, 0, 0), ask(s, REDO_CALL_SYNC, 2, 0, 0, 0);        /* three bytes long, which open asks for */
+    ask(s, REDO_CALL_WRITE, 0, 1, p, sizeof *p), ask(s, REDO_CALL_SYNC, 0, 0, 0, 0);
+    ask(s, REDO_CALL_WRITE, 0, 0, "F", 1), ask(s, REDO_CALL_SYNC, 0, 0, 0, 0);
+    return opened(c, s);
+}
+uint32_t redo_core_open(redo_core_t *c, redo_bytes_t o, size_t n, redo_bytes_t a, size_t an, redo_bytes_t b, size_t bn,
+                       redo_detail_t *d) {
+    if (n < 1 + sizeof(redo_params_t) || o[0] != 'F') return REDO_NOT_A_STORE;
+    bytes_t logs[2] = {{(uint8_t *)a, an}, {(uint8_t *)b, bn}}, changes;
+    uint64_t head[4], other[4];
+    bool first = block_at(logs[0], 0, head, &changes), second = block_at(logs[1], 0, other, &changes);
+    if (bn < 3) return *d = (redo_detail_t){2, 0, 0}, REDO_DAMAGED;
+    if (!first && !second) return *d = (redo_detail_t){1, 0, 0}, REDO_DAMAGED;
+    store_t *s = new_store();
+    s->epoch = !first || (second && other[0] > head[0]) ? other[0] : head[0];
+    memcpy(&s->numbers, o + 1, sizeof s->numbers);
+    while (block_at(logs[s->epoch & 1], s->end, head, &changes) && head[0] == s->epoch)
+        redo_changes(s, changes), s->accepted = s->forced = head[1], s->end += HEAD + changes.n;
+    return opened(c, s);
+}
+uint32_t redo_core_close(redo_core_t *c) {
+    if (!c->opened_) return REDO_NOT_OPEN;
+    drop(c->at_), c->opened_ = 0, c->at_ = 0;
+    return REDO_OK;
+}
+uint32_t redo_core_next(redo_core_t *c, redo_call_t *call, uint8_t *into, size_t room) {
+    if (!c->opened_) return REDO_NOT_OPEN;
+    store_t *s = c->at_;
+    waiting_t *w = s->first;
+    if (!w) return 0;
+    *call = w->call;
+    if (call->length > room) return 1;
+    if (call->length) memcpy(into, w->bytes, call->length);
+    if (!(s->first = w->next)) s->last = &s->first;
+    free(w->bytes), free(w);
+    return 1;
+}
+#define STORE store_t *s = c->at_; if (!c->opened_) return REDO_NOT_OPEN
+static uint32_t refuse(store_t *s, uint32_t answer) { return s->detail = (redo_detail_t){0, 0, 0}, answer; }
+uint32_t redo_core_detail(redo_core_t *c, redo_detail_t *d) { STORE; return *d = s->detail, REDO_OK; }
+
+/* Does a command: the names get these values. */
+typedef struct { bytes_t name, value; bool gone; } step_t;
+static uint32_t command(store_t *s, const step_t *steps, int count) {
+    size_t need = HEAD;
+    for (int i = 0; i < count; i++) need += 8 + steps[i].name.n + steps[i].value.n;
+    if (s->end + s->block.n + need > s->numbers.limit)
+        return s->detail = (redo_detail_t){s->end + s->block.n, need, s->numbers.limit}, REDO_LOG_FULL;
+    for (int i = 0; i < count; i++) log_change(&s->block, steps[i].name, steps[i].value, steps[i].gone);
+    bytes_t changes = dup_bytes(s->block.at + s->block.n - need + HEAD, need - HEAD);
+    redo_changes(s, changes);
+    free(changes.at);
+    s->accepted++, s->group += s->in_group;
+    return REDO_OK;
+}
+/* The name of an object, of the input of an application, or of a key. */
+typedef struct { uint8_t at[64]; } name_t;
+static bytes_t named(name_t *n, char kind, uint32_t low, uint32_t high, redo_bytes_t key, size_t length) {
+    uint32_t range[2] = {low, high};
+    n->at[0] = (uint8_t)kind, memcpy(n->at + 1, range, 8);
+    if (length) memcpy(n->at + 9, key, length);
+    return (bytes_t){n->at, 9 + length};
+}
+#define OBJECT(x) named(&(name_t){{0}}, 'o', x, 0, 0, 0)
+#define HAS(x) if ((x) >= s->numbers.objects) return refuse(s, REDO_NO_OBJECT)
+static bytes_t object(store_t *s, uint32_t x) { bool found; return value_of(s, OBJECT(x), &found); }
+static uint32_t set_object(store_t *s, uint32_t x, bytes_t v) {
+    if (v.n > s->numbers.cap) return refuse(s, REDO_TOO_LARGE);
+    return command(s, &(step_t){OBJECT(x), v, false}, 1);
+}
+static uint32_t give(uint8_t *into, size_t room, uint64_t *length, bytes_t v) {
+    *length = v.n;
+    if (room && v.n) memcpy(into, v.at, v.n < room ? v.n : room);
+    return REDO_OK;
+}
+
+uint32_t redo_core_put(redo_core_t *c, uint32_t x, redo_bytes_t v, size_t n) {
+    STORE; HAS(x); return set_object(s, x, (bytes_t){(uint8_t *)v, n});
+}
+uint32_t redo_core_copy(redo_core_t *c, uint32_t x, uint32_t y) {
+    STORE; HAS(x); HAS(y); return set_object(s, y, object(s, x));
+}
+uint32_t redo_core_append(redo_core_t *c, uint32_t x, uint32_t y) {
+    STORE; HAS(x); HAS(y);
+    bytes_t v = dup_bytes(object(s, y).at, object(s, y).n);
+    add(&v, object(s, x).at, object(s, x).n);
+    uint32_t rc = x == y ? refuse(s, REDO_SAME) : set_object(s, y, v);
+    free(v.at);
+    return rc;
+}
+uint32_t redo_core_cut(redo_core_t *c, uint32_t x, uint32_t y, uint32_t k) {
+    STORE; HAS(x); HAS(y);
+    bytes_t v = object(s, x);
+    if (x == y) return refuse(s, REDO_SAME);
+    if (k > v.n) return refuse(s, REDO_BAD_PLACE);
+    return command(s, (step_t[]){{OBJECT(y), {v.at + k, v.n - k}, false}, {OBJECT(x), {v.at, k}, false}}, 2);
+}
+static uint32_t sort_width;
+static int by_bytes(const void *a, const void *b) { return memcmp(a, b, sort_width); }
+uint32_t redo_core_sort(redo_core_t *c, uint32_t x, uint32_t y, uint32_t w) {
+    STORE; HAS(x); HAS(y);
+    if (w == 0 || object(s, x).n % w) return refuse(s, REDO_BAD_WIDTH);
+    bytes_t v = dup_bytes(object(s, x).at, object(s, x).n);
+    sort_width = w, qsort(v.at, v.n / w, w, by_bytes);
+    uint32_t rc = set_object(s, y, v);
+    free(v.at);
+    return rc;
+}
+uint32_t redo_core_swap(redo_core_t *c, uint32_t x, uint32_t y) {
+    STORE; HAS(x); HAS(y);
+    if (x == y) return refuse(s, REDO_SAME);
+    return command(s, (step_t[]){{OBJECT(x), object(s, y), false}, {OBJECT(y), object(s, x), false}}, 2);
+}
+uint32_t redo_core_get(redo_core_t *c, uint32_t x, uint8_t *into, size_t room, uint64_t *length) {
+    STORE; HAS(x); return give(into, room, length, object(s, x));
+}
+
+#define ALONE STORE; if (s->in_group) return s->detail = (redo_detail_t){s->group, 0, 0}, REDO_IN_GROUP
+uint32_t redo_core_begin(redo_core_t *c) { ALONE; force(s); s->in_group = true, s->group = 0; return REDO_OK; }
+uint32_t redo_core_end(redo_core_t *c) {
+    STORE; if (!s->in_group) return refuse(s, REDO_NO_GROUP); s->in_group = false; return REDO_OK;
+}
+uint32_t redo_core_force(redo_core_t *c, uint64_t *n) { ALONE; force(s); *n = s->forced; return REDO_OK; }
+uint32_t redo_core_install(redo_core_t *c, uint64_t *n) { ALONE; *n = 0; return REDO_OK; }
+uint32_t redo_core_drain(redo_core_t *c) { ALONE; force(s); return REDO_OK; }
+uint32_t redo_core_checkpoint(redo_core_t *c) { ALONE; force(s); return REDO_OK; }
+uint32_t redo_core_trim(redo_core_t *c) { ALONE; force(s); trim(s); return REDO_OK; }
+uint32_t redo_core_stat(redo_core_t *c, redo_stat_t *t) {
+    STORE; *t = (redo_stat_t){0, 0, 0, s->forced, s->accepted, s->end + s->block.n, 0}; return REDO_OK;
+}
+uint32_t redo_core_params(redo_core_t *c, redo_params_t *p) { STORE; *p = s->numbers; return REDO_OK; }
+
+/* An application's input alone: a step takes a byte of it. */
+#define INPUT(app) named(&(name_t){{0}}, 'a', app, 0, 0, 0)
+static uint32_t steps_of(store_t *s, uint32_t app, uint64_t most, uint64_t *steps) {
+    for (*steps = 0; *steps < most; ++*steps) {
+        bool found;
+        bytes_t v = value_of(s, INPUT(app), &found);
+        if (!v.n) return REDO_OK;
+        uint32_t rc = command(s, &(step_t){INPUT(app), {v.at + 1, v.n - 1}, false}, 1);
+        if (rc != REDO_OK) return rc;
+    }
+    return REDO_OK;
+}
+uint32_t redo_core_app_run(redo_core_t *c, uint32_t app, uint64_t most, uint64_t *steps) {
+    STORE; HAS(app); return steps_of(s, app, most, steps);
+}
+uint32_t redo_core_app_exec(redo_core_t *c, uint32_t app) {
+    STORE; HAS(app);
+    uint64_t n;
+    uint32_t rc = steps_of(s, app, 1, &n);
+    return rc == REDO_OK && n == 0 ? refuse(s, REDO_NO_INPUT) : rc;
+}
+uint32_t redo_core_app_read(redo_core_t *c, uint32_t app, uint32_t x) {
+    STORE; HAS(app); HAS(x); return command(s, &(step_t){INPUT(app), object(s, x), false}, 1);
+}
+uint32_t redo_core_app_write(redo_core_t *c, uint32_t app, uint32_t x) {
+    STORE; HAS(app); HAS(x); return set_object(s, x, (bytes_t){0, 0});
+}
+uint32_t redo_core_program_exec(redo_core_t *c, uint32_t app, uint32_t p) {
+    STORE; HAS(app); HAS(p); return refuse(s, REDO_NOT_CODE);
+}
+uint32_t redo_core_program_read(redo_core_t *c, uint32_t app, uint32_t x) { return redo_core_app_read(c, app, x); }
+uint32_t redo_core_program_write(redo_core_t *c, uint32_t app, uint32_t x) { return redo_core_app_write(c, app, x); }
+uint32_t redo_core_program_run(redo_core_t *c, uint32_t app, uint32_t p, uint64_t most, uint64_t *steps) {
+    STORE; HAS(app); HAS(p);
+    return most ? refuse(s, REDO_NOT_CODE) : (*steps = 0, REDO_OK);
+}
+
+#define KEY(n) if ((n) < 1 || (n) > 32) return refuse(s, REDO_BAD_KEY)
+static uint32_t map_set(redo_core_t *c, char kind, const redo_range_t *r, redo_bytes_t k, size_t kn, redo_bytes_t v, size_t n) {
+    STORE; HAS(r->high); KEY(kn); KEY(n);
+    if (r->low + (kind == 'h') > r->high) return refuse(s, REDO_NO_OBJECT);
+    return command(s, &(step_t){named(&(name_t){{0}}, kind, r->low, r->high, k, kn), {(uint8_t *)v, n}, false}, 1);
+}
+static uint32_t map_get(redo_core_t *c, char kind, const redo_range_t *r, redo_bytes_t k, size_t kn, bytes_t *v) {
+    STORE; HAS(r->high); KEY(kn);
+    if (r->low + (kind == 'h') > r->high) return refuse(s, REDO_NO_OBJECT);
+    bool found;
+    *v = value_of(s, named(&(name_t){{0}}, kind, r->low, r->high, k, kn), &found);
+    return found ? REDO_OK : refuse(s, REDO_NO_KEY);
+}
+static uint32_t map_delete(redo_core_t *c, char kind, const redo_range_t *r, redo_bytes_t k, size_t kn) {
+    bytes_t v;
+    uint32_t rc = map_get(c, kind, r, k, kn, &v);
+    return rc ? rc : command(c->at_, &(step_t){named(&(name_t){{0}}, kind, r->low, r->high, k, kn), {0, 0}, true}, 1);
+}
+static uint32_t map_give(redo_core_t *c, char kind, const redo_range_t *r, redo_bytes_t k, size_t kn, uint8_t *into, size_t room, uint64_t *length) {
+    bytes_t v;
+    uint32_t rc = map_get(c, kind, r, k, kn, &v);
+    return rc ? rc : give(into, room, length, v);
+}
+uint32_t redo_core_tree_insert(redo_core_t *c, const redo_range_t *r, redo_bytes_t k, size_t kn, redo_bytes_t v, size_t n) {
+    return map_set(c, 't', r, k, kn, v, n);
+}
+uint32_t redo_core_tree_delete(redo_core_t *c, const redo_range_t *r, redo_bytes_t k, size_t kn) {
+    return map_delete(c, 't', r, k, kn);
+}
+uint32_t redo_core_tree_get(redo_core_t *c, const redo_range_t *r, redo_bytes_t k, size_t kn, uint8_t *into, size_t room,
+                            uint64_t *length) {
+    return map_give(c, 't', r, k, kn, into, room, length);
+}
+uint32_t redo_core_hash_put(redo_core_t *c, const redo_range_t *r, redo_bytes_t k, size_t kn, redo_bytes_t v, size_t n) {
+    return map_set(c, 'h', r, k, kn, v, n);
+}
+uint32_t redo_core_hash_delete(redo_core_t *c, const redo_range_t *r, redo_bytes_t k, size_t kn) {
+    return map_delete(c, 'h', r, k, kn);
+}
+uint32_t redo_core_hash_get(redo_core_t *c, const redo_range_t *r, redo_bytes_t k, size_t kn, uint8_t *into, size_t room,
+                            uint64_t *length) {
+    return map_give(c, 'h', r, k, kn, into, room, length);
+}
+uint32_t redo_core_tree_range(redo_core_t *c, const redo_range_t *r, redo_bytes_t f, size_t fn, redo_bytes_t t, size_t tn, uint64_t *count) {
+    STORE; HAS(r->high); KEY(fn); KEY(tn);
+    if (r->low > r->high) return refuse(s, REDO_NO_OBJECT);
+    bytes_t from = named(&(name_t){{0}}, 't', r->low, r->high, f, fn), to = named(&(name_t){{0}}, 't', r->low, r->high, t, tn);
+    drop_pairs(s);
+    for (size_t i = place(s, from); i < s->count && order(s->map[i].name, to) < 0; i++) {
+        s->pairs = realloc(s->pairs, (s->pair_count + 1) * sizeof *s->pairs);
+        s->pairs[s->pair_count++] = (entry_t){dup_bytes(s->map[i].name.at + 9, s->map[i].name.n - 9), dup_bytes(s->map[i].value.at, s->map[i].value.n)};
+    }
+    return *count = s->pair_count, REDO_OK;
+}
+uint32_t redo_core_tree_pair(redo_core_t *c, uint64_t i, uint8_t *k, size_t kr, uint8_t *v, size_t vr, redo_lengths_t *l) {
+    STORE;
+    if (i >= s->pair_count) return refuse(s, REDO_NO_KEY);
+    return give(k, kr, &l->key, s->pairs[i].name), give(v, vr, &l->value, s->pairs[i].value);
+}

@@ -1,0 +1,47 @@
+/* Answers that the small store of fake_core.c has not: test_answers FOLDER, an empty one. */
+#include "want.h"
+
+static void detail_is(const redo_t *db, uint64_t first, uint64_t second) {
+    redo_detail_t d;
+    WANT(REDO_OK, redo_last_detail(db, &d));
+    if (d.first != first || d.second != second) fail("detail %d %d", (int)d.first, (int)d.second);
+}
+
+int main(int argc, char **argv) {
+    const char *folder = argc > 1 ? argv[1] : ".";
+    redo_t db = REDO_CLOSED;
+    uint64_t n;
+    char key[4] = "k00", path[4096];
+    uint8_t got[32], halt[8] = {0};
+    WANT(REDO_OK, redo_create(&db, folder, 16, 1024, 65536));
+    WANT(REDO_OK, redo_put(&db, 1, B("x")));
+    WANT(REDO_NOT_APP, redo_app_exec(&db, 1));
+    WANT(REDO_NOT_APP, redo_program_exec(&db, 1, 0));
+    WANT(REDO_SAME, redo_app_read(&db, 1, 1));
+    WANT(REDO_OK, redo_put(&db, 2, halt, sizeof halt));
+    WANT(REDO_OK, redo_program_exec(&db, 3, 2));
+    WANT(REDO_HALTED, redo_program_exec(&db, 3, 2));
+    WANT(REDO_OK, redo_put(&db, 4, B("no node")));
+    WANT(REDO_BAD_TREE, redo_tree_get(&db, range(4, 10), B("k"), got, sizeof got, &n)), detail_is(&db, 4, 0);
+    WANT(REDO_BAD_TREE, redo_tree_insert(&db, range(4, 10), B("k"), B("v"))), detail_is(&db, 4, 0);
+    for (int i = 0; i < 7; i++) {
+        key[2] = (char)('0' + i);
+        WANT(REDO_OK, redo_tree_insert(&db, range(5, 5), B(key), B("v")));
+        WANT(REDO_OK, redo_hash_put(&db, range(6, 7), B(key), B("v")));
+    }
+    WANT(REDO_TREE_FULL, redo_tree_insert(&db, range(5, 5), B("k7"), B("v")));
+    WANT(REDO_NO_ROOM, redo_hash_put(&db, range(6, 7), B("k7"), B("v"))), detail_is(&db, 0, 0);
+    WANT(REDO_OK, redo_put(&db, 9, B("no directory")));
+    WANT(REDO_BAD_HASH, redo_hash_get(&db, range(9, 12), B("k"), got, sizeof got, &n)), detail_is(&db, 9, 0);
+    WANT(REDO_OK, redo_force(&db, &n));
+    WANT(REDO_OK, redo_close(&db));
+
+    /* A byte of the header is spoilt: the store says where, and the handle is closed. */
+    snprintf(path, sizeof path, "%s/objects.rdo", folder);
+    FILE *f = fopen(path, "r+b");
+    if (!f || fseek(f, 12, SEEK_SET) || fputc(255, f) == EOF || fclose(f)) fail("%s cannot be written", path);
+    WANT(REDO_DAMAGED, redo_open(&db, folder)), detail_is(&db, 0, 9);
+    WANT(REDO_NOT_OPEN, redo_close(&db));
+    puts("test_answers: ok");
+    return 0;
+}

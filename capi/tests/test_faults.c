@@ -1,0 +1,270 @@
+/* What happens when a call on a file fails, and what a crash leaves at each call: test_faults FOLDER, an empty one. */
+#define _GNU_SOURCE
+#include "calls.h"
+#include "want.h"
+#include <fcntl.h>
+#include <sys/stat.h>
+
+/* The commands: the i-th puts the numbers below i into object 0, so that object 0 says how many were done. Each third one is
+ * followed by a force, and two of them by a trim. */
+enum { COMMANDS = 24 };
+static uint8_t numbers[COMMANDS];
+static const char *const names[3] = {"objects.rdo", "log_a.rdo", "log_b.rdo"};
+
+static char root[4096];
+static const char *in_root(const char *name) {
+    static char path[2][8192];
+    static int turn;
+    char *p = path[turn ^= 1];
+    snprintf(p, sizeof path[0], "%s/%s", root, name);
+    return p;
+}
+static void empty(const char *folder) {
+    char path[12288];
+    mkdir(folder, 0777);
+    for (int i = 0; i < 3; i++) snprintf(path, sizeof path, "%s/%s", folder, names[i]), unlink(path);
+}
+
+/* What a run was told: how many commands were accepted, how many of them to be durable, and the first answer that was not 0. */
+typedef struct { bool is_made; int accepted, forced; int32_t answer; size_t made_at[COMMANDS + 1]; size_t store_at; } told_t;
+
+static bool is_done(told_t *t, int32_t rc) { return t->answer = rc, rc == REDO_OK; }
+static told_t run(const char *folder, redo_t *db) {
+    told_t t = {0};
+    uint64_t n;
+    if (!is_done(&t, redo_create(db, folder, 4, 64, 65536))) return t;
+    t.is_made = true, t.store_at = made_count;
+    for (int i = 1; i <= COMMANDS; i++) {
+        if (!is_done(&t, redo_put(db, 0, numbers, (size_t)i))) return t;
+        t.accepted = i;
+        if (i % 3 == 0) {
+            if (!is_done(&t, redo_force(db, &n))) return t;
+            if (n != (uint64_t)i) fail("%d forced in the place of %d", (int)n, i);
+            t.forced = i, t.made_at[i] = made_count;
+        }
+        if (i % 9 == 0 && !(is_done(&t, redo_drain(db)) && is_done(&t, redo_trim(db)))) return t;
+    }
+    return t;
+}
+
+/* How many commands a store has; -1 where the folder has none that is whole, as before redo_create has answered. */
+static int commands_in(const char *folder) {
+    redo_t db = REDO_CLOSED;
+    uint8_t got[64];
+    uint64_t n = 0;
+    int32_t rc = redo_open(&db, folder);
+    if (rc == REDO_NOT_A_STORE || rc == REDO_DAMAGED) return -1;
+    WANT(REDO_OK, rc);
+    WANT(REDO_OK, redo_get(&db, 0, got, sizeof got, &n));
+    if (n > COMMANDS || memcmp(got, numbers, n)) fail("a value that was never put");
+    redo_stat_t s;
+    WANT(REDO_OK, redo_stat(&db, &s));
+    if (s.accepted != n) fail("%d commands, and object 0 has %d bytes", (int)s.accepted, (int)n);
+    WANT(REDO_OK, redo_put(&db, 1, numbers, 1));
+    WANT(REDO_OK, redo_force(&db, &n));
+    WANT(REDO_OK, redo_close(&db));
+    return (int)n - 1;
+}
+
+/* After a disk fault the handle answers nothing else, its lock is gone, and the store has what was forced. */
+static void check_failed(const char *folder, redo_t *db, told_t told) {
+    uint64_t n;
+    redo_detail_t d;
+    if (told.answer == REDO_OK) fail("no answer tells of the fault");
+    redo_last_detail(db, &d);
+    if (told.is_made) {
+        WANT(REDO_DISK_FAULT, told.answer);
+        if (d.first != EIO) fail("the reason is %d", (int)d.first);
+        WANT(REDO_DISK_FAULT, redo_put(db, 0, numbers, 1));
+        WANT(REDO_DISK_FAULT, redo_force(db, &n));
+        WANT(REDO_DISK_FAULT, redo_get(db, 0, 0, 0, &n));
+        WANT(REDO_ALREADY_OPEN, redo_open(db, folder));
+        WANT(REDO_OK, redo_close(db));
+    }
+    WANT(REDO_NOT_OPEN, redo_close(db));
+    int count = commands_in(folder);
+    if (count == -1 ? told.is_made : count < told.forced || count > told.accepted + 1)
+        fail("%d commands after %d were forced and %d accepted", count, told.forced, told.accepted);
+}
+
+/* Each call of each kind fails once. */
+static void each_fault(void) {
+    const char *folder = in_root("faulty");
+    for (int kind = 0; kind < CALLS; kind++) {
+        unsigned at = 1;
+        for (;; at++) {
+            redo_t db = REDO_CLOSED;
+            empty(folder);
+            fail_which = (enum which)kind, fail_at = at, has_failed = false, fail_why = EIO;
+            told_t told = run(folder, &db);
+            fail_at = 0;
+            if (has_failed) {
+                if (calls_after) fail("%u calls after one of %s had failed", calls_after, call_names[kind]);
+                check_failed(folder, &db, told);
+                continue;
+            }
+            WANT(REDO_OK, told.answer);
+            WANT(REDO_OK, redo_close(&db));
+            break;
+        }
+        printf("%s: %u faults\n", call_names[kind], at - 1);
+    }
+}
+
+/* A call that a signal has interrupted is made again. */
+static void each_interruption(void) {
+    static const enum which kinds[2] = {PREAD, PWRITE};
+    const char *folder = in_root("faulty");
+    redo_t db = REDO_CLOSED;
+    fail_why = EINTR;
+    for (int i = 0; i < 2; i++) {
+        bool is_interrupted = true;
+        for (unsigned at = 1; is_interrupted; at++) {
+            empty(folder);
+            fail_which = kinds[i], fail_at = at, has_failed = false;
+            WANT(REDO_OK, run(folder, &db).answer);
+            WANT(REDO_OK, redo_close(&db));
+            WANT(REDO_OK, redo_open(&db, folder));
+            WANT(REDO_OK, redo_close(&db));
+            is_interrupted = has_failed, fail_at = 0, has_failed = false;
+            if (commands_in(folder) != COMMANDS) fail("not all commands");
+        }
+    }
+}
+
+/* The same when a store is opened. Nothing was changed then, and the handle is closed. */
+static void each_fault_of_open(void) {
+    const char *folder = in_root("faulty");
+    for (int kind = 0; kind < CALLS; kind++) {
+        for (unsigned at = 1;; at++) {
+            redo_t db = REDO_CLOSED;
+            fail_which = (enum which)kind, fail_at = at, has_failed = false;
+            int32_t rc = redo_open(&db, folder);
+            fail_at = 0;
+            if (!has_failed) {
+                WANT(REDO_OK, rc);
+                WANT(REDO_OK, redo_close(&db));
+                break;
+            }
+            if (calls_after) fail("%u calls after one of %s had failed", calls_after, call_names[kind]);
+            if (rc != REDO_DISK_FAULT && !(rc == REDO_NO_FOLDER && kind <= LOCK)) fail("%s: %d", call_names[kind], rc);
+            WANT(REDO_NOT_OPEN, redo_close(&db));
+        }
+    }
+    if (commands_in(folder) != COMMANDS) fail("not all commands");
+    fail_which = LOCK, fail_at = 1, fail_why = EWOULDBLOCK;
+    redo_t db = REDO_CLOSED;
+    WANT(REDO_LOCKED, redo_open(&db, folder));
+}
+
+/* The files at one moment: what reads give, and what a crash leaves where nothing unsynced has reached the disk. */
+typedef struct { uint8_t *now, *synced; size_t length, synced_length; bool is_made, is_named; } file_t;
+enum { MOST = 1 << 18 };
+static file_t files[3];
+
+static void make(const made_t *m) {
+    if (m->done == READ) return;
+    if (m->file == 3) {
+        for (int i = 0; i < 3; i++) files[i].is_named = files[i].is_made;
+        return;
+    }
+    file_t *f = &files[m->file];
+    if (m->done == MADE) {
+        f->is_made = true;
+        return;
+    }
+    if (m->done == SYNCED) {
+        memcpy(f->synced, f->now, MOST), f->synced_length = f->length;
+        return;
+    }
+    if (m->at + m->length > MOST) fail("a file of more than %d bytes", MOST);
+    memcpy(f->now + m->at, m->bytes, m->length);
+    if (m->at + m->length > f->length) f->length = m->at + m->length;
+}
+/* One of the images that the disk may have: each byte that is not synced is as it was (0), as it was written (1), another one
+ * (2), or one of the three at random, and so is the length. A file whose name is not synced is there or is not. */
+static void write_image(const char *folder, int how) {
+    char path[12288];
+    empty(folder);
+    for (int i = 0; i < 3; i++) {
+        file_t *f = &files[i];
+        size_t more = f->length - f->synced_length;
+        size_t n = how == 0 ? f->synced_length : how < 3 ? f->length : f->synced_length + (more ? (size_t)rand() % (more + 1) : 0);
+        if (n == 0 || (!f->is_named && (how == 0 || rand() % 2))) continue;
+        uint8_t *bytes = malloc(n);
+        for (size_t k = 0; k < n; k++) {
+            bool is_settled = k < f->synced_length && f->now[k] == f->synced[k];
+            int as = how < 3 ? how : rand() % 3;
+            bytes[k] = is_settled || as == 1 ? f->now[k] : as == 0 ? f->synced[k] : (uint8_t)rand();
+        }
+        snprintf(path, sizeof path, "%s/%s", folder, names[i]);
+        FILE *out = fopen(path, "wb");
+        if (!out || fwrite(bytes, 1, n, out) != n || fclose(out)) fail("%s cannot be written", path);
+        free(bytes);
+    }
+}
+
+static void forget(void) {
+    for (size_t k = 0; k < made_count; k++) free(made[k].bytes);
+    free(made), made = 0, made_count = 0;
+}
+
+/* Each front of the calls of a run is a store (or none, before it was made) that has what was forced by then. */
+static void each_front(void) {
+    const char *folder = in_root("recorded"), *left = in_root("left");
+    redo_t db = REDO_CLOSED;
+    empty(folder);
+    recording = true, made_count = 0;
+    told_t told = run(folder, &db);
+    recording = false;
+    WANT(REDO_OK, told.answer);
+    WANT(REDO_OK, redo_close(&db));
+    for (int i = 0; i < 3; i++) files[i] = (file_t){.now = calloc(1, MOST), .synced = calloc(1, MOST)};
+    int images = 0;
+    for (size_t k = 0; k <= made_count; k++) {
+        if (k > 0) make(&made[k - 1]);
+        int forced = 0;
+        for (int i = 1; i <= COMMANDS; i++)
+            if (told.made_at[i] && told.made_at[i] <= k) forced = i;
+        for (int how = 0; how < 6; how++, images++) {
+            write_image(left, how);
+            int count = commands_in(left);
+            if (count == -1 ? k >= told.store_at : count < forced)
+                fail("%d commands after %d were forced: call %d of %d, image %d", count, forced, (int)k, (int)made_count, how);
+        }
+    }
+    for (int i = 0; i < 3; i++) free(files[i].now), free(files[i].synced);
+    printf("%d images of %d fronts\n", images, (int)made_count + 1);
+    forget();
+}
+
+/* Another process may have written what is read, and have been killed: so the files and the folder are synced first. */
+static void synced_before_read(void) {
+    const char *folder = in_root("recorded");
+    redo_t db = REDO_CLOSED;
+    bool is_synced[4] = {false}, is_read[4] = {false};
+    recording = true, made_count = 0;
+    WANT(REDO_OK, redo_open(&db, folder));
+    recording = false;
+    WANT(REDO_OK, redo_close(&db));
+    for (size_t k = 0; k < made_count; k++) {
+        if (made[k].done == SYNCED) is_synced[made[k].file] = true;
+        if (made[k].done == READ) is_read[made[k].file] = true;
+        if (made[k].done == READ && !(is_synced[made[k].file] && is_synced[3]))
+            fail("file %d is read and not synced", made[k].file);
+    }
+    if (!is_read[0] || !is_read[1]) fail("the files are not read");
+    forget();
+}
+
+int main(int argc, char **argv) {
+    snprintf(root, sizeof root, "%s", argc > 1 ? argv[1] : ".");
+    for (int i = 0; i < COMMANDS; i++) numbers[i] = (uint8_t)i;
+    each_interruption(), each_fault(), each_fault_of_open();
+    most = 7;                           /* the system moves seven bytes a call */
+    each_fault(), each_front();
+    most = 0;
+    each_front(), synced_before_read();
+    puts("test_faults: ok");
+    return 0;
+}

@@ -1,0 +1,240 @@
+/* The calls of redo.h, one after the other: test_redo FOLDER, an empty one. */
+#include "want.h"
+#include <pthread.h>
+#include <signal.h>
+#include <sys/stat.h>
+#include <sys/wait.h>
+#include <unistd.h>
+
+static redo_t db = REDO_CLOSED, other = REDO_CLOSED;
+static uint64_t n;
+static uint8_t got[2048];
+
+static void is(uint32_t x, const char *value) {
+    WANT(REDO_OK, redo_get(&db, x, got, sizeof got, &n));
+    if (n != strlen(value) || memcmp(got, value, n)) fail("object %u has %d bytes: %.*s", x, (int)n, (int)n, (char *)got);
+}
+static void put(uint32_t x, const char *value) { WANT(REDO_OK, redo_put(&db, x, B(value))); }
+static void detail_is(uint64_t first, uint64_t third) {
+    redo_detail_t d;
+    WANT(REDO_OK, redo_last_detail(&db, &d));
+    if (d.first != first || d.third != third) fail("detail %llu .. %llu", (unsigned long long)d.first, (unsigned long long)d.third);
+}
+
+/* A log with a block, without an objects file. */
+static void write_log(const char *folder) {
+    char path[4096], log[40] = "\1RDOLOG01";
+    snprintf(path, sizeof path, "%s/log_b.rdo", folder);
+    log[33] = 1;
+    FILE *f = fopen(path, "wb");
+    if (!f || fwrite(log, 1, sizeof log, f) != sizeof log || fclose(f)) fail("%s cannot be written", path);
+}
+static void remove_log(const char *folder) {
+    char path[4096];
+    snprintf(path, sizeof path, "%s/log_b.rdo", folder);
+    remove(path);
+}
+
+static void closed(const char *folder) {
+    redo_stat_t stat;
+    WANT(REDO_NOT_OPEN, redo_put(&db, 0, B("x")));
+    WANT(REDO_NOT_OPEN, redo_get(&db, 0, got, 1, &n));
+    WANT(REDO_NOT_OPEN, redo_force(&db, &n));
+    WANT(REDO_NOT_OPEN, redo_stat(&db, &stat));
+    WANT(REDO_NOT_OPEN, redo_close(&db));
+    WANT(REDO_NO_FOLDER, redo_open(&db, "/nowhere/at/all"));
+    detail_is(ENOENT, 0);
+    WANT(REDO_NOT_OPEN, redo_put(&db, 0, B("x"))), detail_is(0, 0);
+    WANT(REDO_NOT_A_STORE, redo_open(&db, folder));
+    WANT(REDO_BAD_PARAMS, redo_create(&db, folder, 0, 64, 65536));
+    WANT(REDO_BAD_PARAMS, redo_create(&db, folder, 8, 1024, 1024));
+    write_log(folder);
+    WANT(REDO_OLD_LOG, redo_create(&db, folder, 8, 1024, 65536));
+    remove_log(folder);
+    if (access_in(folder, "objects.rdo")) fail("a file was made");
+    if (redo_version() != REDO_VERSION || redo_handle_size() != sizeof db) fail("the version");
+    for (int32_t i = 0; i < 100; i++)
+        if (!redo_strerror(i) || !*redo_strerror(i)) fail("no text for %d", i);
+}
+
+static void made(const char *folder) {
+    WANT(REDO_OK, redo_create(&db, folder, 8, 1024, 65536));
+    WANT(REDO_ALREADY_OPEN, redo_open(&db, folder));
+    WANT(REDO_ALREADY_OPEN, redo_create(&db, folder, 8, 1024, 65536));
+    WANT(REDO_LOCKED, redo_open(&other, folder));
+    WANT(REDO_LOCKED, redo_create(&other, folder, 8, 1024, 65536));
+    WANT(REDO_OK, redo_close(&db));
+    WANT(REDO_ALREADY_STORE, redo_create(&db, folder, 8, 1024, 65536));
+    WANT(REDO_OK, redo_open(&db, folder));
+    redo_params_t p;
+    WANT(REDO_OK, redo_params(&db, &p));
+    if (p.objects != 8 || p.cap != 1024 || p.limit != 65536) fail("the numbers");
+}
+
+static void values(void) {
+    uint8_t long_value[1025] = {0};
+    put(0, "hello"), is(0, "hello"), put(1, ""), is(1, ""), is(7, "");
+    WANT(REDO_OK, redo_copy(&db, 0, 1)), is(1, "hello");
+    WANT(REDO_OK, redo_append(&db, 0, 1)), is(1, "hellohello");
+    WANT(REDO_OK, redo_cut(&db, 1, 2, 7)), is(1, "hellohe"), is(2, "llo");
+    WANT(REDO_OK, redo_sort(&db, 0, 3, 1)), is(3, "ehllo");
+    WANT(REDO_OK, redo_swap(&db, 2, 3)), is(2, "ehllo"), is(3, "llo");
+    WANT(REDO_BAD_PLACE, redo_cut(&db, 0, 1, 6));
+    WANT(REDO_BAD_WIDTH, redo_sort(&db, 0, 1, 2));
+    WANT(REDO_SAME, redo_swap(&db, 0, 0));
+    WANT(REDO_NO_OBJECT, redo_put(&db, 8, B("x")));
+    WANT(REDO_OK, redo_put(&db, 6, 0, 0)), is(6, "");
+    WANT(REDO_OK, redo_get(&db, 0, 0, 0, 0));
+    WANT(REDO_NO_OBJECT, redo_copy(&db, 0, 4294967295u));
+    WANT(REDO_NO_OBJECT, redo_get(&db, 8, got, 1, &n));
+    WANT(REDO_TOO_LARGE, redo_put(&db, 0, long_value, 1025));
+    is(0, "hello");
+    WANT(REDO_OK, redo_put(&db, 4, long_value, 1024));
+    WANT(REDO_OK, redo_get(&db, 4, 0, 0, &n));
+    if (n != 1024) fail("the length");
+    got[2] = '!';
+    WANT(REDO_OK, redo_get(&db, 0, got, 2, &n));
+    if (n != 5 || memcmp(got, "he!", 3)) fail("a value that was cut");
+}
+
+static void groups(void) {
+    WANT(REDO_NO_GROUP, redo_end(&db));
+    WANT(REDO_OK, redo_begin(&db));
+    put(5, "a"), put(6, "b");
+    WANT(REDO_IN_GROUP, redo_begin(&db)), detail_is(2, 0);
+    WANT(REDO_IN_GROUP, redo_force(&db, &n));
+    WANT(REDO_IN_GROUP, redo_drain(&db));
+    WANT(REDO_IN_GROUP, redo_trim(&db));
+    WANT(REDO_OK, redo_end(&db));
+    WANT(REDO_OK, redo_force(&db, &n));
+    redo_stat_t s;
+    WANT(REDO_OK, redo_stat(&db, &s));
+    if (s.forced != n || s.accepted != n) fail("the counts");
+}
+
+static void upkeep(void) {
+    do WANT(REDO_OK, redo_install(&db, &n)); while (n);
+    WANT(REDO_OK, redo_drain(&db));
+    WANT(REDO_OK, redo_checkpoint(&db));
+    WANT(REDO_OK, redo_trim(&db));
+    uint8_t value[1000] = {0};
+    int32_t rc = REDO_OK;
+    for (int i = 0; i < 100 && rc == REDO_OK; i++) rc = redo_put(&db, 4, value, sizeof value);
+    WANT(REDO_LOG_FULL, rc), detail_is_full(&db, 65536);
+    WANT(REDO_OK, redo_drain(&db));
+    WANT(REDO_OK, redo_trim(&db));
+    WANT(REDO_OK, redo_put(&db, 4, value, sizeof value));
+    is(0, "hello");
+}
+
+/* The trees and hash files stand in a store of their own. */
+static void maps(const char *folder) {
+    char path[4096];
+    snprintf(path, sizeof path, "%s/maps", folder);
+    mkdir(path, 0777);
+    redo_t s = REDO_CLOSED;
+    redo_lengths_t l;
+    uint8_t key[32];
+    char name[8];
+    WANT(REDO_OK, redo_create(&s, path, 128, 1024, 1 << 20));
+    WANT(REDO_NO_KEY, redo_tree_get(&s, range(0, 63), B("k"), got, sizeof got, &n));
+    for (int i = 0; i < 60; i++) {
+        snprintf(name, sizeof name, "k%02d", i * 7 % 60);
+        WANT(REDO_OK, redo_tree_insert(&s, range(0, 63), B(name), B(name)));
+        WANT(REDO_OK, redo_hash_put(&s, range(64, 127), B(name), B(name)));
+    }
+    WANT(REDO_OK, redo_tree_insert(&s, range(0, 63), B("k07"), B("seven")));
+    WANT(REDO_OK, redo_tree_get(&s, range(0, 63), B("k07"), got, sizeof got, &n));
+    if (n != 5 || memcmp(got, "seven", 5)) fail("the tree's k07");
+    WANT(REDO_OK, redo_tree_delete(&s, range(0, 63), B("k08")));
+    WANT(REDO_NO_KEY, redo_tree_delete(&s, range(0, 63), B("k08")));
+    WANT(REDO_OK, redo_tree_range(&s, range(0, 63), B("k05"), B("k12"), &n));
+    if (n != 6) fail("the range has %d pairs", (int)n);
+    WANT(REDO_OK, redo_tree_pair(&s, 3, key, sizeof key, got, sizeof got, &l));
+    if (l.key != 3 || l.value != 3 || memcmp(key, "k09", 3) || memcmp(got, "k09", 3)) fail("pair 3");
+    WANT(REDO_NO_KEY, redo_tree_pair(&s, 6, key, sizeof key, got, sizeof got, &l));
+    WANT(REDO_OK, redo_hash_get(&s, range(64, 127), B("k33"), got, sizeof got, &n));
+    if (n != 3 || memcmp(got, "k33", 3)) fail("the hash file's k33");
+    WANT(REDO_OK, redo_hash_delete(&s, range(64, 127), B("k33")));
+    WANT(REDO_NO_KEY, redo_hash_get(&s, range(64, 127), B("k33"), got, sizeof got, &n));
+    WANT(REDO_NO_KEY, redo_hash_delete(&s, range(64, 127), B("k33")));
+    WANT(REDO_BAD_KEY, redo_tree_insert(&s, range(0, 63), "", 0, B("v")));
+    WANT(REDO_BAD_KEY, redo_hash_put(&s, range(64, 127), B("a key of more than thirty-two bytes"), B("v")));
+    WANT(REDO_NO_OBJECT, redo_tree_insert(&s, range(9, 8), B("k"), B("v")));
+    WANT(REDO_NO_OBJECT, redo_tree_insert(&s, range(60, 128), B("k"), B("v")));
+    WANT(REDO_NO_OBJECT, redo_hash_put(&s, range(9, 9), B("k"), B("v")));
+    WANT(REDO_OK, redo_force(&s, &n));
+    WANT(REDO_OK, redo_close(&s));
+    WANT(REDO_OK, redo_open(&s, path));
+    WANT(REDO_OK, redo_tree_range(&s, range(0, 63), B("k"), B("l"), &n));
+    if (n != 59) fail("the tree has %d pairs", (int)n);
+    WANT(REDO_OK, redo_close(&s));
+}
+
+static void applications(void) {
+    put(0, "hello"), put(5, ""), put(6, "");
+    WANT(REDO_OK, redo_app_read(&db, 5, 0));
+    WANT(REDO_OK, redo_app_exec(&db, 5));
+    WANT(REDO_OK, redo_app_run(&db, 5, 10, &n));
+    if (n != 4) fail("%d steps", (int)n);
+    WANT(REDO_NO_INPUT, redo_app_exec(&db, 5));
+    WANT(REDO_OK, redo_app_write(&db, 5, 6));
+    put(0, "no program"), put(6, "");
+    WANT(REDO_OK, redo_program_read(&db, 6, 0));
+    WANT(REDO_NOT_CODE, redo_program_exec(&db, 6, 0));
+    WANT(REDO_NOT_CODE, redo_program_run(&db, 6, 0, 1, &n));
+    WANT(REDO_OK, redo_program_write(&db, 6, 7));
+    WANT(REDO_NO_OBJECT, redo_app_exec(&db, 8));
+}
+
+/* A child is killed within a group: what was forced is there, and of the group nothing. */
+static void killed(const char *folder) {
+    WANT(REDO_OK, redo_close(&db));
+    pid_t child = fork();
+    if (child == 0) {
+        WANT(REDO_OK, redo_open(&db, folder));
+        put(0, "kept");
+        WANT(REDO_OK, redo_force(&db, &n));
+        WANT(REDO_OK, redo_begin(&db));
+        put(0, "lost"), put(1, "lost");
+        kill(getpid(), SIGKILL);
+    }
+    int status = 0;
+    waitpid(child, &status, 0);
+    if (!WIFSIGNALED(status)) fail("the child ended with %d", status);
+    WANT(REDO_OK, redo_open(&db, folder));
+    is(0, "kept");
+}
+
+/* A handle may pass from one thread to another. */
+static void *in_thread(void *unused) { return put(3, "thread"), unused; }
+static void threads(void) {
+    pthread_t t;
+    if (pthread_create(&t, 0, in_thread, 0) || pthread_join(t, 0)) fail("no thread");
+    is(3, "thread");
+}
+
+/* The first file that is opened takes the number of a stream that is closed. */
+static void closed_streams(const char *folder) {
+    WANT(REDO_OK, redo_close(&db));
+    fflush(stdout);
+    int kept = dup(1);
+    close(1), close(0);
+    WANT(REDO_OK, redo_open(&db, folder));
+    if (write(1, "into no file\n", 13) != -1) fail("a file of the store has the number of a stream");
+    dup2(kept, 1), close(kept);
+    is(0, "kept");
+}
+
+int main(int argc, char **argv) {
+    const char *folder = argc > 1 ? argv[1] : ".";
+    closed(folder), made(folder), values(), groups(), upkeep(), maps(folder), applications(), killed(folder), threads();
+    WANT(REDO_OK, redo_last_detail(&db, &(redo_detail_t){0, 0, 0}));
+    closed_streams(folder);
+    WANT(REDO_OK, redo_close(&db));
+    WANT(REDO_NOT_OPEN, redo_close(&db));
+    WANT(REDO_OK, redo_open(&other, folder));
+    WANT(REDO_OK, redo_close(&other));
+    puts("test_redo: ok");
+    return 0;
+}

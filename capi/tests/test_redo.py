@@ -1,0 +1,234 @@
+"""The module, on the library that LIBREDO names: test_redo.py FOLDER, an empty one."""
+import os
+import signal
+import subprocess
+import sys
+import threading
+
+sys.dont_write_bytecode = True
+sys.path.insert(0, os.path.join(os.path.dirname(os.path.abspath(__file__)), os.pardir))
+import redo  # noqa: E402
+
+
+def refused(error, call, *words):
+    try:
+        call(*words)
+    except error as e:
+        assert type(e) is error and isinstance(e, redo.Error), e
+        return e
+    raise AssertionError(f"{error.__name__} was not raised")
+
+
+def values(folder):
+    refused(redo.NotAStore, redo.open, folder)
+    assert "No such file" in str(refused(redo.NoFolder, redo.open, folder + "/nowhere"))
+    refused(redo.BadParams, redo.create, folder, 0, 64, 65536)
+    refused(redo.BadParams, redo.create, folder, -1, 64, 65536)
+    with redo.create(folder, objects=8, cap=8192, limit=65536) as s:
+        assert s.params() == (8, 8192, 65536) and len(s) == 8
+        refused(redo.Locked, redo.open, folder)
+        s.put(0, b"hello")
+        s.copy(0, 1)
+        s.append(0, 1)
+        s.cut(1, 2, 7)
+        s.sort(0, 3, 1)
+        s.swap(2, 3)
+        assert [s[x] for x in range(5)] == [b"hello", b"hellohe", b"ehllo", b"llo", b""]
+        s[4] = bytearray(range(256)) * 32
+        assert s[4] == bytes(range(256)) * 32
+        refused(redo.NoObject, s.put, 8, b"")
+        refused(redo.NoObject, s.put, 1 << 32, b"")
+        refused(redo.TooLarge, s.put, 0, bytes(8193))
+        for value in (5, "text", None):
+            try:
+                s.put(0, value)
+                raise AssertionError("no bytes are taken")
+            except TypeError:
+                pass
+        refused(redo.BadPlace, s.cut, 0, 1, 6)
+        refused(redo.BadWidth, s.sort, 0, 1, 2)
+        refused(redo.Same, s.swap, 0, 0)
+        assert list(s)[0] == b"hello" and len(list(s)) == 8
+        assert s.force() == s.stat().forced == s.stat().accepted == 7
+        full = None
+        while not full:
+            try:
+                s.put(4, bytes(8192))
+            except redo.LogFull as error:
+                full = error
+        assert full.code == 16 and full.detail[2] == 65536, full.detail
+        while s.install():
+            pass
+        s.drain()
+        s.checkpoint()
+        s.trim()
+        s.put(4, b"room")
+    assert not s.is_open
+    s.close()
+    refused(redo.NotOpen, s.get, 0)
+    refused(redo.AlreadyStore, redo.create, folder, 8, 64, 65536)
+
+
+def groups(folder):
+    with redo.open(folder) as s:
+        refused(redo.NoGroup, s._call, redo._end)
+        with s.group():
+            s.put(5, b"a")
+            assert refused(redo.InGroup, s.force).detail[0] == 1
+        try:
+            with s.group():
+                s.put(6, b"kept")
+                raise ValueError
+        except ValueError:
+            pass
+        assert s.get(6) == b"kept"
+        with s.group():
+            late = threading.Thread(target=s.force)
+            late.start()
+            s.put(7, b"b")
+        late.join()
+        s.force()
+    with redo.open(folder) as s:
+        assert s.get(5) == b"a" and s.get(6) == b"kept"
+
+
+def maps(folder):
+    os.mkdir(folder + "/maps")
+    with redo.create(folder + "/maps", 128, 1024, 1 << 20) as s:
+        tree, index = s.tree(0, 63), s.hash(64, 127)
+        assert not tree and len(tree) == 0 and list(tree) == []
+        for i in range(60):
+            key = b"k%02d" % (i * 7 % 60)
+            tree[key] = index[key] = b"v" + key
+        assert len(tree) == 60 and list(tree) == sorted(tree) and tree[b"k07"] == b"vk07"
+        assert [k for k, _ in tree.range(b"k05", b"k08")] == [b"k05", b"k06", b"k07"]
+        assert list(tree.range(b"k58")) == [(b"k58", b"vk58"), (b"k59", b"vk59")]
+        assert tree.get(b"x") is None and tree.get(b"x", b"d") == b"d" and b"k01" in tree and b"x" not in tree
+        tree[b"\xff" * 32] = b"last"
+        assert list(tree.items())[-1] == (b"\xff" * 32, b"last")
+        del tree[b"k08"]
+        refused(redo.NoKey, tree.delete, b"k08")
+        assert isinstance(refused(redo.NoKey, tree.__getitem__, b"k08"), KeyError)
+        assert tree.pop(b"k09") == b"vk09" and tree.setdefault(b"k09", b"new") == b"new"
+        tree.update({b"k10": b"ten"})
+        assert dict(tree)[b"k10"] == b"ten"
+        refused(redo.BadKey, tree.set, b"", b"v")
+        refused(redo.BadKey, tree.range, b"")
+        refused(redo.BadKey, index.set, b"k" * 33, b"v")
+        refused(redo.NoObject, s.tree(9, 8).set, b"k", b"v")
+        refused(redo.NoObject, s.hash(9, 9).set, b"k", b"v")
+        assert index[b"k33"] == b"vk33" and index.get(b"x") is None and b"k33" in index
+        index.delete(b"k33")
+        refused(redo.NoKey, index.delete, b"k33")
+        s.force()
+    with redo.open(folder + "/maps") as s:
+        assert len(s.tree(0, 63)) == 60 and s.hash(64, 127)[b"k34"] == b"vk34"
+
+
+def applications(folder):
+    with redo.open(folder) as s:
+        s.put(0, b"hello")
+        s.put(5, b"")
+        s.put(6, b"")
+        s.app_read(5, 0)
+        s.app_exec(5)
+        assert s.app_run(5, 10) == 4
+        refused(redo.NoInput, s.app_exec, 5)
+        s.app_write(5, 6)
+        s.put(6, b"")
+        s.program_read(6, 0)
+        s.put(0, b"no program")
+        refused(redo.NotCode, s.program_exec, 6, 0)
+        refused(redo.NotCode, s.program_run, 6, 0, 1)
+        s.program_write(6, 7)
+
+
+def forks_and_kills(folder):
+    with redo.open(folder) as s:
+        if (child := os.fork()) == 0:
+            try:
+                s.put(0, b"child")
+            except redo.NotOpen:
+                os._exit(17)
+            os._exit(1)
+        assert os.waitstatus_to_exitcode(os.waitpid(child, 0)[1]) == 17
+        s.put(0, b"parent")
+        s.force()
+    if (child := os.fork()) == 0:
+        s = redo.open(folder)
+        s.put(0, b"kept")
+        s.force()
+        with s.group():
+            s.put(0, b"lost")
+            s.put(1, b"lost")
+            os.kill(os.getpid(), signal.SIGKILL)
+    assert os.waitstatus_to_exitcode(os.waitpid(child, 0)[1]) == -signal.SIGKILL
+    here = os.getcwd()
+    with redo.open(os.path.relpath(folder)) as s:
+        os.chdir("/")
+        assert s.get(0) == b"kept" and s.get(1) != b"lost"
+        s.force()
+    os.chdir(here)
+
+
+def threads(folder):
+    with redo.open(folder) as s:
+        before = s.stat().accepted
+
+        def work(x):
+            for i in range(200):
+                s.put(x, b"%d" % i)
+                assert s.get(x) == b"%d" % i
+
+        workers = [threading.Thread(target=work, args=[x]) for x in range(4)]
+        for worker in workers:
+            worker.start()
+        for worker in workers:
+            worker.join()
+        assert s.stat().accepted == before + 800
+
+
+def fails(folder, words, is_open=False):
+    """A process in which a call on a file fails, at once or when the store is open: what it raises, what it answers after that."""
+    script = """
+import ctypes, os, sys, redo
+calls = ctypes.CDLL(os.environ["LD_PRELOAD"])
+def raised(call, *words):
+    try: call(*words)
+    except redo.Error as e: return type(e).__name__ + (" " + os.strerror(e.detail[0]) if e.detail[0] else "")
+s = redo.open(sys.argv[1])
+s.put(0, b"one")
+calls.read_words(os.environ["REDO_FAIL_OPEN"].encode())
+print(raised(s.force), raised(s.get, 0), raised(s.force), s.is_open)
+s.close()
+print(raised(s.get, 0), raised(redo.open, "/nowhere"))
+with redo.open(sys.argv[1]) as s: s.put(0, b"two"), s.force()
+"""
+    done = subprocess.run([sys.executable, "-B", "-c", script, folder], capture_output=True, text=True, env={
+        **os.environ, "LD_PRELOAD": os.environ["REDO_CALLS"],
+        "REDO_FAIL": "" if is_open else words, "REDO_FAIL_OPEN": words if is_open else "",
+        "PYTHONPATH": os.path.dirname(os.path.abspath(redo.__file__))})
+    return done.stdout.splitlines() or [line.split(":")[0] for line in done.stderr.splitlines()[-1:]]
+
+
+def faults(folder):
+    fault = "DiskFault Input/output error"
+    answers = [f"{fault} {fault} {fault} True", "NotOpen NoFolder No such file or directory"]
+    for words in ("pwrite 1", "fdatasync 1"):
+        assert fails(folder, words, is_open=True) == answers, (words, fails(folder, words, is_open=True))
+    for words in ("fsync 1", "openat 1", "fstat 1", "pread 1"):
+        assert fails(folder, words) == ["redo.DiskFault"], (words, fails(folder, words))
+    for words in ("open 1", "flock 1"):
+        assert fails(folder, words) == ["redo.NoFolder"]
+    with redo.open(folder) as s:
+        assert s.get(0) == b"two"
+
+
+def main():
+    folder = sys.argv[1] if len(sys.argv) > 1 else "."
+    for test in (values, groups, maps, applications, forks_and_kills, threads, *([faults] if "REDO_CALLS" in os.environ else [])):
+        test(folder)
+    print("test_redo.py: ok")
+
+
+main()
