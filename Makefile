@@ -1,10 +1,13 @@
-# Installs the program, without the toolchain and without proving anything: release/ holds it, built (Linux on x86-64).
+# Installs the programs and the library, without the toolchain and without proving anything: release/ holds them, built (Linux on
+# x86-64).
 #   make install [PREFIX=/usr/local] [DESTDIR=..]      make uninstall      make dist
 PREFIX = /usr/local
 bin = $(DESTDIR)$(PREFIX)/bin
 libexec = $(DESTDIR)$(PREFIX)/libexec/redo
 man = $(DESTDIR)$(PREFIX)/share/man/man1
 completions = $(DESTDIR)$(PREFIX)/share/bash-completion/completions
+lib = $(DESTDIR)$(PREFIX)/lib
+include = $(DESTDIR)$(PREFIX)/include
 version = $(shell sed -n 's/^version=//p' release/start)
 
 .PHONY: all install uninstall dist
@@ -12,7 +15,7 @@ all:
 	@echo "Nothing is to be made: ./redo starts the program. 'make install PREFIX=..' installs it."
 
 install:
-	install -d $(bin) $(libexec) $(man) $(completions)
+	install -d $(bin) $(libexec) $(man) $(completions) $(lib)/pkgconfig $(include)
 	install -m 755 release/redo-x86_64-linux $(libexec)/redo
 	install -m 755 release/redo_log-x86_64-linux $(bin)/redo_log
 	install -m 755 release/redo_check-x86_64-linux $(bin)/redo_check
@@ -20,13 +23,20 @@ install:
 	chmod 755 $(bin)/redo
 	install -m 644 docs/redo.1 $(man)/redo.1
 	install -m 644 release/completion.bash $(completions)/redo
+	install -m 755 release/libredo-x86_64-linux.so $(lib)/libredo.so.1
+	ln -sf libredo.so.1 $(lib)/libredo.so
+	install -m 644 capi/redo.h $(include)/redo.h
+	sed 's|@PREFIX@|$(PREFIX)|; s|@VERSION@|$(version)|' capi/redo.pc.in >$(lib)/pkgconfig/redo.pc
+	chmod 644 $(lib)/pkgconfig/redo.pc
 
 uninstall:
 	rm -f $(bin)/redo $(bin)/redo_log $(bin)/redo_check $(libexec)/redo $(man)/redo.1 $(completions)/redo
+	rm -f $(lib)/libredo.so $(lib)/libredo.so.1 $(lib)/pkgconfig/redo.pc $(include)/redo.h
 	-rmdir $(libexec)
 
 # what runs and reads without the sources: unpack it and `make install`
 dist:
 	tar -czf redo-$(version)-x86_64-linux.tar.gz --transform 's|^|redo-$(version)/|' \
 	  README.md CHANGELOG.md Makefile docs release/redo-x86_64-linux release/redo_log-x86_64-linux \
-	  release/redo_check-x86_64-linux release/start release/completion.bash
+	  release/redo_check-x86_64-linux release/start release/completion.bash release/libredo-x86_64-linux.so \
+	  capi/redo.h capi/redo.pc.in capi/redo.py capi/pyproject.toml capi/build_wheel.py
