@@ -1,7 +1,7 @@
 -- One entry more in a record.
 use Rattle.std.proofs.Common.{◌≡◌, ℕ, ◌+◌, ◌≤◌, List, [], ◌∷◌, ◌++◌, length, take, drop, sym, ◌∙◌, ap, arith, length-drop, length-append}
 use Rattle.std.proofs.lemmas.List.{take_all, take-append-le, drop-append-le, nil_from_length}
-use Rattle.disk_model.specs.Calls.{Call, Write, Sync, Say}
+use Rattle.disk_model.specs.Call.{Call, Write, Sync, Say}
 use Rattle.disk_model.specs.Entries.{calls_in, taken}
 use Rattle.disk_model.specs.declared.machine.FileNo.{FileNo}
 use Rattle.disk_model.specs.declared.entry.Entry.{Entry}

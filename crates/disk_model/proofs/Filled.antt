@@ -4,7 +4,8 @@ use Rattle.std.proofs.lemmas.List.{get_or_append_left, get_or-append_right, get_
 use Rattle.std.proofs.lemmas.Bool.{cases_lt}
 use Rattle.disk_model.specs.Disk.{Files, written_over}
 use Rattle.disk_model.specs.Moments.{same_file}
-use Rattle.disk_model.specs.Calls.{Call, Write, Sync, Say, DiskState, changed, filled_over, disk_step, disk_after, disk_start}
+use Rattle.disk_model.specs.Call.{Call, Write, Sync, Say}
+use Rattle.disk_model.specs.Calls.{DiskState, changed, filled_over, disk_step, disk_after, disk_start}
 use Rattle.disk_model.specs.CallLaws.{changed_here, changed_others, length-over}
 use Rattle.disk_model.specs.Unsynced.{NoSync, IsUnsynced, IsFilled}
 use Rattle.disk_model.specs.declared.machine.FileNo.{FileNo}

@@ -1,6 +1,7 @@
 -- What a machine in memory keeps of its calls, as a list of them.
 use Rattle.std.specs.Prelude.{ℕ, ◌+◌, ◌≤◌, ◌≡◌, List, [], ◌∷◌, take, drop}
-use Rattle.disk_model.specs.Calls.{Call, Write, Sync, Say, changed, filled_over}
+use Rattle.disk_model.specs.Call.{Call, Write, Sync, Say}
+use Rattle.disk_model.specs.Calls.{changed, filled_over}
 use Rattle.disk_model.specs.declared.machine.FileNo.{FileNo}
 use Rattle.disk_model.specs.declared.entry.Entry.{Entry}
 use Rattle.disk_model.specs.declared.entry.Entry.TheVariants.{Written, Synced, Said}

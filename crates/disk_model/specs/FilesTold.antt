@@ -1,6 +1,6 @@
 -- A machine that reports its files and what was said, and none of its moments.
 use Rattle.std.proofs.Common.{◌≡◌, ◌≤◌, ℕ, List, arith, refl, sym, subst}
-use Rattle.disk_model.specs.Disk.{Files, Disk, IsDisk, Runs}
+use Rattle.disk_model.specs.Disk.{Files, Disk, IsDisk, Runs, no_exchange}
 
 abbrev pub files_told : Files → List ℕ → ℕ → ℕ → Disk
 files_told reads said disk_faults say_faults = record {
@@ -13,6 +13,7 @@ files_told reads said disk_faults say_faults = record {
   left_since = λ t c s. ⊥;
   disk_faults = disk_faults;
   say_faults = say_faults;
+  exchange = no_exchange;
 }
 
 pub lawful_files_told : (reads : Files) (said : List ℕ) (disk_faults say_faults : ℕ) → IsDisk (files_told reads said disk_faults say_faults)
@@ -36,6 +37,7 @@ runs_told step says reads reads' said said' df df' sf sf' d s goes speaks = reco
     later = omega arith;
     disk_faults = d;
     say_faults = s;
+    exchange = refl;
     nothing_else = λ told. absurd told;
     keeps = λ told. absurd told;
   };

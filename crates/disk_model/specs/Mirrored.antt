@@ -28,6 +28,7 @@ runs_mirrored step says same same' copy copy' df df' sf sf' d s claimed goes = r
     later = omega arith;
     disk_faults = d;
     say_faults = s;
+    exchange = refl;
     nothing_else = λ told. absurd told;
     keeps = λ told. absurd told;
   };

@@ -2,7 +2,7 @@
 use Rattle.std.specs.Prelude.{◌≡◌, ℕ, ◌+◌, List, [], length, slice_index}
 use Rattle.disk_model.specs.ByFile.{part_of}
 use Rattle.disk_model.specs.Disk.{Files}
-use Rattle.disk_model.specs.Calls.{Call}
+use Rattle.disk_model.specs.Call.{Call}
 use Rattle.disk_model.specs.Entries.{calls_in, replay}
 use Rattle.disk_model.specs.declared.machine.FileNo.{FileNo}
 use Rattle.disk_model.specs.declared.machine.FileNo.TheVariants.{Objects, LogA, LogB}

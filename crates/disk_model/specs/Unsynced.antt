@@ -1,6 +1,6 @@
 -- Which offsets of a file no sync has reached, and what a crash that fills them leaves.
 use Rattle.std.specs.Prelude.{◌≡◌, ◌≢◌, ◌⊎◌, ℕ, ◌+◌, ◌<◌, ◌≤◌, List, [], ◌∷◌, length, get_or}
-use Rattle.disk_model.specs.Calls.{Call, Write, Sync, Say}
+use Rattle.disk_model.specs.Call.{Call, Write, Sync, Say}
 use Rattle.disk_model.specs.declared.machine.FileNo.{FileNo}
 
 -- none of these calls syncs the file

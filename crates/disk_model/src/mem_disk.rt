@@ -24,7 +24,7 @@ pub struct MemDisk {
 impl MemDisk {
     ghost use Rattle.disk_model.specs.declared.machine.FileNo.{FileNo};
     ghost use Rattle.disk_model.specs.Disk.{Runs, Stays, Same, In, Torn, HoldsAt, SaysFront, IsSettled, IsSettledIn};
-    ghost use Rattle.disk_model.specs.Calls.{Write, Sync, Say};
+    ghost use Rattle.disk_model.specs.Call.{Write, Sync, Say};
     ghost use Rattle.disk_model.specs.Store.{recorded, state_of, left_after};
 
     pub fn new(

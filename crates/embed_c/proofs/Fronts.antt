@@ -1,7 +1,7 @@
 -- What an opening on files that were handed in says of the real files.
 use Rattle.std.proofs.Common.{None, arith, ◌≡◌, ◌∙◌, ◌⊎◌, ◌↔◌, ◌≤◌, ℕ, List, [], ◌++◌, length, Result, Ok, Err, IfOk, ap, subst, sym, inl, inr, ⊎_elim}
 use Rattle.std.proofs.lemmas.List.{length-append, take_all}
-use Rattle.disk_model.specs.Calls.{Call}
+use Rattle.disk_model.specs.Call.{Call}
 use Rattle.disk_model.specs.Disk.{Files, LeavesOnly}
 use Rattle.disk_model.specs.declared.machine.FileNo.TheVariants.{Objects}
 use Rattle.formats.specs.Objects.{BeginsStore}

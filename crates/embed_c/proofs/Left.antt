@@ -2,7 +2,7 @@
 use Rattle.std.proofs.Common.{arith, ◌≡◌, ◌∙◌, ◌<◌, ◌≤◌, ℕ, ◌+◌, List, [], ◌∷◌, ◌++◌, length, take, drop, slice_index_or, true, false, Bool, ap, subst, sym, refl}
 use Rattle.std.proofs.lemmas.List.{append-nil, drop-map, drop_more}
 use lib.Dec.{T}
-use Rattle.disk_model.specs.Calls as disk
+use Rattle.disk_model.specs.Call as disk
 use Rattle.write_queue.specs.Waiting.{call_of, calls_in}
 use Rattle.write_queue.specs.declared.queued.Queued.{Queued}
 use Rattle.embed_c.specs.Next.{IsNext, bytes_of, told_of}

@@ -1,6 +1,6 @@
 -- What C is told of the calls that it has to make.
 use Rattle.std.specs.Prelude.{◌≡◌, ◌<◌, ◌≤◌, ℕ, List, [], ◌∷◌, length, take, drop}
-use Rattle.disk_model.specs.Calls as disk
+use Rattle.disk_model.specs.Call as disk
 use Rattle.write_queue.specs.Codes.{file_number}
 use Rattle.write_queue.specs.Waiting.{calls_in}
 use Rattle.embed_c.specs.declared.taken.Call.{Call}

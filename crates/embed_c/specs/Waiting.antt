@@ -1,6 +1,6 @@
 -- The calls of a session that C has to make.
 use Rattle.std.specs.Prelude.{◌≡◌, ◌++◌, ℕ, List}
-use Rattle.disk_model.specs.Calls as disk
+use Rattle.disk_model.specs.Call as disk
 use Rattle.formats.specs.declared.params.Params.{Params}
 use Rattle.op_codec.specs.AllOps.{AllOps, all_meaning}
 use Rattle.store_engine.specs.Engine.{Holds}

@@ -3,7 +3,8 @@ use Rattle.std.proofs.Common.{inl, inr, ◌≡◌, ℕ, ◌+◌, List, [], ◌�
 use Rattle.std.proofs.lemmas.List.{append-nil, take_all}
 use Rattle.disk_model.specs.Disk.{Files, Disk, Passes, Runs, Steps, Same, In, Torn, HoldsAt, SaysFront, IsSettledIn, written_over}
 use Rattle.disk_model.specs.Moments.{same_file}
-use Rattle.disk_model.specs.Calls.{Call, Write, Sync, Say, DiskState, IsImage, changed, disk_step, disk_after, disk_start, disk_at}
+use Rattle.disk_model.specs.Call.{Call, Write, Sync, Say}
+use Rattle.disk_model.specs.Calls.{DiskState, IsImage, changed, disk_step, disk_after, disk_start, disk_at}
 use Rattle.disk_model.specs.CallLaws.{changed_here, changed_others, from_changed, from_other, as_read, torn_none, torn_whole, after_push, newest, passes, steps}
 use Rattle.disk_model.specs.declared.machine.FileNo.{FileNo}
 use Rattle.write_queue.specs.Before.{Makes, disk_by, lawful_by}

@@ -4,7 +4,8 @@ use Rattle.std.proofs.lemmas.List.{append-nil}
 use Rattle.disk_model.specs.Disk.{Files, Disk, IsDisk, Runs, Stays, Same, In, Torn, SaysFront}
 use Rattle.disk_model.specs.Fused.{runs_with_faults}
 use Rattle.disk_model.specs.Moments.{runs_silent, stays_here}
-use Rattle.disk_model.specs.Calls.{Call, disk_after, disk_start}
+use Rattle.disk_model.specs.Call.{Call}
+use Rattle.disk_model.specs.Calls.{disk_after, disk_start}
 use Rattle.disk_model.specs.CallLaws.{torn_none}
 use Rattle.disk_model.specs.declared.machine.FileNo.{FileNo}
 use Rattle.write_queue.specs.Before.{Makes, disk_by, lawful_by}

@@ -1,7 +1,8 @@
 -- What the files were, and what has been made of them.
 use Rattle.std.specs.Prelude.{◌≡◌, ◌++◌, ℕ, List, refl}
 use Rattle.disk_model.specs.Disk.{Files, Disk, IsDisk}
-use Rattle.disk_model.specs.Calls.{Call, Matches, disk_start, disk_after, disk_at}
+use Rattle.disk_model.specs.Call.{Call}
+use Rattle.disk_model.specs.Calls.{Matches, disk_start, disk_after, disk_at}
 use Rattle.disk_model.specs.CallLaws.{is_disk}
 use Rattle.disk_model.specs.declared.machine.FileNo.{FileNo}
 use Rattle.write_queue.specs.Handed.{handed}

@@ -2,7 +2,8 @@
 use Rattle.std.specs.Prelude.{◌≡◌, ℕ, ◌+◌, ◌-◌, ◌^◌, ◌≤◌, min, List, [], ◌∷◌, ◌++◌, length, take}
 use Rattle.disk_model.specs.Disk.{Files, Disk, IsDisk}
 use Rattle.disk_model.specs.Growing.{files_of}
-use Rattle.disk_model.specs.Calls.{Call, DiskState, IsImage, disk_start, disk_after}
+use Rattle.disk_model.specs.Call.{Call}
+use Rattle.disk_model.specs.Calls.{DiskState, IsImage, disk_start, disk_after}
 use Rattle.write_queue.specs.Waiting.{waiting}
 use Rattle.write_queue.specs.Before.{first_of, all_calls, disk_by, lawful_by}
 use Rattle.write_queue.specs.declared.queue_mem.QueueMem.{QueueMem}

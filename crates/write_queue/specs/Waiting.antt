@@ -1,7 +1,7 @@
 -- A queue as a list of calls of the disk model.
 use Rattle.std.specs.Prelude.{◌<◌, List, map, vec_len, vec_capacity}
-use Rattle.disk_model.specs.Calls.{Call}
-use Rattle.disk_model.specs.Calls as disk
+use Rattle.disk_model.specs.Call.{Call}
+use Rattle.disk_model.specs.Call as disk
 use Rattle.write_queue.specs.declared.queue.Queue.{Queue}
 use Rattle.write_queue.specs.declared.queued.Queued.{Queued}
 use Rattle.write_queue.specs.declared.queued.Queued.TheVariants.{Write, Sync, Say}

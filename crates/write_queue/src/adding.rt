@@ -1,6 +1,6 @@
 // Files that are filled, and calls that are queued.
 ghost use Rattle.std.specs.Prelude.{◌≡◌, ◌≤◌, ◌+◌, ◌-◌, ◌^◌, ◌++◌, [], ◌∷◌, min, IfOk, OnOk, OnErr};
-ghost use Rattle.disk_model.specs.Calls.{Write, Say};
+ghost use Rattle.disk_model.specs.Call.{Write, Say};
 ghost use Rattle.disk_model.specs.Disk.{In, HoldsAt};
 ghost use Rattle.disk_model.specs.Growing.{files_of};
 ghost use Rattle.disk_model.specs.declared.machine.FileNo.{FileNo as File};

@@ -2,7 +2,7 @@
 ghost use Rattle.std.specs.Prelude.{◌≡◌, ◌++◌, ℕ, List, []};
 ghost use Rattle.std.specs.Borrow.{ftrue};
 ghost use Rattle.std.specs.Coded.{coded_list};
-ghost use Rattle.disk_model.specs.Calls.{Call};
+ghost use Rattle.disk_model.specs.Call.{Call};
 ghost use Rattle.write_queue.specs.Codes.{call_code};
 
 use crate::queue::Queue;

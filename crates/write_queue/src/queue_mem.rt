@@ -99,7 +99,7 @@ impl QueueMem {
 // Each call has the clauses of `Machine`; beside them it says what it queues, and what one that fails does.
 impl Machine for QueueMem {
     ghost use Rattle.std.specs.Prelude.{◌≤◌, length, take, ◌++◌, IfOk, OnOk, OnErr, IsOk, IsErr};
-    ghost use Rattle.disk_model.specs.Calls.{Write, Sync, Say};
+    ghost use Rattle.disk_model.specs.Call.{Write, Sync, Say};
     ghost use Rattle.disk_model.specs.Disk.{Files, Rises, Runs, Stays, Same, In, Torn, HoldsAt, SaysFront, IsSettledIn, read_of};
     ghost use Rattle.write_queue.specs.Memory.{disk_of, lawful, Queues, CountsDiskFault, CountsSayFault};
 

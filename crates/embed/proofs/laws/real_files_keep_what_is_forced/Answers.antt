@@ -1,6 +1,6 @@
 use Rattle.std.proofs.Common.{◌≡◌, ◌∙◌, ◌++◌, ℕ, List, [], length, ⊎_elim, sym, ap, subst}
 use Rattle.std.proofs.lemmas.List.{append-nil, take_all}
-use Rattle.disk_model.specs.Calls.{Call}
+use Rattle.disk_model.specs.Call.{Call}
 use Rattle.disk_model.specs.Disk.{Files}
 use Rattle.op_codec.specs.AllOps.{AllOps, all_meaning}
 use Rattle.store_engine.specs.Store.{Stands}

@@ -1,6 +1,7 @@
 use Rattle.std.proofs.Common.{◌≡◌, ◌∙◌, ℕ, ◌+◌, ◌-◌, ◌++◌, List, length, take, drop, refl, sym, ap, subst, arith, length-append}
 use Rattle.std.proofs.lemmas.List.{take-append-drop, take-take, take_at, drop-take, drop_at}
-use Rattle.disk_model.specs.Calls.{Call, DiskState, IsImage, disk_after, disk_start, at_moment}
+use Rattle.disk_model.specs.Call.{Call}
+use Rattle.disk_model.specs.Calls.{DiskState, IsImage, disk_after, disk_start, at_moment}
 use Rattle.write_queue.specs.Memory.{first_files, taken_from, waiting_in, real_after}
 use Rattle.write_queue.specs.declared.queue_mem.QueueMem.{QueueMem}
 use Rattle.write_queue.proofs.laws.fronts_are_what_is_left.Goals as goal

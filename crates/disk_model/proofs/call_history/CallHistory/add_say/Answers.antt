@@ -1,5 +1,5 @@
 use Rattle.std.proofs.Common.{length, arith}
-use Rattle.disk_model.specs.Calls.{Say}
+use Rattle.disk_model.specs.Call.{Say}
 use Rattle.disk_model.specs.declared.entry.Entry.TheVariants.{Said}
 use Rattle.disk_model.proofs.Added.{still_whole, one_more, all_said}
 use Rattle.disk_model.proofs.call_history.CallHistory.add_say.Goals as goal

@@ -1,6 +1,6 @@
 use Rattle.std.proofs.Common.{[], refl, sym, arith}
 use Rattle.std.proofs.lemmas.List.{append-nil}
-use Rattle.disk_model.specs.Calls.{Sync}
+use Rattle.disk_model.specs.Call.{Sync}
 use Rattle.disk_model.specs.declared.entry.Entry.TheVariants.{Synced}
 use Rattle.disk_model.proofs.Added.{still_whole, one_more}
 use Rattle.disk_model.proofs.call_history.CallHistory.add_sync.Goals as goal

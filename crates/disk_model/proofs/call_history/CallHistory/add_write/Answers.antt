@@ -1,5 +1,5 @@
 use Rattle.std.proofs.Common.{length, arith}
-use Rattle.disk_model.specs.Calls.{Write}
+use Rattle.disk_model.specs.Call.{Write}
 use Rattle.disk_model.specs.declared.entry.Entry.TheVariants.{Written}
 use Rattle.disk_model.proofs.Added.{still_whole, one_more, all_written}
 use Rattle.disk_model.proofs.call_history.CallHistory.add_write.Goals as goal

@@ -1,5 +1,5 @@
 use Rattle.std.proofs.Common.{List, ◌++◌, subst}
-use Rattle.disk_model.specs.Calls as disk
+use Rattle.disk_model.specs.Call as disk
 use Rattle.write_queue.specs.Memory.{waiting_in}
 use Rattle.embed_c.specs.Next.{IsNext, left_in}
 use Rattle.embed_c.proofs.Left.{goes_on}

@@ -1,6 +1,6 @@
 use Rattle.std.proofs.Common.{◌∙◌, List, ◌++◌, ap, sym, refl}
 use Rattle.std.proofs.lemmas.List.{append-nil}
-use Rattle.disk_model.specs.Calls as disk
+use Rattle.disk_model.specs.Call as disk
 use Rattle.write_queue.specs.Memory.{taken_from, waiting_in}
 use Rattle.embed_c.proofs.Left.{fails}
 use Rattle.embed_c.proofs.session.Session.refill.Goals as goal

@@ -1,7 +1,7 @@
 use Rattle.std.proofs.Common.{arith, ◌∙◌, List, length, ap, sym}
 use Rattle.std.proofs.lemmas.Bool.{le-leb, leb-true}
 use Rattle.std.proofs.lemmas.List.{drop_all, length-drop, length-map}
-use Rattle.disk_model.specs.Calls as disk
+use Rattle.disk_model.specs.Call as disk
 use Rattle.write_queue.specs.Waiting.{call_of, calls_in}
 use Rattle.embed_c.proofs.taken.Taken.is_empty.Goals as goal
 

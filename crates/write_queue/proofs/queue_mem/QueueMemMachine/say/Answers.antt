@@ -1,5 +1,5 @@
 use Rattle.std.proofs.Common.{◌++◌, List, refl, ap, arith}
-use Rattle.disk_model.specs.Calls.{Call, Say}
+use Rattle.disk_model.specs.Call.{Call, Say}
 use Rattle.disk_model.specs.Growing.{files_of}
 use Rattle.write_queue.specs.Before.{all_calls, first_of}
 use Rattle.write_queue.specs.Waiting.{waiting}
