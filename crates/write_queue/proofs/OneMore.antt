@@ -1,7 +1,8 @@
 -- One call more.
 use Rattle.std.proofs.Common.{inl, inr, ◌≡◌, ℕ, ◌+◌, List, [], ◌∷◌, ◌++◌, length, refl, sym, ◌∙◌, ap, subst, arith, length-append, append_assoc}
 use Rattle.std.proofs.lemmas.List.{append-nil, take_all}
-use Rattle.disk_model.specs.Disk.{Files, Disk, Passes, Runs, Steps, Same, In, Torn, HoldsAt, SaysFront, IsSettledIn, written_over}
+use Rattle.disk_model.specs.Disk.{Files, Disk, Exchange, Passes, Runs, Steps, Same, In, Torn, HoldsAt, SaysFront, IsSettledIn, written_over}
+use Rattle.disk_model.specs.Exchanged.{with_exchange, runs_with_exchange}
 use Rattle.disk_model.specs.Moments.{same_file}
 use Rattle.disk_model.specs.Call.{Call, Write, Sync, Say}
 use Rattle.disk_model.specs.Calls.{DiskState, IsImage, changed, disk_step, disk_after, disk_start, disk_at}
@@ -13,7 +14,7 @@ use Rattle.write_queue.specs.Before.{Makes, disk_by, lawful_by}
 pub joins : (taken waiting longer : List Call) (call : Call) → longer ≡ waiting ++ call ∷ [] → taken ++ longer ≡ (taken ++ waiting) ++ call ∷ []
 joins taken waiting longer call is = ap (λ (l : List Call). taken ++ l) is ∙ sym (append_assoc taken waiting (call ∷ []))
 
-module _ (first : Files) (calls later : List Call) (now : Files) (df sf : ℕ) (made : Makes first calls (now)) where
+module _ (exchange : Exchange) (first : Files) (calls later : List Call) (now : Files) (df sf : ℕ) (made : Makes first calls (now)) where
   abbrev st : DiskState
   st = disk_after (disk_start first) calls
 
@@ -33,11 +34,11 @@ module _ (first : Files) (calls later : List Call) (now : Files) (df sf : ℕ) (
         → ((c : Files) → change c c) → says st.said st.said
         → ((c : Files) → IsImage (disk_step call st) c → (d : Files) × IsImage st d × change d c)
         → says st.said (disk_step call st).said → change (now) now'
-        → Runs change says old (disk_by first later now' df sf)
+        → Runs change says (with_exchange exchange old) (with_exchange exchange (disk_by first later now' df sf))
     runs_by change says now' same stays none goes all reads =
         let said' = (disk_after (disk_start first) later).said in
         let speaks : says st.said said' = subst (λ (l : List ℕ). says st.said l) (ap (λ (t : DiskState). t.said) (sym after)) all in
-        record {
+        runs_with_exchange exchange old (disk_by first later now' df sf) change says (record {
           begins = lawful_by first calls (now) df sf made;
           ends = lawful_by first later now' df sf (makes now' same);
           time = subst (λ (l : List Call). Passes old (disk_at first l now' said' df sf)) (sym is) (passes first calls call (now) now' st.said said' df df sf sf (omega arith) (omega arith));
@@ -45,7 +46,7 @@ module _ (first : Files) (calls later : List Call) (now : Files) (df sf : ℕ) (
           reads = λ told. reads;
           agreed = λ files agrees. (now, refl, subst (λ (f : Files). change (now) f) (sym agrees) reads);
           said = λ told. speaks;
-        }
+        })
 
   module _ (file : FileNo) (at : ℕ) (bytes : List ℕ) (is : later ≡ calls ++ Write file at bytes ∷ []) (now' : Files) (holds : In file (HoldsAt at bytes) (now) now') where
     written : (other : FileNo) → now' other ≡ (disk_step (Write file at bytes) st).reads other
@@ -58,7 +59,7 @@ module _ (first : Files) (calls later : List Call) (now : Files) (df sf : ℕ) (
     pub write_makes : Makes first later now'
     write_makes = makes (Write file at bytes) is now' written
 
-    pub write_runs : Runs (In file (Torn at (length bytes))) Same old (disk_by first later now' df sf)
+    pub write_runs : Runs (In file (Torn at (length bytes))) Same (with_exchange exchange old) (with_exchange exchange (disk_by first later now' df sf))
     write_runs = runs_by (Write file at bytes) is (In file (Torn at (length bytes))) Same now' written
         (λ c. record { changed = torn_none at (length bytes) (c file); others = λ other is_other. refl }) refl
         (λ c image.
@@ -83,7 +84,7 @@ module _ (first : Files) (calls later : List Call) (now : Files) (df sf : ℕ) (
     pub sync_makes : Makes first later (now)
     sync_makes = makes (Sync file) is (now) made
 
-    pub sync_runs : Runs Same Same old (disk_by first later (now) df sf)
+    pub sync_runs : Runs Same Same (with_exchange exchange old) (with_exchange exchange (disk_by first later (now) df sf))
     sync_runs = runs_by (Sync file) is Same Same (now) made (λ c. refl) refl (λ c image. (
       c,
       (λ other. elim (same_file other file) [
@@ -104,7 +105,7 @@ module _ (first : Files) (calls later : List Call) (now : Files) (df sf : ℕ) (
     pub say_makes : Makes first later (now)
     say_makes = makes (Say bytes) is (now) made
 
-    pub say_runs : Runs Same (SaysFront bytes) old (disk_by first later (now) df sf)
+    pub say_runs : Runs Same (SaysFront bytes) (with_exchange exchange old) (with_exchange exchange (disk_by first later (now) df sf))
     say_runs = runs_by (Say bytes) is Same (SaysFront bytes) (now) made (λ c. refl) (0, omega arith, sym (append-nil st.said)) (λ c image. (c, image, refl))
         (length bytes, omega arith, ap (λ (b : List ℕ). st.said ++ b) (sym (take_all (length bytes) bytes (omega arith)))) refl
 

@@ -1,6 +1,6 @@
 -- What the files were, and what has been made of them.
 use Rattle.std.specs.Prelude.{◌≡◌, ◌++◌, ℕ, List, refl}
-use Rattle.disk_model.specs.Disk.{Files, Disk, IsDisk}
+use Rattle.disk_model.specs.Disk.{Files, Disk, Exchange, IsDisk}
 use Rattle.disk_model.specs.Call.{Call}
 use Rattle.disk_model.specs.Calls.{Matches, disk_start, disk_after, disk_at}
 use Rattle.disk_model.specs.CallLaws.{is_disk}
@@ -13,6 +13,10 @@ use Rattle.write_queue.specs.declared.queue.Queue.{Queue}
 -- the files as they were handed in
 abbrev pub first_of : Past → Files
 first_of past = handed past.objects past.log_a past.log_b
+
+-- what its user handed in, and what was handed over
+abbrev pub exchanged : Past → Exchange
+exchanged past = record { files = first_of past; calls = past.taken }
 
 -- all calls, those that were taken and those that wait
 abbrev pub all_calls : Past → Queue → List Call

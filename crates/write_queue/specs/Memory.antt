@@ -1,11 +1,12 @@
 -- What proofs know of a machine with a queue, and what its calls do to it.
 use Rattle.std.specs.Prelude.{◌≡◌, ℕ, ◌+◌, ◌-◌, ◌^◌, ◌≤◌, min, List, [], ◌∷◌, ◌++◌, length, take}
 use Rattle.disk_model.specs.Disk.{Files, Disk, IsDisk}
+use Rattle.disk_model.specs.Exchanged.{with_exchange, lawful_exchange}
 use Rattle.disk_model.specs.Growing.{files_of}
 use Rattle.disk_model.specs.Call.{Call}
 use Rattle.disk_model.specs.Calls.{DiskState, IsImage, disk_start, disk_after}
 use Rattle.write_queue.specs.Waiting.{waiting}
-use Rattle.write_queue.specs.Before.{first_of, all_calls, disk_by, lawful_by}
+use Rattle.write_queue.specs.Before.{first_of, exchanged, all_calls, disk_by, lawful_by}
 use Rattle.write_queue.specs.declared.queue_mem.QueueMem.{QueueMem}
 
 -- the files as they were handed in
@@ -20,12 +21,15 @@ taken_from m = m.past.taken
 abbrev pub waiting_in : QueueMem → List Call
 waiting_in m = waiting m.queue
 
--- its files and images are those that the disk model gives for all its calls
+-- its files and images are those that the disk model gives for all its calls; it exchanges with its user the files that are handed
+-- in, and the calls that are taken
 abbrev pub disk_of : QueueMem → Disk
-disk_of m = disk_by (first_of m.past) (all_calls m.past m.queue) (files_of m.files) m.disk_faults m.say_faults
+disk_of m = with_exchange (exchanged m.past) (disk_by (first_of m.past) (all_calls m.past m.queue) (files_of m.files) m.disk_faults m.say_faults)
 
 pub lawful : (m : QueueMem) → IsDisk (disk_of m)
-lawful m = lawful_by (first_of m.past) (all_calls m.past m.queue) (files_of m.files) m.disk_faults m.say_faults m.made
+lawful m =
+    let d = disk_by (first_of m.past) (all_calls m.past m.queue) (files_of m.files) m.disk_faults m.say_faults in
+    lawful_exchange (exchanged m.past) d (lawful_by (first_of m.past) (all_calls m.past m.queue) (files_of m.files) m.disk_faults m.say_faults m.made)
 
 -- Real files that held what was handed in, all of it on the disk, once what was taken was made on them, and then so many of
 -- the calls that wait, in order. A write that a crash cuts short is among them: of it a crash leaves any bytes.

@@ -1,7 +1,7 @@
 use Rattle.std.proofs.Common.{◌≡◌, ◌∙◌, ◌++◌, [], ◌∷◌, List, refl, ap, arith}
 use Rattle.disk_model.specs.Call.{Call, Sync}
 use Rattle.disk_model.specs.Growing.{files_of}
-use Rattle.write_queue.specs.Before.{all_calls, first_of}
+use Rattle.write_queue.specs.Before.{all_calls, exchanged, first_of}
 use Rattle.write_queue.specs.Waiting.{waiting}
 use Rattle.write_queue.proofs.OneMore.{joins, sync_makes, sync_runs, sync_settles}
 use Rattle.write_queue.proofs.Unchanged.{looks}
@@ -17,20 +17,20 @@ one_more c =
 pub invariant_of-self : goal.invariant_of-self
 invariant_of-self c =
     let s = c.args.self.now in
-    record { made = sync_makes (first_of s.past) (all_calls s.past s.queue) (all_calls s.past c.add.new.self) (files_of s.files) s.disk_faults s.say_faults s.made c.args.file (one_more (goal.at.invariant_of-self c).After-add) }
+    record { made = sync_makes (exchanged s.past) (first_of s.past) (all_calls s.past s.queue) (all_calls s.past c.add.new.self) (files_of s.files) s.disk_faults s.say_faults s.made c.args.file (one_more (goal.at.invariant_of-self c).After-add) }
 
 pub returns-in-Ok-clause-kept : goal.returns-in-Ok-clause-kept
 returns-in-Ok-clause-kept c =
     let s = c.args.self.now in
-    sync_runs (first_of s.past) (all_calls s.past s.queue) (all_calls s.past c.add.new.self) (files_of s.files) s.disk_faults s.say_faults s.made c.args.file (one_more (goal.at.returns-in-Ok-clause-kept c).After-add)
+    sync_runs (exchanged s.past) (first_of s.past) (all_calls s.past s.queue) (all_calls s.past c.add.new.self) (files_of s.files) s.disk_faults s.say_faults s.made c.args.file (one_more (goal.at.returns-in-Ok-clause-kept c).After-add)
 
 pub returns-in-Ok-clause-settled : goal.returns-in-Ok-clause-settled
 returns-in-Ok-clause-settled c =
     let s = c.args.self.now in
-    sync_settles (first_of s.past) (all_calls s.past s.queue) (all_calls s.past c.add.new.self) (files_of s.files) s.disk_faults s.say_faults s.made c.args.file (one_more (goal.at.returns-in-Ok-clause-settled c).After-add)
+    sync_settles (exchanged s.past) (first_of s.past) (all_calls s.past s.queue) (all_calls s.past c.add.new.self) (files_of s.files) s.disk_faults s.say_faults s.made c.args.file (one_more (goal.at.returns-in-Ok-clause-settled c).After-add)
 
 pub returns-in-Err-clause-kept : goal.returns-in-Err-clause-kept
 returns-in-Err-clause-kept c =
     let s = c.args.self.now in
-    looks (first_of s.past) (all_calls s.past s.queue) (all_calls s.past c.reserve.new.self) (files_of s.files) (files_of s.files) s.disk_faults c.increment.new.count s.say_faults s.say_faults
+    looks (exchanged s.past) (first_of s.past) (all_calls s.past s.queue) (all_calls s.past c.reserve.new.self) (files_of s.files) (files_of s.files) s.disk_faults c.increment.new.count s.say_faults s.say_faults
     (ap (λ (l : List Call). s.past.taken ++ l) c.reserve.ensures.same) refl c.increment.ensures.no_lower (omega arith) s.made
