@@ -1,10 +1,11 @@
-"""Calls a second of processor time, the least of three runs: library.py redo|sqlite3, as bench/library.c has it."""
+"""Calls a second of processor time and of the clock, each by the least of three runs: library.py redo|sqlite3, as bench/library.c
+has it."""
 import os
 import sqlite3
 import sys
 import time
 
-OBJECTS, LENGTH, COMMANDS, KEYS, FORCED, RUNS = 64, 64, 100_000, 20_000, 2_000, 3
+OBJECTS, LENGTH, COMMANDS, KEYS, NODES, FORCED, RUNS = 64, 64, 100_000, 20_000, 8191, 2_000, 3
 
 
 def key_of(i):
@@ -14,18 +15,18 @@ def key_of(i):
 
 
 def measured(count, each, commit):
-    start = time.process_time()
+    start = time.process_time(), time.monotonic()
     for i in range(count):
         each(i)
     commit()
-    return time.process_time() - start
+    return time.process_time() - start[0], time.monotonic() - start[1]
 
 
 def redo_work():
     import redo
 
-    with redo.create(".", objects=OBJECTS + 4095, cap=1024, limit=536870912) as s:
-        tree = s.tree(OBJECTS, OBJECTS + 4094)
+    with redo.create(".", objects=OBJECTS + NODES, cap=1024, limit=536870912) as s:
+        tree = s.tree(OBJECTS, OBJECTS + NODES - 1)
 
         def forced(i):
             s.put(i % OBJECTS, VALUES[i & 255])
@@ -69,12 +70,13 @@ def sqlite_work():
 
 VALUES = [bytes([i]) * LENGTH for i in range(256)]
 WORDS = [key_of(i) for i in range(KEYS)]
-least = {}
+best = {}
 for number in range(RUNS):
     os.mkdir(str(number))
     os.chdir(str(number))
     for work, count, each, commit in {"redo": redo_work, "sqlite3": sqlite_work}[sys.argv[1]]():
-        least[work] = max(least.get(work, 0), count / measured(count, each, commit))
+        speeds = [count / took for took in measured(count, each, commit)]
+        best[work] = [max(pair) for pair in zip(best.get(work, speeds), speeds)]
     os.chdir("..")
-for work, speed in least.items():
-    print(f"{work}: {speed:.0f}")
+for work, speeds in best.items():
+    print(f"{work}: {speeds[0]:.0f} {speeds[1]:.0f}")
