@@ -25,7 +25,8 @@ static const char *const names[3] = {"objects.rdo", "log_a.rdo", "log_b.rdo"};
 static const redo_files_t no_files = {-1, {-1, -1, -1}};
 typedef struct bytes { uint8_t *at; size_t length; } bytes_t;
 
-/* Answers with the system's reason beside it. */
+/* Answers with nothing beside it, or with the system's reason. */
+static int32_t alone(redo_t *db, int32_t answer) { return db->detail_ = (redo_detail_t){0, 0, 0}, answer; }
 static int32_t because(redo_t *db, int32_t answer) {
     db->detail_ = (redo_detail_t){(uint64_t)errno, 0, 0};
     return answer;
@@ -76,7 +77,7 @@ static int32_t read_file(redo_t *db, uint32_t i, bytes_t *bytes) {
 static int32_t open_files(redo_t *db, const char *path, bytes_t bytes[3]) {
     int folder = db->files_.folder_ = above_streams(open(path, O_RDONLY | O_DIRECTORY | O_CLOEXEC));
     if (folder < 0) return because(db, REDO_NO_FOLDER);
-    if (flock(folder, LOCK_EX | LOCK_NB) != 0) return because(db, errno == EWOULDBLOCK ? REDO_LOCKED : REDO_NO_FOLDER);
+    if (flock(folder, LOCK_EX | LOCK_NB) != 0) return errno == EWOULDBLOCK ? REDO_LOCKED : because(db, REDO_NO_FOLDER);
     if (fsync(folder) != 0) return because(db, REDO_DISK_FAULT);           /* the names are on the disk */
     for (uint32_t i = 0; i < 3; i++) {
         int32_t answer = read_file(db, i, &bytes[i]);
@@ -136,7 +137,7 @@ static bool make_calls(redo_t *db) {
  * is let go, with its lock, and a new handle may open it. */
 int32_t redo_report(redo_t *db, uint32_t answer) {
     if (db->state_ == FAILED) return REDO_DISK_FAULT;
-    if (db->state_ == CLOSED) return db->detail_ = (redo_detail_t){0, 0, 0}, REDO_NOT_OPEN;
+    if (db->state_ == CLOSED) return alone(db, REDO_NOT_OPEN);
     if (answer != REDO_OK) redo_core_detail(&db->core_, &db->detail_);
     if (answer != REDO_DISK_FAULT) {
         if (make_calls(db)) return (int32_t)answer;
@@ -157,7 +158,7 @@ static bool is_log(bytes_t bytes) { return bytes.length > 33 && memcmp(bytes.at,
 /* Opens a store, or makes one with these numbers: not where a log tells of a store whose objects file is spoilt. */
 static int32_t start(redo_t *db, const char *path, const redo_params_t *numbers) {
     bytes_t bytes[3] = {{0, 0}, {0, 0}, {0, 0}};
-    if (db->state_ != CLOSED) return REDO_ALREADY_OPEN;
+    if (db->state_ != CLOSED) return alone(db, REDO_ALREADY_OPEN);
     *db = (redo_t){.files_ = no_files};
     int32_t answer = open_files(db, path, bytes);
     if (answer == REDO_OK)
@@ -176,7 +177,7 @@ int32_t redo_create(redo_t *db, const char *path, uint32_t objects, uint32_t cap
 }
 int32_t redo_open(redo_t *db, const char *path) { return start(db, path, 0); }
 int32_t redo_close(redo_t *db) {
-    if (db->state_ == CLOSED) return REDO_NOT_OPEN;
+    if (db->state_ == CLOSED) return alone(db, REDO_NOT_OPEN);
     if (db->state_ == OPEN) redo_core_close(&db->core_), close_files(&db->files_), free(db->buffer_);
     *db = (redo_t)REDO_CLOSED;
     return REDO_OK;

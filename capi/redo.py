@@ -218,7 +218,7 @@ class Store:
             if code:
                 detail = _Detail()
                 _last_detail(self._handle, detail)
-                raise _error(code, (detail.first, detail.second, detail.third) if code < 64 or code == 72 else (0, 0, 0))
+                raise _error(code, (detail.first, detail.second, detail.third))
 
     def _number(self, function: Callable[..., int], *words: object) -> int:
         with self._lock:

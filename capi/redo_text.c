@@ -11,7 +11,7 @@ const char *redo_strerror(int32_t answer) {
     case REDO_BAD_PARAMS: return "no store may have these numbers";
     case REDO_NOT_A_STORE: return "the folder has no store";
     case REDO_DAMAGED: return "a file of the store is damaged";
-    case REDO_DISK_FAULT: return "a file of the store could not be read, written or synced";
+    case REDO_DISK_FAULT: return "a file of the store could not be read, written or synced, or there was no memory to do so";
     case REDO_ALREADY_STORE: return "the folder has a store already";
     case REDO_MEMORY: return "out of memory";
     case REDO_LOG_FULL: return "the log is full";

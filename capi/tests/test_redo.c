@@ -15,11 +15,13 @@ static void is(uint32_t x, const char *value) {
     if (n != strlen(value) || memcmp(got, value, n)) fail("object %u has %d bytes: %.*s", x, (int)n, (int)n, (char *)got);
 }
 static void put(uint32_t x, const char *value) { WANT(REDO_OK, redo_put(&db, x, B(value))); }
-static void detail_is(uint64_t first, uint64_t third) {
+static void detail_of(const redo_t *of, uint64_t first, uint64_t third) {
     redo_detail_t d;
-    WANT(REDO_OK, redo_last_detail(&db, &d));
+    WANT(REDO_OK, redo_last_detail(of, &d));
     if (d.first != first || d.third != third) fail("detail %llu .. %llu", (unsigned long long)d.first, (unsigned long long)d.third);
 }
+
+static void detail_is(uint64_t first, uint64_t third) { detail_of(&db, first, third); }
 
 /* A log with a block, without an objects file. */
 static void write_log(const char *folder) {
@@ -59,9 +61,10 @@ static void closed(const char *folder) {
 
 static void made(const char *folder) {
     WANT(REDO_OK, redo_create(&db, folder, 8, 1024, 65536));
-    WANT(REDO_ALREADY_OPEN, redo_open(&db, folder));
+    WANT(REDO_BAD_PLACE, redo_cut(&db, 0, 1, 9));
+    WANT(REDO_ALREADY_OPEN, redo_open(&db, folder)), detail_is(0, 0);
     WANT(REDO_ALREADY_OPEN, redo_create(&db, folder, 8, 1024, 65536));
-    WANT(REDO_LOCKED, redo_open(&other, folder));
+    WANT(REDO_LOCKED, redo_open(&other, folder)), detail_of(&other, 0, 0);
     WANT(REDO_LOCKED, redo_create(&other, folder, 8, 1024, 65536));
     WANT(REDO_OK, redo_close(&db));
     WANT(REDO_ALREADY_STORE, redo_create(&db, folder, 8, 1024, 65536));
