@@ -2,6 +2,7 @@
 # x86-64).
 #   make install [PREFIX=/usr/local] [DESTDIR=..]      make uninstall      make dist
 PREFIX = /usr/local
+override PREFIX := $(abspath $(PREFIX))
 bin = $(DESTDIR)$(PREFIX)/bin
 libexec = $(DESTDIR)$(PREFIX)/libexec/redo
 man = $(DESTDIR)$(PREFIX)/share/man/man1
@@ -17,10 +18,12 @@ all:
 install:
 	install -d $(bin) $(libexec) $(man) $(completions) $(lib)/pkgconfig $(include)
 	install -m 755 release/redo-x86_64-linux $(libexec)/redo
-	install -m 755 release/redo_log-x86_64-linux $(bin)/redo_log
-	install -m 755 release/redo_check-x86_64-linux $(bin)/redo_check
 	sed 's|@PROGRAM@|$(PREFIX)/libexec/redo/redo|' release/start >$(bin)/redo
-	chmod 755 $(bin)/redo
+	for name in redo_log redo_check; do \
+	  install -m 755 release/$$name-x86_64-linux $(libexec)/$$name && \
+	  sed 's|@LIBEXEC@|$(PREFIX)/libexec/redo|' release/look >$(bin)/$$name || exit; \
+	done
+	chmod 755 $(bin)/redo $(bin)/redo_log $(bin)/redo_check
 	install -m 644 docs/redo.1 $(man)/redo.1
 	install -m 644 release/completion.bash $(completions)/redo
 	install -m 755 release/libredo-x86_64-linux.so $(lib)/libredo.so.1
@@ -30,7 +33,8 @@ install:
 	chmod 644 $(lib)/pkgconfig/redo.pc
 
 uninstall:
-	rm -f $(bin)/redo $(bin)/redo_log $(bin)/redo_check $(libexec)/redo $(man)/redo.1 $(completions)/redo
+	rm -f $(bin)/redo $(bin)/redo_log $(bin)/redo_check $(man)/redo.1 $(completions)/redo
+	rm -f $(libexec)/redo $(libexec)/redo_log $(libexec)/redo_check
 	rm -f $(lib)/libredo.so $(lib)/libredo.so.1 $(lib)/pkgconfig/redo.pc $(include)/redo.h
 	-rmdir $(libexec)
 
@@ -38,5 +42,5 @@ uninstall:
 dist:
 	tar -czf redo-$(version)-x86_64-linux.tar.gz --transform 's|^|redo-$(version)/|' \
 	  README.md CHANGELOG.md Makefile docs release/redo-x86_64-linux release/redo_log-x86_64-linux \
-	  release/redo_check-x86_64-linux release/start release/completion.bash release/libredo-x86_64-linux.so \
+	  release/redo_check-x86_64-linux release/start release/look release/completion.bash release/libredo-x86_64-linux.so \
 	  capi/redo.h capi/redo.pc.in capi/redo.py capi/pyproject.toml capi/build_wheel.py
