@@ -9,7 +9,7 @@
 #include <time.h>
 #include <unistd.h>
 
-enum { OBJECTS = 64, LENGTH = 64, COMMANDS = 200000, KEYS = 20000, NODES = 8191, FORCED = 2000, RUNS = 3 };
+enum { OBJECTS = 64, LENGTH = 64, COMMANDS = 200000, KEYS = 20000, NODES = 8191, FORCED = 2000, BATCH = 1000, RUNS = 3 };
 typedef struct { uint8_t at[8]; } word_t;
 
 static void fail(const char *what) {
@@ -208,6 +208,8 @@ static double seconds(int clock) {
 enum { PUT, PUT_FORCED, COPY, GET, SET, FIND, WORKS };
 static const char *const titles[WORKS] = {"put", "put forced", "copy", "get", "tree set", "tree get"};
 static const int counts[WORKS] = {COMMANDS, FORCED, COMMANDS, COMMANDS, KEYS, COMMANDS};
+/* A commit comes after so many. */
+static const int batches[WORKS] = {BATCH, 1, BATCH, COMMANDS, BATCH, COMMANDS};
 
 static void operate(const peer_t *peer, int work, uint32_t i) {
     uint8_t value[LENGTH];
@@ -217,7 +219,6 @@ static void operate(const peer_t *peer, int work, uint32_t i) {
     case PUT_FORCED:
         memset(value, (int)i, sizeof value);
         peer->put(i % OBJECTS, value, sizeof value);
-        if (work == PUT_FORCED) peer->commit();
         break;
     case COPY: peer->copy(i % 7, 8 + i % (OBJECTS - 8)); break;
     case GET:
@@ -236,8 +237,10 @@ static void one_run(const peer_t *peer, double least[WORKS][CLOCKS]) {
     peer->open();
     for (int work = 0; work < WORKS; work++) {
         double start[CLOCKS] = {seconds(PROCESSOR), seconds(CLOCK)};
-        for (uint32_t i = 0; i < (uint32_t)counts[work]; i++) operate(peer, work, i);
-        peer->commit();
+        for (int i = 0; i < counts[work]; i++) {
+            operate(peer, work, (uint32_t)i);
+            if ((i + 1) % batches[work] == 0) peer->commit();
+        }
         for (int clock = 0; clock < CLOCKS; clock++) {
             double took = seconds(clock) - start[clock];
             if (least[work][clock] == 0 || took < least[work][clock]) least[work][clock] = took;

@@ -5,7 +5,7 @@ import sqlite3
 import sys
 import time
 
-OBJECTS, LENGTH, COMMANDS, KEYS, NODES, FORCED, RUNS = 64, 64, 100_000, 20_000, 8191, 2_000, 3
+OBJECTS, LENGTH, COMMANDS, KEYS, NODES, FORCED, BATCH, RUNS = 64, 64, 100_000, 20_000, 8191, 2_000, 1_000, 3
 
 
 def key_of(i):
@@ -14,11 +14,12 @@ def key_of(i):
     return i.to_bytes(8, "little")
 
 
-def measured(count, each, commit):
+def measured(count, batch, each, commit):
     start = time.process_time(), time.monotonic()
-    for i in range(count):
-        each(i)
-    commit()
+    for i in range(0, count, batch):
+        for k in range(i, i + batch):
+            each(k)
+        commit()
     return time.process_time() - start[0], time.monotonic() - start[1]
 
 
@@ -28,16 +29,15 @@ def redo_work():
     with redo.create(".", objects=OBJECTS + NODES, cap=1024, limit=536870912) as s:
         tree = s.tree(OBJECTS, OBJECTS + NODES - 1)
 
-        def forced(i):
+        def put(i):
             s.put(i % OBJECTS, VALUES[i & 255])
-            s.force()
 
-        yield "put", COMMANDS, lambda i: s.put(i % OBJECTS, VALUES[i & 255]), s.force
-        yield "put forced", FORCED, forced, s.force
-        yield "copy", COMMANDS, lambda i: s.copy(i % 7, 8 + i % (OBJECTS - 8)), s.force
-        yield "get", COMMANDS, lambda i: s.get(i % OBJECTS), s.force
-        yield "tree set", KEYS, lambda i: tree.__setitem__(WORDS[i], WORDS[i]), s.force
-        yield "tree get", COMMANDS, lambda i: tree[WORDS[i * 7919 % KEYS]], s.force
+        yield "put", COMMANDS, BATCH, put, s.force
+        yield "put forced", FORCED, 1, put, s.force
+        yield "copy", COMMANDS, BATCH, lambda i: s.copy(i % 7, 8 + i % (OBJECTS - 8)), s.force
+        yield "get", COMMANDS, COMMANDS, lambda i: s.get(i % OBJECTS), s.force
+        yield "tree set", KEYS, BATCH, lambda i: tree.__setitem__(WORDS[i], WORDS[i]), s.force
+        yield "tree get", COMMANDS, COMMANDS, lambda i: tree[WORDS[i * 7919 % KEYS]], s.force
 
 
 def sqlite_work():
@@ -52,19 +52,15 @@ def sqlite_work():
         run("COMMIT")
         run("BEGIN")
 
-    def forced(i):
-        put(i)
-        commit()
-
     def put(i):
         run("REPLACE INTO o VALUES (?, ?)", (i % OBJECTS, VALUES[i & 255]))
 
-    yield "put", COMMANDS, put, commit
-    yield "put forced", FORCED, forced, commit
-    yield "copy", COMMANDS, lambda i: run("REPLACE INTO o SELECT ?, v FROM o WHERE x = ?", (8 + i % (OBJECTS - 8), i % 7)), commit
-    yield "get", COMMANDS, lambda i: run("SELECT v FROM o WHERE x = ?", (i % OBJECTS,)).fetchone()[0], commit
-    yield "tree set", KEYS, lambda i: run("REPLACE INTO t VALUES (?, ?)", (WORDS[i], WORDS[i])), commit
-    yield "tree get", COMMANDS, lambda i: run("SELECT v FROM t WHERE k = ?", (WORDS[i * 7919 % KEYS],)).fetchone()[0], commit
+    yield "put", COMMANDS, BATCH, put, commit
+    yield "put forced", FORCED, 1, put, commit
+    yield "copy", COMMANDS, BATCH, lambda i: run("REPLACE INTO o SELECT ?, v FROM o WHERE x = ?", (8 + i % (OBJECTS - 8), i % 7)), commit
+    yield "get", COMMANDS, COMMANDS, lambda i: run("SELECT v FROM o WHERE x = ?", (i % OBJECTS,)).fetchone()[0], commit
+    yield "tree set", KEYS, BATCH, lambda i: run("REPLACE INTO t VALUES (?, ?)", (WORDS[i], WORDS[i])), commit
+    yield "tree get", COMMANDS, COMMANDS, lambda i: run("SELECT v FROM t WHERE k = ?", (WORDS[i * 7919 % KEYS],)).fetchone()[0], commit
     base.close()
 
 
@@ -74,8 +70,8 @@ best = {}
 for number in range(RUNS):
     os.mkdir(str(number))
     os.chdir(str(number))
-    for work, count, each, commit in {"redo": redo_work, "sqlite3": sqlite_work}[sys.argv[1]]():
-        speeds = [count / took for took in measured(count, each, commit)]
+    for work, count, batch, each, commit in {"redo": redo_work, "sqlite3": sqlite_work}[sys.argv[1]]():
+        speeds = [count / took for took in measured(count, batch, each, commit)]
         best[work] = [max(pair) for pair in zip(best.get(work, speeds), speeds)]
     os.chdir("..")
 for work, speeds in best.items():

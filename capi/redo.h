@@ -2,7 +2,7 @@
  *
  * redo_close forces nothing: what no redo_force has answered for may be lost, as by a kill.
  * A handle is used by one thread at a time, and never after fork; a second handle on a store is refused (REDO_LOCKED).
- * docs/LIBRARY.md says more, and docs/OPERATIONS.md what the commands do. */
+ * docs/LIBRARY.md says more, and docs/SCRIPT.md ("Lines") what the commands do. */
 #ifndef REDO_H
 #define REDO_H
 #include <stddef.h>
@@ -39,9 +39,10 @@ typedef struct redo {
 #endif
 
 /* The answers: 0, or why a call was not done. A number is never used again for something else. Below 32 the store or the machine
- * speaks (numbers below 16 are the statuses of the program, and 20 to 22 are kept for backups), from 32 on a command is refused,
- * and from 64 on a call is misused. What is refused or misused has changed nothing; of a call that is several commands (maps, hash
- * files, runs of an application) those before the refusal stay. After REDO_DISK_FAULT a handle answers that until it is closed. */
+ * speaks (numbers below 16 are the statuses of the program, which ends with 3 in the place of 6; 20 to 22 are kept for backups),
+ * from 32 on a command is refused, and from 64 on a call is misused. What is refused or misused has changed nothing; of a call that
+ * is several commands (maps, hash files, runs of an application) those before the refusal stay. After REDO_DISK_FAULT a handle
+ * answers that until it is closed. */
 enum {
     REDO_OK = 0,
     REDO_BAD_PARAMS = 2,     /* redo_create: numbers that no store may have */
@@ -63,7 +64,7 @@ enum {
     REDO_NOT_NODE = 38,      /* the value is no node of a tree and no bucket of a hash file */
     REDO_NO_KEY = 39,        /* the key is not there; redo_tree_pair: there is no such pair */
     REDO_NODE_FULL = 40,     /* the node takes no key more */
-    REDO_TOO_LARGE = 41,     /* the value would be longer than the store's values may be */
+    REDO_TOO_LARGE = 41,     /* the value would be longer than `cap`, or a map is changed in a store whose `cap` is below 1024 */
     REDO_NOT_CODE = 42,      /* the value is no program */
     REDO_HALTED = 43,        /* the program has halted */
     REDO_BAD_TREE = 44,      /* an object of the range is no node of the tree; detail: the object */
@@ -122,7 +123,8 @@ int32_t redo_stat(redo_t *db, redo_stat_t *stat);
 typedef struct redo_params { uint32_t objects, cap, limit; } redo_params_t;
 int32_t redo_params(redo_t *db, redo_params_t *params);
 
-/* The objects low to high of a map, in which nothing else is put. Keys and values of a map have 1 to 32 bytes. */
+/* The objects low to high of a map, in which nothing else is put. Keys and values of a map have 1 to 32 bytes, and its store a cap
+ * of at least 1024: with less each change is REDO_TOO_LARGE. */
 typedef struct redo_range { uint32_t low, high; } redo_range_t;
 
 /* An ordered map, a tree. An empty range is an empty map. */

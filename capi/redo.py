@@ -321,11 +321,11 @@ class Store:
         return Params(params.objects, params.cap, params.limit)
 
     def tree(self, low: int, high: int) -> Tree:
-        """The ordered map in the objects low to high."""
+        """The ordered map in the objects low to high. To change it the store needs a cap of at least 1024."""
         return Tree(self, low, high)
 
     def hash(self, low: int, high: int) -> Hash:
-        """The hash file in the objects low to high."""
+        """The hash file in the objects low to high. To change it the store needs a cap of at least 1024."""
         return Hash(self, low, high)
 
     def app_exec(self, app: int) -> None:

@@ -27,7 +27,7 @@ const char *redo_strerror(int32_t answer) {
     case REDO_NOT_NODE: return "the value is no node of a tree and no bucket";
     case REDO_NO_KEY: return "the key is not there";
     case REDO_NODE_FULL: return "the node takes no key more";
-    case REDO_TOO_LARGE: return "the value would be too long";
+    case REDO_TOO_LARGE: return "the value would be too long (a map needs a cap of at least 1024)";
     case REDO_NOT_CODE: return "the value is no program";
     case REDO_HALTED: return "the program has halted";
     case REDO_BAD_TREE: return "an object of the range is no node of the tree";
