@@ -11,6 +11,6 @@ bash -c "$(blocks sh)" >said 2>&1
 # (the first block of text is a picture)
 diff <(blocks text | sed '1,/a restart/d') said && echo "the tour is as it is told"
 
-mkdir accounts && redo -C accounts init 64 1024 1000000
+mkdir accounts
 PYTHONDONTWRITEBYTECODE=1 PYTHONPATH=$top/capi LIBREDO=$room/usr/lib/libredo.so.1 "$python" -c "$(blocks python)"
 redo -C accounts dump
