@@ -1,7 +1,7 @@
 -- A restart takes its course, step by step.
 use Rattle.std.proofs.Common.{◌≡◌, ◌∙◌, sym, ap, subst, ℕ, List, [], ◌∷◌, map, refl, arith}
 use Rattle.std.proofs.lemmas.List.{take-take}
-use Rattle.disk_model.specs.Disk.{Files, Disk, Stays, LeavesOnly}
+use Rattle.disk_model.specs.Disk.{Files, Disk, IsDisk, Passes, Stays, LeavesOnly}
 use Rattle.disk_model.specs.Silent.{IsSilent, silent_weaker}
 use Rattle.disk_model.specs.declared.machine.FileNo.TheVariants.{Objects}
 use Rattle.oper_core.specs.Meaning.{Meaning}
@@ -19,7 +19,7 @@ use Rattle.stable_objects.specs.Laws.{one_store}
 use Rattle.stable_objects.specs.SlotsView.{AreOf}
 use Rattle.explain_core.specs.History.{Member}
 use Rattle.explain_core.specs.Sound.{IsSound}
-use Rattle.explain_core.specs.Taken.{after_behind}
+use Rattle.explain_core.specs.Taken.{after_behind, after_none}
 use Rattle.explain_core.specs.World.{World, step, run}
 use Rattle.explain_core.specs.World.Step.{Crash}
 use Rattle.standing.specs.Moments.{ShowsSome, TakesSome}
@@ -108,3 +108,18 @@ module _ {O : Type 0} (meaning : Bounds → Meaning O) (old d : Disk) (kept : St
           (subst (λ (n : ℕ). TakesSome m p d new crashed (opening_course m limit crashed n).steps) used_is taken) in
           then_leaves old d new (IsSilent (ShowsSome m p w whole) old.said) kept told
           (subst (λ (s : List ℕ). LeavesOnly d new (IsSilent (ShowsSome m p w whole) s)) (kept.said opens.told) front)
+
+      -- what reads give is one of these images
+      pub whole_reads : old.tells_moments → IsDisk new → Passes d new → TakesSome m p d new crashed (opening_course m limit crashed (used_of it.log.log)).steps → ShowsSome m p w (restart_course m limit w used).steps new.reads
+      unfolding run
+      whole_reads told lawful time taken =
+          let xs = (opening_course m limit crashed used).steps in
+          let now = lawful.as_read (time.moments_told.0 (kept.time.moments_told.0 told)) in
+          let since = lawful.among d.clock new.clock new.reads new.said time.later (omega arith) now in
+          let is = subst (λ (n : ℕ). TakesSome m p d new crashed (opening_course m limit crashed n).steps) used_is taken in
+          after_behind m (FilesShow m p new.reads) w (Crash ∷ []) xs (is.each new.reads new.said since).holds
+
+-- where nothing was loaded they give what they gave
+pub unread_shows : {O : Type 0} (m : Meaning O) (p : Params) (old new : Disk) (limit used : ℕ) (w : World O) → Stays old new → OpensOn m p old used w → ShowsSome m p w (restart_course m limit w used).steps new.reads
+unread_shows m p old new limit used w kept opens =
+    after_none m (FilesShow m p new.reads) w (restart_course m limit w used).steps (subst (λ (f : Files). FilesShow m p f w) (sym (kept.reads opens.told)) opens.shows)

@@ -2,6 +2,7 @@
 ghost use Rattle.std.specs.Prelude.{◌<◌, ℕ, IfOk};
 ghost use Rattle.formats.specs.declared.params.Params.{Params as Numbers};
 ghost use Rattle.explain_core.specs.World.{World};
+ghost use Rattle.standing.specs.Moments.{ShowsSome};
 ghost use Rattle.running_store.specs.Parts.{meaning_in};
 ghost use Rattle.running_store.specs.Taking.{IsAfter};
 ghost use Rattle.restart.specs.Courses.{dirty_limit, restart_course};
@@ -40,6 +41,10 @@ pub fn restart<O: Oper, M: Machine>(
         OpensOn (meaning_in O.meaning p) p (M.disk machine.old) used w →
         OpensThrough (meaning_in O.meaning p) p (M.disk machine.old) (M.disk machine.new) w
         (restart_course (meaning_in O.meaning p) (dirty_limit tuning p) w used).steps }
+    // Whatever it answers, what reads give shows the world after some first steps.
+    ensures reads { (M.disk machine.old).tells_moments → (p : Numbers) (used : ℕ) (w : World O) →
+        OpensOn (meaning_in O.meaning p) p (M.disk machine.old) used w →
+        ShowsSome (meaning_in O.meaning p) p w (restart_course (meaning_in O.meaning p) (dirty_limit tuning p) w used).steps (M.disk machine.new).reads }
 {
     explain_core::crash_keeps::<O>();
     standing::unseen_steps_change_nothing::<O>();

@@ -1,6 +1,7 @@
 -- A restart keeps the commands that the files stand for, and all of them are forced after it.
 use Rattle.std.proofs.Common.{◌≡◌, ◌∙◌, sym, subst, ap, ℕ, ◌≤◌, List, [], ◌∷◌, ◌++◌, length, take, drop, refl, arith, inl, ⊎_elim, None}
 use Rattle.std.specs.Prelude.{false}
+use Rattle.std.proofs.lemmas.List.{take_all}
 use Rattle.disk_model.specs.Disk.{Files, Disk, LeavesOnly}
 use Rattle.disk_model.specs.Silent.{IsSilent}
 use Rattle.oper_core.specs.Meaning.{Meaning, IsSmall}
@@ -117,3 +118,10 @@ module _ {O : Type 0} (meaning : Bounds → Meaning O) (p : Params) (old new : D
       → OpensThrough m p old new w (restart_course m dirty w used).steps → LeavesOnly old new (OrAtStart old (Between meaning p old None (length commands) (length commands) commands))
   restart_images small keeps stand may steps =
       or_weaker old new (IsSilent (ShowsSome m p w (restart_course m dirty w used).steps) old.said) (Between meaning p old None (length commands) (length commands) commands) steps (restart_between small keeps stand may)
+
+  -- and what reads give, which shows the world after some first steps, for all of them
+  pub restart_stands : IsSmall (bounds_of p) → KeepsRuns meaning → Stand meaning p → AreAllowed m w (restart_course m dirty w used).steps → ShowsSome m p w (restart_course m dirty w used).steps new.reads → StandsFor meaning p new.reads commands
+  restart_stands small keeps stand may some =
+      let here = restart_between small keeps stand may new.reads old.said (record { silent = refl; holds = some }) in
+      let enough = here.enough in
+      subst (λ (l : List O). StandsFor meaning p new.reads l) (take_all here.kept commands enough) here.stands

@@ -46,6 +46,8 @@ impl<O: Oper> Engine<O> {
             IfOk result (λ engine. Holds O.meaning p (M.disk machine.new) engine commands × (forced_in engine ≡ length commands)) }
         ensures images { (M.disk machine.old).tells_moments → (p : Params) (commands : List O) → Opens O.meaning p (M.disk machine.old) commands →
             LeavesOnly (M.disk machine.old) (M.disk machine.new) (OrAtStart (M.disk machine.old) (Between O.meaning p (M.disk machine.old) None (length commands) (length commands) commands)) }
+        // Whatever it answers, what reads give stands for the same commands, so that the files may be opened again.
+        ensures again { (M.disk machine.old).tells_moments → (p : Params) (commands : List O) → Opens O.meaning p (M.disk machine.old) commands → Opens O.meaning p (M.disk machine.new) commands }
     {
         explain_core::every_run_keeps::<O>();
         standing::image_stands::<O>();

@@ -7,6 +7,7 @@ use Rattle.stable_objects.specs.Reading.{open_from_read}
 use Rattle.stable_objects.specs.declared.open_err.OpenErr.{OpenErr}
 use Rattle.explain_core.specs.World.{step}
 use Rattle.explain_core.specs.World.Step.{Crash}
+use Rattle.standing.specs.Moments.{ShowsSome}
 use Rattle.standing.specs.OneStable.{small_store}
 use Rattle.running_store.specs.Kept.{IsAttached}
 use Rattle.running_store.specs.Taking.{IsAfter}
@@ -19,7 +20,7 @@ use Rattle.restart.proofs.Judged.{quiet_stays, quiet_then, rises_behind, cause_o
 use Rattle.restart.proofs.Layouts.{keeps_layout}
 use Rattle.restart.proofs.Opened.{filed_well_formed, unharmed}
 use Rattle.restart.proofs.Redone.{opening_fails, redo_damages, redo_never}
-use Rattle.restart.proofs.Restarts.{read_attached, to_redo, whole_after, whole_moments}
+use Rattle.restart.proofs.Restarts.{read_attached, to_redo, unread_shows, whole_after, whole_moments, whole_reads}
 use Rattle.restart.proofs.restarting.restart.Given.{Over}
 use Rattle.restart.proofs.restarting.restart.Goals.{In-Ok}
 use Rattle.restart.proofs.restarting.restart.Goals as goal
@@ -43,6 +44,10 @@ returns-in_err-store-clause-reported g c =
 pub returns-in_err-store-clause-steps : goal.returns-in_err-store-clause-steps
 returns-in_err-store-clause-steps g c told p used w opens =
     at_start (g.M.Machine.disk c.args.machine.now) (g.M.Machine.disk c.load.new.machine) _ c.load.ensures.kept told
+
+pub returns-in_err-store-clause-reads : goal.returns-in_err-store-clause-reads
+returns-in_err-store-clause-reads g c told p used w opens =
+    unread_shows (g.O.Oper.meaning (bounds_of p)) p (g.M.Machine.disk c.args.machine.now) (g.M.Machine.disk c.load.new.machine) (dirty_limit c.args.tuning p) used w c.load.ensures.kept opens
 
 pub open-requires : goal.open-requires
 open-requires g c =
@@ -75,6 +80,16 @@ returns-clause-steps g c told p used w opens =
     let limit : c.dirty_limit-limit.result ≡ dirty_limit c.args.tuning p = c.dirty_limit-limit.ensures ∙ ap (dirty_limit c.args.tuning) (c.params.ensures.value ∙ to.params) in
     subst (λ (n : ℕ). OpensThrough m p (g.M.Machine.disk c.args.machine.now) (g.M.Machine.disk c.open.new.machine) w (restart_course m n w used).steps) limit
     (whole_moments g.O.Oper.meaning (g.M.Machine.disk c.args.machine.now) (g.M.Machine.disk c.load.new.machine) c.load.ensures.kept c.in_ok-store.store.parts c.in_ok-store.plan c.in_ok-store.ensures.ready.bounds p used w opens to c.dirty_limit-limit.result (g.M.Machine.disk c.open.new.machine) told (c.open.ensures.steps (c.load.ensures.kept.time.moments_told.0 told) p (step m w Crash) to))
+
+pub returns-clause-reads : goal.returns-clause-reads
+returns-clause-reads g c told p used w opens =
+    let m = g.O.Oper.meaning (bounds_of p) in
+    let small = small_store p ((g.M.Machine.disk c.args.machine.now).reads Objects) opens.shows.objects in
+    let to = to_redo g.O.Oper.meaning (g.M.Machine.disk c.args.machine.now) (g.M.Machine.disk c.load.new.machine) c.load.ensures.kept c.in_ok-store.store.parts c.in_ok-store.plan c.in_ok-store.ensures.ready.bounds p used w opens (c.in_ok-store.ensures.read opens.told) (c.crash_keeps.ensures (bounds_of p) w small opens.sound) (c.unseen_steps_change_nothing.ensures p (g.M.Machine.disk c.args.machine.now).reads w Crash opens.sound tt opens.shows) in
+    let limit : c.dirty_limit-limit.result ≡ dirty_limit c.args.tuning p = c.dirty_limit-limit.ensures ∙ ap (dirty_limit c.args.tuning) (c.params.ensures.value ∙ to.params) in
+    let passed = c.in-Err.ensures.call.quiet in
+    subst (λ (n : ℕ). ShowsSome m p w (restart_course m n w used).steps (g.M.Machine.disk c.open.new.machine).reads) limit
+    (whole_reads g.O.Oper.meaning (g.M.Machine.disk c.args.machine.now) (g.M.Machine.disk c.load.new.machine) c.load.ensures.kept c.in_ok-store.store.parts c.in_ok-store.plan c.in_ok-store.ensures.ready.bounds p used w opens to c.dirty_limit-limit.result (g.M.Machine.disk c.open.new.machine) told passed.ends passed.time (c.open.ensures.steps (c.load.ensures.kept.time.moments_told.0 told) p (step m w Crash) to))
 
 -- the store that is opened is attached to its files
 still_attached : (g : Over) (c : In-Ok g) → IsAttached g.O.Oper.meaning (g.M.Machine.disk c.open.new.machine) c.open.new.store.parts
@@ -122,3 +137,13 @@ returns-in-Ok-clause-steps g c told p used w opens =
     let limit : c.dirty_limit-limit.result ≡ dirty_limit c.args.tuning p = c.dirty_limit-limit.ensures ∙ ap (dirty_limit c.args.tuning) (c.params.ensures.value ∙ to.params) in
     subst (λ (n : ℕ). OpensThrough m p (g.M.Machine.disk c.args.machine.now) (g.M.Machine.disk c.open.new.machine) w (restart_course m n w used).steps) limit
     (whole_moments g.O.Oper.meaning (g.M.Machine.disk c.args.machine.now) (g.M.Machine.disk c.load.new.machine) c.load.ensures.kept c.in_ok-store.store.parts c.in_ok-store.plan c.in_ok-store.ensures.ready.bounds p used w opens to c.dirty_limit-limit.result (g.M.Machine.disk c.open.new.machine) told (c.open.ensures.steps (c.load.ensures.kept.time.moments_told.0 told) p (step m w Crash) to))
+
+pub returns-in-Ok-clause-reads : goal.returns-in-Ok-clause-reads
+returns-in-Ok-clause-reads g c told p used w opens =
+    let m = g.O.Oper.meaning (bounds_of p) in
+    let small = small_store p ((g.M.Machine.disk c.args.machine.now).reads Objects) opens.shows.objects in
+    let to = to_redo g.O.Oper.meaning (g.M.Machine.disk c.args.machine.now) (g.M.Machine.disk c.load.new.machine) c.load.ensures.kept c.in_ok-store.store.parts c.in_ok-store.plan c.in_ok-store.ensures.ready.bounds p used w opens (c.in_ok-store.ensures.read opens.told) (c.crash_keeps.ensures (bounds_of p) w small opens.sound) (c.unseen_steps_change_nothing.ensures p (g.M.Machine.disk c.args.machine.now).reads w Crash opens.sound tt opens.shows) in
+    let limit : c.dirty_limit-limit.result ≡ dirty_limit c.args.tuning p = c.dirty_limit-limit.ensures ∙ ap (dirty_limit c.args.tuning) (c.params.ensures.value ∙ to.params) in
+    let passed = c.in-Ok.ensures.call.quiet in
+    subst (λ (n : ℕ). ShowsSome m p w (restart_course m n w used).steps (g.M.Machine.disk c.open.new.machine).reads) limit
+    (whole_reads g.O.Oper.meaning (g.M.Machine.disk c.args.machine.now) (g.M.Machine.disk c.load.new.machine) c.load.ensures.kept c.in_ok-store.store.parts c.in_ok-store.plan c.in_ok-store.ensures.ready.bounds p used w opens to c.dirty_limit-limit.result (g.M.Machine.disk c.open.new.machine) told passed.ends passed.time (c.open.ensures.steps (c.load.ensures.kept.time.moments_told.0 told) p (step m w Crash) to))

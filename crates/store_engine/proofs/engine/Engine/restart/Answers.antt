@@ -12,7 +12,7 @@ use Rattle.standing.specs.OneStable.{small_store}
 use Rattle.store_engine.specs.Engine.{Between, EngineView, Opens, engine_of, opened}
 use Rattle.store_engine.specs.ImageLaws.{stands_end}
 use Rattle.store_engine.specs.Store.{meaning_in}
-use Rattle.store_engine.proofs.Reopening.{restart_holds, restart_images}
+use Rattle.store_engine.proofs.Reopening.{restart_holds, restart_images, restart_stands}
 use Rattle.store_engine.proofs.Ways.{error_from}
 use Rattle.store_engine.proofs.engine.Engine.restart.Given.{Over}
 use Rattle.store_engine.proofs.engine.Engine.restart.Goals.{After-restart}
@@ -68,11 +68,33 @@ module _ (g : Over) (c : After-restart g) where
       (λ b w steps. c.every_run_keeps.ensures.from_sound b w steps) (λ files w. c.image_stands.ensures p files w) (c.a_restart_may_be_made.ensures.allowed (bounds_of p) w (dirty_limit c.args.tuning p) place.0 small found.sound)
       (c.restart.ensures.steps told p place.0 w on)
 
+  again : old.tells_moments → (p : Params) (commands : List g.row.O.Denot) → Opens g.O.Oper.meaning p old commands → Opens g.O.Oper.meaning p new commands
+  again told p commands opens =
+      let m = meaning_in g.O.Oper.meaning p in
+      let place = stands_end g.O.Oper.meaning opens.stands in
+      let there = c.files_show_a_world.ensures p old.reads commands opens.stands in
+      let w = there.0 in
+      let found = there.1 in
+      let on : OpensOn m p old place.0 w = record { told = opens.told; sound = found.sound; shows = found.shows; ends = place.1 } in
+      let small = small_store p (old.reads _) found.shows.objects in
+      record {
+        told = c.restart.ensures.opening.time.files_told.0 opens.told;
+        stands = restart_stands g.O.Oper.meaning p old new commands w found (dirty_limit c.args.tuning p) place.0 small
+            (λ b w steps. c.every_run_keeps.ensures.from_sound b w steps) (λ files w. c.image_stands.ensures p files w) (c.a_restart_may_be_made.ensures.allowed (bounds_of p) w (dirty_limit c.args.tuning p) place.0 small found.sound)
+            (c.restart.ensures.reads told p place.0 w on);
+      }
+
 pub returns-in_err-store-clause-images : goal.returns-in_err-store-clause-images
 returns-in_err-store-clause-images g c = images g (goal.at.returns-in_err-store-clause-images g c).After-restart
 
 pub returns-clause-images : goal.returns-clause-images
 returns-clause-images g c = images g (goal.at.returns-clause-images g c).After-restart
+
+pub returns-in_err-store-clause-again : goal.returns-in_err-store-clause-again
+returns-in_err-store-clause-again g c = again g (goal.at.returns-in_err-store-clause-again g c).After-restart
+
+pub returns-clause-again : goal.returns-clause-again
+returns-clause-again g c = again g (goal.at.returns-clause-again g c).After-restart
 
 pub returns-clause-holds : goal.returns-clause-holds
 returns-clause-holds g c = λ p commands opens.
