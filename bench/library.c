@@ -76,7 +76,7 @@ static void sqlite_start(void) {
                                       "CREATE TABLE o (x INTEGER PRIMARY KEY, v BLOB NOT NULL);"
                                       "CREATE TABLE t (k BLOB PRIMARY KEY, v BLOB NOT NULL) WITHOUT ROWID", 0, 0, 0) == SQLITE_OK);
     put_object = prepared("REPLACE INTO o VALUES (?1, ?2)");
-    copy_object = prepared("REPLACE INTO o SELECT ?2, v FROM o WHERE x = ?1");
+    copy_object = prepared("REPLACE INTO o VALUES (?2, (SELECT v FROM o WHERE x = ?1))");
     get_object = prepared("SELECT v FROM o WHERE x = ?1"), begin = prepared("BEGIN"), commit = prepared("COMMIT");
     set_key = prepared("REPLACE INTO t VALUES (?1, ?2)"), get_key = prepared("SELECT v FROM t WHERE k = ?1");
     done(begin);

@@ -57,7 +57,7 @@ def sqlite_work():
 
     yield "put", COMMANDS, BATCH, put, commit
     yield "put forced", FORCED, 1, put, commit
-    yield "copy", COMMANDS, BATCH, lambda i: run("REPLACE INTO o SELECT ?, v FROM o WHERE x = ?", (8 + i % (OBJECTS - 8), i % 7)), commit
+    yield "copy", COMMANDS, BATCH, lambda i: run("REPLACE INTO o VALUES (?, (SELECT v FROM o WHERE x = ?))", (8 + i % (OBJECTS - 8), i % 7)), commit
     yield "get", COMMANDS, COMMANDS, lambda i: run("SELECT v FROM o WHERE x = ?", (i % OBJECTS,)).fetchone()[0], commit
     yield "tree set", KEYS, BATCH, lambda i: run("REPLACE INTO t VALUES (?, ?)", (WORDS[i], WORDS[i])), commit
     yield "tree get", COMMANDS, COMMANDS, lambda i: run("SELECT v FROM t WHERE k = ?", (WORDS[i * 7919 % KEYS],)).fetchone()[0], commit

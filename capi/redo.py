@@ -24,7 +24,7 @@ import threading
 import weakref
 from collections.abc import Callable, Iterator, MutableMapping
 from contextlib import contextmanager, suppress
-from typing import NamedTuple, Union
+from typing import NamedTuple, NoReturn, Union
 
 __all__ = ["Error", "Hash", "Params", "Stat", "Store", "Tree", "create", "open", "version"]
 
@@ -212,24 +212,29 @@ class Store:
         self._room = ctypes.create_string_buffer(4096)
         _stores.add(self)
 
+    def _raise(self, code: int) -> NoReturn:
+        detail = _Detail()
+        _last_detail(self._handle, detail)
+        raise _error(code, (detail.first, detail.second, detail.third))
+
     def _call(self, function: Callable[..., int], *words: object) -> None:
         with self._lock:
-            code = function(self._handle, *words)
-            if code:
-                detail = _Detail()
-                _last_detail(self._handle, detail)
-                raise _error(code, (detail.first, detail.second, detail.third))
+            if code := function(self._handle, *words):
+                self._raise(code)
 
     def _number(self, function: Callable[..., int], *words: object) -> int:
         with self._lock:
-            self._call(function, *words, self._count)
+            if code := function(self._handle, *words, self._count):
+                self._raise(code)
             return self._count.value
 
     def _value(self, function: Callable[..., int], *words: object) -> bytes:
         with self._lock:
-            self._call(function, *words, self._room, len(self._room), self._count)
+            room = len(self._room)
+            if code := function(self._handle, *words, self._room, room, self._count):
+                self._raise(code)
             length = self._count.value
-            if length > len(self._room):
+            if length > room:
                 self._room = ctypes.create_string_buffer(length)
                 return self._value(function, *words)
             return ctypes.string_at(self._room, length)
