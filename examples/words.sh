@@ -15,3 +15,7 @@ try init 8 64 4223
 try init 8 64
 try run dump
 try fly
+
+for word in init run dump demo upgrade ship follow backup; do
+  redo $word --help | grep Usage
+done
