@@ -13,6 +13,7 @@ run primary 'put 0 aa' 'get 0' force
 ship 1 | od -An -v -tx1
 ship 1 | follow standby
 ship 1 | follow standby
+run standby 'get 0'
 ship 5
 echo "status $?"
 

@@ -1,7 +1,7 @@
 -- The end of a frame that was followed: it is forced, thin nodes are installed, and it is passed.
 use Rattle.std.proofs.Common.{◌≡◌, ◌∙◌, sym, subst, ap, ℕ, ◌+◌, ◌-◌, ◌≤◌, Bool, true, false, List, [], ◌∷◌, ◌++◌, length, drop, refl, arith, inl, inr, ◌⊎◌, ⊎_elim, length-drop, Some}
-use Rattle.std.specs.Prelude.{◌↔◌, ◌&&◌, ⊤, Result, Ok, Err, IsErrOf, OnOk}
-use Rattle.std.proofs.lemmas.Bool.{cond-false, cond-true}
+use Rattle.std.specs.Prelude.{◌↔◌, ◌&&◌, ◌||◌, nat_lt, ⊤, Result, Ok, Err, IsErrOf, OnOk}
+use Rattle.std.proofs.lemmas.Bool.{both_ways, cond-false, cond-true, false_from_ne_true, lt-ltb, ltb-true, or_cases, or_left, or_right}
 use Rattle.std.proofs.lemmas.List.{append-nil}
 use Rattle.disk_model.specs.Disk.{Disk, IsDisk, LeavesOnly}
 use Rattle.disk_model.specs.Moments.{weaker}
@@ -37,7 +37,7 @@ use Rattle.store_engine.specs.Grouping.{ungrouped, ungrouped_alone}
 use Rattle.store_engine.specs.Store.{meaning_in}
 use Rattle.store_engine.specs.declared.stat.Stat.{Stat}
 use Rattle.standby_node.specs.Failures.{follow_from_store}
-use Rattle.standby_node.specs.Feeding.{FeedsThrough, FeedsTo, IsAtFrameEnd, is_above, is_over, must_relieve}
+use Rattle.standby_node.specs.Feeding.{FeedsThrough, FeedsTo, IsAtFrameEnd, dirty_limit, is_above, is_over, low_mark, may_relieve, must_relieve, waiting_limit}
 use Rattle.standby_node.specs.Standby.{BeginsWithFrameOf, IsAlone, IsFollowing, StandbyView}
 use Rattle.standby_node.specs.Steps.{AnyWorld, FollowsStep, GoesOn, HasPassedFrame, HasWholeFrame, IsRelieved}
 use Rattle.standby_node.specs.declared.follow_err.FollowErr.{FollowErr}
@@ -112,9 +112,9 @@ module _ {O : Type 0} (meaning : Bounds → Meaning O) (p : Params) (first : Lis
 
 -- ---- a thin node is installed
 
--- too much is left in each world that is shown
+-- in each world that is shown a thin node may be installed
 abbrev pub IsOverIn : {O : Type 0} → (Bounds → Meaning O) → Disk → EngineView → Type 0
-IsOverIn {O} meaning d engine = (p : Params) (w : World O) → ShowsIn meaning p d engine w → is_over (meaning_in meaning p) w ≡ true
+IsOverIn {O} meaning d engine = (p : Params) (w : World O) → ShowsIn meaning p d engine w → is_over (meaning_in meaning p) low_mark w ≡ true
 
 -- the answer of the step that an install of a thin node is
 abbrev pub thin_result : Result Bool StoreErr → Result (Unit {0}) FollowErr
@@ -162,7 +162,7 @@ module _ {O : Type 0} (meaning : Bounds → Meaning O) (old new : Disk) (before 
       let none : has_thin m f.world ≡ false = sym (it.told p f.world f.shows) in
       let no_steps : (thin_course m f.world (used_in before.engine)).steps ≡ [] = cond-false (has_thin m f.world) (thin_steps m f.world) [] none in
       let there : ShowsIn meaning p new after f.world = subst (λ (l : List (Step O)). ShowsIn meaning p new after (run m f.world l)) no_steps (it.takes.follows p f.world f.shows).1.shows in
-      (same_world meaning p first bytes old new before after f there, no_need (is_over m f.world) (has_thin m f.world) none)
+      (same_world meaning p first bytes old new before after f there, no_need (is_over m waiting_limit f.world) (has_thin m f.world) none)
     where
       no_need : (a b : Bool) → b ≡ false → (a && b) ≡ false
       no_need true b is = is
@@ -196,15 +196,15 @@ module _ {O : Type 0} (meaning : Bounds → Meaning O) (old new : Disk) (before 
       weaker old new (Between meaning p old before.engine.group (forced_in before.engine) (accepted_in before.engine) (commands_of f.world.history)) (IsAtFrameEnd meaning p old (forced_in before.engine) first bytes) leaves
       (λ files said is. between_end meaning p first bytes old before f whole before.engine.group files said is)
 
-  -- the world that was shown leads to the one that is, since too much was left in it
+  -- the world that was shown leads to the one that is, since a thin node might be installed in it
   thin_led : IsOverIn meaning old before.engine → (answer : Result Bool StoreErr) → HasInstalledThin meaning old new before.engine after answer → FeedsThrough meaning old new before.engine after (thin_result answer)
   unfolding run
   thin_led over (Ok true) it p w shown =
       let m = meaning_in meaning p in
       let some : has_thin m w ≡ true = sym (it.told p w shown) in
-      let must : must_relieve m w ≡ true = λ i. over p w shown i && some i in
+      let may : may_relieve m w ≡ true = λ i. over p w shown i && some i in
       let steps : (thin_course m w (used_in before.engine)).steps ≡ thin_steps m w = cond-true (has_thin m w) (thin_steps m w) [] some in
-      (run m w (thin_steps m w), subst (λ (l : List (Step O)). ShowsIn meaning p new after (run m w l)) steps (it.takes.follows p w shown).1.shows, FeedsTo.Relieved w must FeedsTo.Nothing)
+      (run m w (thin_steps m w), subst (λ (l : List (Step O)). ShowsIn meaning p new after (run m w l)) steps (it.takes.follows p w shown).1.shows, FeedsTo.Relieved w may FeedsTo.Nothing)
   thin_led over (Ok false) it p w shown =
       let m = meaning_in meaning p in
       let no_steps : (thin_course m w (used_in before.engine)).steps ≡ [] = cond-false (has_thin m w) (thin_steps m w) [] (sym (it.told p w shown)) in
@@ -338,15 +338,25 @@ relieved_by meaning old now before here it none = record {
 
 -- The engine counts in each world that it shows what is left.
 pub is_over_in : {O : Type 0} (meaning : Bounds → Meaning O) (d : Disk) (engine : EngineView) → IsAlone engine → (stat : Stat) → ((p : Params) (file : List ℕ) (w : World O) → IsSound (meaning_in meaning p) w → ShowsVolatile (meaning_in meaning p) p file engine.parts.volatile w → IsStat meaning p w stat)
-    → (over : Bool) → is_above stat.dirty stat.uninstalled ≡ over → (p : Params) (w : World O) → ShowsIn meaning p d engine w → is_over (meaning_in meaning p) w ≡ over
-is_over_in {O} meaning d engine alone stat counted over is p w shown =
+    → (most : ℕ) (over : Bool) → is_above most stat.dirty stat.uninstalled ≡ over → (p : Params) (w : World O) → ShowsIn meaning p d engine w → is_over (meaning_in meaning p) most w ≡ over
+is_over_in {O} meaning d engine alone stat counted most over is p w shown =
     let same : ungrouped w ≡ w = ungrouped_alone w (shown.group ∙ alone.group) in
     let sound = subst (λ (v : World O). IsSound (meaning_in meaning p) v) (sym same) shown.sound in
     let counts = counted p (d.reads Objects) (ungrouped w) sound shown.shows.store in
-    sym (λ i. is_above (counts.dirty i) (counts.uninstalled i)) ∙ is
+    sym (λ i. is_above most (counts.dirty i) (counts.uninstalled i)) ∙ is
+
+-- what is too much for a mark is too much for a lower one
+pub still_above : (less most dirty waiting : ℕ) → less ≤ most → is_above most dirty waiting ≡ true → is_above less dirty waiting ≡ true
+still_above less most dirty waiting lower is =
+    ⊎_elim (λ many. or_left (nat_lt dirty_limit dirty) (nat_lt less waiting) many) (λ (more : nat_lt most waiting ≡ true). or_right (nat_lt dirty_limit dirty) (nat_lt less waiting) (lt-ltb less waiting (omega (arith, lower, ltb-true most waiting more))))
+    (or_cases (nat_lt dirty_limit dirty) (nat_lt most waiting) is)
+
+-- and what is not is not for a higher one
+pub not_above : (most more dirty waiting : ℕ) → most ≤ more → is_above most dirty waiting ≡ false → is_above more dirty waiting ≡ false
+not_above most more dirty waiting higher is = false_from_ne_true (is_above more dirty waiting) (λ over. both_ways _ is (still_above most more dirty waiting higher over))
 
 -- then none must be installed
-pub none_must : {O : Type 0} (m : Meaning O) (w : World O) → is_over m w ≡ false → must_relieve m w ≡ false
+pub none_must : {O : Type 0} (m : Meaning O) (w : World O) → is_over m waiting_limit w ≡ false → must_relieve m w ≡ false
 none_must m w is = ap (λ (b : Bool). b && has_thin m w) is
 
 -- The same of a standby that is told apart into its parts.

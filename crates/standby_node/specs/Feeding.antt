@@ -32,27 +32,35 @@ dirty_limit = 64
 
 -- nor are more records left that wait for their install
 abbrev pub waiting_limit : ℕ
-waiting_limit = 65536
+waiting_limit = 16384
 
--- so many dirty objects are too many, or so many records that wait
-abbrev pub is_above : ℕ → ℕ → Bool
-is_above dirty waiting = nat_lt dirty_limit dirty || nat_lt waiting_limit waiting
+-- where no more wait than so many, none is installed for their number
+abbrev pub low_mark : ℕ
+low_mark = 1024
+
+-- so many dirty objects are too many, or more records wait than may
+abbrev pub is_above : ℕ → ℕ → ℕ → Bool
+is_above most dirty waiting = nat_lt dirty_limit dirty || nat_lt most waiting
 
 -- in this world they are
-abbrev pub is_over : {O : Type 0} → Meaning O → World O → Bool
-is_over m w = is_above (dirty_in m w) (count_below (end_of w) w.graph)
+abbrev pub is_over : {O : Type 0} → Meaning O → ℕ → World O → Bool
+is_over m most w = is_above most (dirty_in m w) (count_below (end_of w) w.graph)
 
--- and a node is thin
+-- a node is thin, and must be installed before the frame ends
 abbrev pub must_relieve : {O : Type 0} → Meaning O → World O → Bool
-must_relieve m w = is_over m w && has_thin m w
+must_relieve m w = is_over m waiting_limit w && has_thin m w
+
+-- one is thin, and may be installed
+abbrev pub may_relieve : {O : Type 0} → Meaning O → World O → Bool
+may_relieve m w = is_over m low_mark w && has_thin m w
 
 -- The worlds that a standby may come to from this one: a record of a stream is followed, what waits is forced, and a thin node is
--- installed where one must be. No check is taken, and no log is trimmed.
+-- installed where one may be. No check is taken, and no log is trimmed.
 pub data FeedsTo {O : Type 0} (m : Meaning O) (w : World O) : World O → Type 0 where
   Nothing : FeedsTo m w w
   Followed : (v : World O) (r : Record O) (used : ℕ) → FeedsTo m w v → FeedsTo m w (run m v (follow_course m r v used).steps)
   Forced : (v : World O) → FeedsTo m w v → FeedsTo m w (run m v (force_steps m v))
-  Relieved : (v : World O) → must_relieve m v ≡ true → FeedsTo m w v → FeedsTo m w (run m v (thin_steps m v))
+  Relieved : (v : World O) → may_relieve m v ≡ true → FeedsTo m w v → FeedsTo m w (run m v (thin_steps m v))
 
 -- the place of the frame in which a refusal came, where this is the answer
 abbrev pub stopped_by : {T : Type 0} → ℕ → Result T FollowErr → Option ℕ

@@ -7,7 +7,7 @@ ghost use Rattle.log_records.specs.Codec.{StartsWithRecord};
 ghost use Rattle.execution.specs.Following.{IsNumbered};
 ghost use Rattle.store_engine.specs.Engine.{params_of};
 ghost use Rattle.store_engine.specs.Store.{meaning_in};
-ghost use Rattle.standby_node.specs.Feeding.{BeginsNoRecord, IsFed, is_above, stopped_by};
+ghost use Rattle.standby_node.specs.Feeding.{BeginsNoRecord, IsFed, is_above, low_mark, stopped_by, waiting_limit};
 ghost use Rattle.standby_node.specs.Standby.{IsWithinFrame};
 ghost use Rattle.standby_node.specs.Steps.{AreFramesFollowed, HasWholeFrame, IsFrameEnded, IsFrameFollowed, IsReading, IsReadingOf, IsRecordFollowed, IsRelieved};
 
@@ -24,14 +24,17 @@ const HEAD: usize = 4;
 // At a frame's end thin nodes are installed while more objects than this are dirty,
 const DIRTY: u64 = 64;
 
-// or more records than this wait for their install.
-const WAITING: u64 = 65536;
+// and, where more records than this wait for their install,
+const WAITING: u64 = 16384;
 
-// Whether too many objects are dirty, or too many records wait.
-fn is_over(stat: Stat) -> bool
-    ensures { result ≡ is_above stat.dirty stat.uninstalled }
+// until no more than this do. The graph copies what is left as it gives back the slots of the others, so few are left.
+const LOW_MARK: u64 = 1024;
+
+// Whether too many objects are dirty, or more records wait than these.
+fn is_over(stat: Stat, most: u64) -> bool
+    ensures { result ≡ is_above most stat.dirty stat.uninstalled }
 {
-    stat.dirty > DIRTY || stat.uninstalled > WAITING
+    stat.dirty > DIRTY || stat.uninstalled > most
 }
 
 // Whether a record has a number that a store may give.
@@ -126,6 +129,18 @@ impl<O: Oper> Standby<O> {
         Ok(())
     }
 
+    // How many records may wait once this frame has ended.
+    fn most_left(&self) -> u64
+        ensures least { low_mark ≤ result }
+        ensures most { result ≤ waiting_limit }
+    {
+        if self.engine.stat().uninstalled > WAITING {
+            LOW_MARK
+        } else {
+            WAITING
+        }
+    }
+
     // Installs thin nodes while too many objects are dirty or too many records wait, at the end of a frame that was followed and
     // forced.
     fn relieve<M: Machine>(&mut self, machine: &mut M) -> Result<(), FollowErr>
@@ -135,7 +150,8 @@ impl<O: Oper> Standby<O> {
         ensures { IsRelieved O.meaning (M.disk machine.old) (M.disk machine.new) self.old self.new result }
     {
         standing::image_stands::<O>();
-        while is_over(self.engine.stat()) {
+        let most = self.most_left();
+        while is_over(self.engine.stat(), most) {
             if !self.engine.install_thin(machine)? {
                 return Ok(());
             }
@@ -184,8 +200,8 @@ impl<O: Oper> Standby<O> {
     }
 
     /// Follows a piece of the stream: each whole frame is followed record by record and forced at its end, where thin nodes are
-    /// installed too while more than 64 objects are dirty, or more than 65,536 records wait for their install. It answers how many
-    /// commands were accepted since the store was made.
+    /// installed too while more than 64 objects are dirty, and, where more than 16,384 records wait for their install, until no more
+    /// than 1,024 do. It answers how many commands were accepted since the store was made.
     ///
     /// A frame's length is judged once its four bytes came, a record once its frame is whole, the records of a frame one after the
     /// other. It answers `BadFrame` where a length is not 1 to 2^30, or where a record breaks the grammar, is a check, has a number

@@ -4,10 +4,10 @@ use Rattle.redo_pass.specs.Endings.{as_error}
 use Rattle.store_engine.specs.Following.{HasInstalledThin}
 use Rattle.store_engine.specs.Store.{meaning_in}
 use Rattle.standby_node.specs.Failures.{follow_from_store}
-use Rattle.standby_node.specs.Feeding.{must_relieve}
+use Rattle.standby_node.specs.Feeding.{low_mark, must_relieve, waiting_limit}
 use Rattle.standby_node.specs.Standby.{StandbyView}
 use Rattle.standby_node.specs.Steps.{IsRelieved}
-use Rattle.standby_node.proofs.Ended.{installed_then, is_over_in, limits_begin, limits_more, none_must, relieved_by}
+use Rattle.standby_node.proofs.Ended.{installed_then, is_over_in, limits_begin, limits_more, none_must, not_above, relieved_by, still_above}
 use Rattle.standby_node.proofs.standby.Standby.relieve.Goals as goal
 
 pub loop-self-init : goal.loop-self-init
@@ -24,7 +24,8 @@ returns-in_err-install_thin g c =
     let new = disk c.install_thin.new.machine in
     let inside = c.loop-self.self-inside in
     let here : StandbyView = record { engine = inside.engine; frames = inside.frames; done = inside.done; stopped = inside.stopped } in
-    let over = is_over_in g.O.Oper.meaning (disk c.loop-self.machine) inside.engine c.loop-self.invariant.alone c.stat.result (λ p file w. c.stat.ensures.shown p file w) true (sym c.is_over.ensures ∙ c.loop-self-test.true) in
+    let over = is_over_in g.O.Oper.meaning (disk c.loop-self.machine) inside.engine c.loop-self.invariant.alone c.stat.result (λ p file w. c.stat.ensures.shown p file w) low_mark true
+    (still_above low_mark c.most_left-most.result c.stat.result.dirty c.stat.result.uninstalled c.most_left-most.ensures.least (sym c.is_over.ensures ∙ c.loop-self-test.true)) in
     let e = c.in_err-install_thin.field-0.0 in
     as_error (λ r. IsRelieved g.O.Oper.meaning old new c.args.self.now (record here { engine = c.install_thin.new.self }) r) c.from_residual.result (follow_from_store e) c.from_residual.ensures.1
     (installed_then g.O.Oper.meaning old (disk c.loop-self.machine) new (g.met.M.Machine.lawful c.args.machine.now) (g.met.M.Machine.lawful c.install_thin.new.machine) c.args.self.now here c.loop-self.invariant over c.install_thin.new.self
@@ -37,7 +38,8 @@ returns-then-not-branch g c =
     let new = disk c.install_thin.new.machine in
     let inside = c.loop-self.self-inside in
     let here : StandbyView = record { engine = inside.engine; frames = inside.frames; done = inside.done; stopped = inside.stopped } in
-    let over = is_over_in g.O.Oper.meaning (disk c.loop-self.machine) inside.engine c.loop-self.invariant.alone c.stat.result (λ p file w. c.stat.ensures.shown p file w) true (sym c.is_over.ensures ∙ c.loop-self-test.true) in
+    let over = is_over_in g.O.Oper.meaning (disk c.loop-self.machine) inside.engine c.loop-self.invariant.alone c.stat.result (λ p file w. c.stat.ensures.shown p file w) low_mark true
+    (still_above low_mark c.most_left-most.result c.stat.result.dirty c.stat.result.uninstalled c.most_left-most.ensures.least (sym c.is_over.ensures ∙ c.loop-self-test.true)) in
     installed_then g.O.Oper.meaning old (disk c.loop-self.machine) new (g.met.M.Machine.lawful c.args.machine.now) (g.met.M.Machine.lawful c.install_thin.new.machine) c.args.self.now here c.loop-self.invariant over c.install_thin.new.self
     (λ p files w. c.image_stands.ensures p files w) (Ok false) (λ m w. must_relieve m w ≡ false) (λ m w none. none)
     (subst (λ b. HasInstalledThin g.O.Oper.meaning (disk c.loop-self.machine) new inside.engine c.install_thin.new.self (Ok b)) c.if-not-branch.true c.in_ok-install_thin.ensures.installed)
@@ -49,7 +51,8 @@ loop-self-preserved g c =
     let new = disk c.install_thin.new.machine in
     let inside = c.loop-self.self-inside in
     let here : StandbyView = record { engine = inside.engine; frames = inside.frames; done = inside.done; stopped = inside.stopped } in
-    let over = is_over_in g.O.Oper.meaning (disk c.loop-self.machine) inside.engine c.loop-self.invariant.alone c.stat.result (λ p file w. c.stat.ensures.shown p file w) true (sym c.is_over.ensures ∙ c.loop-self-test.true) in
+    let over = is_over_in g.O.Oper.meaning (disk c.loop-self.machine) inside.engine c.loop-self.invariant.alone c.stat.result (λ p file w. c.stat.ensures.shown p file w) low_mark true
+    (still_above low_mark c.most_left-most.result c.stat.result.dirty c.stat.result.uninstalled c.most_left-most.ensures.least (sym c.is_over.ensures ∙ c.loop-self-test.true)) in
     limits_more g.O.Oper.meaning old (disk c.loop-self.machine) new (g.met.M.Machine.lawful c.args.machine.now) (g.met.M.Machine.lawful c.install_thin.new.machine) c.args.self.now here c.loop-self.invariant over c.install_thin.new.self
     (λ p files w. c.image_stands.ensures p files w)
     (subst (λ b. HasInstalledThin g.O.Oper.meaning (disk c.loop-self.machine) new inside.engine c.install_thin.new.self (Ok b)) c.if-not-branch.false c.in_ok-install_thin.ensures.installed)
@@ -61,4 +64,5 @@ returns g c =
     let now = g.M.Machine.disk c.loop-self.machine in
     relieved_by g.O.Oper.meaning (g.M.Machine.disk c.args.machine.now) now c.args.self.now here c.loop-self.invariant
     (λ p first bytes f. none_must (meaning_in g.O.Oper.meaning p) f.world
-    (is_over_in g.O.Oper.meaning now inside.engine c.loop-self.invariant.alone c.stat.result (λ p file w. c.stat.ensures.shown p file w) false (sym c.is_over.ensures ∙ c.loop-self-test.false) p f.world f.shows))
+    (is_over_in g.O.Oper.meaning now inside.engine c.loop-self.invariant.alone c.stat.result (λ p file w. c.stat.ensures.shown p file w) waiting_limit false
+    (not_above c.most_left-most.result waiting_limit c.stat.result.dirty c.stat.result.uninstalled c.most_left-most.ensures.most (sym c.is_over.ensures ∙ c.loop-self-test.false)) p f.world f.shows))
