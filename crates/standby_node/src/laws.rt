@@ -51,11 +51,14 @@ pub fn a_stream_without_fault_is_not_refused<O: Oper, M: Machine>()
 }
 
 /// However a stream came, and however much of it: two standbys that began with one history, and were refused first bytes of it for
-/// what they are, have one answer. A log without room, which depends on its length, may stop one of them before.
+/// what they are, have one answer, and none has followed these bytes and what came behind them. A log without room, which depends
+/// on its length, may stop one of them before.
 pub fn a_stream_is_refused_in_one_way<O: Oper, M: Machine>()
-    ensures { (p : Params) (first : List (Member O)) (bytes more others rest : List ℕ) → bytes ++ more ≡ others ++ rest
+    ensures answer { (p : Params) (first : List (Member O)) (bytes more others rest : List ℕ) → bytes ++ more ≡ others ++ rest
         → (now then : M) (one other : StandbyView) (e f : FollowFailure) → HasRefusedIn O.meaning p first bytes (M.disk now) one e → HasRefusedIn O.meaning p first others (M.disk then) other f
         → IsOfStream e → IsOfStream f → e ≡ f }
+    ensures followed { (p : Params) (first : List (Member O)) (bytes more : List ℕ) (now then : M) (one other : StandbyView) (e : FollowFailure) → HasRefusedIn O.meaning p first bytes (M.disk now) one e → IsOfStream e
+        → IsFollowing O.meaning p first (bytes ++ more) (M.disk then) other → IsBetweenPieces other → ⊥ }
 {
     log_records::one_record::<O>();
 }
