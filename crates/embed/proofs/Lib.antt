@@ -1,1 +1,3 @@
+pub mod Exchanged
 pub mod Judged
+pub mod Passing

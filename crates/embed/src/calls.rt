@@ -1,6 +1,7 @@
 // Commands, and the values that they make.
 ghost use Rattle.std.specs.Prelude.{◌≡◌, true, false, List, length, min, take, IfOk};
 ghost use Rattle.std.specs.Result.{result_err};
+ghost use Rattle.disk_model.specs.Disk.{Passes};
 ghost use Rattle.formats.specs.declared.params.Params.{Params};
 ghost use Rattle.op_codec.specs.AllOps.{AllOps as Command, all_meaning};
 ghost use Rattle.store_engine.specs.Commands.{HasFetched, HasRun};
@@ -17,6 +18,7 @@ use store_engine::{ExecErr, ReadErr, engine_stands};
 impl<M: Machine + Drop> Store<M> {
     /// Does a command. It answers how many were accepted since the store was made, and fails as the engine's `exec`.
     pub fn exec(&mut self, op: AllOps) -> Result<u64, ExecErr>
+        ensures time { Passes (M.disk self.old.machine) (M.disk self.new.machine) }
         ensures run { self.old.engine.broken ≡ false → HasRun all_meaning (M.disk self.old.machine) (M.disk self.new.machine) self.old.engine self.new.engine op result }
         ensures calls { self.old.engine.broken ≡ false → AreCalls all_meaning (M.disk self.old.machine) (M.disk self.new.machine) self.old.engine self.new.engine (result_err result) }
         ensures broken { self.old.engine.broken ≡ true → IsStillBroken ExecErr.DiskFault self.old self.new result }
@@ -30,6 +32,7 @@ impl<M: Machine + Drop> Store<M> {
     /// Copies the front of an object's value, as much as there is room for, and answers how many bytes the value has; none where
     /// there is no such object. It fails as the engine's `fetch`.
     pub fn get(&mut self, object: u32, into: &mut [u8]) -> Result<Option<usize>, ReadErr>
+        ensures time { Passes (M.disk self.old.machine) (M.disk self.new.machine) }
         ensures fetched { self.old.engine.broken ≡ false → HasFetched all_meaning (M.disk self.old.machine) (M.disk self.new.machine) self.old.engine self.new.engine object (result_err result) }
         ensures calls { self.old.engine.broken ≡ false → AreCalls all_meaning (M.disk self.old.machine) (M.disk self.new.machine) self.old.engine self.new.engine (as_exec (result_err result)) }
         ensures value { (p : Params) (commands : List Command) → Holds all_meaning p (M.disk self.old.machine) self.old.engine commands →

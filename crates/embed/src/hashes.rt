@@ -1,6 +1,7 @@
 // Hash files in ranges of objects.
 ghost use Rattle.std.specs.Prelude.{◌≡◌, true, false, List, [], map};
 ghost use Rattle.std.specs.Result.{result_err};
+ghost use Rattle.disk_model.specs.Disk.{Passes};
 ghost use Rattle.execution.specs.declared.exec_err.ExecErr.TheVariants.{DiskFault};
 ghost use Rattle.formats.specs.Objects.{bounds_of};
 ghost use Rattle.formats.specs.declared.params.Params.{Params};
@@ -24,6 +25,7 @@ use store_engine::ExecErr;
 impl<M: Machine + Drop> Store<M> {
     /// The value of a key of a hash file, as `hash_client::get`.
     pub fn hash_get(&mut self, file: &HashFile, key: &Short) -> Result<Option<Short>, HashErr>
+        ensures time { Passes (M.disk self.old.machine) (M.disk self.new.machine) }
         ensures calls { self.old.engine.broken ≡ false → AreCalls all_meaning (M.disk self.old.machine) (M.disk self.new.machine) self.old.engine self.new.engine (cause_in result) }
         ensures adds { (p : Params) (commands : List Command) → (holds : Holds p (M.disk self.old.machine) self.old.engine commands) →
             AddsFront all_meaning p (M.disk self.old.machine) (M.disk self.new.machine) self.old.engine self.new.engine holds.world commands
@@ -40,6 +42,7 @@ impl<M: Machine + Drop> Store<M> {
 
     /// Gives a key of a hash file this value, as `hash_client::put`.
     pub fn hash_put(&mut self, file: &HashFile, key: &Short, value: &Short) -> Result<(), HashErr>
+        ensures time { Passes (M.disk self.old.machine) (M.disk self.new.machine) }
         ensures calls { self.old.engine.broken ≡ false → AreCalls all_meaning (M.disk self.old.machine) (M.disk self.new.machine) self.old.engine self.new.engine (cause_in result) }
         ensures adds { (p : Params) (commands : List Command) → (holds : Holds p (M.disk self.old.machine) self.old.engine commands) →
             AddsFront all_meaning p (M.disk self.old.machine) (M.disk self.new.machine) self.old.engine self.new.engine holds.world commands
@@ -56,6 +59,7 @@ impl<M: Machine + Drop> Store<M> {
 
     /// Deletes a key of a hash file and its value, as `hash_client::delete`.
     pub fn hash_delete(&mut self, file: &HashFile, key: &Short) -> Result<(), HashErr>
+        ensures time { Passes (M.disk self.old.machine) (M.disk self.new.machine) }
         ensures calls { self.old.engine.broken ≡ false → AreCalls all_meaning (M.disk self.old.machine) (M.disk self.new.machine) self.old.engine self.new.engine (cause_in result) }
         ensures adds { (p : Params) (commands : List Command) → (holds : Holds p (M.disk self.old.machine) self.old.engine commands) →
             AddsFront all_meaning p (M.disk self.old.machine) (M.disk self.new.machine) self.old.engine self.new.engine holds.world commands

@@ -1,22 +1,27 @@
 // What a store in memory is worth for the real files.
 ghost use Rattle.std.specs.Prelude.{◌≡◌, ◌⊎◌, ℕ, List, [], None, Option, length};
-ghost use Rattle.disk_model.specs.Disk.{Files, IsSettled, LeavesOnly};
+ghost use Rattle.disk_model.specs.Disk.{Files, IsSettled, LeavesOnly, Passes};
 ghost use Rattle.formats.specs.declared.params.Params.{Params};
 ghost use Rattle.op_codec.specs.AllOps.{AllOps as Command, all_meaning};
+ghost use Rattle.explain_core.specs.World.{World};
 ghost use Rattle.restart.specs.Starts.{OrAtStart};
-ghost use Rattle.store_engine.specs.Engine.{Between, InEachImage, Opens};
+ghost use Rattle.store_engine.specs.Engine.{Between, EngineView, InEachImage, Opens};
 ghost use Rattle.store_engine.specs.Store.{Stands};
 ghost use Rattle.backup_copy.specs.Calls.{IsShutOrWhole};
+ghost use Rattle.backup_copy.specs.Copies.{Copies};
 ghost use Rattle.backup_copy.specs.Target.{AreShut};
-ghost use Rattle.write_queue.specs.Memory.{disk_of, waiting_in, IsLeftByFront};
+ghost use Rattle.write_queue.specs.Memory.{disk_of, waiting_in, IsLeftByFront, LooksTheSame};
 ghost use Rattle.write_queue.specs.declared.queue_mem.QueueMem.{QueueMem};
 ghost use Rattle.embed.specs.Real.{IsSinceTaken};
+
+use disk_model::Machine;
 
 /// Real files on which some front of what a call queued was made, in order, and which then crash, stand for such a front of the
 /// commands as the call says of the machine: none that was forced is lost, and no group is split. Where the call opens a store
 /// they stand for its commands. Those of a backup have a closed gate meanwhile, or stand for the commands. Once all calls are made,
-/// the real files stand for the commands that each image stands for.
+/// the real files stand for the commands that each image stands for. Nothing is taken within a call: that is the caller's to do.
 pub fn real_files_keep_what_is_forced()
+    ensures since { (old new : QueueMem) → waiting_in old ≡ [] → Passes (disk_of old) (disk_of new) → IsSinceTaken old new }
     ensures calls { (p : Params) (old new : QueueMem) (group : Option ℕ) (forced start : ℕ) (commands : List Command) → IsSinceTaken old new →
         LeavesOnly (disk_of old) (disk_of new) (Between all_meaning p (disk_of old) group forced start commands) →
         (files : Files) (said : List ℕ) → IsLeftByFront new files said → Between all_meaning p (disk_of old) group forced start commands files said }
@@ -31,3 +36,11 @@ pub fn real_files_keep_what_is_forced()
 {
     write_queue::fronts_are_what_is_left();
 }
+
+/// A queue that is taken from the machine of a store, or from that to which it is copied, leaves the copying as it stands.
+pub fn takes_leave_a_copy<M: Machine>()
+    ensures source { (p : Params) (old new : QueueMem) (engine : EngineView) (w : World Command) (target : M) → LooksTheSame old new →
+        Copies all_meaning p (disk_of old) engine w (M.disk target) → Copies all_meaning p (disk_of new) engine w (M.disk target) }
+    ensures target { (p : Params) (source : M) (engine : EngineView) (w : World Command) (old new : QueueMem) → LooksTheSame old new →
+        Copies all_meaning p (M.disk source) engine w (disk_of old) → Copies all_meaning p (M.disk source) engine w (disk_of new) }
+{}

@@ -17,6 +17,6 @@ mod store;
 mod trees;
 mod upkeep;
 
-pub use laws::real_files_keep_what_is_forced;
+pub use laws::{real_files_keep_what_is_forced, takes_leave_a_copy};
 pub use opening::lay_out;
 pub use store::Store;

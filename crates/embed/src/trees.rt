@@ -1,6 +1,7 @@
 // Ordered maps in ranges of objects.
 ghost use Rattle.std.specs.Prelude.{◌≡◌, true, false, List, [], Ok, Err, IfOk, IfErr};
 ghost use Rattle.std.specs.Result.{result_err};
+ghost use Rattle.disk_model.specs.Disk.{Passes};
 ghost use Rattle.execution.specs.declared.exec_err.ExecErr.TheVariants.{DiskFault};
 ghost use Rattle.formats.specs.Objects.{bounds_of};
 ghost use Rattle.formats.specs.declared.params.Params.{Params};
@@ -27,6 +28,7 @@ use tree_client::{Piece, TreeErr};
 impl<M: Machine + Drop> Store<M> {
     /// The value of a key of a tree, as `tree_client::get`.
     pub fn tree_get(&mut self, tree: &Tree, key: &Short) -> Result<Option<Short>, TreeErr>
+        ensures time { Passes (M.disk self.old.machine) (M.disk self.new.machine) }
         ensures calls { self.old.engine.broken ≡ false → AreCalls all_meaning (M.disk self.old.machine) (M.disk self.new.machine) self.old.engine self.new.engine (cause_in result) }
         ensures adds { (p : Params) (commands : List Command) → (holds : Holds p (M.disk self.old.machine) self.old.engine commands) →
             AddsFront all_meaning p (M.disk self.old.machine) (M.disk self.new.machine) self.old.engine self.new.engine holds.world commands
@@ -49,6 +51,7 @@ impl<M: Machine + Drop> Store<M> {
         from: &Short,
         to: &Short,
     ) -> Result<Vec<(Short, Short)>, TreeErr>
+        ensures time { Passes (M.disk self.old.machine) (M.disk self.new.machine) }
         ensures calls { self.old.engine.broken ≡ false → AreCalls all_meaning (M.disk self.old.machine) (M.disk self.new.machine) self.old.engine self.new.engine (cause_in result) }
         ensures adds { (p : Params) (commands : List Command) → (holds : Holds p (M.disk self.old.machine) self.old.engine commands) →
             AddsFront all_meaning p (M.disk self.old.machine) (M.disk self.new.machine) self.old.engine self.new.engine holds.world commands
@@ -68,6 +71,7 @@ impl<M: Machine + Drop> Store<M> {
     /// The pairs of a tree from a key on that stand in one leaf, at most seven, and the key at which the next piece begins, as
     /// `tree_client::piece_from`.
     pub fn tree_piece(&mut self, tree: &Tree, from: &Short) -> Result<Piece, TreeErr>
+        ensures time { Passes (M.disk self.old.machine) (M.disk self.new.machine) }
         ensures calls { self.old.engine.broken ≡ false → AreCalls all_meaning (M.disk self.old.machine) (M.disk self.new.machine) self.old.engine self.new.engine (cause_in result) }
         ensures adds { (p : Params) (commands : List Command) → (holds : Holds p (M.disk self.old.machine) self.old.engine commands) →
             AddsFront all_meaning p (M.disk self.old.machine) (M.disk self.new.machine) self.old.engine self.new.engine holds.world commands
@@ -87,6 +91,7 @@ impl<M: Machine + Drop> Store<M> {
 
     /// Gives a key of a tree this value, as `tree_client::insert`.
     pub fn tree_insert(&mut self, tree: &Tree, key: &Short, value: &Short) -> Result<(), TreeErr>
+        ensures time { Passes (M.disk self.old.machine) (M.disk self.new.machine) }
         ensures calls { self.old.engine.broken ≡ false → AreCalls all_meaning (M.disk self.old.machine) (M.disk self.new.machine) self.old.engine self.new.engine (cause_in result) }
         ensures adds { (p : Params) (commands : List Command) → (holds : Holds p (M.disk self.old.machine) self.old.engine commands) →
             AddsFront all_meaning p (M.disk self.old.machine) (M.disk self.new.machine) self.old.engine self.new.engine holds.world commands
@@ -103,6 +108,7 @@ impl<M: Machine + Drop> Store<M> {
 
     /// Deletes a key of a tree and its value, as `tree_client::delete`.
     pub fn tree_delete(&mut self, tree: &Tree, key: &Short) -> Result<(), TreeErr>
+        ensures time { Passes (M.disk self.old.machine) (M.disk self.new.machine) }
         ensures calls { self.old.engine.broken ≡ false → AreCalls all_meaning (M.disk self.old.machine) (M.disk self.new.machine) self.old.engine self.new.engine (cause_in result) }
         ensures adds { (p : Params) (commands : List Command) → (holds : Holds p (M.disk self.old.machine) self.old.engine commands) →
             AddsFront all_meaning p (M.disk self.old.machine) (M.disk self.new.machine) self.old.engine self.new.engine holds.world commands

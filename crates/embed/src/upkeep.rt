@@ -1,5 +1,6 @@
 // Groups, forces, installs, checks and trims.
 ghost use Rattle.std.specs.Prelude.{◌≡◌, true, false, ℕ, None, Some, Ok, IfSome, Result};
+ghost use Rattle.disk_model.specs.Disk.{Passes};
 ghost use Rattle.disk_model.specs.declared.machine.Failed.{Failed as ForceFailure};
 ghost use Rattle.log_records.specs.declared.rewrite_err.RewriteErr.{RewriteErr as RewriteFailure};
 ghost use Rattle.cache_manager.specs.declared.install.Install.{Install as Installs};
@@ -17,6 +18,7 @@ use store_engine::{Install, Stat, WorkErr};
 impl<M: Machine + Drop> Store<M> {
     /// Makes all commands durable. It answers how many there are; in a group `InGroup`.
     pub fn force(&mut self) -> Result<u64, WorkErr>
+        ensures time { Passes (M.disk self.old.machine) (M.disk self.new.machine) }
         ensures in_group { self.old.engine.broken ≡ false → IfSome (group_size self.old.engine) (λ size. IsRefused size self.old.machine self.new.machine self.old.engine self.new.engine result) }
         ensures alone { self.old.engine.broken ≡ false → self.old.engine.group ≡ None → (answer : Result ℕ ForceFailure) × (result ≡ work_of_force answer) × IsForcing all_meaning (M.disk self.old.machine) (M.disk self.new.machine) self.old.engine self.new.engine answer }
         ensures broken { self.old.engine.broken ≡ true → IsStillBroken WorkErr.DiskFault self.old self.new result }
@@ -29,6 +31,7 @@ impl<M: Machine + Drop> Store<M> {
 
     /// Makes all commands durable, and opens a group: of the commands from here to its end a crash leaves all or none.
     pub fn begin(&mut self) -> Result<(), WorkErr>
+        ensures time { Passes (M.disk self.old.machine) (M.disk self.new.machine) }
         ensures in_group { self.old.engine.broken ≡ false → IfSome (group_size self.old.engine) (λ size. IsRefused size self.old.machine self.new.machine self.old.engine self.new.engine result) }
         ensures alone { self.old.engine.broken ≡ false → self.old.engine.group ≡ None → (answer : Result _ ForceFailure) × (result ≡ work_of_force answer) × IsBeginning all_meaning (M.disk self.old.machine) (M.disk self.new.machine) self.old.engine self.new.engine answer }
         ensures broken { self.old.engine.broken ≡ true → IsStillBroken WorkErr.DiskFault self.old self.new result }
@@ -41,6 +44,7 @@ impl<M: Machine + Drop> Store<M> {
 
     /// Closes the open group. It answers how many commands the group has; none where none is open.
     pub fn end(&mut self) -> Result<Option<u64>, WorkErr>
+        ensures time { Passes (M.disk self.old.machine) (M.disk self.new.machine) }
         ensures none { self.old.engine.broken ≡ false → self.old.engine.group ≡ None → (result ≡ Ok None) × (self.new ≡ self.old) }
         ensures some { self.old.engine.broken ≡ false → IfSome (group_size self.old.engine) (λ size. (result ≡ Ok (Some size)) × (self.new ≡ record self.old { engine = record self.old.engine { group = None } })) }
         ensures broken { self.old.engine.broken ≡ true → IsStillBroken WorkErr.DiskFault self.old self.new result }
@@ -56,6 +60,7 @@ impl<M: Machine + Drop> Store<M> {
 
     /// Installs the minimal node of the least name of the write graph, as the engine's `install_one`.
     pub fn install(&mut self) -> Result<Install, WorkErr>
+        ensures time { Passes (M.disk self.old.machine) (M.disk self.new.machine) }
         ensures in_group { self.old.engine.broken ≡ false → IfSome (group_size self.old.engine) (λ size. IsRefused size self.old.machine self.new.machine self.old.engine self.new.engine result) }
         ensures alone { self.old.engine.broken ≡ false → self.old.engine.group ≡ None → (answer : Result Installs InstallFailure) × (result ≡ work_of_install answer) × IsInstalling all_meaning (M.disk self.old.machine) (M.disk self.new.machine) self.old.engine self.new.engine answer }
         ensures broken { self.old.engine.broken ≡ true → IsStillBroken WorkErr.DiskFault self.old self.new result }
@@ -68,6 +73,7 @@ impl<M: Machine + Drop> Store<M> {
 
     /// Installs all nodes of the write graph. It answers how many.
     pub fn drain(&mut self) -> Result<u64, WorkErr>
+        ensures time { Passes (M.disk self.old.machine) (M.disk self.new.machine) }
         ensures in_group { self.old.engine.broken ≡ false → IfSome (group_size self.old.engine) (λ size. IsRefused size self.old.machine self.new.machine self.old.engine self.new.engine result) }
         ensures alone { self.old.engine.broken ≡ false → self.old.engine.group ≡ None → (answer : Result ℕ InstallFailure) × (result ≡ work_of_install answer) × IsDraining all_meaning (M.disk self.old.machine) (M.disk self.new.machine) self.old.engine self.new.engine answer }
         ensures broken { self.old.engine.broken ≡ true → IsStillBroken WorkErr.DiskFault self.old self.new result }
@@ -80,6 +86,7 @@ impl<M: Machine + Drop> Store<M> {
 
     /// Logs a check of where a redo begins, and makes it durable.
     pub fn checkpoint(&mut self) -> Result<(), WorkErr>
+        ensures time { Passes (M.disk self.old.machine) (M.disk self.new.machine) }
         ensures in_group { self.old.engine.broken ≡ false → IfSome (group_size self.old.engine) (λ size. IsRefused size self.old.machine self.new.machine self.old.engine self.new.engine result) }
         ensures alone { self.old.engine.broken ≡ false → self.old.engine.group ≡ None → (answer : Result _ CheckFailure) × (result ≡ work_of_check answer) × IsChecking all_meaning (M.disk self.old.machine) (M.disk self.new.machine) self.old.engine self.new.engine answer }
         ensures broken { self.old.engine.broken ≡ true → IsStillBroken WorkErr.DiskFault self.old self.new result }
@@ -92,6 +99,7 @@ impl<M: Machine + Drop> Store<M> {
 
     /// Rewrites the log without the records that no redo needs.
     pub fn trim(&mut self) -> Result<(), WorkErr>
+        ensures time { Passes (M.disk self.old.machine) (M.disk self.new.machine) }
         ensures in_group { self.old.engine.broken ≡ false → IfSome (group_size self.old.engine) (λ size. IsRefused size self.old.machine self.new.machine self.old.engine self.new.engine result) }
         ensures in_backup { self.old.engine.broken ≡ false → self.old.engine.group ≡ None → IfSome self.old.engine.copied (λ copied. IsRefusedBeside copied self.old.machine self.new.machine self.old.engine self.new.engine result) }
         ensures alone { self.old.engine.broken ≡ false → self.old.engine.group ≡ None → self.old.engine.copied ≡ None → (answer : Result _ RewriteFailure) × (result ≡ work_of_trim answer) × IsTrimming all_meaning (M.disk self.old.machine) (M.disk self.new.machine) self.old.engine self.new.engine answer }

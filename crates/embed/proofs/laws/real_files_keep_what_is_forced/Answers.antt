@@ -1,13 +1,16 @@
 use Rattle.std.proofs.Common.{◌≡◌, ◌∙◌, ◌++◌, ℕ, List, [], length, ⊎_elim, sym, ap, subst}
 use Rattle.std.proofs.lemmas.List.{append-nil, take_all}
 use Rattle.disk_model.specs.Call.{Call}
-use Rattle.disk_model.specs.Disk.{Files}
+use Rattle.disk_model.specs.Disk.{Exchange, Files}
 use Rattle.op_codec.specs.AllOps.{AllOps, all_meaning}
 use Rattle.store_engine.specs.Store.{Stands}
 use Rattle.write_queue.specs.Memory.{disk_of, taken_from, waiting_in}
 use Rattle.write_queue.specs.declared.queue_mem.QueueMem.{QueueMem}
 use Rattle.embed.specs.Real.{IsSinceTaken}
 use Rattle.embed.proofs.laws.real_files_keep_what_is_forced.Goals as goal
+
+pub returns-clause-since : goal.returns-clause-since
+returns-clause-since c old new none passes = record { emptied = none; untaken = ap (λ (x : Exchange). x.calls) passes.exchange }
 
 -- the call began when the queue was last taken
 began : (old new : QueueMem) → IsSinceTaken old new → length (taken_from new) ≡ length (taken_from old ++ waiting_in old)

@@ -1,0 +1,23 @@
+-- A call that an open group or a backup bars lets time pass, whether it is done or refused.
+use Rattle.std.proofs.Common.{◌≡◌, ℕ, None, Option, Result, Some, refl, subst, sym}
+use Rattle.std.specs.Prelude.{IfSome}
+use Rattle.disk_model.specs.Disk.{Disk, Passes}
+use Rattle.disk_model.specs.Moments.{passes_none}
+use Rattle.store_engine.specs.Calls.{IsRefused, IsRefusedBeside}
+use Rattle.store_engine.specs.Engine.{EngineView, commands_since}
+use Rattle.store_engine.specs.declared.work_err.WorkErr.{WorkErr}
+
+module _ {M : Type 0} (disk : M → Disk) {old new : M} where
+  still : new ≡ old → Passes (disk old) (disk new)
+  still same = subst (λ (m : M). Passes (disk old) (disk m)) (sym same) (passes_none (disk old))
+
+  module _ {T : Type 0} (before after : EngineView) (result : Result T WorkErr) where
+    pub barred_by_group : (next : ℕ) (group : Option ℕ) → IfSome (commands_since next group) (λ size. IsRefused size old new before after result)
+        → (group ≡ None → Passes (disk old) (disk new)) → Passes (disk old) (disk new)
+    barred_by_group next None refused done = done refl
+    barred_by_group next (Some begun) refused done = still refused.machine
+
+    pub barred_by_backup : (copied : Option ℕ) → IfSome copied (λ n. IsRefusedBeside n old new before after result)
+        → (copied ≡ None → Passes (disk old) (disk new)) → Passes (disk old) (disk new)
+    barred_by_backup None refused done = done refl
+    barred_by_backup (Some copied) refused done = still refused.machine

@@ -1,0 +1,10 @@
+use Rattle.disk_model.specs.Moments.{passes_none}
+use Rattle.embed.proofs.Passing.{barred_by_backup, barred_by_group}
+use Rattle.embed.proofs.store.Store.trim.Goals as goal
+
+pub returns-then-is_broken-clause-time : goal.returns-then-is_broken-clause-time
+returns-then-is_broken-clause-time g c = passes_none _
+
+pub returns-clause-time : goal.returns-clause-time
+returns-clause-time g c = barred_by_group g.M.Machine.disk c.args.self.now.engine c.trim.new.self c.trim.result c.args.self.now.engine.parts.log.next c.args.self.now.engine.group c.trim.ensures.in_group (λ none.
+    barred_by_backup g.M.Machine.disk c.args.self.now.engine c.trim.new.self c.trim.result c.args.self.now.engine.copied (c.trim.ensures.in_backup none) (λ alone. (c.trim.ensures.alone none alone).2.call.time))
