@@ -1,7 +1,7 @@
 -- What holds of a call for any words, from what holds of one that was asked one thing.
 use Rattle.std.proofs.Common.{◌≡◌, ◌≢◌, ◌⊎◌, ◌^◌, ⊎_elim, List, [], ℕ, inl, inr, refl, subst}
 use Rattle.std.specs.Prelude.{⊤}
-use Rattle.disk_model.specs.Disk.{Disk, IsDisk, Passes, Rises}
+use Rattle.disk_model.specs.Disk.{Disk, IsDisk, LeavesOnly, Passes, Rises}
 use Rattle.disk_model.specs.Moments.{passes_none}
 use Rattle.formats.specs.declared.params.Params.{Params}
 use Rattle.script_lines.specs.Grammar.{lines_of}
@@ -9,6 +9,7 @@ use Rattle.script_lines.specs.Reading.{ReadsOn}
 use Rattle.command_words.specs.Words.{Asks}
 use Rattle.command_words.specs.declared.asked.Asked.{Asked}
 use Rattle.command_words.specs.declared.asked.Asked.TheVariants.{Init, Run, Dump, Demo, Upgrade, Ship, Follow}
+use Rattle.redo_shell.specs.Again.{StandsStill}
 use Rattle.redo_shell.specs.Calls.{IsCallFor, GoesOn}
 use Rattle.redo_shell.specs.Causes.{CountsFaults, IsCutUpgrade, IsUnread, JudgesFiles, JudgesUpgrade, SaysCut, SaysNoStore, SaysDamage, SaysStore, ComesByCause}
 use Rattle.redo_shell.specs.Demo.{IsOfDemo}
@@ -24,7 +25,7 @@ use Rattle.redo_shell.specs.Store.{Command, IsWellFormed, Opens, Stands}
 use Rattle.redo_shell.specs.declared.budget.Budget.{Budget}
 use Rattle.redo_shell.specs.declared.status.Status.{Status}
 use Rattle.redo_shell.specs.declared.status.Status.TheVariants.{Done, Usage, NotAStore, AlreadyStore, Damaged, DiskFault, ReadFault, SayFault, Memory, RestartMemory, TooLong, AlreadyTwo, Smaller, BackupFault, Gone, BadStream, StandbyFull}
-use Rattle.restart.specs.Starts.{at_start, or_weaker}
+use Rattle.restart.specs.Starts.{OrAtStart, at_start, or_weaker}
 use Rattle.redo_shell.specs.Dump.{DumpMoment}
 use Rattle.redo_shell.proofs.KeepLemmas.{keeps_once}
 use Rattle.redo_shell.proofs.DamageLemmas.{HasOneDamage}
@@ -229,12 +230,16 @@ call_goes_on disk {words} {told} {left} old new lawful time call = record {
       (λ p commands opens. ((call (Upgrade q) asks).stands p commands opens).images) follows;
 }
 
+-- where files stand for commands as they did, each image does
+alone : (p : Params) (commands : List Command) {old new : Disk} → StandsStill p commands old new → LeavesOnly old new (OrAtStart old (λ files said. Stands p files commands))
+alone p commands {old} {new} still = or_weaker old new (λ files said. Stands p files commands × (said ≡ old.said)) (λ files said. Stands p files commands) still.images (λ files said is. is.0)
+
 -- one whose restart was refused memory adds nothing to them
 pub call_adds_nothing : {T : Type 0} (disk : T → Disk) (budget : Budget) (told : Type 0) (left rest : List ℕ) {status : Status} (old new : T) (asked : Asked) → IsDisk (disk old) → IsCallFor budget asked told left rest (disk old) (disk new) status
     → status ≡ RestartMemory → AddsNothing disk old new
 call_adds_nothing disk budget told left rest old new Run lawful call is = λ first next sizes runs said before follows.
     reads old new next said before (λ none telling. (call.judged (lawful.telling telling)).keeps (λ image. none (image_begins image)))
-    (λ p commands opens telling. (call.untold.1 p commands opens).refused telling is) follows
+    (λ p commands opens telling. alone p commands ((call.untold.1 p commands opens).unopened telling is)) follows
 call_adds_nothing disk budget told left rest old new Dump lawful call is = λ first next sizes runs said before follows.
     reads old new next said before (λ none telling. (call.judged (lawful.telling telling)).keeps (λ image. none (image_begins image)))
     (λ p commands opens telling. or_weaker (disk old) (disk new) (DumpMoment p commands (disk old).said) (λ files bytes. Stands p files commands) ((call.table p commands opens).images telling) (λ files bytes moment. moment.stands)) follows
@@ -242,13 +247,13 @@ call_adds_nothing disk budget told left rest old new (Init p) lawful call is = a
 call_adds_nothing disk budget told left rest old new (Demo seed steps) lawful call is = absurd (subst IsOfDemo is call.ends)
 call_adds_nothing disk budget told left rest old new (Upgrade q) lawful call is = λ first next sizes runs said before follows.
     reads old new next said before (λ none telling. keeps_judged (call.judged (lawful.telling telling)) (λ image. none (image_begins image)))
-    (λ p commands opens telling. (call.stands p commands opens).refused telling is) follows
+    (λ p commands opens telling. alone p commands ((call.stands p commands opens).unopened telling is)) follows
 call_adds_nothing disk budget told left rest old new (Ship from) lawful call is = λ first next sizes runs said before follows.
     reads old new next said before (λ none telling. (call.judged (lawful.telling telling)).keeps (λ image. none (image_begins image)))
     (λ p commands opens telling. or_weaker (disk old) (disk new) (ShipMoment p commands from (disk old).said) (λ files bytes. Stands p files commands) ((call.log p commands opens).images telling) (λ files bytes moment. moment.0)) follows
 call_adds_nothing disk budget told left rest old new Follow lawful call is = λ first next sizes runs said before follows.
     reads old new next said before (λ none telling. (call.judged (lawful.telling telling)).keeps (λ image. none (image_begins image)))
-    (λ p commands opens telling. (call.stream p commands opens).refused telling is) follows
+    (λ p commands opens telling. alone p commands ((call.stream p commands opens).unopened telling is)) follows
 
 -- where there was no memory to read the words, it goes on them too
 pub unread_goes_on : {T : Type 0} (disk : T → Disk) {words : List (List ℕ)} {told : Type 0} {left : List ℕ} {status : Status} (old new : T) → IsUnread (disk old) (disk new) status

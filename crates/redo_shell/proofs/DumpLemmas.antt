@@ -22,12 +22,12 @@ use Rattle.redo_shell.specs.Stages.{Stage, IsFirst}
 use Rattle.redo_shell.specs.Calls.{IsDumpOn}
 use Rattle.redo_shell.specs.Dump.{row_of, rows_below, dump_of, DumpMoment}
 use Rattle.redo_shell.specs.Keeps.{KeepsFiles}
-use Rattle.redo_shell.specs.Status.{IsOfUnopened, status_of}
+use Rattle.redo_shell.specs.Status.{IsOfOpened, IsOfUnopened, status_of}
 use Rattle.redo_shell.specs.declared.budget.Budget.{Budget}
 use Rattle.redo_shell.specs.declared.status.Status.{Status}
 use Rattle.redo_shell.specs.declared.status.Status.TheVariants.{Done, NotAStore, Damaged, SayFault, Memory as OutOfMemory}
 use Rattle.redo_shell.proofs.HoldLemmas.{holds_stays, stays_between, told_by}
-use Rattle.redo_shell.proofs.OpenLemmas.{OpensSo, opening_failed}
+use Rattle.redo_shell.proofs.OpenLemmas.{OpensSo, opening_failed, still_stands}
 use Rattle.redo_shell.proofs.KeepLemmas.{settled_each}
 use Rattle.redo_shell.specs.declared.stop.Stop.{Stop}
 use Rattle.redo_shell.specs.declared.stop.Stop.TheVariants.{DiskFault, Damaged, ReadFault, SayFault, BackupFault, Memory, TooLong}
@@ -154,9 +154,9 @@ GoesBy budget p commands old new status = (first : Stage) → (is : IsFirst budg
 -- a dump of files that stand for commands, from before they were opened
 pub dump_on : {budget : Budget} (p : Params) (old mid new : Disk) (commands : List Command) (status : Status) → GoesBy budget p commands old new status → IsDisk old → Opens p old commands → OpensSo p old mid commands → (old.tells_moments → mid.tells_moments) → mid.said ≡ old.said
     → (mid.tells_moments → LeavesOnly mid new (DumpMoment p commands mid.said))
-    → (count : ℕ) × (new.said ≡ mid.said ++ take count (dump_of p commands)) → (status ≡ Done → new.said ≡ mid.said ++ dump_of p commands) → (status ≢ NotAStore) × (status ≢ Damaged) → IsSettled new
+    → (count : ℕ) × (new.said ≡ mid.said ++ take count (dump_of p commands)) → (status ≡ Done → new.said ≡ mid.said ++ dump_of p commands) → (status ≢ NotAStore) × (status ≢ Damaged) → IsOfOpened status → IsSettled new
     → InEachImage new (λ files. Stands p files commands) → IsDumpOn budget p commands old new status
-dump_on {budget} p old mid new commands status goes lawful opens opening telling quiet dumping said all store settled stands =
+dump_on {budget} p old mid new commands status goes lawful opens opening telling quiet dumping said all store fine settled stands =
     let images : old.tells_moments → LeavesOnly old new (OrAtStart old (DumpMoment p commands old.said)) = dump_from p old mid new commands opening telling quiet dumping in
     record {
       images = images;
@@ -166,6 +166,7 @@ dump_on {budget} p old mid new commands status goes lawful opens opening telling
       store = store;
       settled = λ disk memory. settled;
       stands = λ disk memory. stands;
+      unopened = λ told is. absurd (subst IsOfOpened is fine);
       steps = λ told first is. (goes first is).0 told;
       shows = λ first is done. (goes first is).1 done;
     }
@@ -182,6 +183,7 @@ dump_unopened {budget} p old mid commands status lawful opens files quiet of sto
       store = store;
       settled = λ disk memory. absurd (opening_failed status of store output disk memory);
       stands = λ disk memory. absurd (opening_failed status of store output disk memory);
+      unopened = λ told is. still_stands p commands files told;
       steps = λ told first is. or_weaker old mid (OpeningMoment budget p commands old first is) (TableMoment budget p commands old first is) (files.steps told first is) (λ f s here. inl here);
       shows = λ first is done. absurd (subst (λ (s : Status). IsOfUnopened s) done of);
     }

@@ -31,7 +31,7 @@ use Rattle.store_engine.specs.Grouping.{ungrouped}
 use Rattle.running_store.specs.Forced.{files_shown}
 use Rattle.standing.specs.Standing.{FilesShow}
 use Rattle.disk_model.specs.declared.machine.FileNo.{FileNo}
-use Rattle.redo_shell.specs.Following.{Begins, FollowMoment, FollowsFrames, HasEnded, IsFailure, IsFollowOn, IsFollowOpen, IsInputFollowed, IsOfStream, IsSilentEnd, IsUnsaid, SaysRefusal, SaysShort, ShowsFollowed, StandbyMoment, StreamMoment, at_end, notice_of, status_of_refusal}
+use Rattle.redo_shell.specs.Following.{Begins, FollowMoment, FollowsFrames, HasEnded, IsOfMachine, IsFollowOn, IsFollowOpen, IsInputFollowed, IsOfStream, IsSilentEnd, IsUnsaid, SaysRefusal, SaysShort, ShowsFollowed, StandbyMoment, StreamMoment, at_end, notice_of, status_of_refusal}
 use Rattle.redo_shell.specs.Stages.{Stage, IsFirst}
 use Rattle.redo_shell.specs.Keeps.{SaysOnly}
 use Rattle.redo_shell.specs.Notices as notices
@@ -46,7 +46,7 @@ use Rattle.script_lines.specs.declared.read_error.ReadError.{ReadError}
 use Rattle.script_lines.specs.declared.read_error.ReadError.TheVariants as of_input
 use Rattle.redo_shell.proofs.FetchLemmas.{not_a_fault}
 use Rattle.redo_shell.proofs.HoldLemmas.{each_stays, shows_stays, still_settled}
-use Rattle.redo_shell.proofs.OpenLemmas.{opening_failed, stands_alone}
+use Rattle.redo_shell.proofs.OpenLemmas.{opening_failed, stands_still}
 use Rattle.redo_shell.proofs.RestartLemmas.{restarted}
 
 -- records without bytes are none
@@ -249,7 +249,7 @@ module _ {told : Type 0} {left_first left : List ℕ} {start now : Disk} {before
 
   -- the standby refused it, or failed
   refusal_of : (p : Params) (first : List (Member Command)) (bytes piece : List ℕ) (new : Disk) (after : StandbyView) (cause : FollowErr) → FollowsPiece all_meaning p first bytes piece new here after (Err cause)
-      → ((following : IsFollowing all_meaning p first (bytes ++ piece) new after) × HasRefused (meaning_in p) following.world.history after cause) ⊎ IsFailure cause
+      → ((following : IsFollowing all_meaning p first (bytes ++ piece) new after) × HasRefused (meaning_in p) following.world.history after cause) ⊎ IsOfMachine cause
   refusal_of p first bytes piece new after errors.DiskFault is = inr tt
   refusal_of p first bytes piece new after errors.Memory is = inr tt
   refusal_of p first bytes piece new after cause is = inl (is.following, is.refused)
@@ -395,7 +395,7 @@ stream_cause (errors.Gap expected got) is = tt
 stream_cause (errors.Differs number) is = tt
 stream_cause cause is = cc is
 
-stream_refused : {P : Type 0} (cause : FollowErr) → IsOfStream cause → P ⊎ IsFailure cause → P
+stream_refused : {P : Type 0} (cause : FollowErr) → IsOfStream cause → P ⊎ IsOfMachine cause → P
 stream_refused (errors.BadFrame place) of is = ⊎_elim (λ p. p) (λ failed. absurd failed) is
 stream_refused (errors.Gap expected got) of is = ⊎_elim (λ p. p) (λ failed. absurd failed) is
 stream_refused (errors.Differs number) of is = ⊎_elim (λ p. p) (λ failed. absurd failed) is
@@ -456,10 +456,10 @@ said_images {old} {mid} {new} lawful time says p first bytes images settled tell
 
 -- where it was refused: what failed says nothing
 refused_images : {old mid new : Disk} {after : StandbyView} → IsDisk mid → Passes old mid → SaysOnly mid new → (p : Params) (first : List (Member Command)) (bytes : List ℕ) (cause : FollowErr) → LeavesOnly old mid (IsSilent (StreamMoment p first bytes) old.said)
-    → ((following : IsFollowing all_meaning p first bytes mid after) × HasRefused (meaning_in p) following.world.history after cause) ⊎ IsFailure cause → (IsFailure cause → new ≡ mid) → old.tells_moments → LeavesOnly old new (FollowMoment p first bytes old new)
+    → ((following : IsFollowing all_meaning p first bytes mid after) × HasRefused (meaning_in p) following.world.history after cause) ⊎ IsOfMachine cause → (IsOfMachine cause → new ≡ mid) → old.tells_moments → LeavesOnly old new (FollowMoment p first bytes old new)
 refused_images {old} {mid} {new} {after} lawful time says p first bytes cause images its failed telling = ⊎_elim
     (λ (refused : (following : IsFollowing all_meaning p first bytes mid after) × HasRefused (meaning_in p) following.world.history after cause). said_images lawful time says p first bytes images refused.0.shows.shows.log.keeps.settled telling)
-    (λ (failure : IsFailure cause). subst (λ (d : Disk). LeavesOnly old d (FollowMoment p first bytes old d)) (sym (failed failure))
+    (λ (failure : IsOfMachine cause). subst (λ (d : Disk). LeavesOnly old d (FollowMoment p first bytes old d)) (sym (failed failure))
     (weaker old mid (IsSilent (StreamMoment p first bytes) old.said) (FollowMoment p first bytes old mid) images (λ files said is. (is.holds, inl is.silent))))
     its
 
@@ -524,7 +524,7 @@ module _ {told : Type 0} {left rest : List ℕ} {old mid new : Disk} {before aft
   }
 
   pub open_refused : (cause : FollowErr) → IsInputFollowed told left rest old mid before after (Err (cuts.Refused cause)) → IsUnsaid status ⊎ (status ≡ status_of_refusal cause)
-      → (mid.tells_files → (status ≡ BadStream) ⊎ (status ≡ StandbyFull) → new.said ≡ mid.said ++ notice_of cause) → (IsSilentEnd status → new.said ≡ mid.said) → (IsFailure cause → new ≡ mid) → IsFollowOpen told left rest old new before status
+      → (mid.tells_files → (status ≡ BadStream) ⊎ (status ≡ StandbyFull) → new.said ≡ mid.said ++ notice_of cause) → (IsSilentEnd status → new.said ≡ mid.said) → (IsOfMachine cause → new ≡ mid) → IsFollowOpen told left rest old new before status
   open_refused cause input ends said silent failed = record {
     bytes = input.bytes;
     taken = input.taken;
@@ -548,7 +548,7 @@ module _ {told : Type 0} {left rest : List ℕ} {old mid new : Disk} {before aft
               );
           full = λ is.
               let (used, need, limit, same) = full_cause cause (refusal_is cause (λ e. cc e) (λ e. cc e) ends is) in
-              let its = ⊎_elim (λ refused. refused) (λ failure. absurd (subst IsFailure same failure)) (input.follows_it p first begins) in (
+              let its = ⊎_elim (λ refused. refused) (λ failure. absurd (subst IsOfMachine same failure)) (input.follows_it p first begins) in (
                 used,
                 need,
                 limit,
@@ -595,9 +595,9 @@ module _ {p : Params} {commands : List Command} {old mid : Disk} (lawful : IsDis
       or_weaker old mid (Between p old None (length commands) (length commands) commands) (StandbyMoment p commands first bytes old new) (opening told)
       (λ files said b. let enough = b.enough in inl (subst (λ (l : List Command). Stands p files l) (take_all b.kept commands enough) b.stands, b.quiet))
 
-  pub follow_unopened : {budget : Budget} {ended : Type 0} {status : Status} → (first : Stage) × IsFirst budget p commands old first × (commands_of first.world.history ≡ commands) → mid.said ≡ old.said → IsOfUnopened status → (status ≢ NotAStore) × (status ≢ FilesDamaged) → (status ≢ SayFault) × (status ≢ OutOfMemory)
+  pub follow_unopened : {budget : Budget} {ended : Type 0} {status : Status} → (first : Stage) × IsFirst budget p commands old first × (commands_of first.world.history ≡ commands) → mid.said ≡ old.said → (old.tells_moments → Opens p mid commands) → IsOfUnopened status → (status ≢ NotAStore) × (status ≢ FilesDamaged) → (status ≢ SayFault) × (status ≢ OutOfMemory)
       → IsFollowOn budget ended [] p commands old mid status
-  follow_unopened {status = status} first quiet of store output = record {
+  follow_unopened {status = status} first quiet again of store output = record {
     first = first;
     follows_it = λ stage is. record {
       done = λ e. absurd (subst IsOfUnopened e of);
@@ -608,7 +608,7 @@ module _ {p : Params} {commands : List Command} {old mid : Disk} (lawful : IsDis
     images = λ told stage is. opening_moments stage.world.history [] mid told;
     from_settled = λ told settled stage is. from_settled old mid (StandbyMoment p commands stage.world.history [] old mid) lawful told settled (inl (opens.stands, refl)) (opening_moments stage.world.history [] mid told);
     opened = λ told disk memory. absurd (opening_failed status of store output disk memory);
-    refused = λ told is. stands_alone p commands opening told;
+    unopened = λ told is. stands_still p commands opening quiet (again told) told;
     store = store;
   }
 
@@ -640,7 +640,7 @@ module _ {p : Params} {commands : List Command} {old mid : Disk} (lawful : IsDis
             let each : (files : Files) (said : List ℕ) → new.left_since new.clock files said → StreamMoment p stage.world.history it.bytes files
             = λ files said left. ((it.images told_mid p stage.world.history (begins stage is)).each files said (lawful_new.among mid.clock new.clock files said time.later (omega arith) left)).0 in
             (each new.reads new.said (lawful_new.as_read (time.moments_told.0 told_mid)), λ told_new. each);
-        refused = λ told is. absurd (subst IsOfOpened is fine);
+        unopened = λ told is. absurd (subst IsOfOpened is fine);
         store = store;
       }
     where

@@ -12,6 +12,7 @@ pub mod LineLemmas
 pub mod NotedLemmas
 pub mod ScriptLemmas
 pub mod OpenLemmas
+pub mod AgainLemmas
 pub mod CallLemmas
 pub mod ExactLemmas
 pub mod DumpLemmas

@@ -15,6 +15,7 @@ use Rattle.redo_shell.specs.Store.{Command, IsWellFormed, Stands, Opens, Holds, 
 use Rattle.redo_shell.specs.Stages.{Stage, IsFirst, stage_of}
 use Rattle.redo_shell.specs.Groups.{Account, account_of, waiting}
 use Rattle.redo_shell.specs.Answers.{Begun, Moment, TrueWithin, with_begun, with_line, with_waits, SaysTruly}
+use Rattle.redo_shell.specs.Again.{StandsStill}
 use Rattle.redo_shell.specs.Calls.{IsRunOn}
 use Rattle.redo_shell.specs.Courses.{OpeningMoment, RunMoment, StageMoment}
 use Rattle.redo_shell.specs.Causes.{JudgesFiles}
@@ -52,22 +53,25 @@ opening_images few {p} {start} {mid} {commands} script opening told =
 opening_says : (p : Params) (start : Disk) (commands : List Command) → IsDisk start → start.tells_moments → (f : Files) (s : List ℕ) → OrAtStart start (Between p start None (length commands) (length commands) commands) f s → s ≡ start.said
 opening_says p start commands lawful told f s here = ⊎_elim (λ was. lawful.said_now told f s was) (λ (b : Between p start None (length commands) (length commands) commands f s). b.quiet) here
 
--- what reads give, before anything is said
-start_so_far : AreFew → {p : Params} (start : Disk) {commands : List Command} (script : List (List ℕ)) → Stands p start.reads commands → MomentSoFar p commands script start.said start.reads start.said
-start_so_far few {p} start {commands} script stands =
+-- files that stand for the commands, all of them
+stands_between : {p : Params} (start : Disk) {commands : List Command} (files : Files) → Stands p files commands → Between p start None (length commands) (length commands) commands files start.said
+stands_between {p} start {commands} files stands =
     let enough : length commands ≤ length commands = omega arith in
-    let between : Between p start None (length commands) (length commands) commands start.reads start.said = record {
+    record {
       quiet = refl;
       kept = length commands;
       enough = enough;
       within = enough;
       which = inl refl;
-      stands = subst (λ (l : List Command). Stands p start.reads l) (sym (take_all (length commands) commands enough)) stands;
-    } in
-    first_moment few {p = p} {start = start} {commands = commands} script start.reads start.said between
+      stands = subst (λ (l : List Command). Stands p files l) (sym (take_all (length commands) commands enough)) stands;
+    }
+
+-- before anything is said
+pub start_so_far : AreFew → {p : Params} (start : Disk) {commands : List Command} (script : List (List ℕ)) (files : Files) → Stands p files commands → MomentSoFar p commands script start.said files start.said
+start_so_far few {p} start {commands} script files stands = first_moment few {p = p} {start = start} {commands = commands} script files start.said (stands_between start files stands)
 
 pub start_moment : AreFew → {p : Params} (start : Disk) {commands : List Command} (script : List (List ℕ)) → Stands p start.reads commands → Moment p commands script start.said start.reads start.said
-start_moment few start script stands = (start_so_far few start script stands).is
+start_moment few start script stands = (start_so_far few start script start.reads stands).is
 
 abbrev pub says_nothing : {p : Params} {first : Stage} {commands : List Command} (script : List (List ℕ)) {old new : Disk} → Passes old new → new.said ≡ old.said → SaysTruly p first commands script old new
 says_nothing {p} {first} {commands} script {old} {new} time quiet =
@@ -209,13 +213,13 @@ run_on few {budget} {p} old mid new {commands} script status lawful ends opens f
       from_settled = λ told settled. from_settled old new (Moment p commands script old.said) lawful told settled (start_moment few old script opens.stands) (images told);
       opened = λ told disk memory. ends_behind (Moment p commands script) old mid new ends time files.quiet (before.moments_told.0 told) (begun.images (before.moments_told.0 told));
       unclosed = unclosed;
-      unclosed_from_settled = λ told settled cut. from_settled old new (MomentSoFar p commands script old.said) lawful told settled (start_so_far few old script opens.stands) (unclosed told cut);
+      unclosed_from_settled = λ told settled cut. from_settled old new (MomentSoFar p commands script old.said) lawful told settled (start_so_far few old script old.reads opens.stands) (unclosed told cut);
       unclosed_now = λ told cut memory. ends_behind (MomentSoFar p commands script) old mid new ends time files.quiet (before.moments_told.0 told) (begun.unclosed cut (before.moments_told.0 told));
       first = files.first;
       answers = λ first is. says_from lawful files.images before files.quiet (runs first is).0.says;
       steps = λ told first is. run_steps script files before (runs first is).0 told is;
       complete = λ first is done. complete_from files.quiet ((runs first is).1 done);
-      refused = λ told is. absurd (subst IsOfOpened is fine);
+      unopened = λ told is. absurd (subst IsOfOpened is fine);
       store = store;
     }
 
@@ -236,12 +240,24 @@ not_done status of done = ⊎_elim
     (λ (is : status ≡ DoneWithRefusals). subst (λ (s : Status). IsOfUnopened s) is of)
     done
 
--- while a store is opened the files stand for the commands
-pub stands_alone : (p : Params) (commands : List Command) {old mid : Disk} → (old.tells_moments → LeavesOnly old mid (OrAtStart old (Between p old None (length commands) (length commands) commands))) → old.tells_moments
-    → LeavesOnly old mid (OrAtStart old (λ files said. Stands p files commands))
-stands_alone p commands {old} {mid} opening told =
-    or_weaker old mid (Between p old None (length commands) (length commands) commands) (λ files said. Stands p files commands) (opening told)
-    (λ f s b. let enough = b.enough in subst (λ (l : List Command). Stands p f l) (take_all b.kept commands enough) b.stands)
+-- while files stand for the commands as they did, they do so as while a store is opened
+pub opens_still : {p : Params} {commands : List Command} {old mid : Disk} → StandsStill p commands old mid → OpensSo p old mid commands
+opens_still {p} {commands} {old} {mid} still told =
+    or_weaker old mid (λ files said. Stands p files commands × (said ≡ old.said)) (Between p old None (length commands) (length commands) commands) still.images
+    (λ f s is. subst (λ (l : List ℕ). Between p old None (length commands) (length commands) commands f l) (sym is.1) (stands_between old f is.0))
+
+-- where a store was not opened the files stand for the commands as they did
+pub stands_still : (p : Params) (commands : List Command) {old mid : Disk} → (old.tells_moments → LeavesOnly old mid (OrAtStart old (Between p old None (length commands) (length commands) commands))) → mid.said ≡ old.said
+    → Opens p mid commands → old.tells_moments → StandsStill p commands old mid
+stands_still p commands {old} {mid} opening quiet again told = record {
+  opens = again;
+  quiet = quiet;
+  images = or_weaker old mid (Between p old None (length commands) (length commands) commands) (λ files said. Stands p files commands × (said ≡ old.said)) (opening told)
+      (λ f s b. let enough = b.enough in (subst (λ (l : List Command). Stands p f l) (take_all b.kept commands enough) b.stands, b.quiet));
+}
+
+pub still_stands : {budget : Budget} (p : Params) (commands : List Command) {old mid : Disk} → OpensFiles budget p commands old mid → old.tells_moments → StandsStill p commands old mid
+still_stands p commands files told = stands_still p commands files.images files.quiet (files.again told) told
 
 pub run_unopened : AreFew → {budget : Budget} {p : Params} (old mid : Disk) {commands : List Command} (script : List (List ℕ)) (status : Status) → IsDisk old → Opens p old commands → OpensFiles budget p commands old mid → Passes old mid
     → IsWellFormed old.reads → IsUnopened old mid status → IsRunOn budget p commands script old mid status
@@ -253,13 +269,13 @@ run_unopened few {budget} {p} old mid {commands} script status lawful opens file
       from_settled = λ told settled. from_settled old mid (Moment p commands script old.said) lawful told settled (start_moment few old script opens.stands) (images told);
       opened = λ told disk memory. absurd (opening_failed status unopened.ends store (unopened.quiet opens.told image) disk memory);
       unclosed = λ told cut. opening_so_far few script files.images told;
-      unclosed_from_settled = λ told settled cut. from_settled old mid (MomentSoFar p commands script old.said) lawful told settled (start_so_far few old script opens.stands) (opening_so_far few script files.images told);
+      unclosed_from_settled = λ told settled cut. from_settled old mid (MomentSoFar p commands script old.said) lawful told settled (start_so_far few old script old.reads opens.stands) (opening_so_far few script files.images told);
       unclosed_now = λ told cut memory. absurd (opening_failed status unopened.ends store (unopened.quiet opens.told image) (λ is. subst IsCut is cut) memory);
       first = files.first;
       answers = λ first is. says_nothing script before files.quiet;
       steps = λ told first is. or_weaker old mid (OpeningMoment budget p commands old first is) (RunMoment budget p commands old first is script) (files.steps told first is) (λ f s here. inl here);
       complete = λ first is done. absurd (not_done status unopened.ends done);
-      refused = λ told is. stands_alone p commands files.images told;
+      unopened = λ told is. still_stands p commands files told;
       store = store;
     }
 
@@ -273,7 +289,7 @@ judged_open status image store fine = record {
   keeps = λ broken. absurd (broken image);
   memory = λ is. opens_gate all_meaning image;
   silent = λ broken is. absurd (broken image);
-  refused = λ is. absurd (subst IsOfOpened is fine);
+  unopened = λ is. absurd (subst IsOfOpened is fine);
 }
 
 -- What was made of the backup, from before the store was opened.

@@ -2,7 +2,7 @@
 use Rattle.std.proofs.Common.{◌≡◌, ◌≢◌, ◌⊎◌, Err, inr, ⊎_elim, ◌∙◌, ◌++◌, List, [], ◌∷◌, ℕ, refl, ap, sym, subst, arith, length, take, drop, false, Option, None}
 use Rattle.std.specs.Prelude.{IfSome}
 use Rattle.std.proofs.lemmas.List.{append-nil, length-append, take-append-drop}
-use Rattle.disk_model.specs.Disk.{Files, Disk, Passes, Rises, Stays}
+use Rattle.disk_model.specs.Disk.{Files, Disk, Passes, Stays}
 use Rattle.disk_model.specs.declared.machine.FileNo.TheVariants.{Objects}
 use Rattle.stable_objects.specs.Laws.{begins_store}
 use Rattle.disk_model.specs.declared.machine.FileNo.{FileNo}
@@ -21,14 +21,14 @@ use Rattle.restart.specs.Damage.{IsReported}
 use Rattle.restart.specs.Opening.{IsJudged, IsOpening, OpensOn}
 use Rattle.restart.specs.Reopened.{IsReopened}
 use Rattle.stable_objects.specs.declared.open_err.OpenErr.{OpenErr}
-use Rattle.stable_objects.specs.declared.open_err.OpenErr.TheVariants.{NotAStore, Damaged, DiskFault, Memory}
+use Rattle.stable_objects.specs.declared.open_err.OpenErr.TheVariants.{NotAStore, Damaged, Memory}
 use Rattle.standing.specs.Standing.{IsFound}
 use Rattle.store_engine.specs.Engine.{EngineView}
 use Rattle.store_engine.specs.Engine as of_engine
 use Rattle.store_engine.specs.Grouping.{ungrouped_alone}
 use Rattle.redo_shell.specs.Keeps.{KeepsFiles}
 use Rattle.redo_shell.specs.Notices.{damaged, not_a_store}
-use Rattle.redo_shell.specs.Open.{IsUnopened}
+use Rattle.redo_shell.specs.Open.{HandsOn, IsUnopened}
 use Rattle.redo_shell.specs.Status.{IsOfUnopened, LacksMemory}
 use Rattle.redo_shell.specs.declared.budget.Budget.{Budget}
 use Rattle.redo_shell.specs.declared.status.Status.{Status}
@@ -128,8 +128,7 @@ pub record EndsUnopened (old new : Disk) (cause : OpenErr) (status : Status) : T
   pub quiet : cause ≢ NotAStore → IsNoDamage cause → (new.said ≡ old.said) × (status ≢ NoStore) × (status ≢ FilesDamaged) × (status ≢ SayFault) × (status ≢ OutOfMemory)
   pub silent : (status ≡ DiskFailed) ⊎ LacksMemory status → new.said ≡ old.said
   pub ends : IsOfUnopened status
-  pub disk_fault : status ≡ DiskFailed → cause ≡ DiskFault
-  pub say_fault : status ≡ SayFault → Rises old.say_faults new.say_faults
+  pub faults : HandsOn cause old new status
   pub memory : LacksMemory status → (cause ≡ Memory) ⊎ ((file : FileNo) × (place : ℕ) × (cause ≡ Damaged file place))
 
 -- why no store was opened
@@ -159,12 +158,12 @@ unopened_so {old} {mid} {new} {cause} {status} opening judges reported it = reco
         keeps = λ broken. keeps_behind old mid new (stays_unless judged.kept broken) it.keeps;
         memory = λ is. ⊎_elim (λ e. judged.memory (cc e)) (λ broken. (judged.damaged broken.0 broken.1 (cc (broken.2))).gate) (it.memory is);
         silent = λ broken is. it.silent is ∙ opening.quiet told;
-        refused = λ is. it.silent (inr (subst LacksMemory (sym is) tt)) ∙ opening.quiet told;
+        unopened = λ is. it.silent (inr (subst LacksMemory (sym is) tt)) ∙ opening.quiet told;
       };
   read = λ is files agrees. let said = it.read is in reported.no_store (cc (said.0)) files (said.1 files agrees);
   quiet = λ told image. let whole = (judges told).whole image in let quiet = it.quiet (no_damage cause whole) whole in (quiet.3, quiet.4);
   faults = record {
-    disk = λ is. rises_within _ _ _ _ (omega arith) it.time.disk_faults (opening.fault (cc (it.disk_fault is)));
-    output = λ is. rises_within _ _ _ _ opening.time.say_faults (omega arith) (it.say_fault is);
+    disk = λ is. rises_within _ _ _ _ (omega arith) it.time.disk_faults (opening.fault (cc (it.faults.disk is)));
+    output = λ is. rises_within _ _ _ _ opening.time.say_faults (omega arith) (it.faults.output is);
   };
 }

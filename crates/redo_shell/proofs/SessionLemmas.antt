@@ -353,11 +353,12 @@ follows_kill old mid new lawful first second = record {
       second.keeps told old.clock files mid.said first.later ((follows_nothing old mid lawful first).within told files s left);
 }
 
--- a crash after it
-pub follows_crash : (old new next : Disk) → IsDisk new → Passes old new → (new.tells_moments ↔ next.tells_moments) → IsSettled next → new.left_since new.clock next.reads new.said → Follows old new next new.said
-follows_crash old new next lawful time told settled image = record {
-  told = λ tells. told.0 (time.moments_told.0 tells);
+-- a crash at a moment of it
+pub follows_crash : (old mid new next : Disk) → IsDisk mid → Passes old mid → Passes mid new → (mid.tells_moments ↔ next.tells_moments) → IsSettled next → mid.left_since mid.clock next.reads mid.said → Follows old new next mid.said
+follows_crash old mid new next lawful first second told settled image = record {
+  told = λ tells. told.0 (first.moments_told.0 tells);
   within = λ tells files s left.
       let same : files ≡ next.reads = λ i file. settled file tells files s left i in
-      subst (λ (f : Files). new.left_since old.clock f new.said) (sym same) (lawful.among old.clock new.clock next.reads new.said time.later (omega arith) image);
+      let here : mid.left_since old.clock files mid.said = subst (λ (f : Files). mid.left_since old.clock f mid.said) (sym same) (lawful.among old.clock mid.clock next.reads mid.said first.later (omega arith) image) in
+      second.keeps (told.1 tells) old.clock files mid.said first.later here;
 }

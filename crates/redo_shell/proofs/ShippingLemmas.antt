@@ -34,7 +34,7 @@ use Rattle.redo_shell.specs.Notices as notices
 use Rattle.redo_shell.specs.Open.{IsOpen, OpensFiles}
 use Rattle.redo_shell.specs.Run.{IsCaused, IsUndamaged}
 use Rattle.redo_shell.specs.Shipping.{AreFirstBlocks, IsShipOn, SaysBlocks, SaysFrames, SaysGone, SaysOfLog, SaysPart, SaysPartGone, ShipMoment}
-use Rattle.redo_shell.specs.Status.{IsOfShip, IsOfUnopened, status_of, stop_from_read}
+use Rattle.redo_shell.specs.Status.{IsOfOpened, IsOfShip, IsOfUnopened, status_of, stop_from_read}
 use Rattle.redo_shell.specs.Store.{Between, Command, Holds, IsAttached, Opens, Stands, meaning_in}
 use Rattle.redo_shell.specs.declared.budget.Budget.{Budget}
 use Rattle.redo_shell.specs.declared.status.Status.{Status}
@@ -44,7 +44,7 @@ use Rattle.redo_shell.specs.declared.stop.Stop.TheVariants as stops
 use Rattle.redo_shell.proofs.HoldLemmas.{attached_said, rises_within, told_by}
 use Rattle.redo_shell.proofs.KeepLemmas.{agreed_said, keeps_none, keeps_settled, says_behind, says_then_stays, says_twice, stays_silent, stays_then_says}
 use Rattle.redo_shell.proofs.DumpLemmas.{dump_stands, dump_steps}
-use Rattle.redo_shell.proofs.OpenLemmas.{opening_failed}
+use Rattle.redo_shell.proofs.OpenLemmas.{opening_failed, still_stands}
 
 -- a reader of blocks stands where it stood while something is said
 blocks_said : {O : Type 0} {m : Meaning O} {d new : Disk} {log : LogView} {says : List ℕ → List ℕ → Type 0} → Runs Same says d new → {it : BlockReaderView} {given : List (List ℕ)} → IsReadingBlocks m d log it given
@@ -411,13 +411,14 @@ module _ (p : Params) (commands : List Command) (old : Disk) where
         store = store;
         settled = λ disk memory. absurd (opening_failed status of store output disk memory);
         stands = λ disk memory. absurd (opening_failed status of store output disk memory);
+        unopened = λ told is. still_stands p commands files told;
         steps = λ told first is. or_weaker old mid (OpeningMoment budget p commands old first is) (TableMoment budget p commands old first is) (files.steps told first is) (λ f s here. inl here);
       }
 
   pub ship_on : {budget : Budget} (from : ℕ) (mid new : Disk) (engine : EngineView) (status : Status) → IsDisk old → IsDisk mid → IsDisk new → Passes old mid → Passes mid new → Opens p old commands → OpensFiles budget p commands old mid → IsOpen budget p commands old mid engine → Holds p mid engine commands
       → IsSettled mid → KeepsFiles mid new → (status ≡ Done → SaysFrames p from mid new) → (status ≡ Gone → SaysGone p from mid new) → SaysOfLog p from mid.said new.reads new.said
-      → (mid.tells_moments → LeavesOnly mid new (λ files said. (files ≡ mid.reads) × SaysOfLog p from mid.said files said)) → (status ≢ NotAStore) × (status ≢ Damaged) → IsShipOn budget from p commands old new status
-  ship_on from mid new engine status lawful lawful_mid lawful_new first second opens files opened holds settled_mid keeps done gone said moments store =
+      → (mid.tells_moments → LeavesOnly mid new (λ files said. (files ≡ mid.reads) × SaysOfLog p from mid.said files said)) → (status ≢ NotAStore) × (status ≢ Damaged) → IsOfOpened status → IsShipOn budget from p commands old new status
+  ship_on from mid new engine status lawful lawful_mid lawful_new first second opens files opened holds settled_mid keeps done gone said moments store fine =
       let settled = keeps_settled mid new lawful_mid lawful_new second keeps settled_mid in
       let here : Stands p mid.reads commands = (dump_stands p mid mid engine commands holds opened.all (keeps_none mid lawful_mid) settled_mid).0 in
       let images : old.tells_moments → LeavesOnly old new (OrAtStart old (ShipMoment p commands from old.said))
@@ -433,6 +434,7 @@ module _ (p : Params) (commands : List Command) (old : Disk) where
         store = store;
         settled = λ disk memory. settled;
         stands = λ disk memory. dump_stands p mid new engine commands holds opened.all keeps settled;
+        unopened = λ told is. absurd (subst IsOfOpened is fine);
         steps = λ told first_stage is. dump_steps p old mid new commands engine opened files keeps first_stage is settled_mid (λ telling. first.moments_told.0 telling) told;
       }
     where

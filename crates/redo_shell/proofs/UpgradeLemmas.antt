@@ -21,7 +21,7 @@ use Rattle.redo_shell.specs.Store.{Command, Between, Holds, IsAttached, IsUpgrad
 use Rattle.redo_shell.specs.declared.budget.Budget.{Budget}
 use Rattle.redo_shell.specs.declared.status.Status.{Status}
 use Rattle.redo_shell.specs.declared.status.Status.TheVariants.{NotAStore, Damaged, DiskFault, SayFault, Memory, RestartMemory, AlreadyTwo, Smaller}
-use Rattle.redo_shell.proofs.OpenLemmas.{opening_failed, stands_alone}
+use Rattle.redo_shell.proofs.OpenLemmas.{opening_failed, still_stands}
 
 module _ (P : Files → Type 0) where
   -- at each moment of a call that says nothing the files have P
@@ -159,7 +159,7 @@ judged_whole status image fine cut = inl (record {
   keeps = λ broken. absurd (broken image);
   memory = λ is. opens_gate all_meaning image;
   silent = λ broken is. absurd (broken image);
-  refused = λ is. absurd (subst IsOfOpened is fine);
+  unopened = λ is. absurd (subst IsOfOpened is fine);
 })
 
 module _ (p q : Params) (commands : List Command) (old : Disk) where
@@ -183,7 +183,7 @@ module _ (p q : Params) (commands : List Command) (old : Disk) where
     smaller = λ is. absurd (subst IsOfUnopened is of);
     already = λ is. absurd (subst IsOfUnopened is of);
     second = λ is. unopened_second status of store;
-    refused = λ told is. stands_alone p commands files.images told;
+    unopened = λ told is. still_stands p commands files told;
     idle = λ is. absurd (⊎_elim (λ (e : status ≡ AlreadyTwo). subst IsOfUnopened e of) (λ (e : status ≡ Smaller). subst IsOfUnopened e of) is);
     store = store.0;
   }

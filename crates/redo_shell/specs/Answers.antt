@@ -53,7 +53,7 @@ pub record Said (p : Params) (tie : List Command → List ℕ → Reply → Type
   pub work : ((part ≡ []) × IsSilent p account.commands todo added) ⊎ Begun p tie account todo part added
 
 -- What a crash may leave beside these bytes: files that stand for the commands and for a beginning of those that
--- the script has added, which splits no group and is no shorter than any `forced` that the bytes say. After the last line a
+-- the script has added, which splits no group; all together are no fewer than any `forced` that the bytes say. After the last line a
 -- group that is still open is closed.
 pub record Moment (p : Params) (commands : List Command) (script : List (List ℕ)) (before : List ℕ) (files : Files) (said : List ℕ) : Type 0 where
   pub bytes : List ℕ

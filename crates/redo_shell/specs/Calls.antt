@@ -15,6 +15,7 @@ use Rattle.stable_objects.specs.Larger.{IsLarger}
 use Rattle.restart.specs.Starts.{OrAtStart}
 use Rattle.redo_shell.specs.declared.budget.Budget.{Budget}
 use Rattle.redo_shell.specs.Store.{Command, meaning_in, Stands, StandsInEither, Opens, IsNew, IsNewStore, IsUpgraded}
+use Rattle.redo_shell.specs.Again.{StandsStill}
 use Rattle.redo_shell.specs.Answers.{Moment, SaysTruly}
 use Rattle.redo_shell.specs.Causes.{JudgesFiles, JudgesUpgrade, ReadsNoStore, ReadsStore, SaysStore}
 use Rattle.redo_shell.specs.Demo.{IsDemo}
@@ -35,8 +36,8 @@ use Rattle.redo_shell.specs.declared.status.Status.TheVariants.{Done, DoneWithRe
 -- left unsynced.
 pub record IsRunOn (budget : Budget) (p : Params) (commands : List Command) (script : List (List ℕ)) (old new : Disk) (status : Status) : Type 0 where
   -- what a crash at any moment leaves is what a crash at the start could leave, with nothing said since, or it stands for
-  -- these commands and a beginning of those that the script has added, which splits no group and is no shorter than any number
-  -- that was printed to be forced, and what was said is the answers to the script's lines
+  -- these commands and a beginning of those that the script has added, which splits no group; all together are no fewer than any
+  -- number that was printed to be forced, and what was said is the answers to the script's lines
   pub images : old.tells_moments → LeavesOnly old new (OrAtStart old (Moment p commands script old.said))
   -- from a settled start what a crash at the start could leave is what reads give
   pub from_settled : old.tells_moments → IsSettled old → LeavesOnly old new (Moment p commands script old.said)
@@ -48,7 +49,7 @@ pub record IsRunOn (budget : Budget) (p : Params) (commands : List Command) (scr
   pub unclosed : old.tells_moments → IsCut status → LeavesOnly old new (OrAtStart old (MomentSoFar p commands script old.said))
   pub unclosed_from_settled : old.tells_moments → IsSettled old → IsCut status → LeavesOnly old new (MomentSoFar p commands script old.said)
   pub unclosed_now : old.tells_moments → IsCut status → status ≢ RestartMemory → InEachImage new (λ files. MomentSoFar p commands script old.said files new.said)
-  -- from each stage that a restart may make of the files, of which there is one, what was said is the answers to the
+  -- from each stage that a restart may make of the files, of which there is at least one, what was said is the answers to the
   -- script's lines, whatever the status
   pub first : (first : Stage) × IsFirst budget p commands old first
   pub answers : (first : Stage) → IsFirst budget p commands old first → SaysTruly p first commands script old new
@@ -58,9 +59,8 @@ pub record IsRunOn (budget : Budget) (p : Params) (commands : List Command) (scr
   pub steps : old.tells_moments → (first : Stage) → (is : IsFirst budget p commands old first) → LeavesOnly old new (OrAtStart old (RunMoment budget p commands old first is script))
   -- with status 0 or 1 the whole script is answered, and the files stand for all of it
   pub complete : (first : Stage) → IsFirst budget p commands old first → (status ≡ Done) ⊎ (status ≡ DoneWithRefusals) → IsComplete p first old new commands script status
-  -- where the restart was refused memory, what a crash at any moment leaves is what one at the start could leave, or it stands
-  -- for these commands alone
-  pub refused : old.tells_moments → status ≡ RestartMemory → LeavesOnly old new (OrAtStart old (λ files said. Stands p files commands))
+  -- where the restart was refused memory, the files stand for these commands still
+  pub unopened : old.tells_moments → status ≡ RestartMemory → StandsStill p commands old new
   -- such files are never taken for no store or for damaged
   pub store : (status ≢ NotAStore) × (status ≢ Damaged)
 
@@ -89,6 +89,8 @@ pub record IsDumpOn (budget : Budget) (p : Params) (commands : List Command) (ol
   -- commands
   pub settled : status ≢ DiskFault → status ≢ RestartMemory → IsSettled new
   pub stands : status ≢ DiskFault → status ≢ RestartMemory → InEachImage new (λ files. Stands p files commands)
+  -- where the restart was refused memory, the files stand for these commands still
+  pub unopened : old.tells_moments → status ≡ RestartMemory → StandsStill p commands old new
   -- the restart takes its course, and nothing else is done: a crash at any moment leaves what one at the start could leave,
   -- or the world after some first steps of it, and with status 0 the files show the world after all of it
   pub steps : old.tells_moments → (first : Stage) → (is : IsFirst budget p commands old first) → LeavesOnly old new (OrAtStart old (TableMoment budget p commands old first is))
@@ -137,9 +139,8 @@ pub record IsUpgradeOn (p q : Params) (commands : List Command) (old new : Disk)
   -- no number of the store is greater than it was to get; where one is, that is said
   pub larger : status ≡ Done → IsLarger p q
   pub smaller : status ≡ Smaller → (IsLarger p q → ⊥) × (new.said ≡ old.said ++ notices.smaller p.objects p.cap)
-  -- where the restart was refused memory, what a crash at any moment leaves is what one at the start could leave, or it stands
-  -- for these commands alone
-  pub refused : old.tells_moments → status ≡ RestartMemory → LeavesOnly old new (OrAtStart old (λ files said. Stands p files commands))
+  -- where the restart was refused memory, the files stand for these commands still
+  pub unopened : old.tells_moments → status ≡ RestartMemory → StandsStill p commands old new
   -- with each of these two it is left as it was
   pub idle : (status ≡ AlreadyTwo) ⊎ (status ≡ Smaller) → InEachImage new (λ files. Stands p files commands)
   pub store : status ≢ NotAStore

@@ -90,7 +90,7 @@ pub record JudgesFiles (old new : Disk) (status : Status) : Type 0 where
   -- of files that do not meet their format nothing is said where the disk fails or memory runs out
   pub silent : (IsWellFormed old.reads → ⊥) → (status ≡ DiskFault) ⊎ LacksMemory status → new.said ≡ old.said
   -- nor is anything where the restart was refused memory
-  pub refused : status ≡ RestartMemory → new.said ≡ old.said
+  pub unopened : status ≡ RestartMemory → new.said ≡ old.said
 
 -- An upgrade says of the files that it finds what a run says, or that they are cut.
 abbrev pub JudgesUpgrade : Disk → Disk → Status → Type 0

@@ -18,6 +18,7 @@ use Rattle.standby_node.specs.declared.follow_err.FollowErr.{FollowErr}
 use Rattle.standby_node.specs.declared.follow_err.FollowErr.TheVariants as errors
 use Rattle.store_engine.specs.Engine.{InEachImage, forced_in}
 use Rattle.redo_shell.specs.declared.budget.Budget.{Budget}
+use Rattle.redo_shell.specs.Again.{StandsStill}
 use Rattle.redo_shell.specs.Causes.{JudgesFiles, ReadsNoStore}
 use Rattle.redo_shell.specs.Notices as notices
 use Rattle.redo_shell.specs.Stages.{Stage, IsFirst}
@@ -95,10 +96,10 @@ IsOfStream (errors.Differs number) = ⊤
 IsOfStream cause = ⊥
 
 -- the disk failed, or memory ran out
-abbrev pub IsFailure : FollowErr → Type 0
-IsFailure errors.DiskFault = ⊤
-IsFailure errors.Memory = ⊤
-IsFailure cause = ⊥
+abbrev pub IsOfMachine : FollowErr → Type 0
+IsOfMachine errors.DiskFault = ⊤
+IsOfMachine errors.Memory = ⊤
+IsOfMachine cause = ⊥
 
 -- why no piece of an input was read of which so many bytes were taken, where so many reads had failed, and have now
 abbrev pub StopsReading : ℕ → ℕ → ℕ → ReadError → Type 0
@@ -137,7 +138,7 @@ at_end (Some place) commands = Err (cuts.Short place)
 abbrev pub FollowsInput : Params → List (Member Command) → List ℕ → Type 0 → Disk → StandbyView → Result ℕ Cut → Type 0
 FollowsInput p first bytes ended d standby (Ok n) = ended × (all : ShowsFollowed p first bytes [] d) × (n ≡ length all.commands)
 FollowsInput p first bytes ended d standby (Err (cuts.Short place)) = ended × (rest : List ℕ) × ShowsFollowed p first bytes rest d × (rest ≢ []) × IsUnfinished rest × (HasBadLength rest → ⊥) × (place + length rest ≡ length bytes)
-FollowsInput p first bytes ended d standby (Err (cuts.Refused cause)) = ((following : IsFollowing all_meaning p first bytes d standby) × HasRefused (meaning_in p) following.world.history standby cause) ⊎ IsFailure cause
+FollowsInput p first bytes ended d standby (Err (cuts.Refused cause)) = ((following : IsFollowing all_meaning p first bytes d standby) × HasRefused (meaning_in p) following.world.history standby cause) ⊎ IsOfMachine cause
 FollowsInput p first bytes ended d standby (Err (cuts.Unread error)) = ⊤
 
 -- the input was read to its end, and has fewer bytes than it may have
@@ -190,7 +191,7 @@ StandbyMoment p commands first bytes old new files said = (Stands p files comman
 
 -- Files that stand for commands follow a stream.
 pub record IsFollowOn (budget : Budget) (ended : Type 0) (bytes : List ℕ) (p : Params) (commands : List Command) (old new : Disk) (status : Status) : Type 0 where
-  -- from each stage that a restart may make of the files, of which there is one, by its history, it is followed so
+  -- from each stage that a restart may make of the files, of which there is at least one, by its history, it is followed so
   pub first : (first : Stage) × IsFirst budget p commands old first × (commands_of first.world.history ≡ commands)
   pub follows_it : (first : Stage) → IsFirst budget p commands old first → FollowsFrom ended bytes p first.world.history old new status
   -- what a crash at any moment leaves is what one at the start could leave, or it stands for these commands, and then for what
@@ -199,9 +200,8 @@ pub record IsFollowOn (budget : Budget) (ended : Type 0) (bytes : List ℕ) (p :
   pub from_settled : old.tells_moments → IsSettled old → (first : Stage) → IsFirst budget p commands old first → LeavesOnly old new (StandbyMoment p commands first.world.history bytes old new)
   -- but where the disk may have failed, or memory the opening, it stands for what some first whole frames make of them
   pub opened : old.tells_moments → status ≢ DiskFailed → status ≢ RestartMemory → (first : Stage) → IsFirst budget p commands old first → InEachImage new (StreamMoment p first.world.history bytes)
-  -- where the restart was refused memory, what a crash at any moment leaves is what one at the start could leave, or it stands
-  -- for these commands alone
-  pub refused : old.tells_moments → status ≡ RestartMemory → LeavesOnly old new (OrAtStart old (λ files said. Stands p files commands))
+  -- where the restart was refused memory, the files stand for these commands still
+  pub unopened : old.tells_moments → status ≡ RestartMemory → StandsStill p commands old new
   pub store : (status ≢ NotAStore) × (status ≢ FilesDamaged)
 
 -- A stream is followed by any files. The input had `left` at its start and has `rest` at its end, where the source reports that

@@ -8,6 +8,7 @@ pub mod Printed
 pub mod Stages
 pub mod Courses
 pub mod Open
+pub mod Again
 pub mod Answers
 pub mod Found
 pub mod Status
@@ -23,3 +24,4 @@ pub mod Following
 pub mod Sessions
 pub mod Demo
 pub mod Calls
+pub mod Twice

@@ -1,7 +1,9 @@
 -- A store that was opened, or not.
 use Rattle.std.specs.Prelude.{◌≡◌, ◌≢◌, List, length, None}
-use Rattle.disk_model.specs.Disk.{Disk, LeavesOnly}
+use Rattle.disk_model.specs.Disk.{Disk, LeavesOnly, Rises}
 use Rattle.formats.specs.declared.params.Params.{Params}
+use Rattle.stable_objects.specs.declared.open_err.OpenErr.{OpenErr}
+use Rattle.stable_objects.specs.declared.open_err.OpenErr.TheVariants.{DiskFault}
 use Rattle.restart.specs.Starts.{OrAtStart}
 use Rattle.store_engine.specs.Engine.{EngineView, forced_in}
 use Rattle.redo_shell.specs.Causes.{CountsFaults, JudgesFiles, ReadsNoStore}
@@ -9,9 +11,9 @@ use Rattle.redo_shell.specs.declared.budget.Budget.{Budget}
 use Rattle.redo_shell.specs.Stages.{Stage, IsFirst, stage_of}
 use Rattle.redo_shell.specs.Courses.{OpeningMoment}
 use Rattle.redo_shell.specs.Status.{IsOfUnopened}
-use Rattle.redo_shell.specs.Store.{Command, IsWellFormed, Holds, Between}
+use Rattle.redo_shell.specs.Store.{Command, IsWellFormed, Holds, Between, Opens}
 use Rattle.redo_shell.specs.declared.status.Status.{Status}
-use Rattle.redo_shell.specs.declared.status.Status.TheVariants.{NotAStore, SayFault, Memory}
+use Rattle.redo_shell.specs.declared.status.Status.TheVariants.{NotAStore, DiskFault as DiskFailed, SayFault, Memory}
 
 -- What the opening of files that stand for commands leaves: nothing is said, and at each moment there is what a crash at the
 -- start could leave, or files that stand for the commands. There is a stage that a restart with this budget makes of
@@ -19,6 +21,8 @@ use Rattle.redo_shell.specs.declared.status.Status.TheVariants.{NotAStore, SayFa
 pub record OpensFiles (budget : Budget) (p : Params) (commands : List Command) (old new : Disk) : Type 0 where
   pub quiet : new.said ≡ old.said
   pub images : old.tells_moments → LeavesOnly old new (OrAtStart old (Between p old None (length commands) (length commands) commands))
+  -- what reads give then stands for them, whether the store was opened or not
+  pub again : old.tells_moments → Opens p new commands
   pub first : (first : Stage) × IsFirst budget p commands old first
   pub steps : old.tells_moments → (first : Stage) → (is : IsFirst budget p commands old first) → LeavesOnly old new (OrAtStart old (OpeningMoment budget p commands old first is))
 
@@ -37,3 +41,9 @@ pub record IsUnopened (old new : Disk) (status : Status) : Type 0 where
   pub read : status ≡ NotAStore → ReadsNoStore new
   pub quiet : old.tells_files → IsWellFormed old.reads → (status ≢ SayFault) × (status ≢ Memory)
   pub faults : CountsFaults old new status
+
+-- Where a store was not opened for this cause, a fault of the disk is reported only where it is the cause, and one of the
+-- output only where that was counted.
+pub record HandsOn (cause : OpenErr) (old new : Disk) (status : Status) : Type 0 where
+  pub disk : status ≡ DiskFailed → cause ≡ DiskFault
+  pub output : status ≡ SayFault → Rises old.say_faults new.say_faults

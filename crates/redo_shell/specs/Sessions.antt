@@ -51,7 +51,8 @@ pub record Ran : Type 0 where
   pub bytes : List ℕ
 
 -- What a run makes of a store with these commands: what it said is answers to its script, and after the commands stands
--- a beginning of those that it adds, which splits no group and is no shorter than any number that its bytes say to be forced.
+-- a beginning of those that it adds, which splits no group; all together are no fewer than any number that its bytes say to be
+-- forced.
 pub record Adds (p : Params) (commands : List Command) (ran : Ran) (now : List Command) : Type 0 where
   pub story : Said p (λ ops line reply. ⊤) commands ran.script ran.bytes
   pub kept : ℕ

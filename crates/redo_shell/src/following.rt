@@ -8,7 +8,7 @@ ghost use Rattle.explain_core.specs.History.{commands_of};
 ghost use Rattle.restart.specs.Starts.{OrAtStart};
 ghost use Rattle.script_lines.specs.Reading.{ReadsOn};
 ghost use Rattle.redo_shell.specs.Causes.{CountsFaults};
-ghost use Rattle.redo_shell.specs.Following.{Begins, IsFailure, IsFollowCall, IsFollowOpen, IsInputFollowed, IsUnsaid, StopsReading, at_end, notice_of, status_of_refusal};
+ghost use Rattle.redo_shell.specs.Following.{Begins, IsOfMachine, IsFollowCall, IsFollowOpen, IsInputFollowed, IsUnsaid, StopsReading, at_end, notice_of, status_of_refusal};
 ghost use Rattle.redo_shell.specs.Keeps.{SaysOnly};
 ghost use Rattle.redo_shell.specs.Open.{IsUnopened};
 ghost use Rattle.redo_shell.specs.Stages.{Stage, IsFirst};
@@ -114,7 +114,7 @@ fn end_refused<M: Machine>(alloc: Global, machine: &mut M, cause: FollowErr) -> 
     ensures says { SaysOnly (M.disk machine.old) (M.disk machine.new) }
     ensures ends { IsUnsaid result ⊎ (result ≡ status_of_refusal cause) }
     ensures silent { (result ≡ Status.DiskFault) ⊎ (result ≡ Status.Memory) → machine.new ≡ machine.old }
-    ensures failed { IsFailure cause → machine.new ≡ machine.old }
+    ensures failed { IsOfMachine cause → machine.new ≡ machine.old }
     ensures said { (M.disk machine.old).tells_files → (result ≡ Status.BadStream) ⊎ (result ≡ Status.StandbyFull) → (M.disk machine.new).said ≡ (M.disk machine.old).said ++ notice_of cause }
     ensures say_fault { result ≡ Status.SayFault → Rises (M.disk machine.old).say_faults (M.disk machine.new).say_faults }
 {
@@ -196,6 +196,7 @@ fn attach_store<M: Machine>(
     ensures time { Passes (M.disk machine.old) (M.disk machine.new) }
     ensures images { (M.disk machine.old).tells_moments → (p : Params) (commands : List Command) → Opens p (M.disk machine.old) commands →
         LeavesOnly (M.disk machine.old) (M.disk machine.new) (OrAtStart (M.disk machine.old) (Between p (M.disk machine.old) None (length commands) (length commands) commands)) }
+    ensures again { (M.disk machine.old).tells_moments → (p : Params) (commands : List Command) → Opens p (M.disk machine.old) commands → Opens p (M.disk machine.new) commands }
     ensures first { (p : Params) (commands : List Command) → Opens p (M.disk machine.old) commands → (first : Stage) × IsFirst budget p commands (M.disk machine.old) first × (commands_of first.world.history ≡ commands) }
     ensures begins { (p : Params) (commands : List Command) → Opens p (M.disk machine.old) commands →
         IfOk result (λ s. (first : Stage) → IsFirst budget p commands (M.disk machine.old) first → Begins p first.world.history (M.disk machine.new) s) }
@@ -228,7 +229,7 @@ pub fn follow<M: Machine, S: Source>(
 ) -> Status
     ensures time { Passes (M.disk machine.old) (M.disk machine.new) }
     ensures call { IsFollowCall budget (S.tells input.old) (S.left input.old) (S.left input.new) (M.disk machine.old) (M.disk machine.new) result }
-    ensures refused { result ≡ Status.RestartMemory → input.new ≡ input.old }
+    ensures unopened { result ≡ Status.RestartMemory → input.new ≡ input.old }
     ensures faults { CountsFaults (M.disk machine.old) (M.disk machine.new) result }
     ensures read_fault { result ≡ Status.ReadFault → Rises (S.faults input.old) (S.faults input.new) }
     ensures too_long { S.tells input.old → result ≡ Status.TooLong → ReadsOn (S.left input.old) (S.left input.new) 0 (2 ^ 40) }

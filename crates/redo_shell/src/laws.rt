@@ -19,7 +19,15 @@ ghost use Rattle.disk_model.specs.declared.fuse.Fuse.{Fuse};
 ghost use Rattle.running_store.specs.Courses.{grown};
 ghost use Rattle.explain_core.specs.History.{commands_of};
 ghost use Rattle.store_engine.specs.Engine.{InEachImage};
-ghost use Rattle.redo_shell.specs.Store.{Command, Stands, IsNew, meaning_in, refusal_after, state_of, record_length};
+ghost use Rattle.command_words.specs.declared.asked.Asked.{Asked};
+ghost use Rattle.redo_shell.specs.Again.{StandsStill};
+ghost use Rattle.redo_shell.specs.Calls.{IsCallFor};
+ghost use Rattle.redo_shell.specs.Twice.{IsCallTwice};
+ghost use Rattle.redo_shell.specs.declared.budget.Budget.{Budget as OfRestart};
+ghost use Rattle.redo_shell.specs.declared.budget.Budget.TheVariants.{Usual, Least};
+ghost use Rattle.redo_shell.specs.declared.status.Status.{Status};
+ghost use Rattle.redo_shell.specs.declared.status.Status.TheVariants.{RestartMemory};
+ghost use Rattle.redo_shell.specs.Store.{Command, Opens, Stands, IsNew, meaning_in, refusal_after, state_of, record_length};
 ghost use Rattle.redo_shell.specs.Printed.{whole_lines, texts_of};
 ghost use Rattle.redo_shell.specs.Sessions.{Ran, Sizing, Follows, Survives, Arises, Sessions};
 ghost use Rattle.redo_shell.specs.Replies.{AsksCommand, Replies, IsBarred, IsDenied, IsFull};
@@ -27,8 +35,10 @@ ghost use Rattle.redo_shell.specs.Stages.{Stage, GoesBy, IsDeniedAt, Leads, back
 ghost use Rattle.redo_shell.specs.Groups.{open_in};
 ghost use Rattle.redo_shell.specs.Saving.{FindsStore, store_behind};
 
-use disk_model::Machine;
+use disk_model::{Machine, Source};
+use op_codec::AllOps;
 use script_lines::{a_line_asks_one_thing, a_text_says_one_thing};
+use store_engine::standing_files_meet_their_format;
 
 /// Each answer to a line comes exactly where its cause holds: `bad` where the line is outside the grammar, `refused` with
 /// the first refusal, a value, `forced` with the number of commands, none where it is skipped, `full` where the record of a
@@ -109,13 +119,13 @@ pub fn sessions_keep_what_was_forced<M: Machine>()
         InEachImage (M.disk last) (Arises (M.disk first) sizes runs) }
 {}
 
-/// What may follow a call: nothing, a kill at a moment of it, which may be that between two calls to the machine, or a
-/// crash, after which the machine is settled on an image.
+/// What may follow a call: nothing, or at a moment of it, which may be that between two calls to the machine or the last one, a
+/// kill, or a crash, after which the machine is settled on an image.
 pub fn a_call_is_followed<M: Machine>()
     ensures nothing { (old new : M) → Passes (M.disk old) (M.disk new) → Follows (M.disk old) (M.disk new) (M.disk new) (M.disk new).said }
     ensures kill { (old mid new : M) → Passes (M.disk old) (M.disk mid) → Passes (M.disk mid) (M.disk new) → Follows (M.disk old) (M.disk new) (M.disk mid) (M.disk mid).said }
-    ensures crash { (old new next : M) → Passes (M.disk old) (M.disk new) → ((M.disk new).tells_moments ↔ (M.disk next).tells_moments) → IsSettled (M.disk next) →
-        (M.disk new).left_since (M.disk new).clock (M.disk next).reads (M.disk new).said → Follows (M.disk old) (M.disk new) (M.disk next) (M.disk new).said }
+    ensures crash { (old mid new next : M) → Passes (M.disk old) (M.disk mid) → Passes (M.disk mid) (M.disk new) → ((M.disk mid).tells_moments ↔ (M.disk next).tells_moments) → IsSettled (M.disk next) →
+        (M.disk mid).left_since (M.disk mid).clock (M.disk next).reads (M.disk mid).said → Follows (M.disk old) (M.disk new) (M.disk next) (M.disk mid).said }
 {}
 
 /// A fuse may be the machine of a call in a list of calls on the machine that it passes its own to: a process that is
@@ -125,3 +135,16 @@ pub fn a_fuse_is_its_machine<M: Machine>()
     ensures around { (first last : M) (end : Fuse M) (sizes : List Sizing) (runs : List Ran) → end.inner ≡ last → Sessions M.disk first sizes runs last →
         (begin : Fuse M) × (begin.inner ≡ first) × Sessions (disk_through M.disk) begin sizes runs end }
 {}
+
+/// A call whose restart was refused memory may be made again with the least budget: the files stand for the commands that they
+/// stood for, and what a crash leaves of the two calls, and what they say, is as of one.
+pub fn a_second_start_goes_on<M: Machine, S: Source>()
+    ensures stands { (budget : OfRestart) (asked : Asked) (p : Params) (commands : List Command) (old mid : M) (input : S) → (M.disk old).tells_moments → Opens p (M.disk old) commands →
+        IsCallFor budget asked (S.tells input) (S.left input) (S.left input) (M.disk old) (M.disk mid) RestartMemory → StandsStill p commands (M.disk old) (M.disk mid) }
+    ensures twice { (asked : Asked) (p : Params) (commands : List Command) (old mid new : M) (input end : S) (status : Status) → (M.disk old).tells_moments → Opens p (M.disk old) commands → Passes (M.disk old) (M.disk mid) →
+        IsCallFor Usual asked (S.tells input) (S.left input) (S.left input) (M.disk old) (M.disk mid) RestartMemory →
+        IsCallFor Least asked (S.tells input) (S.left input) (S.left end) (M.disk mid) (M.disk new) status →
+        IsCallTwice asked p commands (S.tells input) (S.left input) (M.disk old) (M.disk mid) (M.disk new) status }
+{
+    standing_files_meet_their_format::<AllOps>();
+}

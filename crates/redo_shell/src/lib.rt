@@ -2,8 +2,8 @@
 //!
 //! The one contract is that of [`top`]: run on files that stand for a list of commands, it says what a plain map would
 //! answer to the script, and whatever a crash leaves of the files at any moment is what one at the start could leave, or
-//! stands for that list and a beginning of the commands that the script has added, which splits no group and is no
-//! shorter than any number that was printed to be forced. Its answers go by the stages of the store, from the world that
+//! stands for that list and a beginning of the commands that the script has added, which splits no group; with that beginning
+//! the list is no shorter than any number that was printed to be forced. Its answers go by the stages of the store, from the world that
 //! a restart finds in the files: `full`, `end` and the counts follow from the course that each line takes. A law says
 //! the same of any number of calls, kills and crashes in a row. A line may make several commands, a beginning of which
 //! stays where the log, memory or the disk ends them. Of the commands of a group a crash leaves all or none; a group
@@ -16,7 +16,8 @@
 //! whatever the second one does.
 //!
 //! A call says with which [`Budget`] its restart is made. Where the restart is refused memory the call ends with a status of
-//! its own: nothing was said, nothing of the input was taken, and nothing is added to the store, so it may be made again.
+//! its own: nothing was said, nothing of the input was taken, and the files stand for the commands that they stood for. So it may
+//! be made again, and [`a_second_start_goes_on`] says that the two calls are as one.
 //!
 //! The log of a store is shipped as frames, one for each of its blocks, from a number on. A store that follows a stream of
 //! frames stands at every moment for what some first whole frames make of its commands, and says why the rest is refused.
@@ -58,7 +59,7 @@ pub use bad_line::{BadCause, BadLine};
 pub use budget::Budget;
 pub use laws::{
     a_backup_line_gets_the_answer_of_its_cause, a_call_is_followed, a_fuse_is_its_machine,
-    a_line_gets_the_answer_of_its_cause, sessions_keep_what_was_forced,
+    a_line_gets_the_answer_of_its_cause, a_second_start_goes_on, sessions_keep_what_was_forced,
     the_lines_said_are_the_answers,
 };
 pub use notes::Notes;

@@ -1,13 +1,13 @@
 // How a store is opened, and what is printed where it is not.
 ghost use Rattle.std.specs.Prelude.{◌≡◌, ◌≢◌, ◌⊎◌, ◌++◌, false, List, ℕ, OnOk, IfOk, IfErr};
-ghost use Rattle.disk_model.specs.Disk.{Files, Rises, Passes, IsSettled};
+ghost use Rattle.disk_model.specs.Disk.{Files, Passes, IsSettled};
 ghost use Rattle.disk_model.specs.declared.machine.FileNo.{FileNo};
 ghost use Rattle.disk_model.specs.declared.machine.FileNo.TheVariants.{Objects};
 ghost use Rattle.restart.specs.Opening.{KeepsLayout};
 ghost use Rattle.formats.specs.declared.params.Params.{Params};
 ghost use Rattle.stable_objects.specs.Reading.{IsNoDamage};
 ghost use Rattle.redo_shell.specs.Store.{IsAttached};
-ghost use Rattle.redo_shell.specs.Open.{OpensFiles, IsOpen, IsUnopened};
+ghost use Rattle.redo_shell.specs.Open.{HandsOn, OpensFiles, IsOpen, IsUnopened};
 ghost use Rattle.redo_shell.specs.Store.{Command, IsWellFormed, Opens};
 ghost use Rattle.redo_shell.specs.Keeps.{KeepsFiles};
 ghost use Rattle.redo_shell.specs.Notices.{not_a_store, damaged};
@@ -39,8 +39,7 @@ pub fn end_unopened<M: Machine>(alloc: Global, machine: &mut M, cause: OpenErr) 
     ensures silent { (result ≡ Status.DiskFault) ⊎ LacksMemory result → machine.new ≡ machine.old }
     ensures read { result ≡ Status.NotAStore → (cause ≡ OpenErr.NotAStore) × ((files : Files) → (M.disk machine.new).agrees files → (M.disk machine.old).agrees files) }
     ensures status { IsOfUnopened result }
-    ensures disk_fault { result ≡ Status.DiskFault → cause ≡ OpenErr.DiskFault }
-    ensures say_fault { result ≡ Status.SayFault → Rises (M.disk machine.old).say_faults (M.disk machine.new).say_faults }
+    ensures faults { HandsOn cause (M.disk machine.old) (M.disk machine.new) result }
     ensures memory { LacksMemory result → (cause ≡ OpenErr.Memory) ⊎ ((file : FileNo) × (place : ℕ) × (cause ≡ OpenErr.Damaged file place)) }
 {
     match cause {

@@ -56,7 +56,7 @@ fn serve<M: Machine, T: Machine, S: Source>(
     ensures backup { IsBackupFor budget T.disk asked (S.tells input.old) (lines_of (S.left input.old)) (M.disk machine.old) (M.disk machine.new) backup.old backup.new }
     ensures call { IsCallFor budget asked (S.tells input.old) (S.left input.old) (S.left input.new) (M.disk machine.old) (M.disk machine.new) result }
     ensures noted { IsNotedFor asked (S.tells input.old) (lines_of (S.left input.old)) notes.new result }
-    ensures refused { result ≡ Status.RestartMemory → (input.new ≡ input.old) × (backup.new ≡ backup.old) }
+    ensures unopened { result ≡ Status.RestartMemory → (input.new ≡ input.old) × (backup.new ≡ backup.old) }
     ensures faults { CountsFaults (M.disk machine.old) (M.disk machine.new) result }
     ensures read_fault { result ≡ Status.ReadFault → Rises (S.faults input.old) (S.faults input.new) }
     ensures too_long { S.tells input.old → result ≡ Status.TooLong → ReadsOn (S.left input.old) (S.left input.new) 0 (2 ^ 40) }
@@ -86,8 +86,8 @@ pub fn top<M: Machine, T: Machine, S: Source>(
     notes: &mut Notes,
 ) -> Status
     // A run on files that stand for commands, as they are read: what a crash at any moment of it leaves a crash at the start
-    // could leave, or it stands for these commands and a beginning of those that the script has added, which splits no group
-    // and is no shorter than any number that was printed to be forced.
+    // could leave, or it stands for these commands and a beginning of those that the script has added, which splits no group;
+    // they all together are no fewer than any number that was printed to be forced.
     ensures images { (p : Params) (commands : List Command) → Asks (map string_bytes words.now) Run → Opens p (M.disk machine.old) commands → S.tells input.old → (M.disk machine.old).tells_moments →
         LeavesOnly (M.disk machine.old) (M.disk machine.new) (OrAtStart (M.disk machine.old) (Moment p commands (lines_of (S.left input.old)) (M.disk machine.old).said)) }
     // What a run does, as `call` has it too.
@@ -114,8 +114,9 @@ pub fn top<M: Machine, T: Machine, S: Source>(
     // The machine goes on through the call, and what the call does goes on any calls of the program before it.
     ensures session { GoesOn M.disk (map string_bytes words.now) (S.tells input.old) (S.left input.old) (S.left input.new) machine.old machine.new }
     // Where the restart is refused memory the status is one of its own. Nothing is said then, as `call` has it, the input and the
-    // backup are as they were, and the call adds nothing to any calls before it: so it may be made again with the least budget.
-    ensures refused { result ≡ Status.RestartMemory → (input.new ≡ input.old) × (backup.new ≡ backup.old) × AddsNothing M.disk machine.old machine.new }
+    // backup are as they were, and the call adds nothing to any calls before it: so it may be made again with the least budget, and
+    // the two are as one call (`a_second_start_goes_on`).
+    ensures unopened { result ≡ Status.RestartMemory → (input.new ≡ input.old) × (backup.new ≡ backup.old) × AddsNothing M.disk machine.old machine.new }
 {
     standing_files_meet_their_format::<AllOps>();
     one_damage::<AllOps>();

@@ -85,7 +85,7 @@ pub fn run<M: Machine, T: Machine, S: Source>(
     ensures backup { IsBackupOfRun budget T.disk (S.tells input.old) (lines_of (S.left input.old)) (M.disk machine.old) (M.disk machine.new) backup.old backup.new }
     ensures call { IsRunCall budget (S.tells input.old) (S.left input.old) (S.left input.new) (M.disk machine.old) (M.disk machine.new) result }
     ensures noted { S.tells input.old → HasNoted (lines_of (S.left input.old)) notes.new result }
-    ensures refused { result ≡ Status.RestartMemory → (input.new ≡ input.old) × (backup.new ≡ backup.old) }
+    ensures unopened { result ≡ Status.RestartMemory → (input.new ≡ input.old) × (backup.new ≡ backup.old) }
     ensures faults { CountsFaults (M.disk machine.old) (M.disk machine.new) result }
     ensures read_fault { result ≡ Status.ReadFault → Rises (S.faults input.old) (S.faults input.new) }
     ensures too_long { S.tells input.old → result ≡ Status.TooLong → ReadsOn (S.left input.old) (S.left input.new) 0 (2 ^ 40) }

@@ -68,6 +68,8 @@ impl<O: Oper> Standby<O> {
             IfOk result (λ s. IsFollowing O.meaning p (run (meaning_in O.meaning p) w (restart_course (meaning_in O.meaning p) (dirty_limit tuning p) w used).steps).history [] (M.disk machine.new) s) }
         ensures images { (M.disk machine.old).tells_moments → (p : Numbers) (commands : List O) → Opens O.meaning p (M.disk machine.old) commands →
             LeavesOnly (M.disk machine.old) (M.disk machine.new) (OrAtStart (M.disk machine.old) (Between O.meaning p (M.disk machine.old) None (length commands) (length commands) commands)) }
+        // Whatever it answers, what reads give stands for the same commands, so that the files may be opened again.
+        ensures again { (M.disk machine.old).tells_moments → (p : Numbers) (commands : List O) → Opens O.meaning p (M.disk machine.old) commands → Opens O.meaning p (M.disk machine.new) commands }
     {
         standing::files_show_a_world::<O>();
         Ok(Standby {

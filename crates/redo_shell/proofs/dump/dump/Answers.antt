@@ -29,7 +29,7 @@ returns-in-Ok-clause-call g c =
           (λ first is. (dump_steps p old mid new commands _ opened files c.dump_open-status.ensures.keeps first is c.in-Ok.ensures.settled (λ telling. c.open_store.ensures.time.moments_told.0 telling), λ done. dump_shows p old mid new commands _ opened files c.dump_open-status.ensures.keeps first is (c.open_store.ensures.time.files_told.0 opens.told)))
           (g.met.M.Machine.lawful c.args.machine.now) opens files.images (λ telling. c.open_store.ensures.time.moments_told.0 telling) files.quiet
           (c.dump_open-status.ensures.images p commands holds opened.all) (c.dump_open-status.ensures.said p commands holds) (c.dump_open-status.ensures.all p commands holds)
-          (c.dump_open-status.ensures.store (c.open_store.ensures.time.files_told.0 opens.told) attached) settled
+          (c.dump_open-status.ensures.store (c.open_store.ensures.time.files_told.0 opens.told) attached) c.dump_open-status.ensures.found settled
           (dump_stands p mid new _ commands holds opened.all c.dump_open-status.ensures.keeps settled);
       settled = λ done. settled;
       ends = c.dump_open-status.ensures.status;

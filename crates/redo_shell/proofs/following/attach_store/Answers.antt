@@ -2,7 +2,7 @@ use Rattle.std.proofs.Common.{◌∙◌, ℕ, [], length, None, ap, sym, subst}
 use Rattle.disk_model.specs.Disk.{Disk, LeavesOnly}
 use Rattle.disk_model.specs.Moments.{passes_twice}
 use Rattle.restart.specs.Starts.{OrAtStart}
-use Rattle.redo_shell.specs.Store.{Between, meaning_in}
+use Rattle.redo_shell.specs.Store.{Between, Opens, meaning_in}
 use Rattle.disk_model.specs.declared.machine.FileNo.TheVariants.{Objects}
 use Rattle.formats.specs.Objects.{bounds_of}
 use Rattle.standing.specs.OneStable.{small_store}
@@ -30,6 +30,15 @@ returns-in-Err-clause-images g c = λ telling p commands opens.
     let same = ap g.M.Machine.disk (c.end_unopened.ensures.quiet (no_damage c.in-Err.cause whole) whole).0 in
     subst (λ (d : Disk). LeavesOnly (g.M.Machine.disk c.args.machine.now) d (OrAtStart (g.M.Machine.disk c.args.machine.now) (Between p (g.M.Machine.disk c.args.machine.now) None (length commands) (length commands) commands))) (sym same) (c.attach.ensures.images telling p commands opens)
 
+pub returns-in-Ok-clause-again : goal.returns-in-Ok-clause-again
+returns-in-Ok-clause-again g c = c.attach.ensures.again
+
+pub returns-in-Err-clause-again : goal.returns-in-Err-clause-again
+returns-in-Err-clause-again g c = λ telling p commands opens.
+    let whole = (c.in-Err.ensures.judged opens.told).whole (c.standing_files_meet_their_format.ensures.format p _ commands opens.stands) in
+    let same = ap g.M.Machine.disk (c.end_unopened.ensures.quiet (no_damage c.in-Err.cause whole) whole).0 in
+    subst (λ (d : Disk). Opens p d commands) (sym same) (c.attach.ensures.again telling p commands opens)
+
 pub returns-in-Ok-clause-attached : goal.returns-in-Ok-clause-attached
 returns-in-Ok-clause-attached g c = c.in-Ok.ensures.opening.attached
 
@@ -49,8 +58,7 @@ returns-in-Err-clause-unopened g c = unopened_so c.in-Err.ensures.opening c.in-E
   quiet = λ none no. let quiet = c.end_unopened.ensures.quiet none no in (ap (λ (d : Disk). d.said) (ap g.M.Machine.disk quiet.0), quiet.1, quiet.2, quiet.3, quiet.4);
   silent = λ is. ap (λ (d : Disk). d.said) (ap g.M.Machine.disk (c.end_unopened.ensures.silent is));
   ends = c.end_unopened.ensures.status;
-  disk_fault = c.end_unopened.ensures.disk_fault;
-  say_fault = c.end_unopened.ensures.say_fault;
+  faults = c.end_unopened.ensures.faults;
   memory = c.end_unopened.ensures.memory;
 })
 

@@ -44,7 +44,7 @@ returns-in-Err-clause-call g c =
       few = omega arith;
       stream = λ p commands opens.
           let image = c.standing_files_meet_their_format.ensures.format p _ commands opens.stands in
-          follow_unopened (g.met.M.Machine.lawful c.args.machine.now) opens (λ telling. c.attach_store.ensures.images telling p commands opens) (c.attach_store.ensures.first p commands opens) (c.in-Err.ensures.silent p commands opens) unopened.ends ((unopened.judged opens.told).store image) (unopened.quiet opens.told image);
+          follow_unopened (g.met.M.Machine.lawful c.args.machine.now) opens (λ telling. c.attach_store.ensures.images telling p commands opens) (c.attach_store.ensures.first p commands opens) (c.in-Err.ensures.silent p commands opens) (λ telling. c.attach_store.ensures.again telling p commands opens) unopened.ends ((unopened.judged opens.told).store image) (unopened.quiet opens.told image);
       ends = unopened_follow c.in-Err.status unopened.ends;
       judged = unopened.judged;
       read = unopened.read;
@@ -59,8 +59,8 @@ returns-in-Err-clause-read_fault g c = λ is. absurd (subst IsOfUnopened is c.in
 pub returns-in-Err-clause-too_long : goal.returns-in-Err-clause-too_long
 returns-in-Err-clause-too_long g c = λ told is. absurd (subst IsOfUnopened is c.in-Err.ensures.unopened.ends)
 
-pub returns-in-Ok-clause-refused : goal.returns-in-Ok-clause-refused
-returns-in-Ok-clause-refused g c = λ is. absurd (subst IsOfOpened is c.follow_open-status.ensures.found)
+pub returns-in-Ok-clause-unopened : goal.returns-in-Ok-clause-unopened
+returns-in-Ok-clause-unopened g c = λ is. absurd (subst IsOfOpened is c.follow_open-status.ensures.found)
 
-pub returns-in-Err-clause-refused : goal.returns-in-Err-clause-refused
-returns-in-Err-clause-refused g c = λ is. refl
+pub returns-in-Err-clause-unopened : goal.returns-in-Err-clause-unopened
+returns-in-Err-clause-unopened g c = λ is. refl

@@ -8,5 +8,5 @@ pub returns-clause-kill : goal.returns-clause-kill
 returns-clause-kill g c = λ old mid new first second. follows_kill (g.M.Machine.disk old) (g.M.Machine.disk mid) (g.M.Machine.disk new) (g.met.M.Machine.lawful mid) first second
 
 pub returns-clause-crash : goal.returns-clause-crash
-returns-clause-crash g c = λ old new next time told settled image.
-    follows_crash (g.M.Machine.disk old) (g.M.Machine.disk new) (g.M.Machine.disk next) (g.met.M.Machine.lawful new) time told settled image
+returns-clause-crash g c = λ old mid new next first second told settled image.
+    follows_crash (g.M.Machine.disk old) (g.M.Machine.disk mid) (g.M.Machine.disk new) (g.M.Machine.disk next) (g.met.M.Machine.lawful mid) first second told settled image

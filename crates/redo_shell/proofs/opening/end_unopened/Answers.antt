@@ -1,5 +1,6 @@
 use Rattle.std.proofs.Common.{⊎_elim, rules, subst, sym}
 use Rattle.disk_model.specs.Disk.{Files}
+use Rattle.redo_shell.proofs.DamageLemmas.{no_disk_fault}
 use Rattle.redo_shell.proofs.KeepLemmas.{keeps_once, keeps_none}
 use Rattle.redo_shell.proofs.opening.end_unopened.Goals as goal
 
@@ -31,8 +32,20 @@ returns-in-Memory-clause-no_store g c = search rules
 pub returns-in-Memory-clause-damaged : goal.returns-in-Memory-clause-damaged
 returns-in-Memory-clause-damaged g c = search rules
 
-pub returns-in-Memory-clause-disk_fault : goal.returns-in-Memory-clause-disk_fault
-returns-in-Memory-clause-disk_fault g c = search rules
+pub returns-in-NotAStore-clause-faults : goal.returns-in-NotAStore-clause-faults
+returns-in-NotAStore-clause-faults g c = record {
+  disk = λ is. absurd (⊎_elim (λ e. cc (e, is)) (λ e. cc (e, is)) c.end_with.ensures.status);
+  output = λ is. ⊎_elim (λ e. cc e) (λ rises. rises) (c.end_with.ensures.cause is);
+}
 
-pub returns-in-Memory-clause-say_fault : goal.returns-in-Memory-clause-say_fault
-returns-in-Memory-clause-say_fault g c = search rules
+pub returns-in-Damaged-clause-faults : goal.returns-in-Damaged-clause-faults
+returns-in-Damaged-clause-faults g c = record {
+  disk = λ is. absurd (no_disk_fault c.end_damaged.result c.end_damaged.ensures.status is);
+  output = c.end_damaged.ensures.cause;
+}
+
+pub returns-in-DiskFault-clause-faults : goal.returns-in-DiskFault-clause-faults
+returns-in-DiskFault-clause-faults g c = record { disk = λ is. c.in-DiskFault.is; output = λ is. cc is }
+
+pub returns-in-Memory-clause-faults : goal.returns-in-Memory-clause-faults
+returns-in-Memory-clause-faults g c = record { disk = λ is. cc is; output = λ is. cc is }

@@ -10,7 +10,7 @@ use Rattle.restart.specs.Courses.{restart_course}
 use Rattle.restart.specs.Opening.{OpensThrough}
 use Rattle.running_store.specs.Taking.{IsAfter}
 use Rattle.redo_shell.specs.Stages.{redo_dirty}
-use Rattle.redo_shell.specs.Store.{Between, meaning_in}
+use Rattle.redo_shell.specs.Store.{Between, Opens, meaning_in}
 use Rattle.redo_shell.proofs.RestartLemmas.{first_of, no_damage, shows_first, unopened_so}
 use Rattle.redo_shell.proofs.opening.open_store.Goals as goal
 
@@ -24,6 +24,7 @@ pub returns-in-Ok-clause-opens : goal.returns-in-Ok-clause-opens
 returns-in-Ok-clause-opens g c = λ p commands opens. record {
   quiet = c.restart.ensures.opening.quiet opens.told;
   images = λ telling. c.restart.ensures.images telling p commands opens;
+  again = λ telling. c.restart.ensures.again telling p commands opens;
   first = first_of opens (c.opens_on_a_world.ensures.world p (g.M.Machine.disk c.args.machine.now).reads commands opens.stands);
   steps = λ telling first is. subst (λ (n : ℕ). OpensThrough (meaning_in p) p (g.M.Machine.disk c.args.machine.now) (g.M.Machine.disk c.restart.new.machine) is.world (restart_course (meaning_in p) n is.world is.used).steps) (c.tuning.ensures.dirty p) (c.restart.ensures.steps telling p is.used is.world is.found);
 }
@@ -35,6 +36,7 @@ returns-in-Err-clause-opens g c = λ p commands opens.
     record {
       quiet = ap (λ (d : Disk). d.said) same ∙ c.restart.ensures.opening.quiet opens.told;
       images = λ telling. subst (λ (d : Disk). LeavesOnly (g.M.Machine.disk c.args.machine.now) d (OrAtStart (g.M.Machine.disk c.args.machine.now) (Between p (g.M.Machine.disk c.args.machine.now) None (length commands) (length commands) commands))) (sym same) (c.restart.ensures.images telling p commands opens);
+      again = λ telling. subst (λ (d : Disk). Opens p d commands) (sym same) (c.restart.ensures.again telling p commands opens);
       first = first_of opens (c.opens_on_a_world.ensures.world p (g.M.Machine.disk c.args.machine.now).reads commands opens.stands);
       steps = λ telling first is.
           subst (λ (d : Disk). LeavesOnly (g.M.Machine.disk c.args.machine.now) d (OrAtStart (g.M.Machine.disk c.args.machine.now) (OpeningMoment c.args.budget p commands (g.M.Machine.disk c.args.machine.now) first is))) (sym same)
@@ -77,7 +79,6 @@ returns-in-Err-clause-unopened g c = unopened_so c.in-Err.ensures.opening c.in-E
   quiet = λ none no. let quiet = c.end_unopened.ensures.quiet none no in (ap (λ (d : Disk). d.said) (ap g.M.Machine.disk quiet.0), quiet.1, quiet.2, quiet.3, quiet.4);
   silent = λ is. ap (λ (d : Disk). d.said) (ap g.M.Machine.disk (c.end_unopened.ensures.silent is));
   ends = c.end_unopened.ensures.status;
-  disk_fault = c.end_unopened.ensures.disk_fault;
-  say_fault = c.end_unopened.ensures.say_fault;
+  faults = c.end_unopened.ensures.faults;
   memory = c.end_unopened.ensures.memory;
 })

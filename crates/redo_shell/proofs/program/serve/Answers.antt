@@ -126,23 +126,23 @@ returns-in-Ship-clause-noted g c = noted_for _ _ _ _ (sym c.in-Ship.is) c.requir
 pub returns-in-Follow-clause-noted : goal.returns-in-Follow-clause-noted
 returns-in-Follow-clause-noted g c = noted_for _ _ _ _ (sym c.in-Follow.is) c.requires.fresh
 
-pub returns-in-Dump-clause-refused : goal.returns-in-Dump-clause-refused
-returns-in-Dump-clause-refused g c = λ is. (refl, refl)
+pub returns-in-Dump-clause-unopened : goal.returns-in-Dump-clause-unopened
+returns-in-Dump-clause-unopened g c = λ is. (refl, refl)
 
-pub returns-in-Init-clause-refused : goal.returns-in-Init-clause-refused
-returns-in-Init-clause-refused g c = λ is. (refl, refl)
+pub returns-in-Init-clause-unopened : goal.returns-in-Init-clause-unopened
+returns-in-Init-clause-unopened g c = λ is. (refl, refl)
 
-pub returns-in-Demo-clause-refused : goal.returns-in-Demo-clause-refused
-returns-in-Demo-clause-refused g c = λ is. (refl, refl)
+pub returns-in-Demo-clause-unopened : goal.returns-in-Demo-clause-unopened
+returns-in-Demo-clause-unopened g c = λ is. (refl, refl)
 
-pub returns-in-Upgrade-clause-refused : goal.returns-in-Upgrade-clause-refused
-returns-in-Upgrade-clause-refused g c = λ is. (refl, refl)
+pub returns-in-Upgrade-clause-unopened : goal.returns-in-Upgrade-clause-unopened
+returns-in-Upgrade-clause-unopened g c = λ is. (refl, refl)
 
-pub returns-in-Ship-clause-refused : goal.returns-in-Ship-clause-refused
-returns-in-Ship-clause-refused g c = λ is. (refl, refl)
+pub returns-in-Ship-clause-unopened : goal.returns-in-Ship-clause-unopened
+returns-in-Ship-clause-unopened g c = λ is. (refl, refl)
 
-pub returns-in-Run-clause-refused : goal.returns-in-Run-clause-refused
-returns-in-Run-clause-refused g c = c.run.ensures.refused
+pub returns-in-Run-clause-unopened : goal.returns-in-Run-clause-unopened
+returns-in-Run-clause-unopened g c = c.run.ensures.unopened
 
-pub returns-in-Follow-clause-refused : goal.returns-in-Follow-clause-refused
-returns-in-Follow-clause-refused g c = λ is. (c.follow.ensures.refused is, refl)
+pub returns-in-Follow-clause-unopened : goal.returns-in-Follow-clause-unopened
+returns-in-Follow-clause-unopened g c = λ is. (c.follow.ensures.unopened is, refl)

@@ -158,13 +158,13 @@ returns-clause-cause g c = record {
   full = λ is. cc;
 }
 
-pub returns-in-Ok-clause-refused : goal.returns-in-Ok-clause-refused
-returns-in-Ok-clause-refused g c = λ is.
-    let same = c.serve.ensures.refused is in
+pub returns-in-Ok-clause-unopened : goal.returns-in-Ok-clause-unopened
+returns-in-Ok-clause-unopened g c = λ is.
+    let same = c.serve.ensures.unopened is in
     (same.0, same.1, call_adds_nothing g.M.Machine.disk c.args.budget (g.S.Source.tells c.args.input.now) (g.S.Source.left c.args.input.now) (g.S.Source.left c.serve.new.input) c.args.machine.now c.serve.new.machine c.in-Ok.asked (g.met.M.Machine.lawful c.args.machine.now) c.serve.ensures.call is)
 
-pub returns-in-Err-Refused-clause-refused : goal.returns-in-Err-Refused-clause-refused
-returns-in-Err-Refused-clause-refused g c = λ is. absurd (subst IsOfUsage is (usage_ends c.end_with.result c.end_with.ensures.status))
+pub returns-in-Err-Refused-clause-unopened : goal.returns-in-Err-Refused-clause-unopened
+returns-in-Err-Refused-clause-unopened g c = λ is. absurd (subst IsOfUsage is (usage_ends c.end_with.result c.end_with.ensures.status))
 
-pub returns-clause-refused : goal.returns-clause-refused
-returns-clause-refused g c = λ is. absurd (cc is)
+pub returns-clause-unopened : goal.returns-clause-unopened
+returns-clause-unopened g c = λ is. absurd (cc is)

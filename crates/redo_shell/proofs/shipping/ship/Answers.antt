@@ -24,7 +24,7 @@ returns-in-Ok-clause-call g c =
           let files = c.open_store.ensures.opens p commands opens in
           let holds = (opened.shows files.first.0 files.first.1).0 in
           ship_on p commands old c.args.from mid new _ c.ship_open-status.result (g.met.M.Machine.lawful c.args.machine.now) (g.met.M.Machine.lawful c.open_store.new.machine) (g.met.M.Machine.lawful c.ship_open-status.new.machine)
-          c.open_store.ensures.time shipped.time opens files opened holds c.in-Ok.ensures.settled shipped.keeps (shipped.done p commands holds) (shipped.gone p commands holds) (shipped.said p commands holds) (shipped.images p commands holds) (shipped.store (c.open_store.ensures.time.files_told.0 opens.told) attached);
+          c.open_store.ensures.time shipped.time opens files opened holds c.in-Ok.ensures.settled shipped.keeps (shipped.done p commands holds) (shipped.gone p commands holds) (shipped.said p commands holds) (shipped.images p commands holds) (shipped.store (c.open_store.ensures.time.files_told.0 opens.told) attached) shipped.found;
       ends = shipped.status;
       judged = λ told. judged_open c.ship_open-status.result (c.in-Ok.ensures.read told) (shipped.store (c.open_store.ensures.time.files_told.0 told) attached) shipped.found;
       read = λ is. absurd (subst IsOfOpened is shipped.found);

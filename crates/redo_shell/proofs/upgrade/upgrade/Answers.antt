@@ -43,7 +43,7 @@ returns-in-Ok-clause-call g c =
                 (sym (c.in-Ok.ensures.layout opens.told).version ∙ said.0, said.1 ∙ ap (λ (l : List ℕ). l ++ already_version_two) files.quiet);
             second = λ is. c.upgrade_open.ensures.second told_mid attached ((c.in-Ok.ensures.layout opens.told).version ∙ is);
             idle = λ is. c.upgrade_open.ensures.idle p commands holds opened.all is;
-            refused = λ told is. absurd (subst IsOfOpened is c.upgrade_open.ensures.status.1);
+            unopened = λ told is. absurd (subst IsOfOpened is c.upgrade_open.ensures.status.1);
             store = λ is. subst IsOfOpened is c.upgrade_open.ensures.status.1;
           };
       ends = c.upgrade_open.ensures.status.0;

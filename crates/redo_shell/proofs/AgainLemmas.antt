@@ -1,0 +1,101 @@
+-- Two calls, the first of which was refused memory, as one.
+use Rattle.std.proofs.Common.{arith, ◌≡◌, inl, inr, ⊎_elim, refl, List, ℕ, ◌++◌, ◌∙◌, ap, sym, subst}
+use Rattle.std.proofs.lemmas.List.{append-nil}
+use Rattle.disk_model.specs.Disk.{Files, Disk, IsDisk, LeavesOnly, Passes}
+use Rattle.disk_model.specs.Moments.{runs_on, weaker}
+use Rattle.formats.specs.declared.params.Params.{Params}
+use Rattle.script_lines.specs.Grammar.{lines_of}
+use Rattle.command_words.specs.declared.asked.Asked.{Asked}
+use Rattle.command_words.specs.declared.asked.Asked.TheVariants.{Init, Run, Dump, Demo, Upgrade, Ship, Follow}
+use Rattle.explain_core.specs.History.{Member}
+use Rattle.restart.specs.Starts.{OrAtStart, from_settled, or_weaker}
+use Rattle.store_engine.specs.Engine.{InEachImage}
+use Rattle.redo_shell.specs.Again.{StandsStill}
+use Rattle.redo_shell.specs.Answers.{Moment}
+use Rattle.redo_shell.specs.Calls.{IsCallFor, IsRunOn}
+use Rattle.redo_shell.specs.Dump.{dump_of, DumpMoment}
+use Rattle.redo_shell.specs.Following.{FollowMoment, StandbyMoment}
+use Rattle.redo_shell.specs.Run.{MomentSoFar}
+use Rattle.redo_shell.specs.Shipping.{ShipMoment}
+use Rattle.redo_shell.specs.Store.{Command, Opens, Stands, StandsInEither}
+use Rattle.redo_shell.specs.Twice.{IsCallTwice, IsRunTwice}
+use Rattle.redo_shell.specs.declared.budget.Budget.{Budget}
+use Rattle.redo_shell.specs.declared.budget.Budget.TheVariants.{Usual, Least}
+use Rattle.redo_shell.specs.declared.status.Status.{Status}
+use Rattle.redo_shell.specs.declared.status.Status.TheVariants.{RestartMemory}
+use Rattle.redo_shell.proofs.OpenLemmas.{complete_from, opens_still, says_from, start_so_far}
+use Rattle.redo_shell.proofs.RunLemmas.{AreFew}
+
+-- a call whose restart was refused memory leaves files that stand for the commands as they did
+pub refused_still : (budget : Budget) (asked : Asked) (told : Type 0) (left rest : List ℕ) (p : Params) (commands : List Command) (old mid : Disk) → old.tells_moments → Opens p old commands
+    → IsCallFor budget asked told left rest old mid RestartMemory → StandsStill p commands old mid
+refused_still budget Run told left rest p commands old mid tells opens call = (call.untold.1 p commands opens).unopened tells refl
+refused_still budget Dump told left rest p commands old mid tells opens call = (call.table p commands opens).unopened tells refl
+refused_still budget (Init q) told left rest p commands old mid tells opens call = absurd call.ends
+refused_still budget (Demo seed steps) told left rest p commands old mid tells opens call = absurd call.ends
+refused_still budget (Upgrade q) told left rest p commands old mid tells opens call = (call.stands p commands opens).unopened tells refl
+refused_still budget (Ship from) told left rest p commands old mid tells opens call = (call.log p commands opens).unopened tells refl
+refused_still budget Follow told left rest p commands old mid tells opens call = (call.stream p commands opens).unopened tells refl
+
+module _ {p : Params} {commands : List Command} {old mid : Disk} (lawful : IsDisk old) (lawful_mid : IsDisk mid) (tells : old.tells_moments) (opens : Opens p old commands) (time : Passes old mid) (still : StandsStill p commands old mid) (new : Disk) where
+  -- what a crash leaves of the second call is what it leaves of both, where files that stand for the commands have that before
+  -- anything is said
+  images_twice : (P : Files → List ℕ → Type 0) → ((files : Files) → Stands p files commands → P files old.said) → LeavesOnly mid new (OrAtStart mid P) → LeavesOnly old new (OrAtStart old P)
+  images_twice P starts second =
+      let first : LeavesOnly old mid (OrAtStart old P) = or_weaker old mid (λ files said. Stands p files commands × (said ≡ old.said)) P still.images
+      (λ files said is. subst (λ (l : List ℕ). P files l) (sym is.1) (starts files is.0)) in
+      runs_on old mid new (OrAtStart old P) first
+      (weaker mid new (OrAtStart mid P) (OrAtStart old P) second (λ files said is. ⊎_elim
+      (λ (was : mid.left_since mid.clock files said). first.each files said (lawful_mid.among old.clock mid.clock files said time.later (omega arith) was))
+      (λ here. inr here)
+      is))
+
+  -- a run
+  run_twice : AreFew → (script : List (List ℕ)) (status : Status) → IsRunOn Least p commands script mid new status → IsRunTwice p commands script old mid new status
+  run_twice few script status second =
+      let tells_mid = time.moments_told.0 tells in
+      let images : LeavesOnly old new (OrAtStart old (Moment p commands script old.said))
+      = images_twice (Moment p commands script old.said) (λ files stands. (start_so_far few old script files stands).is)
+      (subst (λ (l : List ℕ). LeavesOnly mid new (OrAtStart mid (Moment p commands script l))) still.quiet (second.images tells_mid)) in
+      record {
+        images = images;
+        from_settled = λ settled. from_settled old new (Moment p commands script old.said) lawful tells settled (start_so_far few old script old.reads opens.stands).is images;
+        opened = λ disk memory. subst (λ (l : List ℕ). InEachImage new (λ files. Moment p commands script l files new.said)) still.quiet (second.opened tells_mid disk memory);
+        unclosed = λ cut. images_twice (MomentSoFar p commands script old.said) (λ files stands. start_so_far few old script files stands)
+            (subst (λ (l : List ℕ). LeavesOnly mid new (OrAtStart mid (MomentSoFar p commands script l))) still.quiet (second.unclosed tells_mid cut));
+        first = second.first;
+        answers = λ first is. says_from lawful (opens_still still) time still.quiet (second.answers first is);
+        complete = λ first is done. complete_from still.quiet (second.complete first is done);
+        store = second.store;
+      }
+
+  -- the following of a stream
+  follow_twice : (first : List (Member Command)) (bytes : List ℕ) → LeavesOnly mid new (OrAtStart mid (StandbyMoment p commands first bytes mid new)) → LeavesOnly old new (OrAtStart old (StandbyMoment p commands first bytes old new))
+  follow_twice first bytes second = images_twice (StandbyMoment p commands first bytes old new) (λ files stands. inl (stands, refl))
+      (or_weaker mid new (StandbyMoment p commands first bytes mid new) (StandbyMoment p commands first bytes old new) second (λ files said is. ⊎_elim
+      (λ (here : Stands p files commands × (said ≡ mid.said)). inl (here.0, here.1 ∙ still.quiet))
+      (λ (on : FollowMoment p first bytes mid new files said). inr (on.0, ⊎_elim (λ (none : said ≡ mid.said). inl (none ∙ still.quiet)) (λ there. inr there) on.1))
+      is))
+
+  pub call_twice : AreFew → (asked : Asked) (told : Type 0) (left rest : List ℕ) (status : Status) → IsCallFor Usual asked told left left old mid RestartMemory → IsCallFor Least asked told left rest mid new status
+      → IsCallTwice asked p commands told left old mid new status
+  call_twice few Run told left rest status first second = λ is. run_twice few (lines_of left) status (second.script p commands still.opens is)
+  call_twice few Dump told left rest status first second =
+      let on = second.table p commands still.opens in (
+        images_twice (DumpMoment p commands old.said) (λ files stands. record { stands = stands; count = 0; said_is = sym (append-nil old.said) })
+            (subst (λ (l : List ℕ). LeavesOnly mid new (OrAtStart mid (DumpMoment p commands l))) still.quiet (on.images (time.moments_told.0 tells))),
+        λ done. on.all done ∙ ap (λ (l : List ℕ). l ++ dump_of p commands) still.quiet,
+      )
+  call_twice few (Init q) told left rest status first second = absurd first.ends
+  call_twice few (Demo seed steps) told left rest status first second = absurd first.ends
+  call_twice few (Upgrade q) told left rest status first second =
+      images_twice (λ files said. StandsInEither p q commands files) (λ files stands. inl stands) ((second.stands p commands still.opens).images (time.moments_told.0 tells))
+  call_twice few (Ship from) told left rest status first second =
+      images_twice (ShipMoment p commands from old.said) (λ files stands. (stands, inl refl))
+      (subst (λ (l : List ℕ). LeavesOnly mid new (OrAtStart mid (ShipMoment p commands from l))) still.quiet ((second.log p commands still.opens).images (time.moments_told.0 tells)))
+  call_twice few Follow told left rest status first second = (
+    second.bytes,
+    rest,
+    second.taken,
+    λ stage is. follow_twice stage.world.history second.bytes ((second.stream p commands still.opens).images (time.moments_told.0 tells) stage is),
+  )
