@@ -11,8 +11,8 @@ fn of_the_store(status: Status) -> Option<&'static str> {
             "a store is in this folder already, and it was left as it is. Make the new one in another folder.",
         ),
         Status::Damaged => Some(
-            "a file of the store breaks its format at the offset given. Copy objects.rdo, log_a.rdo and log_b.rdo before \
-             anything else.",
+            "a file of the store is missing, or breaks its format at the offset given. Copy objects.rdo, log_a.rdo and \
+             log_b.rdo before anything else.",
         ),
         Status::AlreadyTwo => Some(
             "the store is of version 2 already, and it was left as it is. Only a store of version 1 can be made larger: see \

@@ -1,6 +1,19 @@
 // Which call on a file failed.
 use disk_model::FileMachine;
 use redo_shell::Status;
+use std::io::ErrorKind;
+
+/// Whether a file that was there, or was to be made, could not be opened for a reason of this kind: that is done by the first call
+/// on it, which is a sync.
+fn keeps_from_opening(kind: ErrorKind) -> bool {
+    match kind {
+        ErrorKind::PermissionDenied
+        | ErrorKind::NotFound
+        | ErrorKind::IsADirectory
+        | ErrorKind::ReadOnlyFilesystem => true,
+        _ => false,
+    }
+}
 
 /// Says on standard error which file it was, what could not be done with it, and the system's reason, where the status is one of
 /// the store's disk or of the backup's.
@@ -19,6 +32,10 @@ pub fn tell_fault(
         let call = fault.call;
         let path = machine.path(fault.file);
         let reason = &fault.reason;
-        let _told = eprintln!(rt; "redo: cannot {call} {path}: {reason}");
+        let _told = if keeps_from_opening(reason.kind()) {
+            eprintln!(rt; "redo: cannot open {path}: {reason}")
+        } else {
+            eprintln!(rt; "redo: cannot {call} {path}: {reason}")
+        };
     }
 }

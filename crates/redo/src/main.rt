@@ -34,8 +34,8 @@ fn words<R: Env + AllocGlobal>(rt: &R) -> Result<Vec<String>, AllocError> {
     }
 }
 
-// Does what the words ask, with the files of the current folder. Where the restart is refused memory, it is made again with as
-// little as it takes.
+// Does what the words ask, with the files of the current folder. Where the restart is refused memory, the call is made again with
+// as little as a restart takes: the two are as one (`redo_shell::a_second_start_goes_on`).
 fn run(rt: HostRuntime, words: &[String]) -> Status {
     let mut input = StdSource::new(&rt);
     let mut machine = FileMachine::new(rt);
