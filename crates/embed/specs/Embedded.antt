@@ -1,15 +1,15 @@
 -- What the calls on a store in use say beside what the engine's say.
-use Rattle.std.specs.Prelude.{◌≡◌, ◌≤◌, ◌⊎◌, ℕ, List, Option, None, Some, Result, Err, IfErr, IsErrOf, OnOk, length, min, take}
-use Rattle.disk_model.specs.Disk.{Files}
-use Rattle.disk_model.specs.declared.machine.FileNo.{FileNo}
-use Rattle.disk_model.specs.declared.machine.FileNo.TheVariants.{Objects}
-use Rattle.formats.specs.Bytes.{IsClosedAt, IsOpenAt}
-use Rattle.formats.specs.FirstFault.{IsDamaged}
-use Rattle.op_codec.specs.AllOps.{all_meaning}
-use Rattle.restart.specs.WellFormed.{IsWellFormed}
-use Rattle.stable_objects.specs.Reading.{IsNoDamage}
+use Rattle.std.specs.Prelude.{◌≡◌, ◌≤◌, ℕ, List, Option, None, Some, Result, Ok, Err, length, min, take}
+use Rattle.disk_model.specs.Disk.{Disk}
+use Rattle.formats.specs.declared.params.Params.{Params}
+use Rattle.dirty_cache.specs.Contents.{AreDirty}
+use Rattle.write_graph.specs.Graph.{IsCount, NamesNode}
+use Rattle.op_codec.specs.AllOps.{AllOps, all_meaning}
+use Rattle.explain_core.specs.World.{World}
+use Rattle.running_store.specs.Parts.{Parts}
 use Rattle.stable_objects.specs.declared.open_err.OpenErr.{OpenErr}
-use Rattle.stable_objects.specs.declared.open_err.OpenErr.TheVariants.{DiskFault, NotAStore, Damaged, Memory}
+use Rattle.store_engine.specs.Engine.{EngineView, IsStat, ShowsIn, accepted_in, forced_in, used_in}
+use Rattle.store_engine.specs.declared.stat.Stat.{Stat}
 use Rattle.embed.specs.declared.store.Store.{Store}
 
 -- the disk failed in an earlier call: it is answered so again, and nothing is done
@@ -23,14 +23,24 @@ abbrev pub GivesValue : ℕ → ℕ → List ℕ → List ℕ → List ℕ → O
 GivesValue objects object value before after None = objects ≤ object
 GivesValue objects object value before after (Some n) = (n ≡ length value) × (take (min n (length before)) after ≡ take (length before) value)
 
--- What an opening says of the files that were there, whatever becomes of its machine. A store is opened only where they meet their
--- format; where they do, they are neither called damaged nor no store; the damage that is reported is that of the first check that
--- fails, and where one does, it is reported, unless the disk fails or memory runs out.
-pub record IsJudgedBy {T : Type 0} (files : Files) (result : Result T OpenErr) : Type 0 where
-  pub read : OnOk result (IsWellFormed all_meaning files)
-  pub whole : IsWellFormed all_meaning files → IfErr result IsNoDamage
-  pub no_store : IsErrOf result NotAStore → IsClosedAt 0 (files Objects)
-  pub damaged : (file : FileNo) (place : ℕ) → IsErrOf result (Damaged file place) → IsDamaged all_meaning files file place
-  pub exactly : (file : FileNo) (place : ℕ) → IsDamaged all_meaning files file place
-      → IsErrOf result (Damaged file place) ⊎ (IsErrOf result Memory ⊎ IsErrOf result DiskFault)
-  pub memory : IsErrOf result Memory → IsOpenAt 0 (files Objects)
+-- What an engine reports of itself: the numbers of its log, the identity writes since it was opened, the entries of its write graph,
+-- the nodes that these make, and the objects that are dirty. Where engine and files show a world, the graph and the objects are the world's.
+pub record Reports (engine : EngineView) (d : Disk) (stat : Stat) : Type 0 where
+  pub used : stat.used ≡ used_in engine
+  pub accepted : stat.accepted ≡ accepted_in engine
+  pub forced : stat.forced ≡ forced_in engine
+  pub identities : stat.identities ≡ engine.identities
+  pub uninstalled : stat.uninstalled ≡ length engine.parts.volatile.entries
+  pub nodes : IsCount (NamesNode engine.parts.volatile.entries) stat.nodes
+  pub dirty : (objects : List ℕ) × AreDirty engine.parts.volatile.objects.cache objects × (stat.dirty ≡ length objects)
+  pub shown : (p : Params) (w : World AllOps) → ShowsIn all_meaning p d engine w → IsStat all_meaning p w stat
+
+-- the machine of an opening: in the store, or given back
+abbrev pub machine_of : {M : Type 0} → Result (Store M) (OpenErr × M) → M
+machine_of (Ok store) = store.machine
+machine_of (Err failure) = failure.1
+
+-- what an opening answers, as a restart says it
+abbrev pub opened : {M : Type 0} → Result (Store M) (OpenErr × M) → Result Parts OpenErr
+opened (Ok store) = Ok store.engine.parts
+opened (Err failure) = Err failure.0

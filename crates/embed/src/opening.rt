@@ -5,9 +5,11 @@ ghost use Rattle.disk_model.specs.declared.machine.FileNo.TheVariants.{Objects};
 ghost use Rattle.formats.specs.Objects.{BeginsStore, IsInRange};
 ghost use Rattle.formats.specs.declared.params.Params.{Params as Numbers};
 ghost use Rattle.op_codec.specs.AllOps.{AllOps as Command, all_meaning};
+ghost use Rattle.restart.specs.Damage.{IsReported};
+ghost use Rattle.restart.specs.Opening.{IsJudged, IsOpening};
 ghost use Rattle.restart.specs.Starts.{OrAtStart};
 ghost use Rattle.store_engine.specs.Engine.{Between, Holds, InEachImage, IsAttached, IsNew, IsNewStore, Opens, forced_in};
-ghost use Rattle.embed.specs.Embedded.{IsJudgedBy};
+ghost use Rattle.embed.specs.Embedded.{machine_of, opened};
 
 use crate::Store;
 use disk_model::Machine;
@@ -45,23 +47,24 @@ pub fn lay_out<M: Machine>(machine: &mut M, params: Params) -> Result<(), InitEr
 }
 
 impl<M: Machine + Drop> Store<M> {
-    /// Opens the files of the machine: what is not installed of their commands is done again. Where that fails the machine is
-    /// dropped.
-    pub fn open(alloc: Global, machine: M) -> Result<Store<M>, OpenErr>
+    /// Opens the files of the machine: what is not installed of their commands is done again. It fails as the engine's `restart`, and
+    /// gives the machine back then.
+    pub fn open(alloc: Global, machine: M) -> Result<Store<M>, (OpenErr, M)>
+        ensures opening { IsOpening all_meaning (M.disk machine) (M.disk (machine_of result)) (opened result) }
+        ensures judged { (M.disk machine).tells_files → IsJudged all_meaning (M.disk machine) (M.disk (machine_of result)) (opened result) }
+        ensures ready { IfOk result (λ store. (store.engine.broken ≡ false) × (store.engine.group ≡ None) × (store.engine.copied ≡ None) × (store.engine.identities ≡ 0) × IsAttached all_meaning (M.disk store.machine) store.engine) }
+        ensures reported { IsReported all_meaning (M.disk machine) (M.disk (machine_of result)) (opened result) }
         ensures holds { (p : Numbers) (commands : List Command) → Opens all_meaning p (M.disk machine) commands →
             IfOk result (λ store. Holds all_meaning p (M.disk store.machine) store.engine commands × (forced_in store.engine ≡ length commands)) }
-        ensures ready { IfOk result (λ store. (store.engine.broken ≡ false) × (store.engine.group ≡ None) × (store.engine.copied ≡ None) × (store.engine.identities ≡ 0) × IsAttached all_meaning (M.disk store.machine) store.engine) }
-        ensures time { IfOk result (λ store. Passes (M.disk machine) (M.disk store.machine)) }
-        ensures quiet { (M.disk machine).tells_files → IfOk result (λ store. (M.disk store.machine).said ≡ (M.disk machine).said) }
-        ensures settled { IfOk result (λ store. IsSettled (M.disk store.machine)) }
-        ensures judged { (M.disk machine).tells_files → IsJudgedBy (M.disk machine).reads result }
         ensures images { (M.disk machine).tells_moments → (p : Numbers) (commands : List Command) → Opens all_meaning p (M.disk machine) commands →
-            IfOk result (λ store. LeavesOnly (M.disk machine) (M.disk store.machine) (OrAtStart (M.disk machine) (Between all_meaning p (M.disk machine) None (length commands) (length commands) commands))) }
+            LeavesOnly (M.disk machine) (M.disk (machine_of result)) (OrAtStart (M.disk machine) (Between all_meaning p (M.disk machine) None (length commands) (length commands) commands)) }
+        // A machine that is given back may be opened again.
+        ensures again { (M.disk machine).tells_moments → (p : Numbers) (commands : List Command) → Opens all_meaning p (M.disk machine) commands → Opens all_meaning p (M.disk (machine_of result)) commands }
     {
         let mut machine = machine;
         match Engine::restart(alloc, &mut machine, TUNING) {
             Ok(engine) => Ok(Store { engine, machine }),
-            Err(cause) => Err(cause),
+            Err(cause) => Err((cause, machine)),
         }
     }
 }

@@ -8,8 +8,8 @@ ghost use Rattle.cache_manager.specs.declared.install_err.InstallErr.{InstallErr
 ghost use Rattle.checkpointing.specs.declared.check_err.CheckErr.{CheckErr as CheckFailure};
 ghost use Rattle.op_codec.specs.AllOps.{all_meaning};
 ghost use Rattle.store_engine.specs.Calls.{IsBeginning, IsChecking, IsDraining, IsForcing, IsInstalling, IsRefused, IsRefusedBeside, IsTrimming, work_of_check, work_of_force, work_of_install, work_of_trim};
-ghost use Rattle.store_engine.specs.Engine.{accepted_in, forced_in, group_size, used_in};
-ghost use Rattle.embed.specs.Embedded.{IsStillBroken};
+ghost use Rattle.store_engine.specs.Engine.{group_size};
+ghost use Rattle.embed.specs.Embedded.{IsStillBroken, Reports};
 
 use crate::Store;
 use disk_model::Machine;
@@ -113,7 +113,7 @@ impl<M: Machine + Drop> Store<M> {
 
     /// What the store reports of itself.
     pub fn stat(&self) -> Stat
-        ensures { (result.used ≡ used_in self.now.engine) × (result.accepted ≡ accepted_in self.now.engine) × (result.forced ≡ forced_in self.now.engine) × (result.identities ≡ self.now.engine.identities) }
+        ensures { Reports self.now.engine (M.disk self.now.machine) result }
     {
         self.engine.stat()
     }

@@ -1,5 +1,5 @@
 -- What an opening on files that were handed in says of the real files.
-use Rattle.std.proofs.Common.{None, arith, ◌≡◌, ◌∙◌, ◌⊎◌, ◌↔◌, ◌≤◌, ℕ, List, [], ◌++◌, length, Result, Ok, Err, IfOk, ap, subst, sym, inl, inr, ⊎_elim}
+use Rattle.std.proofs.Common.{None, arith, ◌≡◌, ◌∙◌, ◌⊎◌, ◌↔◌, ◌≤◌, ℕ, List, [], ◌++◌, length, Result, Ok, Err, IfErr, IfOk, ap, subst, sym, inl, inr, ⊎_elim}
 use Rattle.std.proofs.lemmas.List.{length-append, take_all}
 use Rattle.disk_model.specs.Call.{Call}
 use Rattle.disk_model.specs.Disk.{Files, LeavesOnly}
@@ -10,9 +10,10 @@ use Rattle.op_codec.specs.AllOps.{AllOps, all_meaning}
 use Rattle.restart.specs.Starts.{OrAtStart}
 use Rattle.store_engine.specs.Engine.{Between, Holds, InEachImage, IsNew, IsNewStore, Opens, forced_in}
 use Rattle.store_engine.specs.Store.{Stands}
-use Rattle.write_queue.specs.Memory.{IsLeftByFront, disk_of, lawful, taken_from, waiting_in}
+use Rattle.write_queue.specs.Memory.{IsLeftByFront, disk_of, first_files, lawful, taken_from, waiting_in}
 use Rattle.write_queue.specs.declared.queue_mem.QueueMem.{QueueMem}
-use Rattle.embed_c.specs.Opening.{IsCreated, IsHanded, IsOpened, IsReady}
+use Rattle.embed_c.specs.Calls.{IsUntaken}
+use Rattle.embed_c.specs.Opening.{IsCreated, IsHanded, IsOpened, IsReady, IsUnopened}
 use Rattle.embed_c.specs.declared.answer.Answer.{Answer}
 use Rattle.embed_c.specs.declared.session.Session.{Session}
 
@@ -49,7 +50,7 @@ module _ {files : Files} {m : QueueMem} (handed : IsHanded files m) where
   begins : (disk_of m).clock ≡ 0
   begins = ap (λ (l : List Call). length l) (λ i. handed.taken i ++ handed.waiting i)
 
-  pub opened : (result : Result Session Answer) → IfOk result IsReady
+  pub opened : (result : Result Session Answer) → IfOk result (IsReady (first_files m))
       → ((p : Params) (commands : List AllOps) → Opens all_meaning p (disk_of m) commands → IfOk result (λ s. Holds all_meaning p (disk_of s.store.machine) s.store.engine commands × (forced_in s.store.engine ≡ length commands)))
       → ((p : Params) (commands : List AllOps) → Opens all_meaning p (disk_of m) commands → IfOk result (KeptBy m p commands))
       → IfOk result (IsOpened files)
@@ -58,7 +59,7 @@ module _ {files : Files} {m : QueueMem} (handed : IsHanded files m) where
       let opens : (p : Params) (commands : List AllOps) → Stands all_meaning p files commands → Opens all_meaning p (disk_of m) commands =
       λ p commands stands. record { told = tt; stands = subst (λ (f : Files). Stands all_meaning p f commands) (sym handed.reads) stands } in
       record {
-        ready = ready;
+        ready = subst (λ (f : Files). IsReady f s) handed.first ready;
         holds = λ p commands stands. holds p commands (opens p commands stands);
         kept = λ p commands stands left said front. ⊎_elim
             (λ was. subst (λ (f : Files). Stands all_meaning p f commands) (sym (as_handed left said (subst (λ (t : ℕ). (disk_of m).left_since t left said) (sym begins) was))) stands)
@@ -66,18 +67,22 @@ module _ {files : Files} {m : QueueMem} (handed : IsHanded files m) where
             (kept p commands (opens p commands stands) left said front);
       }
 
-  pub created : (p : Params) (laid : QueueMem) → InEachImage (disk_of laid) (IsNewStore all_meaning p) → (BeginsStore ((disk_of m).reads Objects) → ⊥)
+  -- what an opening of the machine says of its reads it says of the files
+  pub unopened : (result : Result Session Answer) → IfErr result (IsUnopened (disk_of m).reads) → IfErr result (IsUnopened files)
+  unopened result why = subst (λ (f : Files). IfErr result (IsUnopened f)) handed.reads why
+
+  pub created : (p : Params) (laid : QueueMem) → IsUntaken m laid → InEachImage (disk_of laid) (IsNewStore all_meaning p) → (BeginsStore ((disk_of m).reads Objects) → ⊥)
       → LeavesOnly (disk_of m) (disk_of laid) (OrAtStart (disk_of m) (λ left said. IsNew all_meaning p left × (said ≡ (disk_of m).said)))
-      → (result : Result Session Answer) → IfOk result IsReady
+      → (result : Result Session Answer) → (taken_from laid ≡ [] → IfOk result (IsReady (first_files laid)))
       → ((q : Params) (commands : List AllOps) → Opens all_meaning q (disk_of laid) commands → IfOk result (λ s. Holds all_meaning q (disk_of s.store.machine) s.store.engine commands × (forced_in s.store.engine ≡ length commands)))
       → ((q : Params) (commands : List AllOps) → Opens all_meaning q (disk_of laid) commands → IfOk result (KeptBy laid q commands))
       → IfOk result (IsCreated p files)
-  created p laid each fresh leaves (Err answer) ready holds kept = tt
-  created p laid each fresh leaves (Ok s) ready holds kept =
+  created p laid untaken each fresh leaves (Err answer) ready holds kept = tt
+  created p laid untaken each fresh leaves (Ok s) ready holds kept =
       let opens : Opens all_meaning p (disk_of laid) [] = record { told = tt; stands = each.0.stands } in
       let none : BeginsStore (files Objects) → ⊥ = subst (λ (f : Files). BeginsStore (f Objects) → ⊥) handed.reads fresh in
       record {
-        ready = ready;
+        ready = subst (λ (f : Files). IsReady f s) (untaken.first ∙ handed.first) (ready (untaken.calls ∙ handed.taken));
         fresh = none;
         holds = (holds p [] opens).0;
         kept = λ left said front. ⊎_elim

@@ -3,4 +3,5 @@ pub mod Fronts
 pub mod Left
 pub mod Named
 pub mod OnHandles
+pub mod Untaken
 pub mod Values

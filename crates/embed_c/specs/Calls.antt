@@ -19,21 +19,27 @@ use Rattle.store_engine.specs.Engine.{EngineView, Holds, group_size}
 use Rattle.store_engine.specs.Lists.{AddsFront, AreCalls, ending_of}
 use Rattle.store_engine.specs.Store.{state_of}
 use Rattle.app_steps.specs.Steps.{HasAnswer, steps}
-use Rattle.write_queue.specs.Memory.{disk_of}
+use Rattle.write_queue.specs.Memory.{disk_of, first_files, taken_from}
 use Rattle.write_queue.specs.declared.queue_mem.QueueMem.{QueueMem}
 use Rattle.embed.specs.Embedded.{GivesValue, IsStillBroken}
 use Rattle.embed.specs.declared.store.Store.{Store}
 use Rattle.embed_c.specs.declared.answer.Answer.{Answer}
 use Rattle.embed_c.specs.declared.session.Session.{Session}
 
+-- what was handed to a machine, and the calls that were taken from it, are as they were
+pub record IsUntaken (old new : QueueMem) : Type 0 where
+  pub first : first_files new ≡ first_files old
+  pub calls : taken_from new ≡ taken_from old
+
 -- A call on the store of a session came to something, and that is what C is told: its number is answered, what is beside it is
--- kept. The calls that were taken for C are as they were, and so are the pairs that were found for it.
+-- kept. No call is taken from the machine, those that were taken for C are as they were, and so are the pairs that were found for it.
 module _ {R : Type 0} (told : R → Answer) (does : Store QueueMem → Store QueueMem → R → Type 0) (old new : Session) (answer : ℕ) where
   pub record IsCalled : Type 0 where
     pub made : R
     pub store : does old.store new.store made
     pub number : answer ≡ (told made).number
     pub detail : new.detail ≡ (told made).detail
+    pub untaken : IsUntaken old.store.machine new.store.machine
     pub taken : new.taken ≡ old.taken
     pub pairs : new.pairs ≡ old.pairs
 

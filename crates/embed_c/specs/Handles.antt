@@ -1,5 +1,7 @@
 -- Calls on the session behind a handle.
 use Rattle.std.specs.Prelude.{◌≡◌, ◌≢◌, ℕ, Option, None, Some}
+use Rattle.embed_c.specs.declared.answer.Answer.{Answer}
+use Rattle.embed_c.specs.declared.answer.Detail.{Detail}
 use Rattle.embed_c.specs.declared.handle.Redo.{Redo}
 use Rattle.embed_c.specs.declared.session.Session.{Session}
 
@@ -26,9 +28,17 @@ abbrev pub ClosesHandle : Option Session → Option Session → ℕ → Type 0
 ClosesHandle (Some old) new answer = (new ≡ None) × (answer ≡ 0)
 ClosesHandle None new answer = (new ≡ None) × (answer ≡ not_open)
 
--- A handle that was closed: a session of which this is said is behind it now, and 0 is answered, or it stays closed, and something
--- else is answered. A handle that was open stays as it was, and C is told so.
-abbrev pub OpensHandle : (Session → Type 0) → Option Session → Option Session → ℕ → Type 0
-OpensHandle is (Some old) new answer = (new ≡ Some old) × (answer ≡ already_open)
-OpensHandle is None None answer = answer ≢ 0
-OpensHandle is None (Some new) answer = is new × (answer ≡ 0)
+-- C is told why a call was not done: a number, which is not 0, and what is beside it
+pub record TellsWhy (why : Answer → Type 0) (detail : Detail) (answer : ℕ) : Type 0 where
+  pub told : Answer
+  pub cause : why told
+  pub number : answer ≡ told.number
+  pub beside : detail ≡ told.detail
+  pub not_done : answer ≢ 0
+
+-- A handle that was closed: a session of which this is said is behind it now, and 0 is answered, or it stays closed, and C is told
+-- why. A handle that was open stays as it was, and C is told so.
+abbrev pub OpensHandle : (Session → Type 0) → (Answer → Type 0) → Option Session → Option Session → Detail → ℕ → Type 0
+OpensHandle is why (Some old) new detail answer = (new ≡ Some old) × (answer ≡ already_open)
+OpensHandle is why None None detail answer = TellsWhy why detail answer
+OpensHandle is why None (Some new) detail answer = is new × (answer ≡ 0)

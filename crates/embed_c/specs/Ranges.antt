@@ -25,7 +25,7 @@ use Rattle.write_queue.specs.declared.queue_mem.QueueMem.{QueueMem}
 use Rattle.embed.specs.Embedded.{IsStillBroken}
 use Rattle.embed.specs.declared.store.Store.{Store}
 use Rattle.embed_c.specs.Answers.{alone, done_answer, of_exec, telling, told}
-use Rattle.embed_c.specs.Calls.{DoesNothing}
+use Rattle.embed_c.specs.Calls.{DoesNothing, IsUntaken}
 use Rattle.embed_c.specs.declared.answer.Answer.{Answer}
 use Rattle.embed_c.specs.declared.maps.Lengths.{Lengths}
 use Rattle.embed_c.specs.declared.session.Session.{Session}
@@ -114,8 +114,8 @@ pairs_after (Err cause) before = before
 abbrev pub TellsPairs : {E : Type 0} → Result (List Pair) E → ℕ → Type 0
 TellsPairs made count = IfOk made (λ found. count ≡ length found)
 
--- The pairs of a range came to something, and that is what C is told. Those that were found are kept for it. The calls that were taken
--- for C are as they were.
+-- The pairs of a range came to something, and that is what C is told. Those that were found are kept for it. No call is taken from
+-- the machine, and those that were taken for C are as they were.
 module _ (low high : ℕ) (from to : List ℕ) (many : ℕ) (old new : Session) (answer : ℕ) where
   pub record IsRanged : Type 0 where
     pub made : Result (List Pair) (CallErr TreeRefusal)
@@ -124,6 +124,7 @@ module _ (low high : ℕ) (from to : List ℕ) (many : ℕ) (old new : Session) 
     pub pairs : new.pairs.items ≡ pairs_after made old.pairs.items
     pub number : answer ≡ (told of_tree made).number
     pub detail : new.detail ≡ (told of_tree made).detail
+    pub untaken : IsUntaken old.store.machine new.store.machine
     pub taken : new.taken ≡ old.taken
 
 -- as much of a value as there is room for was copied to the room's front

@@ -3,23 +3,25 @@
 //! No function here touches a file. C holds a [`Redo`], which it begins with zeros; of it C promises that it is all zeros, or as
 //! the last call here left it. A slice is a pointer and a length. What is answered is 0, or a number of specs/Answers.antt; 64 where
 //! the handle is closed. After each call C makes on its files the calls that [`redo_core_next`] tells, in order, before it reports
-//! the answer.
+//! the answer; no other call takes one from the queue.
 #![tactic(auto)]
 
-ghost use Rattle.std.specs.Prelude.{◌≡◌, ◌⊎◌, ◌&&◌, None, Ok, IfErr, drop, nat_le, nat_lt};
+ghost use Rattle.std.specs.Prelude.{◌≡◌, ◌⊎◌, ◌&&◌, None, Ok, Err, IfErr, drop, nat_le, nat_lt};
 ghost use Rattle.key_entries.specs.Short.{is_short};
 ghost use Rattle.app_program.specs.declared.program_op.ProgramOp.TheVariants.{Step as StepOp, Feed as FeedOp, Drain as DrainOp};
 ghost use Rattle.app_steps.specs.Steps.{program_step, step_of};
 ghost use Rattle.op_codec.specs.AllOps.{plain, program as program_command};
 ghost use Rattle.op_meaning.specs.declared.plain_op.PlainOp.TheVariants.{Append as AppendOp, AppRead as AppReadOp, AppWrite as AppWriteOp, Copy as CopyOp, Cut as CutOp, Exec as ExecOp, Put as PutOp, Sort as SortOp, Swap as SwapOp};
-ghost use Rattle.store_engine.specs.Engine.{accepted_in, forced_in, params_of, used_in};
+ghost use Rattle.store_engine.specs.Engine.{params_of};
+ghost use Rattle.embed.specs.Embedded.{Reports};
 ghost use Rattle.embed_c.specs.Answers.{alone, of_exec, of_work, told, told_end, told_value};
 ghost use Rattle.embed_c.specs.Calls.{DoesBegin, DoesCheckpoint, DoesDrain, DoesEnd, DoesExec, DoesForce, DoesGet, DoesInstall, DoesNothing, DoesRun, DoesTrim, IsCalled, TellsCount, TellsInstall, TellsLength, TellsSteps};
 ghost use Rattle.embed_c.specs.Handles.{ClosesHandle, OnSession, OpensHandle, session_of};
 ghost use Rattle.embed_c.specs.Ranges.{DoesHashDelete, DoesHashGet, DoesHashPut, DoesInsert, DoesTreeDelete, DoesTreeGet, GivesFirst, IfNamed, IsRanged, TellsFound, of_hash, of_tree, told_found};
-ghost use Rattle.embed_c.specs.Opening.{IsCreated, IsFailure, IsOpened};
+ghost use Rattle.embed_c.specs.Opening.{IsCreated, IsFailure, IsOpened, IsUncreated, IsUnopened};
 ghost use Rattle.embed_c.specs.Waiting.{TellsNext};
 ghost use Rattle.write_queue.specs.Handed.{handed};
+ghost use Rattle.write_queue.specs.Memory.{disk_of};
 
 mod answer;
 mod handle;
@@ -64,7 +66,7 @@ pub struct Numbers {
     pub limit: u32,
 }
 
-// Puts a session behind a handle that is closed.
+// Puts a session behind a handle that is closed, or says why there is none.
 fn opened(
     alloc: Global,
     redo: &mut Redo,
@@ -73,7 +75,7 @@ fn opened(
 ) -> u32
     requires closed { session_of redo.old ≡ None }
     requires fails { IfErr session IsFailure }
-    ensures { OpensHandle (λ s. session ≡ Ok s) (session_of redo.old) (session_of redo.new) result }
+    ensures { OpensHandle (λ s. session ≡ Ok s) (λ told. (session ≡ Err told) ⊎ (told ≡ alone 8)) (session_of redo.old) (session_of redo.new) detail.new result }
 {
     let session = match session {
         Ok(session) => session,
@@ -87,7 +89,10 @@ fn opened(
             redo.put_back(session);
             0
         }
-        Err(_) => 8,
+        Err(_) => {
+            *detail = Answer::alone(8).detail;
+            8
+        }
     }
 }
 
@@ -115,7 +120,7 @@ pub extern "C" fn redo_core_create(
     params: &Numbers,
     detail: &mut Detail,
 ) -> u32
-    ensures { OpensHandle (IsCreated (record { objects = params.now.objects; cap = params.now.cap; limit = params.now.limit }) (handed objects.now log_a.now log_b.now)) (session_of redo.old) (session_of redo.new) result }
+    ensures { OpensHandle (IsCreated (record { objects = params.now.objects; cap = params.now.cap; limit = params.now.limit }) (handed objects.now log_a.now log_b.now)) (IsUncreated (record { objects = params.now.objects; cap = params.now.cap; limit = params.now.limit }) (handed objects.now log_a.now log_b.now)) (session_of redo.old) (session_of redo.new) detail.new result }
 {
     if redo.is_open() {
         return ALREADY_OPEN;
@@ -138,7 +143,7 @@ pub extern "C" fn redo_core_open(
     log_b: &[u8],
     detail: &mut Detail,
 ) -> u32
-    ensures { OpensHandle (IsOpened (handed objects.now log_a.now log_b.now)) (session_of redo.old) (session_of redo.new) result }
+    ensures { OpensHandle (IsOpened (handed objects.now log_a.now log_b.now)) (IsUnopened (handed objects.now log_a.now log_b.now)) (session_of redo.old) (session_of redo.new) detail.new result }
 {
     if redo.is_open() {
         return ALREADY_OPEN;
@@ -450,7 +455,15 @@ pub extern "C" fn redo_core_trim(alloc: Global, redo: &mut Redo) -> u32
 
 #[unsafe(no_mangle)]
 pub extern "C" fn redo_core_stat(alloc: Global, redo: &mut Redo, counts: &mut Counts) -> u32
-    ensures { OnSession (λ old new answer. (answer ≡ 0) × (new ≡ old) × (counts.new.used ≡ used_in old.store.engine) × (counts.new.accepted ≡ accepted_in old.store.engine) × (counts.new.forced ≡ forced_in old.store.engine) × (counts.new.identities ≡ old.store.engine.identities)) (session_of redo.old) (session_of redo.new) result }
+    ensures { OnSession (λ old new answer. (answer ≡ 0) × (new ≡ old) × Reports old.store.engine (disk_of old.store.machine) (record {
+      nodes = counts.new.nodes;
+      dirty = counts.new.dirty;
+      uninstalled = counts.new.uninstalled;
+      forced = counts.new.forced;
+      accepted = counts.new.accepted;
+      used = counts.new.used;
+      identities = counts.new.identities;
+    })) (session_of redo.old) (session_of redo.new) result }
 {
     match redo.take(alloc) {
         None => NOT_OPEN,

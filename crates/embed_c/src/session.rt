@@ -1,19 +1,20 @@
 // A store in memory, the calls that C has to make, and what its last answer said.
-ghost use Rattle.std.specs.Prelude.{◌≡◌, ◌⊎◌, ℕ, List, [], length, IfErr, IfOk, IsTrue};
+ghost use Rattle.std.specs.Prelude.{◌≡◌, ◌⊎◌, ℕ, false, List, [], length, IfErr, IfOk, IfSome, IsTrue};
 ghost use Rattle.disk_model.specs.Disk.{Files};
 ghost use Rattle.formats.specs.Objects.{IsInRange};
 ghost use Rattle.formats.specs.declared.params.Params.{Params as Numbers};
 ghost use Rattle.op_codec.specs.AllOps.{AllOps as Command, all_meaning, plain};
 ghost use Rattle.op_meaning.specs.declared.plain_op.PlainOp.TheVariants.{Put as PutOp};
 ghost use Rattle.app_steps.specs.Steps.{program_step, step_of};
-ghost use Rattle.store_engine.specs.Engine.{Holds, Opens, accepted_in, forced_in, params_of, used_in};
+ghost use Rattle.store_engine.specs.Engine.{Holds, Opens, forced_in, params_of};
 ghost use Rattle.store_engine.specs.Store.{Stands};
 ghost use Rattle.write_queue.specs.Handed.{handed};
-ghost use Rattle.write_queue.specs.Memory.{IsLeftByFront, disk_of, waiting_in};
+ghost use Rattle.write_queue.specs.Memory.{IsLeftByFront, disk_of, first_files, taken_from, waiting_in};
+ghost use Rattle.embed.specs.Embedded.{Reports};
 ghost use Rattle.embed_c.specs.Answers.{alone, of_exec, of_work, told, told_end, told_value};
 ghost use Rattle.embed_c.specs.Calls.{DoesBegin, DoesCheckpoint, DoesDrain, DoesEnd, DoesExec, DoesForce, DoesGet, DoesInstall, DoesNothing, DoesRun, DoesTrim, IsCalled, TellsCount, TellsInstall, TellsLength, TellsSteps};
 ghost use Rattle.embed_c.specs.Next.{left_in};
-ghost use Rattle.embed_c.specs.Opening.{IsCreated, IsFailure, IsHanded, IsOpened, IsReady};
+ghost use Rattle.embed_c.specs.Opening.{IsCreated, IsFailure, IsHanded, IsOpened, IsReady, IsUncreated, IsUnopened};
 ghost use Rattle.embed_c.specs.Waiting.{KeepsStore, TellsNext, pending};
 
 use crate::answer::{Answer, Detail, end_answer, exec_answer, value_answer, work_answer};
@@ -26,7 +27,7 @@ use op_codec::{AllOps, plain_op};
 use op_meaning::PlainOp;
 use oper_core::ByteList;
 use std::alloc::Global;
-use store_engine::{ExecErr, Install, ReadErr, Stat, WorkErr};
+use store_engine::{ExecErr, Install, ReadErr, Stat, WorkErr, standing_files_meet_their_format};
 use write_queue::{QueueMem, fronts_are_what_is_left};
 
 /// A store in use, as one value behind a handle.
@@ -42,21 +43,21 @@ pub struct Session {
 
 // Whether a store may have these numbers.
 fn is_in_range(params: &Params) -> bool
-    ensures { IsTrue result → IsInRange params.now }
+    ensures yes { IsTrue result → IsInRange params.now }
+    ensures no { result ≡ false → IsInRange params.now → ⊥ }
 {
     (1..=65535).contains(&params.objects)
         && (16..=1048576).contains(&params.cap)
         && (2 * params.cap + 4096..=536870912).contains(&params.limit)
 }
 
-// A machine to which these files are handed.
-fn machine(alloc: Global, objects: &[u8], log_a: &[u8], log_b: &[u8]) -> Result<QueueMem, Answer>
-    ensures ok { IfOk result (IsHanded (handed objects.now log_a.now log_b.now)) }
-    ensures err { IfErr result IsFailure }
+// A machine to which these files are handed; none where memory is refused.
+fn machine(alloc: Global, objects: &[u8], log_a: &[u8], log_b: &[u8]) -> Option<QueueMem>
+    ensures { IfSome result (IsHanded (handed objects.now log_a.now log_b.now)) }
 {
     match QueueMem::new(alloc, objects, log_a, log_b) {
-        Ok(machine) => Ok(machine),
-        Err(_) => Err(Answer::alone(8)),
+        Ok(machine) => Some(machine),
+        Err(_) => None,
     }
 }
 
@@ -102,12 +103,13 @@ impl Session {
     // Opens the store of a machine. At each moment since the machine was handed its files, a crash leaves what it left before,
     // or files that stand for the store's commands.
     fn over(alloc: Global, machine: QueueMem) -> Result<Session, Answer>
-        ensures ready { IfOk result IsReady }
+        ensures ready { taken_from machine ≡ [] → IfOk result (IsReady (first_files machine)) }
         ensures holds { (p : Numbers) (commands : List Command) → Opens all_meaning p (disk_of machine) commands →
             IfOk result (λ s. Holds all_meaning p (disk_of s.store.machine) s.store.engine commands × (forced_in s.store.engine ≡ length commands)) }
         ensures kept { (p : Numbers) (commands : List Command) → Opens all_meaning p (disk_of machine) commands →
             IfOk result (λ s. (left : Files) (said : List ℕ) → IsLeftByFront s.store.machine left said → (disk_of machine).left_since 0 left said ⊎ Stands all_meaning p left commands) }
         ensures err { IfErr result IsFailure }
+        ensures why { IfErr result (IsUnopened (disk_of machine).reads) }
     {
         fronts_are_what_is_left();
         match Store::open(alloc, machine) {
@@ -118,7 +120,7 @@ impl Session {
                 detail: Answer::done().detail,
                 pairs: Vec::new(alloc),
             }),
-            Err(cause) => Err(Answer::of_open(cause)),
+            Err((cause, _)) => Err(Answer::of_open(cause)),
         }
     }
 
@@ -131,8 +133,12 @@ impl Session {
     ) -> Result<Session, Answer>
         ensures ok { IfOk result (IsOpened (handed objects.now log_a.now log_b.now)) }
         ensures err { IfErr result IsFailure }
+        ensures why { IfErr result (IsUnopened (handed objects.now log_a.now log_b.now)) }
     {
-        Session::over(alloc, machine(alloc, objects, log_a, log_b)?)
+        let Some(machine) = machine(alloc, objects, log_a, log_b) else {
+            return Err(Answer::alone(8));
+        };
+        Session::over(alloc, machine)
     }
 
     /// Lays out a store over these files, all of which are on the disk, and opens it.
@@ -145,11 +151,15 @@ impl Session {
     ) -> Result<Session, Answer>
         ensures ok { IfOk result (IsCreated params (handed objects.now log_a.now log_b.now)) }
         ensures err { IfErr result IsFailure }
+        ensures why { IfErr result (IsUncreated params (handed objects.now log_a.now log_b.now)) }
     {
+        standing_files_meet_their_format::<AllOps>();
         if !is_in_range(&params) {
             return Err(Answer::alone(2));
         }
-        let mut machine = machine(alloc, objects, log_a, log_b)?;
+        let Some(mut machine) = machine(alloc, objects, log_a, log_b) else {
+            return Err(Answer::alone(8));
+        };
         match lay_out(&mut machine, params) {
             Ok(()) => Session::over(alloc, machine),
             Err(cause) => Err(Answer::of_init(cause)),
@@ -313,7 +323,7 @@ impl Session {
 
     /// What the store reports of itself.
     pub fn stat(&self) -> Stat
-        ensures { (result.used ≡ used_in self.now.store.engine) × (result.accepted ≡ accepted_in self.now.store.engine) × (result.forced ≡ forced_in self.now.store.engine) × (result.identities ≡ self.now.store.engine.identities) }
+        ensures { Reports self.now.store.engine (disk_of self.now.store.machine) result }
     {
         self.store.stat()
     }

@@ -1,5 +1,6 @@
 use Rattle.std.proofs.Common.{ap, refl}
 use Rattle.embed_c.specs.declared.answer.Answer.{Answer}
+use Rattle.embed_c.proofs.Untaken.{untaken}
 use Rattle.embed_c.proofs.session.Session.get.Goals as goal
 
 pub returns : goal.returns
@@ -8,6 +9,7 @@ returns c = record {
   store = (record { fetched = c.get-made.ensures.fetched; value = c.get-made.ensures.value; broken = c.get-made.ensures.broken }, c.put_length.ensures);
   number = ap (λ (a : Answer). a.number) c.value_answer-answer.ensures;
   detail = ap (λ (a : Answer). a.detail) c.value_answer-answer.ensures;
+  untaken = untaken c.get-made.ensures.time;
   taken = refl;
   pairs = refl;
 }

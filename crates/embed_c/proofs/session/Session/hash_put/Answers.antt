@@ -6,6 +6,7 @@ use Rattle.embed_c.specs.Calls.{IsCalled}
 use Rattle.embed_c.specs.Ranges.{DoesHashPut, of_hash}
 use Rattle.embed_c.specs.declared.answer.Answer.{Answer}
 use Rattle.embed_c.proofs.Named.{all_named, at_names, fails_by, no_key, no_range, passes_by}
+use Rattle.embed_c.proofs.Untaken.{untaken}
 use Rattle.embed_c.proofs.session.Session.hash_put.Goals as goal
 
 pub returns-in_default : goal.returns-in_default
@@ -28,6 +29,7 @@ returns c =
           named.1 (ap (λ (p : List ℕ × List ℕ). p.0) keys.1) (ap (λ (p : List ℕ × List ℕ). p.1) keys.1) (record { calls = c.hash_put.ensures.calls; adds = c.hash_put.ensures.adds; answer = c.hash_put.ensures.answer; broken = c.hash_put.ensures.broken });
       number = ap (λ (a : Answer). a.number) c.hash_answer-answer.ensures;
       detail = ap (λ (a : Answer). a.detail) c.hash_answer-answer.ensures;
+      untaken = untaken c.hash_put.ensures.time;
       taken = refl;
       pairs = refl;
     })

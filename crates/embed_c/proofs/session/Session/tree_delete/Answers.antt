@@ -6,6 +6,7 @@ use Rattle.embed_c.specs.Calls.{IsCalled}
 use Rattle.embed_c.specs.Ranges.{DoesTreeDelete, of_tree}
 use Rattle.embed_c.specs.declared.answer.Answer.{Answer}
 use Rattle.embed_c.proofs.Named.{all_named, at_name, fails_by, no_key, no_range, passes_by}
+use Rattle.embed_c.proofs.Untaken.{untaken}
 use Rattle.embed_c.proofs.session.Session.tree_delete.Goals as goal
 
 pub returns-in_default : goal.returns-in_default
@@ -28,6 +29,7 @@ returns c =
           named.1 keys.1 (record { calls = c.tree_delete.ensures.calls; adds = c.tree_delete.ensures.adds; answer = c.tree_delete.ensures.answer; broken = c.tree_delete.ensures.broken });
       number = ap (λ (a : Answer). a.number) c.tree_answer-answer.ensures;
       detail = ap (λ (a : Answer). a.detail) c.tree_answer-answer.ensures;
+      untaken = untaken c.tree_delete.ensures.time;
       taken = refl;
       pairs = refl;
     })

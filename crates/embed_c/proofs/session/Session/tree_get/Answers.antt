@@ -5,6 +5,7 @@ use Rattle.embed_c.specs.Calls.{IsCalled}
 use Rattle.embed_c.specs.Ranges.{DoesTreeGet, TellsFound, of_tree, told_found}
 use Rattle.embed_c.specs.declared.answer.Answer.{Answer}
 use Rattle.embed_c.proofs.Named.{all_named, at_name, fails_by, no_key, no_range, passes_by}
+use Rattle.embed_c.proofs.Untaken.{untaken}
 use Rattle.embed_c.proofs.session.Session.tree_get.Goals as goal
 
 pub returns-in_default : goal.returns-in_default
@@ -30,6 +31,7 @@ returns c =
       );
       number = ap (λ (a : Answer). a.number) c.tree_found-answer.ensures;
       detail = ap (λ (a : Answer). a.detail) c.tree_found-answer.ensures;
+      untaken = untaken c.tree_get-made.ensures.time;
       taken = refl;
       pairs = refl;
     })

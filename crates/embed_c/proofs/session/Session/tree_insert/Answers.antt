@@ -6,6 +6,7 @@ use Rattle.embed_c.specs.Calls.{IsCalled}
 use Rattle.embed_c.specs.Ranges.{DoesInsert, of_tree}
 use Rattle.embed_c.specs.declared.answer.Answer.{Answer}
 use Rattle.embed_c.proofs.Named.{all_named, at_names, fails_by, no_key, no_range, passes_by}
+use Rattle.embed_c.proofs.Untaken.{untaken}
 use Rattle.embed_c.proofs.session.Session.tree_insert.Goals as goal
 
 pub returns-in_default : goal.returns-in_default
@@ -28,6 +29,7 @@ returns c =
           named.1 (ap (λ (p : List ℕ × List ℕ). p.0) keys.1) (ap (λ (p : List ℕ × List ℕ). p.1) keys.1) (record { calls = c.tree_insert.ensures.calls; adds = c.tree_insert.ensures.adds; answer = c.tree_insert.ensures.answer; broken = c.tree_insert.ensures.broken });
       number = ap (λ (a : Answer). a.number) c.tree_answer-answer.ensures;
       detail = ap (λ (a : Answer). a.detail) c.tree_answer-answer.ensures;
+      untaken = untaken c.tree_insert.ensures.time;
       taken = refl;
       pairs = refl;
     })

@@ -8,6 +8,7 @@ use Rattle.range_calls.specs.declared.call_err.CallErr.TheVariants.{Exec}
 use Rattle.embed_c.specs.Ranges.{DoesTreeRange, IsRanged}
 use Rattle.embed_c.specs.declared.answer.Answer.{Answer}
 use Rattle.embed_c.proofs.Named.{all_named, at_names, error_again, fails_by, never_err, no_key, no_range, passes_by}
+use Rattle.embed_c.proofs.Untaken.{untaken}
 use Rattle.embed_c.proofs.session.Session.tree_range.Goals as goal
 
 pub returns-in_default : goal.returns-in_default
@@ -38,6 +39,7 @@ returns-in-Ok c =
       pairs = refl;
       number = refl;
       detail = ap (λ (a : Answer). a.detail) c.done.ensures;
+      untaken = untaken done.time;
       taken = refl;
     })
 
@@ -59,5 +61,6 @@ returns-in-Err c =
       pairs = refl;
       number = ap (λ (a : Answer). a.number) c.of_tree-answer.ensures;
       detail = ap (λ (a : Answer). a.detail) c.of_tree-answer.ensures;
+      untaken = untaken failed.time;
       taken = refl;
     })
