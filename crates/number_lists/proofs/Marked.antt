@@ -1,5 +1,5 @@
 -- Marks and the rows that sum them up.
-use Rattle.std.proofs.Common.{◌≡◌, ◌≢◌, ◌∙◌, ap, sym, subst, ℕ, zero, suc, ◌+◌, ◌*◌, ◌/◌, ◌<◌, ◌≤◌, Bool, true, false, List, [], ◌∷◌, ◌++◌, length, refl, arith, inl, inr}
+use Rattle.std.proofs.Common.{◌≡◌, ◌≢◌, ◌∙◌, ap, sym, subst, ℕ, zero, suc, ◌+◌, ◌*◌, ◌/◌, ◌^◌, ◌<◌, ◌≤◌, Bool, true, false, List, [], ◌∷◌, ◌++◌, length, refl, arith, inl, inr}
 use Rattle.std.specs.Prelude.{IsTrue, IsFalse, ◌==◌, Option, None, Some, slice_index, slice_set}
 use Rattle.std.specs.List.Sorted.{IsStrictlyIncreasing}
 use Rattle.std.proofs.lemmas.Bool.{cases_eq, cases_lt, both_ways, or_left, or_right, or_cases, eqb-true, eq-eqb, false_from_ne_true}
@@ -7,7 +7,7 @@ use Rattle.std.proofs.lemmas.List.{get_or-set_same, get_or-set_other, length-set
 use Rattle.std.proofs.Math.ListN.{get_or-eq_default}
 use Rattle.oper_core.specs.State.{is_among}
 use Rattle.number_lists.specs.MarkLaws.{mark-was}
-use Rattle.number_lists.specs.Marks.{mark_at, count_marks, IsCount, IsNext, IsFirstBelow, IsEmptyRow, IsNextRow, AreSums, AreLevels, IsGrown}
+use Rattle.number_lists.specs.Marks.{mark_at, count_marks, IsCount, IsNext, IsFirstBelow, IsEmptyRow, IsNextRow, AreSums, AreLevels, IsBelowMarks, IsGrown}
 
 pub mark-push : (xs : List Bool) (i : ℕ) → mark_at (xs ++ false ∷ []) i ≡ mark_at xs i
 mark-push [] zero = refl
@@ -230,3 +230,35 @@ next-last marks from None none = λ i le. elim (cases_lt i (length marks)) [
   | inr ge ↦ get_or-eq_default marks false ge
 ]
 next-last marks from (Some i) is = is.0
+
+-- below a mark that came, and below all earlier ones, there is none
+pub below-more : (marks : List Bool) (old n new : ℕ) → new ≤ old → new ≤ n → IsBelowMarks old marks → IsBelowMarks new (slice_set marks n true)
+below-more marks old n new le down is = record {
+  none = λ k lt. get_or-set_other marks n k true false (λ e. omega (arith, e, lt, down)) ∙ is.none k (omega (arith, lt, le));
+  small = omega (arith, le, is.small);
+}
+
+-- below a number there is no mark if there was none but that which went
+pub below-less : (marks : List Bool) (n new : ℕ) → n < length marks → new ≤ 2 ^ 32 → ((k : ℕ) → k < new → k ≢ n → IsFalse (mark_at marks k)) → IsBelowMarks new (slice_set marks n false)
+below-less marks n new lt small none = record {
+  none = λ k under. elim (cases_eq k n) [
+    | inl q ↦ subst (λ (i : ℕ). IsFalse (mark_at (slice_set marks n false) i)) (sym q) (get_or-set_same marks n false false lt)
+    | inr ne ↦ get_or-set_other marks n k false false ne ∙ none k under ne
+  ];
+  small = small;
+}
+
+-- what is next from a number on is next from an earlier one on, if all between have no mark
+pub next-earlier : (marks : List Bool) (from later : ℕ) (r : Option ℕ) → from ≤ later → ((k : ℕ) → from ≤ k → k < later → IsFalse (mark_at marks k)) → IsNext marks later r → IsNext marks from r
+next-earlier marks from later None le none is = λ i ge. elim (cases_lt i later) [
+  | inl lt ↦ none i ge lt
+  | inr up ↦ is i up
+]
+next-earlier marks from later (Some i) le none is = record {
+  here = is.here;
+  above = omega (arith, le, is.above);
+  least = λ k ge lt. elim (cases_lt k later) [
+    | inl under ↦ none k ge under
+    | inr up ↦ is.least k up lt
+  ];
+}

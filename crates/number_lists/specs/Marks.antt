@@ -1,5 +1,5 @@
 -- Which of the numbers below an end are members, in levels of rows of 64.
-use Rattle.std.specs.Prelude.{◌≡◌, ℕ, zero, suc, ◌+◌, ◌*◌, ◌/◌, ◌<◌, ◌≤◌, ◌↔◌, Bool, false, IsTrue, IsFalse, if◌then◌else◌, List, [], ◌∷◌, length, Option, MatchOption, slice_index_or}
+use Rattle.std.specs.Prelude.{◌≡◌, ℕ, zero, suc, ◌+◌, ◌*◌, ◌/◌, ◌^◌, ◌<◌, ◌≤◌, ◌↔◌, Bool, false, IsTrue, IsFalse, if◌then◌else◌, List, [], ◌∷◌, length, Option, MatchOption, slice_index_or}
 use Rattle.std.specs.List.Sorted.{IsStrictlyIncreasing}
 use Rattle.oper_core.specs.State.{is_among}
 
@@ -11,6 +11,11 @@ pub record Marks : Type 0 where
 -- the number has a mark
 abbrev pub mark_at : List Bool → ℕ → Bool
 mark_at marks n = slice_index_or marks n false
+
+-- no number below this one has a mark
+pub record IsBelowMarks (n : ℕ) (marks : List Bool) : Type 0 where
+  pub none : (k : ℕ) → k < n → IsFalse (mark_at marks k)
+  pub small : n ≤ 2 ^ 32
 
 -- how many marks there are
 abbrev pub count_marks : List Bool → ℕ

@@ -1,4 +1,4 @@
-ghost use Rattle.std.specs.Prelude.{◌≡◌, ℕ, ◌<◌, ◌≤◌, ◌+◌, ◌*◌, ◌/◌, ◌^◌, [], true, false, IsTrue, IsFalse, OnOk, length, slice_set};
+ghost use Rattle.std.specs.Prelude.{◌≡◌, ◌≢◌, ℕ, ◌<◌, ◌≤◌, ◌+◌, ◌*◌, ◌/◌, ◌^◌, [], true, false, IsTrue, IsFalse, OnOk, length, slice_set};
 ghost use Rattle.std.specs.Vec.{vec_len, vec_capacity};
 ghost use Rattle.number_lists.specs.Marks.{mark_at, IsCount, IsNext, IsFirstBelow, IsNextRow, IsEmptyRow, AreLevels, IsGrown};
 
@@ -22,6 +22,8 @@ pub struct NumberTree {
     /// Whether each row of `high` has one.
     top: Vec<bool>,
     count: usize,
+    /// No number below this one is a member.
+    least: usize,
     /// By how much the end may rise without memory.
     room: usize,
 }
@@ -29,13 +31,13 @@ pub struct NumberTree {
 impl Model for NumberTree {
     ghost use Rattle.std.specs.Prelude.{◌≡◌, ◌+◌, ◌≤◌, ◌^◌, length};
     ghost use Rattle.std.specs.Vec.{vec_capacity};
-    ghost use Rattle.number_lists.specs.Marks.{Marks, AreLevels, count_marks};
+    ghost use Rattle.number_lists.specs.Marks.{Marks, AreLevels, IsBelowMarks, count_marks};
 
     ghost Value = { Marks };
 
     ghost view = { λ t. record { marks = t.low.items; room = t.room } };
 
-    ghost invariant = { λ t. AreLevels t.low.items t.mid.items t.high.items t.top.items × (t.count ≡ count_marks t.low.items) × (length t.low.items ≤ 2 ^ 32) ×
+    ghost invariant = { λ t. AreLevels t.low.items t.mid.items t.high.items t.top.items × (t.count ≡ count_marks t.low.items) × IsBelowMarks t.least t.low.items × (length t.low.items ≤ 2 ^ 32) ×
         (length t.low.items + t.room ≤ vec_capacity t.low) × (length t.mid.items + t.room ≤ vec_capacity t.mid) × (length t.high.items + t.room ≤ vec_capacity t.high) × (length t.top.items + t.room ≤ vec_capacity t.top) };
 }
 
@@ -51,6 +53,7 @@ impl NumberTree {
             high: Vec::new(alloc),
             top: Vec::new(alloc),
             count: 0,
+            least: 0,
             room: 0,
         }
     }
@@ -102,6 +105,7 @@ impl NumberTree {
             self.top.as_mut_slice(),
         );
         self.count += 1;
+        self.least = self.least.min(n);
     }
 
     /// Takes out a number.
@@ -122,19 +126,32 @@ impl NumberTree {
             self.top.as_mut_slice(),
         );
         self.count -= 1;
+        self.least = past(self.least, n);
     }
 
     /// The least member at or above the number. None exactly where there is none.
     pub fn next(&self, from: u32) -> Option<u32>
         ensures { IsNext self.now.marks from result }
     {
-        let row = from as usize / ROW + 1;
+        self.next_at(self.least.max(from as usize))
+    }
+
+    /// The same from a number on that may be the end. The number's row is looked at first, and the levels only where it has none.
+    fn next_at(&self, from: usize) -> Option<u32>
+        requires small { from ≤ 2 ^ 32 }
+        ensures { IsNext self.now.marks from result }
+    {
+        let row = from / ROW + 1;
+        let near = first_in(self.low.as_slice(), from, row * ROW);
+        if let Some(found) = near {
+            return Some(found as u32);
+        }
         let block = row / ROW + 1;
         let part = block / ROW + 1;
         let parts = first_in(self.top.as_slice(), part, self.top.len());
         let blocks = next_over(self.high.as_slice(), block, parts);
         let rows = next_over(self.mid.as_slice(), row, blocks);
-        let Some(found) = next_over(self.low.as_slice(), from as usize, rows) else {
+        let Some(found) = next_over(self.low.as_slice(), from, rows) else {
             return None;
         };
         Some(found as u32)
@@ -183,6 +200,16 @@ fn grow(entries: usize, rows: &mut Vec<bool>)
     if entries / ROW >= rows.len() {
         push_in_room(rows, false);
     }
+}
+
+/// What no member is below once this number is taken out, if none is below `least` before.
+fn past(least: usize, n: usize) -> usize
+    requires least { least ≤ 2 ^ 32 }
+    requires number { n < 2 ^ 32 }
+    ensures below { (k : ℕ) → k < result → k ≢ n → k < least }
+    ensures small { result ≤ 2 ^ 32 }
+{
+    if n == least { n + 1 } else { least }
 }
 
 /// Puts in the number, and marks its row in each level.

@@ -104,7 +104,7 @@ noted-next objects slot i y old mid new lt was is =
     let e : is_among y (take (i + 1) objects) ≡ (is_among y (take i objects) || is_among y (x ∷ [])) = ap (is_among y) (take_more objects i zero lt) ∙ list_any-append (λ z. y == z) (take i objects) (x ∷ []) in
     is ∙ ap (λ (o : Option ℕ). if is_among y (x ∷ []) then Some (unwrap_or o slot) else o) was ∙ noted-either (is_among y (take i objects)) (is_among y (x ∷ [])) (is_among y (take (i + 1) objects)) slot (old y) e
 
-only-one : (x y : ℕ) → IsTrue (is_among y (x ∷ [])) → y ≡ x
+pub only-one : (x y : ℕ) → IsTrue (is_among y (x ∷ [])) → y ≡ x
 only-one x y t = elim (or_cases (y == x) (is_among y []) t) [ inl e ↦ eqb-true y x e | inr r ↦ absurd (among-none y r) ]
 
 none-is : (o : Option ℕ) → is_some o ≡ false → o ≡ None

@@ -23,9 +23,10 @@ use Rattle.write_graph.specs.Cells.{writes_of, slot_access, held_entries}
 use Rattle.write_graph.specs.Rows.{Rows, last_held}
 use Rattle.write_graph.specs.Linked.{AreLinked}
 use Rattle.write_graph.specs.Naming.{AreClimbing, IsSlotOf}
-use Rattle.write_graph.specs.Listing.{IsNumberOf, IsWrittenBy, is_with}
+use Rattle.write_graph.specs.Listing.{AreSlotsOf, IsNumberOf, IsWrittenBy, is_with}
 use Rattle.write_graph.proofs.Held.{among-at, at-among, reached-held, among-filter}
 use Rattle.write_graph.proofs.Loops.{among-none, among-taken, among-before, among-next, some-is, none-some}
+use Rattle.write_graph.proofs.FirstWriters.{only-one}
 use Rattle.write_graph.proofs.One.{last-one}
 use Rattle.write_graph.proofs.Numbers.{chosen-slot, any-slot, test_of, number-same}
 use Rattle.write_graph.proofs.Asked.{node-held}
@@ -179,3 +180,13 @@ module _ (entries : List Entry) (g : Graph) (rows : Rows) (linked : AreLinked en
       let h = node-held entries g rows i s.slot linked e s.name.0 in
       let same = one (slice_index (numbers entries) i) (slot-member i e) ∙ sym s.number in
       number-same (held_at g.held) entries rising.above_held i s.slot h.1 s.name.0 h.0 s.below same
+
+-- the one slot of a node is all of its slots
+pub single-slots : (entries : List Entry) (g : Graph) (n : ℕ) (slots : List ℕ) (node : ℕ → Bool) (s : IsSlotOf entries g n node) (slot : ℕ) → s.slot ≡ slot → slots ≡ slot ∷ [] → ((i : ℕ) → node_at g.node i ≡ node_at g.node slot → i ≡ slot) → AreSlotsOf entries g n slots node
+single-slots entries g n slots node s slot at items alone = record {
+  slot = s;
+  among = λ i. (
+    (λ t. ap (node_at g.node) (only-one slot i (subst (λ (xs : List ℕ). IsTrue (is_among i xs)) items t) ∙ sym at)),
+    (λ e. subst (λ (xs : List ℕ). IsTrue (is_among i xs)) (sym items) (or_left (i == slot) _ (eq-eqb i slot (alone i (e ∙ ap (node_at g.node) at))))),
+  );
+}

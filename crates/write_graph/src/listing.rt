@@ -27,6 +27,10 @@ pub(crate) fn slots_of(
     slots_name_nodes();
     let slot = slot_of(n, entries);
     let mut slots = Vec::new(alloc);
+    if graph.is_single(slot) {
+        slots.push(slot)?;
+        return Ok(slots);
+    }
     slots.reserve(graph.len())?;
     graph.members(slot, &mut slots);
     Ok(slots)

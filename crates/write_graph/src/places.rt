@@ -12,7 +12,10 @@ pub(crate) fn slot_from(n: u64, entries: &[Entry]) -> u32
     ensures before { (i : ℕ) → i < result → slice_index (numbers entries.now) i < n }
     ensures after { (i : ℕ) → result ≤ i → i < length entries.now → n ≤ slice_index (numbers entries.now) i }
 {
-    entries.partition_point(|e| e.number < n) as u32
+    match n.checked_sub(1) {
+        None => 0,
+        Some(below) => slot_after(below, entries),
+    }
 }
 
 /// The first slot whose entry has a greater number.
@@ -26,7 +29,41 @@ pub(crate) fn slot_after(n: u64, entries: &[Entry]) -> u32
     if none_is_after(n, entries) {
         return entries.len() as u32;
     }
+    let slot = slot_without_gaps(n, entries);
+    if is_last_up_to(n, slot, entries) {
+        return slot as u32 + 1;
+    }
     entries.partition_point(|e| e.number <= n) as u32
+}
+
+/// The slot that would have the number, if each number were one above that before it.
+fn slot_without_gaps(n: u64, entries: &[Entry]) -> usize {
+    match entries.first() {
+        None => 0,
+        Some(first) => n.saturating_sub(first.number) as usize,
+    }
+}
+
+/// Whether the slot is the last one whose entry has no greater number. Where numbers have few gaps, as those of a log, it spares a
+/// search, which would look at entries in many places.
+fn is_last_up_to(n: u64, slot: usize, entries: &[Entry]) -> bool
+    requires rising { NeverFall (numbers entries.now) }
+    ensures below { IsTrue result → slot < length entries.now }
+    ensures before { IsTrue result → (i : ℕ) → i ≤ slot → slice_index (numbers entries.now) i ≤ n }
+    ensures after { IsTrue result → (i : ℕ) → slot < i → i < length entries.now → n < slice_index (numbers entries.now) i }
+{
+    let next = slot.saturating_add(1);
+    if next >= entries.len() {
+        return false;
+    }
+    is_between(entries[slot].number, n, entries[next].number)
+}
+
+/// Whether the number is at or above one, and below another.
+fn is_between(low: u64, n: u64, high: u64) -> bool
+    ensures { IsTrue result → (low ≤ n) × (n < high) }
+{
+    low <= n && n < high
 }
 
 /// Whether no entry has a greater number, which the last one tells. So it is where entries are added, and a search would

@@ -19,11 +19,12 @@ invariant_of-self c =
           (subst (λ (n : ℕ). IsGrown n c.self.inside.high.items c.grow-2.new.rows.items) mids c.grow-2.ensures.grown)
           (subst (λ (n : ℕ). IsGrown n c.self.inside.top.items c.grow-3.new.rows.items) highs c.grow-3.ensures.grown),
       was.1 ∙ sym (ap count_marks c.push_in_room.ensures.items ∙ count-push low),
+      record { none = λ k under. ap (λ (xs : List Bool). mark_at xs k) c.push_in_room.ensures.items ∙ mark-push low k ∙ was.2.none k under; small = was.2.small },
       omega (arith, size, small),
-      omega (arith, size, some, was.3, c.push_in_room.ensures.capacity),
-      omega (arith, some, was.4, c.grow.ensures.grown.few, c.grow.ensures.capacity),
-      omega (arith, some, was.5, c.grow-2.ensures.grown.few, c.grow-2.ensures.capacity),
-      omega (arith, some, was.6, c.grow-3.ensures.grown.few, c.grow-3.ensures.capacity),
+      omega (arith, size, some, was.4, c.push_in_room.ensures.capacity),
+      omega (arith, some, was.5, c.grow.ensures.grown.few, c.grow.ensures.capacity),
+      omega (arith, some, was.6, c.grow-2.ensures.grown.few, c.grow-2.ensures.capacity),
+      omega (arith, some, was.7, c.grow-3.ensures.grown.few, c.grow-3.ensures.capacity),
     )
 
 pub returns-clause-marks : goal.returns-clause-marks

@@ -2,13 +2,13 @@ use Rattle.std.proofs.Common.{◌≡◌, ◌∙◌, ap, sym, subst, ◌+◌, ◌
 use Rattle.std.specs.Prelude.{Bool, true, false, IsFalse, slice_set}
 use Rattle.std.proofs.lemmas.List.{length-set, get_or_default}
 use Rattle.std.proofs.Math.Facts.{Fits-of_lt}
-use Rattle.number_lists.specs.Marks.{Marks, mark_at, count_marks}
+use Rattle.number_lists.specs.Marks.{Marks, mark_at, count_marks, IsBelowMarks}
 use Rattle.number_lists.specs.Back.{back-is}
-use Rattle.number_lists.proofs.Marked.{levels-as, count-more, count-few}
+use Rattle.number_lists.proofs.Marked.{levels-as, count-more, count-few, below-more}
 use Rattle.number_lists.proofs.number_tree.NumberTree.insert.Goals as goal
 
 pub overflow_add-self : goal.overflow_add-self
-overflow_add-self c = let lt : c.self.inside.count + 1 < 2 ^ 64 = omega (arith, count-few c.self.inside.low.items, c.self.invariant.1, c.self.invariant.2) in Fits-of_lt lt
+overflow_add-self c = let lt : c.self.inside.count + 1 < 2 ^ 64 = omega (arith, count-few c.self.inside.low.items, c.self.invariant.1, c.self.invariant.3) in Fits-of_lt lt
 
 pub invariant_of-self : goal.invariant_of-self
 invariant_of-self c =
@@ -25,9 +25,10 @@ invariant_of-self c =
     let count : c.self.inside.count + 1 ≡ count_marks (slice_set low c.args.n true) = omega (arith, count-more low c.args.n lt off, c.self.invariant.1) in (
       levels-as new_low _ c.mark.new.mid _ c.mark.new.high _ c.mark.new.top _ back_low back_mid back_high back_top c.mark.ensures.levels,
       count ∙ ap count_marks (sym (back_low ∙ lows)),
-      omega (arith, ap length (back_low ∙ lows), length-set low c.args.n true, c.self.invariant.2),
+      subst (λ (xs : List Bool). IsBelowMarks c.min-self-inside.result xs) (sym (back_low ∙ lows)) (below-more low c.self.inside.least c.args.n c.min-self-inside.result (omega (arith, c.min-self-inside.ensures)) (omega (arith, c.min-self-inside.ensures)) c.self.invariant.2),
       omega (arith, ap length (back_low ∙ lows), length-set low c.args.n true, c.self.invariant.3),
-      omega (arith, ap length back_mid, c.mark.ensures.mid, ap length c.as_mut_slice-2.ensures.value, c.self.invariant.4),
-      omega (arith, ap length back_high, c.mark.ensures.high, ap length c.as_mut_slice-3.ensures.value, c.self.invariant.5),
-      omega (arith, ap length back_top, c.mark.ensures.top, ap length c.as_mut_slice-4.ensures.value, c.self.invariant.6),
+      omega (arith, ap length (back_low ∙ lows), length-set low c.args.n true, c.self.invariant.4),
+      omega (arith, ap length back_mid, c.mark.ensures.mid, ap length c.as_mut_slice-2.ensures.value, c.self.invariant.5),
+      omega (arith, ap length back_high, c.mark.ensures.high, ap length c.as_mut_slice-3.ensures.value, c.self.invariant.6),
+      omega (arith, ap length back_top, c.mark.ensures.top, ap length c.as_mut_slice-4.ensures.value, c.self.invariant.7),
     )

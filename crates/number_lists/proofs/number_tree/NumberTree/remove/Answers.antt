@@ -1,9 +1,9 @@
 use Rattle.std.proofs.Common.{◌≡◌, ◌∙◌, ap, sym, subst, ◌-◌, ◌<◌, List, length, arith}
 use Rattle.std.specs.Prelude.{Bool, false, slice_set}
 use Rattle.std.proofs.lemmas.List.{length-set, get_or_default}
-use Rattle.number_lists.specs.Marks.{Marks, mark_at, count_marks}
+use Rattle.number_lists.specs.Marks.{Marks, mark_at, count_marks, IsBelowMarks}
 use Rattle.number_lists.specs.Back.{back-is}
-use Rattle.number_lists.proofs.Marked.{levels-as, count-less}
+use Rattle.number_lists.proofs.Marked.{levels-as, count-less, below-less}
 use Rattle.number_lists.proofs.number_tree.NumberTree.remove.Goals as goal
 
 pub overflow_sub-self : goal.overflow_sub-self
@@ -27,9 +27,10 @@ invariant_of-self c =
     let count : c.self.inside.count - 1 ≡ count_marks (slice_set low c.args.n false) = omega (arith, count-less low c.args.n (sym read ∙ c.if-not-index.false), c.self.invariant.1) in (
       levels-as new_low _ c.unmark.new.mid _ c.unmark.new.high _ c.unmark.new.top _ back_low back_mid back_high back_top c.unmark.ensures.levels,
       count ∙ ap count_marks (sym (back_low ∙ lows)),
-      omega (arith, ap length (back_low ∙ lows), length-set low c.args.n false, c.self.invariant.2),
+      subst (λ (xs : List Bool). IsBelowMarks c.past-self-inside.result xs) (sym (back_low ∙ lows)) (below-less low c.args.n c.past-self-inside.result lt c.past-self-inside.ensures.small (λ k under ne. c.self.invariant.2.none k (c.past-self-inside.ensures.below k under ne))),
       omega (arith, ap length (back_low ∙ lows), length-set low c.args.n false, c.self.invariant.3),
-      omega (arith, ap length back_mid, c.unmark.ensures.mid, ap length c.as_mut_slice-2.ensures.value, c.self.invariant.4),
-      omega (arith, ap length back_high, c.unmark.ensures.high, ap length c.as_mut_slice-3.ensures.value, c.self.invariant.5),
-      omega (arith, ap length back_top, c.unmark.ensures.top, ap length c.as_mut_slice-4.ensures.value, c.self.invariant.6),
+      omega (arith, ap length (back_low ∙ lows), length-set low c.args.n false, c.self.invariant.4),
+      omega (arith, ap length back_mid, c.unmark.ensures.mid, ap length c.as_mut_slice-2.ensures.value, c.self.invariant.5),
+      omega (arith, ap length back_high, c.unmark.ensures.high, ap length c.as_mut_slice-3.ensures.value, c.self.invariant.6),
+      omega (arith, ap length back_top, c.unmark.ensures.top, ap length c.as_mut_slice-4.ensures.value, c.self.invariant.7),
     )
