@@ -3,5 +3,8 @@ pub mod Fronts
 pub mod Left
 pub mod Named
 pub mod OnHandles
+pub mod OnTargets
+pub mod TargetValues
+pub mod Telling
 pub mod Untaken
 pub mod Values

@@ -1,5 +1,5 @@
 -- Calls whose range and keys were tried first.
-use Rattle.std.proofs.Common.{◌≡◌, ◌∙◌, ◌<◌, ℕ, ◌+◌, ◌∷◌, length, drop, slice_index_or, Bool, true, false, ◌&&◌, List, Option, None, Some, Result, Ok, Err, is_some, if◌then◌else◌, ap, subst, sym, refl}
+use Rattle.std.proofs.Common.{◌≡◌, ◌∙◌, ◌<◌, ℕ, ◌+◌, ◌∷◌, length, drop, slice_index_or, Bool, true, false, List, Option, None, Some, Result, Ok, Err, is_some, if◌then◌else◌, ap, subst, sym, refl}
 use Rattle.std.proofs.lemmas.List.{drop_more}
 use lib.Dec.{T}
 use Rattle.logical_btree.specs.Walk.{Pair}

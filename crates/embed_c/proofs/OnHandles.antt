@@ -6,9 +6,9 @@ use Rattle.embed_c.specs.declared.answer.Answer.{Answer}
 use Rattle.embed_c.specs.declared.answer.Detail.{Detail}
 use Rattle.embed_c.specs.declared.session.Session.{Session}
 
-pub some_of : (o : Option Session) → is_some o ≡ true → (s : Session) × (o ≡ Some s)
+pub some_of : {A : Type 0} (o : Option A) → is_some o ≡ true → (a : A) × (o ≡ Some a)
 some_of None e = absurd (subst T (sym e) tt)
-some_of (Some s) e = (s, refl)
+some_of (Some a) e = (a, refl)
 
 module _ (does : Session → Session → ℕ → Type 0) where
   pub was_closed : {old new : Option Session} → old ≡ None → new ≡ None → OnSession does old new not_open
@@ -18,9 +18,9 @@ module _ (does : Session → Session → ℕ → Type 0) where
   was_open {new = new} {seen = seen} {answer = answer} before same after done =
       subst (λ (o : Option Session). OnSession does o new answer) (sym (before ∙ ap (λ (x : Session). Some x) (sym same))) (subst (λ (o : Option Session). OnSession does (Some seen) o answer) (sym after) done)
 
-pub none_where : (o : Option Session) → is_some o ≡ false → o ≡ None
+pub none_where : {A : Type 0} (o : Option A) → is_some o ≡ false → o ≡ None
 none_where None e = refl
-none_where (Some s) e = absurd (subst T e tt)
+none_where (Some a) e = absurd (subst T e tt)
 
 -- what holds of a result holds of the value that it is, or of the error
 pub of_ok : {T E : Type 0} (P : T → Type 0) (r : Result T E) (x : T) → IfOk r P → r ≡ Ok x → P x

@@ -1,8 +1,10 @@
 pub mod Answers
+pub mod Backups
 pub mod Calls
 pub mod Handles
 pub mod Next
 pub mod Opening
 pub mod Owned
+pub mod OwnedTarget
 pub mod Ranges
 pub mod Waiting

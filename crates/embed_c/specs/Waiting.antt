@@ -4,7 +4,7 @@ use Rattle.disk_model.specs.Call as disk
 use Rattle.formats.specs.declared.params.Params.{Params}
 use Rattle.op_codec.specs.AllOps.{AllOps, all_meaning}
 use Rattle.store_engine.specs.Engine.{Holds}
-use Rattle.write_queue.specs.Memory.{disk_of, first_files, taken_from, waiting_in}
+use Rattle.write_queue.specs.Memory.{LooksTheSame, disk_of, waiting_in}
 use Rattle.write_queue.specs.declared.queue_mem.QueueMem.{QueueMem}
 use Rattle.embed.specs.declared.store.Store.{Store}
 use Rattle.embed_c.specs.Next.{IsNext, left_in}
@@ -15,11 +15,10 @@ use Rattle.embed_c.specs.declared.taken.Call.{Call}
 abbrev pub pending : Session → List disk.Call
 pending s = left_in s.taken ++ waiting_in s.store.machine
 
--- the engine is as it was, the machine was handed the same files and has had the same calls, and the store stands for the same commands
+-- the engine is as it was, the machine looks the same, and the store stands for the same commands
 pub record KeepsStore (old new : Store QueueMem) : Type 0 where
   pub engine : new.engine ≡ old.engine
-  pub first : first_files new.machine ≡ first_files old.machine
-  pub calls : taken_from new.machine ++ waiting_in new.machine ≡ taken_from old.machine ++ waiting_in old.machine
+  pub same : LooksTheSame old.machine new.machine
   pub holds : (p : Params) (commands : List AllOps) → Holds all_meaning p (disk_of old.machine) old.engine commands → Holds all_meaning p (disk_of new.machine) new.engine commands
 
 -- C is told the next call, and nothing else is done

@@ -31,7 +31,8 @@ pub struct Answer {
 }
 
 impl Answer {
-    fn telling(number: u32, first: u64, second: u64, third: u64) -> Answer
+    /// A number with three beside it.
+    pub fn telling(number: u32, first: u64, second: u64, third: u64) -> Answer
         ensures { result ≡ telling number first second third }
     {
         Answer {

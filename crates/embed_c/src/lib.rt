@@ -3,7 +3,8 @@
 //! No function here touches a file. C holds a [`Redo`], which it begins with zeros; of it C promises that it is all zeros, or as
 //! the last call here left it. A slice is a pointer and a length. What is answered is 0, or a number of specs/Answers.antt; 64 where
 //! the handle is closed. After each call C makes on its files the calls that [`redo_core_next`] tells, in order, before it reports
-//! the answer; no other call takes one from the queue.
+//! the answer; no other call takes one from the queue. A backup stands behind a handle of its own, as the files that it is written
+//! to, and [`backing_up::redo_core_target_next`] tells the calls on these.
 #![tactic(auto)]
 
 ghost use Rattle.std.specs.Prelude.{◌≡◌, ◌⊎◌, ◌&&◌, None, Ok, Err, IfErr, drop, nat_le, nat_lt};
@@ -24,10 +25,13 @@ ghost use Rattle.write_queue.specs.Handed.{handed};
 ghost use Rattle.write_queue.specs.Memory.{disk_of};
 
 mod answer;
+mod backing_up;
 mod handle;
 mod maps;
 mod session;
 mod taken;
+mod target;
+mod target_handle;
 
 use answer::{Answer, Detail};
 use app_program::ProgramOp;

@@ -1,5 +1,5 @@
 // Calls that were taken from a machine for C.
-ghost use Rattle.std.specs.Prelude.{◌≡◌, ◌↔◌, ◌<◌, ◌≤◌, true, false, List, [], length, take, IsTrue};
+ghost use Rattle.std.specs.Prelude.{◌≡◌, ◌↔◌, ◌<◌, ◌≤◌, true, false, [], length, take, IsTrue};
 ghost use Rattle.write_queue.specs.Waiting.{call_of, calls_in};
 ghost use Rattle.embed_c.specs.Next.{IsNext, bytes_of, left_in, told_of};
 

@@ -1,7 +1,7 @@
 use Rattle.std.proofs.Common.{◌∙◌, List, ◌++◌, ap, sym, refl}
 use Rattle.std.proofs.lemmas.List.{append-nil}
 use Rattle.disk_model.specs.Call as disk
-use Rattle.write_queue.specs.Memory.{taken_from, waiting_in}
+use Rattle.write_queue.specs.Memory.{waiting_in}
 use Rattle.embed_c.proofs.Left.{fails}
 use Rattle.embed_c.proofs.session.Session.refill.Goals as goal
 
@@ -9,7 +9,11 @@ pub returns-then-not-is_empty-clause-first : goal.returns-then-not-is_empty-clau
 returns-then-not-is_empty-clause-first c = λ none. fails c.if-not-is_empty.true (c.is_empty.ensures.1 none)
 
 pub returns-then-not-is_empty-clause-store : goal.returns-then-not-is_empty-clause-store
-returns-then-not-is_empty-clause-store c = record { engine = refl; first = refl; calls = refl; holds = λ p commands holds. holds }
+returns-then-not-is_empty-clause-store c = record {
+  engine = refl;
+  same = record { first = refl; calls = refl; files = refl; disk_faults = refl; say_faults = refl };
+  holds = λ p commands holds. holds;
+}
 
 pub returns-clause-pending : goal.returns-clause-pending
 returns-clause-pending c =
@@ -23,7 +27,6 @@ returns-clause-first c = λ none. c.take.ensures.none
 pub returns-clause-store : goal.returns-clause-store
 returns-clause-store c = record {
   engine = c.take.ensures.engine;
-  first = c.take.ensures.same.first;
-  calls = (λ i. c.take.ensures.taken i ++ c.take.ensures.none i) ∙ append-nil (taken_from c.args.self.now.store.machine ++ waiting_in c.args.self.now.store.machine);
+  same = c.take.ensures.same;
   holds = c.take.ensures.holds;
 }

@@ -1,7 +1,6 @@
-use Rattle.std.proofs.Common.{arith, ◌&&◌, nat_le, ℕ, List, Result, Ok, Err, ap, sym, refl}
+use Rattle.std.proofs.Common.{arith, ◌&&◌, nat_le, ℕ, List, Ok, Err, ap, sym, refl}
 use Rattle.key_entries.specs.Short.{is_short}
 use Rattle.logical_btree.specs.Walk.{Pair, Range}
-use Rattle.logical_btree.specs.declared.refusal.TreeRefusal.{TreeRefusal}
 use Rattle.execution.specs.declared.exec_err.ExecErr.TheVariants.{DiskFault}
 use Rattle.range_calls.specs.Answers as answers
 use Rattle.range_calls.specs.declared.call_err.CallErr.TheVariants.{Exec}
