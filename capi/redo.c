@@ -5,10 +5,10 @@
  *     on the disk: each file was synced before it was read, and their names by a sync of the folder;
  *   - `make_calls` makes the calls in the order of redo_core_next, each of them whole before the next one;
  *   - where a call fails no later one is made, the answer is REDO_DISK_FAULT, and the handle answers nothing else any more.
- * redo_calls.c hands the other calls of redo.h on, each through `redo_report`. */
+ * redo_backup.c does the same with the files of a backup; redo_calls.c hands the other calls of redo.h on, each through
+ * `redo_report`. */
 #define _GNU_SOURCE
-#include "redo.h"
-#include "redo_core.h"
+#include "redo_files.h"
 #include <errno.h>
 #include <fcntl.h>
 #include <stdbool.h>
@@ -23,11 +23,10 @@ _Static_assert(sizeof(redo_t) == 128, "the size of a handle is the same in all v
 enum { CLOSED = 0, OPEN = 1, FAILED = 2 };
 static const char *const names[3] = {"objects.rdo", "log_a.rdo", "log_b.rdo"};
 static const redo_files_t no_files = {-1, {-1, -1, -1}};
-typedef struct bytes { uint8_t *at; size_t length; } bytes_t;
 
 /* Answers with nothing beside it, or with the system's reason. */
 static int32_t alone(redo_t *db, int32_t answer) { return db->detail_ = (redo_detail_t){0, 0, 0}, answer; }
-static int32_t because(redo_t *db, int32_t answer) {
+int32_t redo_because(redo_t *db, int32_t answer) {
     db->detail_ = (redo_detail_t){(uint64_t)errno, 0, 0};
     return answer;
 }
@@ -47,7 +46,7 @@ static bool open_file(redo_files_t *files, uint32_t i, int how) {
 }
 
 /* Ends the lock too. */
-static void close_files(redo_files_t *files) {
+void redo_close_files(redo_files_t *files) {
     for (int i = 0; i < 3; i++)
         if (files->file_[i] >= 0) close(files->file_[i]);
     if (files->folder_ >= 0) close(files->folder_);
@@ -55,11 +54,11 @@ static void close_files(redo_files_t *files) {
 }
 
 /* The whole of a file, once what was written to it is on the disk. A file that is not there has no bytes. */
-static int32_t read_file(redo_t *db, uint32_t i, bytes_t *bytes) {
+static int32_t read_file(redo_t *db, redo_files_t *files, uint32_t i, bytes_t *bytes) {
     struct stat st;
-    if (!open_file(&db->files_, i, 0)) return errno == ENOENT ? REDO_OK : because(db, REDO_DISK_FAULT);
-    int fd = db->files_.file_[i];
-    if (fsync(fd) != 0 || fstat(fd, &st) != 0) return because(db, REDO_DISK_FAULT);
+    if (!open_file(files, i, 0)) return errno == ENOENT ? REDO_OK : redo_because(db, REDO_DISK_FAULT);
+    int fd = files->file_[i];
+    if (fsync(fd) != 0 || fstat(fd, &st) != 0) return redo_because(db, REDO_DISK_FAULT);
     size_t size = (size_t)st.st_size;
     if (size == 0) return REDO_OK;
     if (!(bytes->at = malloc(size))) return REDO_MEMORY;
@@ -67,20 +66,20 @@ static int32_t read_file(redo_t *db, uint32_t i, bytes_t *bytes) {
         errno = 0;
         ssize_t n = pread(fd, bytes->at + bytes->length, size - bytes->length, (off_t)bytes->length);
         if (n < 0 && errno == EINTR) continue;
-        if (n <= 0) return because(db, REDO_DISK_FAULT);
+        if (n <= 0) return redo_because(db, REDO_DISK_FAULT);
         bytes->length += (size_t)n;
     }
     return REDO_OK;
 }
 
 /* Locks the folder, and reads the files. */
-static int32_t open_files(redo_t *db, const char *path, bytes_t bytes[3]) {
-    int folder = db->files_.folder_ = above_streams(open(path, O_RDONLY | O_DIRECTORY | O_CLOEXEC));
-    if (folder < 0) return because(db, REDO_NO_FOLDER);
-    if (flock(folder, LOCK_EX | LOCK_NB) != 0) return errno == EWOULDBLOCK ? REDO_LOCKED : because(db, REDO_NO_FOLDER);
-    if (fsync(folder) != 0) return because(db, REDO_DISK_FAULT);           /* the names are on the disk */
+int32_t redo_open_files(redo_t *db, redo_files_t *files, const char *path, bytes_t bytes[3]) {
+    int folder = files->folder_ = above_streams(open(path, O_RDONLY | O_DIRECTORY | O_CLOEXEC));
+    if (folder < 0) return redo_because(db, REDO_NO_FOLDER);
+    if (flock(folder, LOCK_EX | LOCK_NB) != 0) return errno == EWOULDBLOCK ? REDO_LOCKED : redo_because(db, REDO_NO_FOLDER);
+    if (fsync(folder) != 0) return redo_because(db, REDO_DISK_FAULT);           /* the names are on the disk */
     for (uint32_t i = 0; i < 3; i++) {
-        int32_t answer = read_file(db, i, &bytes[i]);
+        int32_t answer = read_file(db, files, i, &bytes[i]);
         if (answer != REDO_OK) return answer;
     }
     return REDO_OK;
@@ -116,21 +115,28 @@ static bool make_call(redo_files_t *files, const redo_call_t *call, const uint8_
     return call->length ? write_all(files->file_[i], bytes, call->length, call->at) : lengthen(files->file_[i], call->at);
 }
 
-/* Makes all calls that wait, in order. False leaves errno. */
-static bool make_calls(redo_t *db) {
+/* Makes all calls that wait, in order, on these files. False leaves errno. */
+bool redo_make_calls(redo_t *db, redo_files_t *files, next_call_t *next, redo_core_t *core) {
     redo_call_t call;
     uint8_t none;
     errno = 0;
-    while (redo_core_next(&db->core_, &call, db->buffer_ ? db->buffer_ : &none, db->room_) == 1) {
+    while (next(core, &call, db->buffer_ ? db->buffer_ : &none, db->room_) == 1) {
         if (call.length > db->room_) {                         /* there was no room for its bytes: it is told again */
             uint8_t *buffer = realloc(db->buffer_, call.length);
             if (!buffer) return false;
             db->buffer_ = buffer, db->room_ = call.length;
-        } else if (!make_call(&db->files_, &call, db->buffer_)) {
+        } else if (!make_call(files, &call, db->buffer_)) {
             return false;
         }
     }
     return true;
+}
+
+static void let_go(redo_t *db) {
+    redo_end_backup(db);
+    redo_core_close(&db->core_);
+    redo_close_files(&db->files_);
+    free(db->buffer_);
 }
 
 /* Gives the answer, once all that it stands on was made. At a disk fault the files are a front of what was asked for: the store
@@ -140,34 +146,31 @@ int32_t redo_report(redo_t *db, uint32_t answer) {
     if (db->state_ == CLOSED) return alone(db, REDO_NOT_OPEN);
     if (answer != REDO_OK) redo_core_detail(&db->core_, &db->detail_);
     if (answer != REDO_DISK_FAULT) {
-        if (make_calls(db)) return (int32_t)answer;
-        because(db, REDO_DISK_FAULT);
+        if (redo_make_calls(db, &db->files_, redo_core_next, &db->core_)) return (int32_t)answer;
+        redo_because(db, REDO_DISK_FAULT);
     }
-    redo_core_close(&db->core_);
-    close_files(&db->files_);
-    free(db->buffer_);
-    *db = (redo_t){.state_ = FAILED, .files_ = no_files, .detail_ = db->detail_};
+    let_go(db);
+    *db = (redo_t){.state_ = FAILED, .files_ = no_files, .copy_ = no_files, .detail_ = db->detail_};
     return REDO_DISK_FAULT;
 }
 
 /* Whether the bytes are a log with an open header and a block behind it. */
 static bool is_log(bytes_t bytes) { return bytes.length > 33 && memcmp(bytes.at, "\1RDOLOG01", 9) == 0 && bytes.at[33] == 1; }
-
-#define FILES(b) redo_some(b[0].at), b[0].length, redo_some(b[1].at), b[1].length, redo_some(b[2].at), b[2].length
+bool redo_has_log(bytes_t bytes[3]) { return is_log(bytes[1]) || is_log(bytes[2]); }
 
 /* Opens a store, or makes one with these numbers: not where a log tells of a store whose objects file is spoilt. */
 static int32_t start(redo_t *db, const char *path, const redo_params_t *numbers) {
     bytes_t bytes[3] = {{0, 0}, {0, 0}, {0, 0}};
     if (db->state_ != CLOSED) return alone(db, REDO_ALREADY_OPEN);
-    *db = (redo_t){.files_ = no_files};
-    int32_t answer = open_files(db, path, bytes);
+    *db = (redo_t){.files_ = no_files, .copy_ = no_files};
+    int32_t answer = redo_open_files(db, &db->files_, path, bytes);
     if (answer == REDO_OK)
         answer = (int32_t)(numbers ? redo_core_create(&db->core_, FILES(bytes), numbers, &db->detail_)
                                    : redo_core_open(&db->core_, FILES(bytes), &db->detail_));
-    if (answer == REDO_OK && numbers && (is_log(bytes[1]) || is_log(bytes[2]))) redo_core_close(&db->core_), answer = REDO_OLD_LOG;
+    if (answer == REDO_OK && numbers && redo_has_log(bytes)) redo_core_close(&db->core_), answer = REDO_OLD_LOG;
     for (int i = 0; i < 3; i++) free(bytes[i].at);
     if (answer == REDO_OK) db->state_ = OPEN, answer = redo_report(db, REDO_OK);
-    if (answer != REDO_OK) close_files(&db->files_), *db = (redo_t){.detail_ = db->detail_};
+    if (answer != REDO_OK) redo_close_files(&db->files_), *db = (redo_t){.detail_ = db->detail_};
     return answer;
 }
 
@@ -178,7 +181,7 @@ int32_t redo_create(redo_t *db, const char *path, uint32_t objects, uint32_t cap
 int32_t redo_open(redo_t *db, const char *path) { return start(db, path, 0); }
 int32_t redo_close(redo_t *db) {
     if (db->state_ == CLOSED) return alone(db, REDO_NOT_OPEN);
-    if (db->state_ == OPEN) redo_core_close(&db->core_), close_files(&db->files_), free(db->buffer_);
+    if (db->state_ == OPEN) let_go(db);
     *db = (redo_t)REDO_CLOSED;
     return REDO_OK;
 }

@@ -12,7 +12,7 @@ extern "C" {
 #endif
 
 /* Of this header: greater where something was added, which never changes what was there. */
-#define REDO_VERSION 1
+#define REDO_VERSION 2
 uint32_t redo_version(void);            /* of the library that runs */
 size_t redo_handle_size(void);          /* sizeof(redo_t) in it, which is 128 in all versions */
 
@@ -30,7 +30,9 @@ typedef struct redo {
     uint8_t *buffer_;
     size_t room_;
     redo_detail_t detail_;
-    uint64_t later_[6];
+    redo_files_t copy_;
+    redo_core_t target_;
+    uint64_t later_[2];
 } redo_t;
 #ifdef __cplusplus
 #define REDO_CLOSED {}
@@ -39,7 +41,7 @@ typedef struct redo {
 #endif
 
 /* The answers: 0, or why a call was not done. A number is never used again for something else. Below 32 the store or the machine
- * speaks (numbers below 16 are the statuses of the program, which ends with 3 in the place of 6; 20 to 22 are kept for backups),
+ * speaks (numbers below 16 are the statuses of the program, which ends with 3 in the place of 6),
  * from 32 on a command is refused, and from 64 on a call is misused. What is refused or misused has changed nothing; of a call that
  * is several commands (maps, hash files, runs of an application) those before the refusal stay. After REDO_DISK_FAULT a handle
  * answers that until it is closed. */
@@ -49,12 +51,16 @@ enum {
     REDO_NOT_A_STORE = 3,    /* redo_open: the folder has none */
     REDO_DAMAGED = 4,        /* a file is damaged; detail: the file (0 objects, 1 log A, 2 log B) and the place */
     REDO_DISK_FAULT = 5,     /* a file could not be read, written or synced, or there was no memory to do so; detail: errno, or 0 */
-    REDO_ALREADY_STORE = 6,  /* redo_create: the folder has one */
+    REDO_ALREADY_STORE = 6,  /* the folder in which a store is to be made has one */
     REDO_MEMORY = 8,         /* out of memory */
+    REDO_BACKUP_FAULT = 11,  /* as REDO_DISK_FAULT, of a backup's files: the backup is given up, and the store goes on */
     REDO_LOG_FULL = 16,      /* detail: bytes used, bytes needed, limit; redo_drain and redo_trim make room */
     REDO_EXHAUSTED = 17,     /* no number is left for a command; detail: the last one */
     REDO_IN_GROUP = 18,      /* not within a group; detail: how many commands the group has */
     REDO_NO_GROUP = 19,      /* redo_end: no group is open */
+    REDO_IN_BACKUP = 20,     /* not while a backup is being made; detail: how many objects are copied */
+    REDO_NO_BACKUP = 21,     /* no backup is being made */
+    REDO_NOT_COPIED = 22,    /* redo_backup_finish: not all objects are copied; detail: how many are */
     REDO_NO_OBJECT = 32,     /* the store has no such object, or the range is none */
     REDO_SAME = 33,          /* the two objects are one */
     REDO_BAD_PLACE = 34,     /* redo_cut: the value is not that long */
@@ -77,7 +83,7 @@ enum {
     REDO_ALREADY_OPEN = 65,  /* the handle is open */
     REDO_LOCKED = 71,        /* another handle, or another process, has the store */
     REDO_NO_FOLDER = 72,     /* the folder is not there, or cannot be locked; detail: errno */
-    REDO_OLD_LOG = 73        /* redo_create: the folder has no store, but the log of one: see docs/SCRIPT.md */
+    REDO_OLD_LOG = 73        /* the folder in which a store is to be made has none, but the log of one: see docs/SCRIPT.md */
 };
 const char *redo_strerror(int32_t answer);      /* a constant text for each number */
 /* What the last answer of this handle that was not 0 says beside its number; zeros where it says nothing. */
@@ -113,6 +119,15 @@ int32_t redo_trim(redo_t *db);                          /* rewrites the log with
 /* A group: of the commands between the two a crash leaves all or none. redo_begin forces first; redo_end forces nothing. */
 int32_t redo_begin(redo_t *db);
 int32_t redo_end(redo_t *db);
+
+/* A backup: the store as it is at the finish, in another folder, which is there and has no store. Commands, installs and checks go
+ * on meanwhile; redo_trim does not (REDO_IN_BACKUP), and nothing of a backup goes within a group. Its files are in memory until its
+ * end, and no store before redo_backup_finish; a crash within that leaves none, or the whole one. Once it has answered, the folder
+ * is let go, and may be opened. */
+int32_t redo_backup_start(redo_t *db, const char *folder);
+int32_t redo_backup_copy(redo_t *db, uint32_t count, uint64_t *copied);     /* so many objects more: so many are copied now */
+int32_t redo_backup_finish(redo_t *db, uint64_t *commands);                 /* it has so many commands, and all of them */
+int32_t redo_backup_give_up(redo_t *db);                                    /* redo_close does that too */
 
 typedef struct redo_stat {
     uint64_t nodes, dirty, uninstalled;     /* of the write graph: nodes, objects to be flushed, records not installed */

@@ -26,7 +26,7 @@ from collections.abc import Callable, Iterator, MutableMapping
 from contextlib import contextmanager, suppress
 from typing import NamedTuple, NoReturn, Union
 
-__all__ = ["Error", "Hash", "Params", "Stat", "Store", "Tree", "create", "open", "version"]
+__all__ = ["Backup", "Error", "Hash", "Params", "Stat", "Store", "Tree", "create", "open", "version"]
 
 Bytes = Union[bytes, bytearray, memoryview]
 
@@ -103,6 +103,8 @@ _put, _get, _copy, _append = _c("put", _u32, *_pair), _c("get", _u32, *_room), _
 _cut, _sort, _swap = _c("cut", *_objects, _u32), _c("sort", *_objects, _u32), _c("swap", *_objects)
 _force, _install, _drain = _c("force", _u64p), _c("install", _u64p), _c("drain")
 _checkpoint, _trim, _begin, _end = _c("checkpoint"), _c("trim"), _c("begin"), _c("end")
+_backup_start, _backup_copy = _c("backup_start", _bytes), _c("backup_copy", _u32, _u64p)
+_backup_finish, _backup_give_up = _c("backup_finish", _u64p), _c("backup_give_up")
 _stat, _params = _c("stat", ctypes.POINTER(_Stat)), _c("params", ctypes.POINTER(_Params))
 _tree_insert, _tree_delete, _tree_get = _c("tree_insert", *_key, *_pair), _c("tree_delete", *_key), _c("tree_get", *_key, *_room)
 _tree_range = _c("tree_range", *_key, *_pair, _u64p)
@@ -113,7 +115,7 @@ _app_run, _program_run = _c("app_run", _u32, _u64, _u64p), _c("program_run", *_o
 _program_exec, _program_read, _program_write = (_c("program_" + name, *_objects) for name in ("exec", "read", "write"))
 _lib.redo_strerror.restype, _lib.redo_strerror.argtypes = _bytes, [ctypes.c_int32]
 _lib.redo_version.restype, _lib.redo_handle_size.restype = _u32, _size
-if _lib.redo_version() < 1 or _lib.redo_handle_size() != ctypes.sizeof(_Handle):
+if _lib.redo_version() < 2 or _lib.redo_handle_size() != ctypes.sizeof(_Handle):
     raise ImportError("the library is none that this module knows")
 
 
@@ -143,10 +145,14 @@ class Damaged(Error): code = 4
 class DiskFault(Error): code = 5
 class AlreadyStore(Error): code = 6
 class OutOfMemory(Error, MemoryError): code = 8
+class BackupFault(Error): code = 11
 class LogFull(Error): code = 16
 class Exhausted(Error): code = 17
 class InGroup(Error): code = 18
 class NoGroup(Error): code = 19
+class InBackup(Error): code = 20
+class NoBackup(Error): code = 21
+class NotCopied(Error): code = 22
 class NoObject(Error, IndexError): code = 32
 class Same(Error): code = 33
 class BadPlace(Error): code = 34
@@ -181,7 +187,7 @@ __all__ += [error.__name__ for error in _ERRORS.values()]
 
 def _error(code: int, detail: tuple[int, int, int]) -> Error:
     text = _lib.redo_strerror(code).decode()
-    if code in (5, 72) and detail[0]:
+    if code in (5, 11, 72) and detail[0]:
         text += f": {os.strerror(detail[0])}"
     elif any(detail):
         text += f" {detail}"
@@ -313,6 +319,28 @@ class Store:
         """Rewrites the log without the records that no restart needs. After a `drain` it is as short as it can be."""
         self._call(_trim)
 
+    def backup(self, path: str | os.PathLike[str]) -> int:
+        """Saves the store in this folder, which is there and has none. Answers how many commands the copy has: all of them."""
+        with self.backing_up(path) as backup:
+            pass
+        return backup.commands
+
+    @contextmanager
+    def backing_up(self, path: str | os.PathLike[str]) -> Iterator[Backup]:
+        """A backup that is made piece by piece, while the store is used: `copy` of what it gives copies some objects. Its end
+        copies the others and finishes it; after an exception it is given up, and the folder has no store."""
+        self._call(_backup_start, os.fsencode(path))
+        backup = Backup(self)
+        try:
+            yield backup
+            with self._lock:
+                backup.copy(65535)
+                backup.commands = self._number(_backup_finish)
+        except BaseException:
+            with suppress(Error):
+                self._call(_backup_give_up)
+            raise
+
     def stat(self) -> Stat:
         """What the store reports of itself."""
         stat = _Stat()
@@ -385,6 +413,20 @@ class Store:
     def __del__(self, _close: Callable[..., int] = _close) -> None:
         if hasattr(self, "_handle"):
             _close(self._handle)
+
+
+class Backup:
+    """A backup that is being made."""
+
+    def __init__(self, store: Store) -> None:
+        self._store = store
+        self.copied = 0
+        self.commands = 0
+
+    def copy(self, count: int) -> int:
+        """Copies so many objects more, fewer at the end. Answers how many are copied."""
+        self.copied = self._store._number(_backup_copy, _whole(count, NoObject))
+        return self.copied
 
 
 class _Map:

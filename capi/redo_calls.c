@@ -1,10 +1,8 @@
 /* The calls of redo.h that ask for no more than the proved library: each hands its words on, and reports the answer. */
-#include "redo.h"
-#include "redo_core.h"
+#include "redo_files.h"
 
-/* Room of the caller's, or none; a number that it asks for, or one that is dropped. */
+/* Room of the caller's, or none. */
 #define INTO(pointer, room) ((pointer) ? (pointer) : &(uint8_t){0}), ((pointer) ? (room) : 0)
-#define COUNT(pointer) ((pointer) ? (pointer) : &(uint64_t){0})
 #define REPORT(name, ...) redo_report(db, redo_core_##name(&db->core_, __VA_ARGS__))
 
 int32_t redo_put(redo_t *db, uint32_t object, const void *value, size_t length) {

@@ -21,9 +21,6 @@ uint32_t redo_core_next(redo_core_t *, redo_call_t *, uint8_t *, size_t);
 /* What the last answer says beside its number. */
 uint32_t redo_core_detail(redo_core_t *, redo_detail_t *);
 
-/* Of redo.c: what a call of redo.h answers, where the library has answered this. */
-int32_t redo_report(redo_t *, uint32_t);
-
 uint32_t redo_core_put(redo_core_t *, uint32_t, redo_bytes_t, size_t);
 uint32_t redo_core_copy(redo_core_t *, uint32_t, uint32_t);
 uint32_t redo_core_append(redo_core_t *, uint32_t, uint32_t);
@@ -50,6 +47,16 @@ uint32_t redo_core_program_exec(redo_core_t *, uint32_t, uint32_t);
 uint32_t redo_core_program_read(redo_core_t *, uint32_t, uint32_t);
 uint32_t redo_core_program_write(redo_core_t *, uint32_t, uint32_t);
 uint32_t redo_core_program_run(redo_core_t *, uint32_t, uint32_t, uint64_t, uint64_t *);
+
+/* The files of a backup, as they were read, and the calls that have to be made on them. Where a call needs them and they are not
+ * there the answer is REDO_NO_BACKUP, and so it is of a close. */
+uint32_t redo_core_target_open(redo_core_t *, redo_bytes_t, size_t, redo_bytes_t, size_t, redo_bytes_t, size_t);
+uint32_t redo_core_target_close(redo_core_t *);
+uint32_t redo_core_target_next(redo_core_t *, redo_call_t *, uint8_t *, size_t);
+uint32_t redo_core_backup_start(redo_core_t *, redo_core_t *);
+uint32_t redo_core_backup_copy(redo_core_t *, redo_core_t *, uint32_t, uint64_t *);
+uint32_t redo_core_backup_finish(redo_core_t *, redo_core_t *, uint64_t *);
+uint32_t redo_core_backup_give_up(redo_core_t *);
 
 /* A key that is not there: REDO_NO_KEY. No range of objects: REDO_NO_OBJECT. A key or value not of 1 to 32 bytes: REDO_BAD_KEY. */
 uint32_t redo_core_tree_insert(redo_core_t *, const redo_range_t *, redo_bytes_t, size_t, redo_bytes_t, size_t);

@@ -14,10 +14,14 @@ const char *redo_strerror(int32_t answer) {
     case REDO_DISK_FAULT: return "a file of the store could not be read, written or synced, or there was no memory to do so";
     case REDO_ALREADY_STORE: return "the folder has a store already";
     case REDO_MEMORY: return "out of memory";
+    case REDO_BACKUP_FAULT: return "a file of the backup could not be read, written or synced";
     case REDO_LOG_FULL: return "the log is full";
     case REDO_EXHAUSTED: return "no number is left for a command";
     case REDO_IN_GROUP: return "not within a group";
     case REDO_NO_GROUP: return "no group is open";
+    case REDO_IN_BACKUP: return "not while a backup is being made";
+    case REDO_NO_BACKUP: return "no backup is being made";
+    case REDO_NOT_COPIED: return "not all objects are copied";
     case REDO_NO_OBJECT: return "the store has no such object";
     case REDO_SAME: return "the two objects are one";
     case REDO_BAD_PLACE: return "the value is not that long";

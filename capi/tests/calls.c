@@ -17,6 +17,7 @@ unsigned fail_at;
 int fail_why = EIO;
 size_t most;
 bool has_failed, recording;
+const char *recorded;
 unsigned calls_after;
 made_t *made;
 size_t made_count;
@@ -38,22 +39,35 @@ static bool fails(enum which call) {
 }
 static size_t as_much(size_t n) { return most && n > most ? most : n; }
 
+/* The path of an open file. */
+static ssize_t path_of(int fd, char path[4096]) {
+    char link[64];
+    snprintf(link, sizeof link, "/proc/self/fd/%d", fd);
+    return readlink(link, path, 4095);
+}
 /* Which file of a store a number is, by its name: 3 is a folder, -1 another one. */
 static int file_of(int fd) {
     static const char *const names[3] = {"/objects.rdo", "/log_a.rdo", "/log_b.rdo"};
-    char link[64], path[4096];
+    char path[4096];
     struct stat st;
     if (syscall(SYS_fstat, fd, &st) == 0 && S_ISDIR(st.st_mode)) return 3;
-    snprintf(link, sizeof link, "/proc/self/fd/%d", fd);
-    ssize_t n = readlink(link, path, sizeof path - 1);
+    ssize_t n = path_of(fd, path);
     for (int i = 0; n > 0 && i < 3; i++) {
         size_t k = strlen(names[i]);
         if ((size_t)n > k && memcmp(path + n - k, names[i], k) == 0) return i;
     }
     return -1;
 }
+static bool is_recorded(int fd) {
+    char path[4096];
+    if (!recording || file_of(fd) < 0) return false;
+    if (!recorded) return true;
+    size_t k = strlen(recorded);
+    ssize_t n = path_of(fd, path);
+    return n >= (ssize_t)k && memcmp(path, recorded, k) == 0 && (n == (ssize_t)k || path[k] == '/');
+}
 static void record(enum done done, int fd, const void *bytes, size_t n, uint64_t at) {
-    if (!recording || file_of(fd) < 0) return;
+    if (!is_recorded(fd)) return;
     made = realloc(made, (made_count + 1) * sizeof *made);
     made[made_count] = (made_t){done, file_of(fd), at, n, malloc(n + 1)};
     if (n) memcpy(made[made_count].bytes, bytes, n);

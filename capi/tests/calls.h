@@ -25,6 +25,8 @@ void read_words(const char *words);
 enum done { WRITTEN, SYNCED, MADE, READ };
 typedef struct made { enum done done; int file; uint64_t at; size_t length; uint8_t *bytes; } made_t;
 extern bool recording;
+/* Where this is not 0, what is done in the folder with this path alone. */
+extern const char *recorded;
 extern made_t *made;
 extern size_t made_count;
 #endif

@@ -14,6 +14,7 @@ typedef struct {
     bytes_t block;                              /* changes that are not written */
     uint64_t epoch, end, accepted, forced;      /* of the log in force */
     bool in_group; uint64_t group;
+    bool in_backup, is_store; uint32_t copied;      /* of a backup: whether its folder has a store */
     waiting_t *first, **last;
     entry_t *pairs; size_t pair_count;
     redo_detail_t detail;
@@ -107,9 +108,13 @@ static void force(store_t *s) {
     ask(s, REDO_CALL_SAY, 0, 0, "forced\n", 7);
     s->block.n = 0, s->forced = s->accepted;
 }
-static void trim(store_t *s) {
+static bytes_t whole(store_t *s) {
     bytes_t all = {0, 0};
     for (size_t i = 0; i < s->count; i++) log_change(&all, s->map[i].name, s->map[i].value, false);
+    return all;
+}
+static void trim(store_t *s) {
+    bytes_t all = whole(s);
     s->epoch++, s->end = 0, s->block.n = 0;
     write_block(s, all);
     free(all.at);
@@ -133,6 +138,12 @@ static void drop(store_t *s) {
     }
     drop_pairs(s), free(s->map), free(s->block.at), free(s);
 }
+static void lay_out(store_t *s, bytes_t changes) {
+    write_block(s, changes);
+    ask(s, REDO_CALL_WRITE, 2, 3, 0, 0), ask(s, REDO_CALL_SYNC, 2, 0, 0, 0);        /* three bytes long, which open asks for */
+    ask(s, REDO_CALL_WRITE, 0, 1, &s->numbers, sizeof s->numbers), ask(s, REDO_CALL_SYNC, 0, 0, 0, 0);
+    ask(s, REDO_CALL_WRITE, 0, 0, "F", 1), ask(s, REDO_CALL_SYNC, 0, 0, 0, 0);
+}
 static uint32_t opened(redo_core_t *c, store_t *s) { return c->opened_ = 1, c->at_ = s, REDO_OK; }
 
 uint32_t redo_core_create(redo_core_t *c, redo_bytes_t o, size_t n, redo_bytes_t a, size_t an, redo_bytes_t b, size_t bn,
@@ -143,10 +154,7 @@ uint32_t redo_core_create(redo_core_t *c, redo_bytes_t o, size_t n, redo_bytes_t
     if (n && o[0] == 'F') return REDO_ALREADY_STORE;
     store_t *s = new_store();
     s->numbers = *p;
-    write_block(s, (bytes_t){0, 0});
-    ask(s, REDO_CALL_WRITE, 2, 3, 0, 0), ask(s, REDO_CALL_SYNC, 2, 0, 0, 0);        /* three bytes long, which open asks for */
-    ask(s, REDO_CALL_WRITE, 0, 1, p, sizeof *p), ask(s, REDO_CALL_SYNC, 0, 0, 0, 0);
-    ask(s, REDO_CALL_WRITE, 0, 0, "F", 1), ask(s, REDO_CALL_SYNC, 0, 0, 0, 0);
+    lay_out(s, (bytes_t){0, 0});
     return opened(c, s);
 }
 uint32_t redo_core_open(redo_core_t *c, redo_bytes_t o, size_t n, redo_bytes_t a, size_t an, redo_bytes_t b, size_t bn,
@@ -270,11 +278,55 @@ uint32_t redo_core_force(redo_core_t *c, uint64_t *n) { ALONE; force(s); *n = s-
 uint32_t redo_core_install(redo_core_t *c, uint64_t *n) { ALONE; *n = 0; return REDO_OK; }
 uint32_t redo_core_drain(redo_core_t *c) { ALONE; force(s); return REDO_OK; }
 uint32_t redo_core_checkpoint(redo_core_t *c) { ALONE; force(s); return REDO_OK; }
-uint32_t redo_core_trim(redo_core_t *c) { ALONE; force(s); trim(s); return REDO_OK; }
+uint32_t redo_core_trim(redo_core_t *c) {
+    ALONE;
+    if (s->in_backup) return s->detail = (redo_detail_t){s->copied, 0, 0}, REDO_IN_BACKUP;
+    force(s), trim(s);
+    return REDO_OK;
+}
 uint32_t redo_core_stat(redo_core_t *c, redo_stat_t *t) {
     STORE; *t = (redo_stat_t){0, 0, 0, s->forced, s->accepted, s->end + s->block.n, 0}; return REDO_OK;
 }
 uint32_t redo_core_params(redo_core_t *c, redo_params_t *p) { STORE; *p = s->numbers; return REDO_OK; }
+
+/* A backup is laid out as a whole at its finish; until then its gate is closed. */
+uint32_t redo_core_target_open(redo_core_t *t, redo_bytes_t o, size_t n, redo_bytes_t a, size_t an, redo_bytes_t b, size_t bn) {
+    (void)a, (void)an, (void)b, (void)bn;
+    store_t *s = new_store();
+    s->is_store = n && o[0] == 'F';
+    return opened(t, s);
+}
+uint32_t redo_core_target_close(redo_core_t *t) { return t->opened_ ? redo_core_close(t) : REDO_NO_BACKUP; }
+uint32_t redo_core_target_next(redo_core_t *t, redo_call_t *call, uint8_t *into, size_t room) {
+    return t->opened_ ? redo_core_next(t, call, into, room) : REDO_NO_BACKUP;
+}
+#define TARGET ALONE; store_t *to = t->at_; if (!t->opened_) return refuse(s, REDO_NO_BACKUP)
+uint32_t redo_core_backup_start(redo_core_t *c, redo_core_t *t) {
+    TARGET;
+    if (s->in_backup) return s->detail = (redo_detail_t){s->copied, 0, 0}, REDO_IN_BACKUP;
+    if (to->is_store) return refuse(s, REDO_ALREADY_STORE);
+    force(s), ask(to, REDO_CALL_WRITE, 0, 0, "", 1), ask(to, REDO_CALL_SYNC, 0, 0, 0, 0);
+    return s->in_backup = true, s->copied = 0, REDO_OK;
+}
+uint32_t redo_core_backup_copy(redo_core_t *c, redo_core_t *t, uint32_t count, uint64_t *copied) {
+    TARGET;
+    uint32_t rest = s->numbers.objects - s->copied;
+    (void)to;
+    return *copied = s->copied += count < rest ? count : rest, REDO_OK;
+}
+uint32_t redo_core_backup_finish(redo_core_t *c, redo_core_t *t, uint64_t *commands) {
+    TARGET;
+    if (s->copied < s->numbers.objects) return s->detail = (redo_detail_t){s->copied, 0, 0}, REDO_NOT_COPIED;
+    force(s), to->numbers = s->numbers, to->accepted = *commands = s->accepted, s->in_backup = false;
+    bytes_t all = whole(s);
+    lay_out(to, all), free(all.at);
+    return REDO_OK;
+}
+uint32_t redo_core_backup_give_up(redo_core_t *c) {
+    ALONE;
+    if (!s->in_backup) return refuse(s, REDO_NO_BACKUP);
+    return s->in_backup = false, REDO_OK;
+}
 
 /* An application's input alone: a step takes a byte of it. */
 #define INPUT(app) named(&(name_t){{0}}, 'a', app, 0, 0, 0)

@@ -66,6 +66,12 @@ static int commands_in(const char *folder) {
     return (int)n - 1;
 }
 
+/* What is let go are files of the store. */
+static bool has_input;
+static void input_stays(void) {
+    if (has_input && fcntl(0, F_GETFD) < 0) fail("a file of the program's own is closed");
+}
+
 /* After a disk fault the handle answers nothing else, its lock is gone, and the store has what was forced. */
 static void check_failed(const char *folder, redo_t *db, told_t told) {
     uint64_t n;
@@ -81,10 +87,72 @@ static void check_failed(const char *folder, redo_t *db, told_t told) {
         WANT(REDO_ALREADY_OPEN, redo_open(db, folder));
         WANT(REDO_OK, redo_close(db));
     }
-    WANT(REDO_NOT_OPEN, redo_close(db));
+    WANT(REDO_NOT_OPEN, redo_close(db)), input_stays();
     int count = commands_in(folder);
     if (count == -1 ? told.is_made : count < told.forced || count > told.accepted + 1)
         fail("%d commands after %d were forced and %d accepted", count, told.forced, told.accepted);
+}
+
+/* A backup, and commands meanwhile: how many were accepted, whether the finish was asked for, how many it saved, and the first
+ * answer that was not 0. */
+typedef struct { int accepted; bool is_asked; uint64_t saved; int32_t answer; } backup_t;
+static backup_t back_up(redo_t *db, const char *copy) {
+    backup_t b = {0};
+    uint64_t n;
+    if ((b.answer = redo_backup_start(db, copy)) != REDO_OK) return b;
+    for (int i = 1; i <= 3; i++) {
+        if ((b.answer = redo_put(db, 0, numbers, (size_t)i)) != REDO_OK) return b;
+        b.accepted = i;
+        if (i == 2 && (b.answer = redo_drain(db)) != REDO_OK) return b;
+        if ((b.answer = redo_backup_copy(db, i == 1 ? 1 : 2, &n)) != REDO_OK) return b;
+    }
+    b.is_asked = true;
+    b.answer = redo_backup_finish(db, &b.saved);
+    return b;
+}
+
+/* Where a file of the backup failed the store goes on without it; where one of the store did, the handle answers nothing else. The
+ * copy's folder is let go, and is no store, or, where its finish was asked for, all of it. */
+static void check_failed_backup(const char *folder, const char *copy, redo_t *db, backup_t b) {
+    uint64_t n;
+    redo_detail_t d;
+    redo_last_detail(db, &d);
+    if (d.first != EIO) fail("the reason is %d", (int)d.first);
+    if (b.answer == REDO_DISK_FAULT) {
+        WANT(REDO_DISK_FAULT, redo_backup_give_up(db));
+    } else {
+        if (b.answer != REDO_BACKUP_FAULT && (b.answer != REDO_NO_FOLDER || b.accepted)) fail("the answer is %d", b.answer);
+        WANT(REDO_NO_BACKUP, redo_backup_give_up(db));
+        WANT(REDO_OK, redo_put(db, 0, numbers, (size_t)b.accepted + 1));
+        WANT(REDO_OK, redo_force(db, &n));
+    }
+    int saved = commands_in(copy);
+    WANT(REDO_OK, redo_close(db)), input_stays();
+    int kept = commands_in(folder);
+    if (saved != -1 && (!b.is_asked || saved != b.accepted)) fail("%d commands are saved of %d", saved, b.accepted);
+    if (kept > b.accepted + 1 || (b.answer != REDO_DISK_FAULT && kept != b.accepted + 1)) fail("%d commands of %d", kept, b.accepted);
+}
+
+static void each_fault_of_backup(void) {
+    const char *folder = in_root("saved"), *copy = in_root("copy");
+    for (int kind = 0; kind < CALLS; kind++) {
+        for (unsigned at = 1;; at++) {
+            redo_t db = REDO_CLOSED;
+            empty(folder), empty(copy);
+            WANT(REDO_OK, redo_create(&db, folder, 4, 64, 65536));
+            fail_which = (enum which)kind, fail_at = at, has_failed = false, fail_why = EIO;
+            backup_t b = back_up(&db, copy);
+            fail_at = 0;
+            if (has_failed) {
+                check_failed_backup(folder, copy, &db, b);
+                continue;
+            }
+            WANT(REDO_OK, b.answer);
+            WANT(REDO_OK, redo_close(&db));
+            if (b.saved != 3 || commands_in(copy) != 3) fail("not all commands are saved");
+            break;
+        }
+    }
 }
 
 /* Each call of each kind fails once. */
@@ -148,7 +216,7 @@ static void each_fault_of_open(void) {
             }
             if (calls_after) fail("%u calls after one of %s had failed", calls_after, call_names[kind]);
             if (rc != REDO_DISK_FAULT && !(rc == REDO_NO_FOLDER && kind <= LOCK)) fail("%s: %d", call_names[kind], rc);
-            WANT(REDO_NOT_OPEN, redo_close(&db));
+            WANT(REDO_NOT_OPEN, redo_close(&db)), input_stays();
         }
     }
     if (commands_in(folder) != COMMANDS) fail("not all commands");
@@ -159,7 +227,7 @@ static void each_fault_of_open(void) {
 
 /* The files at one moment: what reads give, and what a crash leaves where nothing unsynced has reached the disk. */
 typedef struct { uint8_t *now, *synced; size_t length, synced_length; bool is_made, is_named; } file_t;
-enum { MOST = 1 << 18 };
+enum { MOST = 1 << 18, IMAGES = 6 };
 static file_t files[3];
 
 static void make(const made_t *m) {
@@ -209,7 +277,27 @@ static void forget(void) {
     free(made), made = 0, made_count = 0;
 }
 
+/* Looks at what a crash may leave after each front of the calls that were recorded: `has` is told how many calls were made, and
+ * how many commands the store has then. */
+static void each_front_of(const char *left, const void *told, void has(const void *, size_t, int)) {
+    for (int i = 0; i < 3; i++) files[i] = (file_t){.now = calloc(1, MOST), .synced = calloc(1, MOST)};
+    for (size_t k = 0; k <= made_count; k++) {
+        if (k > 0) make(&made[k - 1]);
+        for (int how = 0; how < IMAGES; how++) write_image(left, how), has(told, k, commands_in(left));
+    }
+    for (int i = 0; i < 3; i++) free(files[i].now), free(files[i].synced);
+    printf("%d images of %d fronts\n", IMAGES * ((int)made_count + 1), (int)made_count + 1);
+    forget();
+}
+
 /* Each front of the calls of a run is a store (or none, before it was made) that has what was forced by then. */
+static void has_forced(const void *told, size_t k, int count) {
+    const told_t *t = told;
+    int forced = 0;
+    for (int i = 1; i <= COMMANDS; i++)
+        if (t->made_at[i] && t->made_at[i] <= k) forced = i;
+    if (count == -1 ? k >= t->store_at : count < forced) fail("%d commands after %d were forced: call %d of %d", count, forced, (int)k, (int)made_count);
+}
 static void each_front(void) {
     const char *folder = in_root("recorded"), *left = in_root("left");
     redo_t db = REDO_CLOSED;
@@ -219,23 +307,25 @@ static void each_front(void) {
     recording = false;
     WANT(REDO_OK, told.answer);
     WANT(REDO_OK, redo_close(&db));
-    for (int i = 0; i < 3; i++) files[i] = (file_t){.now = calloc(1, MOST), .synced = calloc(1, MOST)};
-    int images = 0;
-    for (size_t k = 0; k <= made_count; k++) {
-        if (k > 0) make(&made[k - 1]);
-        int forced = 0;
-        for (int i = 1; i <= COMMANDS; i++)
-            if (told.made_at[i] && told.made_at[i] <= k) forced = i;
-        for (int how = 0; how < 6; how++, images++) {
-            write_image(left, how);
-            int count = commands_in(left);
-            if (count == -1 ? k >= told.store_at : count < forced)
-                fail("%d commands after %d were forced: call %d of %d, image %d", count, forced, (int)k, (int)made_count, how);
-        }
-    }
-    for (int i = 0; i < 3; i++) free(files[i].now), free(files[i].synced);
-    printf("%d images of %d fronts\n", images, (int)made_count + 1);
-    forget();
+    each_front_of(left, &told, has_forced);
+}
+
+/* Each front of the calls on the files of a backup is no store, or all that it saved; and this once all are made. */
+static void has_saved(const void *told, size_t k, int count) {
+    const backup_t *b = told;
+    if (count == -1 ? k == made_count : count != (int)b->saved) fail("%d commands are saved: call %d of %d", count, (int)k, (int)made_count);
+}
+static void each_front_of_backup(void) {
+    const char *copy = in_root("copy"), *folder = in_root("saved");
+    redo_t db = REDO_CLOSED;
+    empty(folder), empty(copy);
+    WANT(REDO_OK, redo_create(&db, folder, 4, 64, 65536));
+    recording = true, recorded = copy, made_count = 0;
+    backup_t b = back_up(&db, copy);
+    recording = false, recorded = 0;
+    WANT(REDO_OK, b.answer);
+    WANT(REDO_OK, redo_close(&db));
+    each_front_of(in_root("left"), &b, has_saved);
 }
 
 /* Another process may have written what is read, and have been killed: so the files and the folder are synced first. */
@@ -260,11 +350,12 @@ static void synced_before_read(void) {
 int main(int argc, char **argv) {
     snprintf(root, sizeof root, "%s", argc > 1 ? argv[1] : ".");
     for (int i = 0; i < COMMANDS; i++) numbers[i] = (uint8_t)i;
-    each_interruption(), each_fault(), each_fault_of_open();
+    has_input = fcntl(0, F_GETFD) >= 0;
+    each_interruption(), each_fault(), each_fault_of_open(), each_fault_of_backup();
     most = 7;                           /* the system moves seven bytes a call */
-    each_fault(), each_front();
+    each_fault(), each_front(), each_fault_of_backup(), each_front_of_backup();
     most = 0;
-    each_front(), synced_before_read();
+    each_front(), each_front_of_backup(), synced_before_read();
     puts("test_faults: ok");
     return 0;
 }

@@ -61,7 +61,7 @@ static void closed(const char *folder) {
 
 static void made(const char *folder) {
     WANT(REDO_OK, redo_create(&db, folder, 8, 1024, 65536));
-    WANT(REDO_BAD_PLACE, redo_cut(&db, 0, 1, 9));
+    WANT(REDO_NO_OBJECT, redo_copy(&db, 0, 8));
     WANT(REDO_ALREADY_OPEN, redo_open(&db, folder)), detail_is(0, 0);
     WANT(REDO_ALREADY_OPEN, redo_create(&db, folder, 8, 1024, 65536));
     WANT(REDO_LOCKED, redo_open(&other, folder)), detail_of(&other, 0, 0);
@@ -128,6 +128,59 @@ static void upkeep(void) {
     WANT(REDO_OK, redo_trim(&db));
     WANT(REDO_OK, redo_put(&db, 4, value, sizeof value));
     is(0, "hello");
+}
+
+/* What was accepted before the finish is in the copy, and what came later is not. */
+static void backups(const char *folder) {
+    char path[4096];
+    uint64_t saved;
+    snprintf(path, sizeof path, "%s/copy", folder);
+    WANT(REDO_NO_FOLDER, redo_backup_start(&db, path)), detail_is(ENOENT, 0);
+    WANT(REDO_LOCKED, redo_backup_start(&db, folder)), detail_is(0, 0);
+    WANT(REDO_NO_BACKUP, redo_backup_copy(&db, 1, &n));
+    WANT(REDO_NO_BACKUP, redo_backup_finish(&db, &n));
+    WANT(REDO_NO_BACKUP, redo_backup_give_up(&db));
+    mkdir(path, 0777);
+    write_log(path);
+    WANT(REDO_OLD_LOG, redo_backup_start(&db, path)), detail_is(0, 0);
+    WANT(REDO_NO_BACKUP, redo_backup_give_up(&db));
+    if (access_in(path, "objects.rdo")) fail("a file was made");
+    remove_log(path);
+    WANT(REDO_OK, redo_begin(&db));
+    WANT(REDO_IN_GROUP, redo_backup_start(&db, path));
+    WANT(REDO_OK, redo_end(&db));
+    WANT(REDO_OK, redo_backup_start(&db, path));
+    WANT(REDO_IN_BACKUP, redo_backup_start(&db, path)), detail_is(0, 0);
+    WANT(REDO_LOCKED, redo_open(&other, path));
+    WANT(REDO_OK, redo_backup_give_up(&db));
+    WANT(REDO_NOT_A_STORE, redo_open(&other, path));
+    WANT(REDO_OK, redo_backup_start(&db, path));
+    put(5, "first");
+    WANT(REDO_OK, redo_backup_copy(&db, 7, &n));
+    if (n != 7) fail("%d objects are copied", (int)n);
+    put(5, "second"), put(7, "third");
+    WANT(REDO_OK, redo_drain(&db));
+    WANT(REDO_IN_BACKUP, redo_trim(&db)), detail_is(7, 0);
+    WANT(REDO_NOT_COPIED, redo_backup_finish(&db, &saved)), detail_is(7, 0);
+    WANT(REDO_OK, redo_backup_copy(&db, 65535, &n));
+    if (n != 8) fail("%d objects are copied", (int)n);
+    WANT(REDO_OK, redo_backup_finish(&db, &saved));
+    WANT(REDO_NO_BACKUP, redo_backup_copy(&db, 1, &n)), detail_is(0, 0);
+    put(5, "later");
+    WANT(REDO_OK, redo_trim(&db));
+    WANT(REDO_OK, redo_open(&other, path));
+    WANT(REDO_OK, redo_force(&other, &n));
+    if (n != saved) fail("%d commands in the place of %d", (int)n, (int)saved);
+    WANT(REDO_OK, redo_get(&other, 5, got, sizeof got, &n));
+    if (n != 6 || memcmp(got, "second", n)) fail("the copy of object 5");
+    WANT(REDO_OK, redo_get(&other, 0, got, sizeof got, &n));
+    if (n != 5 || memcmp(got, "hello", n)) fail("the copy of object 0");
+    WANT(REDO_OK, redo_close(&other));
+    WANT(REDO_ALREADY_STORE, redo_backup_start(&db, path));
+    write_log(path);
+    WANT(REDO_ALREADY_STORE, redo_backup_start(&db, path)), detail_is(0, 0);
+    WANT(REDO_NO_BACKUP, redo_backup_give_up(&db));
+    is(5, "later");
 }
 
 /* The trees and hash files stand in a store of their own. */
@@ -231,7 +284,7 @@ static void closed_streams(const char *folder) {
 
 int main(int argc, char **argv) {
     const char *folder = argc > 1 ? argv[1] : ".";
-    closed(folder), made(folder), values(), groups(), upkeep(), maps(folder), applications(), killed(folder), threads();
+    closed(folder), made(folder), values(), groups(), upkeep(), backups(folder), maps(folder), applications(), killed(folder), threads();
     WANT(REDO_OK, redo_last_detail(&db, &(redo_detail_t){0, 0, 0}));
     closed_streams(folder);
     WANT(REDO_OK, redo_close(&db));

@@ -92,6 +92,33 @@ def groups(folder):
         assert s.get(5) == b"a" and s.get(6) == b"kept"
 
 
+def backups(folder):
+    copy = folder + "/copy"
+    with redo.open(folder) as s:
+        refused(redo.NoFolder, s.backup, copy)
+        os.mkdir(copy)
+        s.put(0, b"saved")
+        assert s.backup(copy) == s.stat().forced == s.stat().accepted
+        refused(redo.AlreadyStore, s.backup, copy)
+        os.mkdir(copy + "2")
+        try:
+            with s.backing_up(copy + "2") as backup:
+                assert backup.copy(3) == 3
+                raise ValueError
+        except ValueError:
+            pass
+        refused(redo.NotAStore, redo.open, copy + "2")
+        with s.backing_up(copy + "2") as backup:
+            assert backup.copy(3) == 3
+            s.put(0, b"twice")
+            assert refused(redo.InBackup, s.trim).detail[0] == 3
+        assert backup.copied == 8 and backup.commands == s.stat().accepted
+        s.put(0, b"later")
+        s.trim()
+    with redo.open(copy) as one, redo.open(copy + "2") as two:
+        assert one[0] == b"saved" and two[0] == b"twice"
+
+
 def maps(folder):
     os.mkdir(folder + "/maps")
     with redo.create(folder + "/maps", 128, 1024, 1 << 20) as s:
@@ -226,7 +253,7 @@ def faults(folder):
 
 def main():
     folder = sys.argv[1] if len(sys.argv) > 1 else "."
-    for test in (values, groups, maps, applications, forks_and_kills, threads, *([faults] if "REDO_CALLS" in os.environ else [])):
+    for test in (values, groups, backups, maps, applications, forks_and_kills, threads, *([faults] if "REDO_CALLS" in os.environ else [])):
         test(folder)
     print("test_redo.py: ok")
 

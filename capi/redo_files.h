@@ -1,0 +1,27 @@
+/* What redo.c has for the other pages of C. It is not for programs. */
+#ifndef REDO_FILES_H
+#define REDO_FILES_H
+#include "redo.h"
+#include "redo_core.h"
+#include <stdbool.h>
+
+typedef struct bytes { uint8_t *at; size_t length; } bytes_t;
+/* A number that the caller asks for, or one that is dropped. */
+#define COUNT(pointer) ((pointer) ? (pointer) : &(uint64_t){0})
+#define FILES(b) redo_some(b[0].at), b[0].length, redo_some(b[1].at), b[1].length, redo_some(b[2].at), b[2].length
+
+/* What a call of redo.h answers, where the library has answered this. */
+int32_t redo_report(redo_t *, uint32_t);
+int32_t redo_because(redo_t *, int32_t);
+
+int32_t redo_open_files(redo_t *, redo_files_t *, const char *, bytes_t[3]);
+void redo_close_files(redo_files_t *);
+/* Whether a log has records, whatever the file of the objects is. */
+bool redo_has_log(bytes_t[3]);
+
+typedef uint32_t next_call_t(redo_core_t *, redo_call_t *, uint8_t *, size_t);
+bool redo_make_calls(redo_t *, redo_files_t *, next_call_t *, redo_core_t *);
+
+/* Of redo_backup.c: lets the files of a backup go, if there are some. */
+void redo_end_backup(redo_t *);
+#endif
