@@ -29,3 +29,4 @@ pub mod Readying
 pub mod Older
 pub mod OlderWork
 pub mod DirtyLogs
+pub mod RoundGoes

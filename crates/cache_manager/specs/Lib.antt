@@ -1,4 +1,5 @@
 pub mod InstallCourses
+pub mod RoundCourses
 pub mod Beside
 pub mod Endings
 pub mod RecordPlace

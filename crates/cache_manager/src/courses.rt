@@ -5,6 +5,7 @@ ghost use Rattle.explain_core.specs.Turns.{count_below, dirty_in};
 ghost use Rattle.explain_core.specs.World.{World, run, end_of};
 ghost use Rattle.running_store.specs.Courses.{force_course};
 ghost use Rattle.cache_manager.specs.InstallCourses.{identities, has_members, install_course, drain_course, logged_in, flushed_in, removals};
+ghost use Rattle.cache_manager.specs.RoundCourses.{round_course};
 ghost use Rattle.running_store.specs.Courses.Stop.{Through};
 ghost use Rattle.explain_core.specs.Backup.{AreBeside};
 ghost use Rattle.cache_manager.specs.FewLogged.{AreFewLogged};
@@ -90,4 +91,13 @@ pub fn installs_go_beside_a_copy<O: Oper>()
 {
     explain_core::every_run_keeps::<O>();
     install_order::last_blind_write_is_alone();
+}
+
+/// A round may be made, beside a copy of the slots too, of so many nodes at most.
+pub fn round_may_be_taken<O: Oper>()
+    ensures { (b : Bounds) (copied most : ℕ) (w : World O) (used : ℕ) → IsSmall b → IsRunning (O.meaning b) w →
+        MayBeTaken (O.meaning b) w (round_course (O.meaning b) copied most w used).steps }
+{
+    explain_core::every_run_keeps::<O>();
+    explain_core::a_round_may_be_taken::<O>();
 }

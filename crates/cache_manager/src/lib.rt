@@ -22,7 +22,7 @@ mod worked;
 
 pub use courses::{
     drain_is_bounded, drain_may_be_taken, force_may_be_taken, identities_may_be_taken,
-    install_is_bounded, install_may_be_taken, installs_go_beside_a_copy,
+    install_is_bounded, install_may_be_taken, installs_go_beside_a_copy, round_may_be_taken,
 };
 pub use draining::drain;
 pub use install::Install;

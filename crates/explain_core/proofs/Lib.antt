@@ -25,3 +25,4 @@ pub mod Exact
 pub mod ByteCodes
 pub mod WorkedRuns
 pub mod HalfSwap
+pub mod RoundMay

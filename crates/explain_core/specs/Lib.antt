@@ -1,11 +1,14 @@
 pub mod History
 pub mod Explains
 pub mod World
+pub mod RoundGates
+pub mod RoundRemovals
 pub mod RunLaws
 pub mod Sound
 pub mod Group
 pub mod GraphLaws
 pub mod Turns
+pub mod Rounds
 pub mod TurnLaws
 pub mod Taken
 pub mod CountLaws

@@ -10,6 +10,7 @@ mod backup;
 mod byte_op;
 mod flush_order;
 mod recovery;
+mod rounds;
 mod steps;
 mod worked;
 
@@ -23,6 +24,7 @@ pub use recovery::{
     one_state, redo_gives_the_map, stable_parts_stand, turns_end, turns_keep,
     wider_bounds_keep_stable_parts,
 };
+pub use rounds::{a_round_may_be_taken, any_gates_may_open, minimal_nodes_stay};
 pub use steps::{
     append_keeps, begin_keeps, block_gate_keeps, check_keeps, crash_keeps, end_keeps,
     every_run_keeps, header_gate_keeps, removal_keeps, replay_keeps, slot_gate_keeps,

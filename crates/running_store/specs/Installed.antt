@@ -29,7 +29,7 @@ use Rattle.running_store.specs.Flushed.{IsFlushed}
 use Rattle.running_store.specs.Parts.{Volatile, ShowsVolatile, volatile}
 
 -- past the last object of the store there are no bytes
-stored_past : (p : Params) (file : List ℕ) (y : ℕ) → p.objects ≤ y → stored p file y ≡ record { id = 0; value = [] }
+pub stored_past : (p : Params) (file : List ℕ) (y : ℕ) → p.objects ≤ y → stored p file y ≡ record { id = 0; value = [] }
 stored_past p file y past = cond-false (nat_lt y p.objects) (cell_of y file) (record { id = 0; value = [] }) (le-ltb y p.objects past)
 
 -- the others are as they were

@@ -21,6 +21,7 @@ pub mod Growth
 pub mod Buffered
 pub mod Forced
 pub mod Stored
+pub mod RoundImages
 pub mod Taking
 pub mod Kept
 pub mod KeptLaws

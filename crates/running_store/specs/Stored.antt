@@ -53,7 +53,7 @@ store_shown m p d it w shows = record {
 
 module _ {O : Type 0} (m : Meaning O) (p : Params) where
   -- the records are as they were where the objects alone change
-  log_beside : (active : FileNo) (old new : Files) → OthersStay Objects old new → {header : _} (groups : List (List (Record O))) → HoldsRecordLog m active header groups old → HoldsRecordLog m active header groups new
+  pub log_beside : (active : FileNo) (old new : Files) → OthersStay Objects old new → {header : _} (groups : List (List (Record O))) → HoldsRecordLog m active header groups old → HoldsRecordLog m active header groups new
   log_beside active old new others {header} groups holds = record {
     in_force = in_force_beside active header.epoch old new others holds.in_force;
     log = subst (λ (f : List ℕ). IsRecordLog m header groups f) (sym (others active holds.in_force.a_log)) holds.log;

@@ -40,7 +40,7 @@ mod slots;
 mod store;
 mod store_err;
 
-pub use laws::{a_check_taken_now, dirty_objects_are_counted};
+pub use laws::{a_check_taken_now, any_gates_are_shown, dirty_objects_are_counted};
 pub use limits::objects_within;
 pub use objects::Objects;
 pub use store::Store;

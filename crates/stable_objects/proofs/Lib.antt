@@ -21,3 +21,5 @@ pub mod Grown
 pub mod Compared
 pub mod Spares
 pub mod Closing
+pub mod Opened
+pub mod GatesOpened

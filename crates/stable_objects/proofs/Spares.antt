@@ -66,7 +66,7 @@ module _ (cap place : ℕ) (old new : List ℕ) (longer : length old ≤ length 
       within = λ some. omega (arith, slot.within (omega (arith, some, long_kept)), long_kept, longer);
     }
 
-    cells_kept : whole_cell place new ≡ whole_cell place old
+    pub cells_kept : whole_cell place new ≡ whole_cell place old
     cells_kept = λ i. record { id = numbered_kept i; value = value_kept i }
 
   -- and whose gate is the same

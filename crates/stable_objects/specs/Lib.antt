@@ -14,3 +14,4 @@ pub mod SlotLaws
 pub mod Replacing
 pub mod Spares
 pub mod SpareLaws
+pub mod Ready

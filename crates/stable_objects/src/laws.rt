@@ -1,14 +1,16 @@
 // Laws of files that are filled before they are in use, of a store that is made larger, and of spare slots.
-ghost use Rattle.std.specs.Prelude.{◌≡◌, ◌≢◌, ◌<◌, ◌≤◌, ◌+◌, ◌^◌, ℕ, List, [], ◌∷◌, length};
+ghost use Rattle.std.specs.Prelude.{◌≡◌, ◌≢◌, ◌<◌, ◌≤◌, ◌+◌, ◌^◌, ℕ, IsTrue, List, [], ◌∷◌, length};
 ghost use Rattle.disk_model.specs.Disk.{Torn, written_over};
 ghost use Rattle.oper_core.specs.Cell.{Cell};
 ghost use Rattle.formats.specs.Bytes.{byte_at};
-ghost use Rattle.formats.specs.Objects.{layout_in, place_in};
+ghost use Rattle.oper_core.specs.State.{is_among};
+ghost use Rattle.formats.specs.Objects.{cell_of, layout_in, place_in};
 ghost use Rattle.formats.specs.declared.params.Params.{Params};
 ghost use Rattle.stable_objects.specs.Filling.{IsFilledTo};
 ghost use Rattle.stable_objects.specs.Larger.{IsFirst, IsStill, HasLastHead, end_of_slots, seconded};
 ghost use Rattle.stable_objects.specs.Making.{IsNewFile, KeepsFront, opened};
 ghost use Rattle.stable_objects.specs.Replacing.{IsPut};
+ghost use Rattle.stable_objects.specs.Ready.{AreHeld, AreOldOrNew, AreOpened, AreReady, KeepsButGatesOf};
 ghost use Rattle.stable_objects.specs.SlotsView.{SlotsView, AreOf};
 ghost use Rattle.stable_objects.specs.Spares.{IsUnseen, KeepsButGates, KeepsButSpares};
 
@@ -48,4 +50,15 @@ pub fn a_version_is_one_of_two()
 pub fn spare_slots_are_not_seen()
     ensures gates { (slots : SlotsView) (old new : List ℕ) → AreOf slots old → KeepsButGates slots old new → IsUnseen slots.params old new }
     ensures spares { (slots : SlotsView) (old new : List ℕ) → AreOf slots old → KeepsButSpares slots old new → AreOf slots new × IsUnseen slots.params old new }
+{}
+
+/// While gates of slots that are ready are opened, any of them, each object has the pair that it had or the one that it is to
+/// have; and that one where its gate is open.
+pub fn ready_gates_open_alone()
+    ensures any { (slots : SlotsView) (objects : List ℕ) (pairs : ℕ → Cell) (old new : List ℕ) → AreOf slots old → AreReady slots old objects pairs → KeepsButGatesOf slots objects old new →
+        AreOldOrNew slots.params objects pairs old new }
+    ensures opened { (slots : SlotsView) (objects : List ℕ) (pairs : ℕ → Cell) (old new : List ℕ) → AreOf slots old → AreReady slots old objects pairs → KeepsButGatesOf slots objects old new →
+        AreOpened slots objects new → (x : ℕ) → x < slots.params.objects → IsTrue (is_among x objects) → cell_of x new ≡ pairs x }
+    ensures held { (slots later : SlotsView) (objects : List ℕ) (pairs : ℕ → Cell) (old new : List ℕ) → AreOf slots old → AreReady slots old objects pairs → KeepsButGatesOf slots objects old new →
+        AreOpened slots objects new → AreHeld slots later objects pairs → AreOf later new }
 {}

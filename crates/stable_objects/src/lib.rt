@@ -12,6 +12,7 @@
 mod comparing;
 mod creating;
 mod damage;
+mod gates;
 mod growing;
 mod heads;
 mod larger;
@@ -28,7 +29,7 @@ mod window;
 
 pub use laws::{
     a_byte_is_written_later, a_file_is_filled, a_store_stays_while_it_grows,
-    a_version_is_one_of_two, spare_slots_are_not_seen,
+    a_version_is_one_of_two, ready_gates_open_alone, spare_slots_are_not_seen,
 };
 pub use open_err::OpenErr;
 pub use slots::Slots;

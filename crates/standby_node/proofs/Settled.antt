@@ -6,7 +6,7 @@ use Rattle.oper_core.specs.Meaning.{Meaning}
 use Rattle.formats.specs.Limits.{log_limit, numbers_end}
 use Rattle.install_order.specs.Computed.{least_below, some_below}
 use Rattle.explain_core.specs.History.{Member}
-use Rattle.explain_core.specs.RunLaws.{Begins, run-append}
+use Rattle.explain_core.specs.RunLaws.{Begins, begins-each, run-append}
 use Rattle.explain_core.specs.Turns.{has_thin, has_work, must_install, thin_name, thin_steps, turn, turns}
 use Rattle.explain_core.specs.World.{Starts, Step, World, node_named, run, step}
 use Rattle.explain_core.specs.World.Step.{Begin, End, Append, Block_gate, Check, Slot_gate, Removal, Header_gate, Replay, Crash}
@@ -46,12 +46,8 @@ module _ {O : Type 0} where
   calm_append [] ys one two = two
   calm_append (x ∷ xs) ys one two = (one.0, calm_append xs ys one.1 two)
 
-  calm_part : (xs ys : List (Step O)) → AreCalm (xs ++ ys) → AreCalm xs
-  calm_part [] ys are = tt
-  calm_part (x ∷ xs) ys are = (are.0, calm_part xs ys are.1)
-
   pub calm_front : (steps taken : List (Step O)) → Begins steps taken → AreCalm steps → AreCalm taken
-  calm_front steps taken begins are = calm_part taken begins.rest (subst (λ (l : List (Step O)). AreCalm l) begins.split are)
+  calm_front steps taken begins are = begins-each IsCalm AreCalm tt (λ s more one rest. (one, rest)) (λ s more both. both) steps taken begins are
 
 module _ {O : Type 0} (m : Meaning O) where
   step_settled : (h : List (Member O)) (w : World O) (s : Step O) → IsCalm s → IsSettledAt h w → IsSettledAt h (step m w s)

@@ -1,5 +1,5 @@
 -- The courses of calls beside a copy of the slots, and what they leave of it.
-use Rattle.std.proofs.Common.{subst, ℕ, ◌+◌, Bool, List, [], ◌∷◌, ◌++◌, inl, inr, ◌⊎◌, Option, None, Some}
+use Rattle.std.proofs.Common.{◌≡◌, subst, sym, refl, ℕ, ◌+◌, Bool, true, false, List, [], ◌∷◌, ◌++◌, inl, inr, ◌⊎◌, Option, None, Some}
 use Rattle.std.specs.Prelude.{nat_lt, if◌then◌else◌}
 use Rattle.std.specs.List.{AllByRecursion}
 use Rattle.disk_model.specs.Disk.{Disk}
@@ -11,6 +11,9 @@ use Rattle.formats.specs.Limits.{log_limit}
 use Rattle.formats.specs.Objects.{bounds_of}
 use Rattle.formats.specs.declared.params.Params.{Params}
 use Rattle.explain_core.specs.Backup.{AreBeside, IsCopied}
+use Rattle.explain_core.specs.History.{Member, numbered}
+use Rattle.explain_core.specs.History.Member.{Identity}
+use Rattle.explain_core.specs.RoundGates.{Gate, gate_step, gates_of, picked}
 use Rattle.explain_core.specs.RunLaws.{Begins, allowed-append, begins-all, begins-allowed}
 use Rattle.explain_core.specs.Sound.{IsSound}
 use Rattle.explain_core.specs.World.{World, Step, step, run, AreAllowed}
@@ -82,16 +85,37 @@ module _ {O : Type 0} (m : Meaning O) where
 
   -- ---- first steps
 
-  part_beside : (copied : ℕ) (w : World O) (xs ys : List (Step O)) → AreBeside m copied w (xs ++ ys) → AreBeside m copied w xs
-  part_beside copied w [] ys are = tt
-  part_beside copied w (x ∷ xs) ys are = (are.0, part_beside copied (step m w x) xs ys are.1)
+  beside_parts : (copied : ℕ) (w : World O) (xs ys : List (Step O)) → AreBeside m copied w (xs ++ ys) → AreBeside m copied w xs × AreBeside m copied (run m w xs) ys
+  unfolding run
+  beside_parts copied w [] ys are = (tt, are)
+  beside_parts copied w (x ∷ xs) ys are = let more = beside_parts copied (step m w x) xs ys are.1 in ((are.0, more.0), more.1)
 
-  -- of a course that may go beside the copy the first steps may
+  beside_both : (copied : ℕ) (w : World O) (xs ys : List (Step O)) → AreBeside m copied w xs → AreBeside m copied (run m w xs) ys → AreBeside m copied w (xs ++ ys)
+  unfolding run
+  beside_both copied w [] ys first second = second
+  beside_both copied w (x ∷ xs) ys first second = (first.0, beside_both copied (step m w x) xs ys first.1 second)
+
+  -- slot gates may be opened beside the copy by the history alone, so any of them may
+  beside_picked : (copied : ℕ) (which : List Bool) (v w : World O) (gates : List Gate) → v.history ≡ w.history → AreBeside m copied v (gates_of gates) → AreBeside m copied w (gates_of (picked which gates))
+  unfolding step
+  beside_picked copied which v w [] same are = tt
+  beside_picked copied [] v w (g ∷ gates) same are = tt
+  beside_picked copied (true ∷ which) v w (g ∷ gates) same are = (
+    λ less. let one = are.0 less in (one.0, one.1, one.2, (one.3.0, subst (λ (h : List (Member O)). numbered h one.0 ≡ Some (Identity one.1 one.3.0)) same one.3.1)),
+    beside_picked copied which (step m v (gate_step g)) (step m w (gate_step g)) gates same are.1,
+  )
+  beside_picked copied (false ∷ which) v w (g ∷ gates) same are = beside_picked copied which (step m v (gate_step g)) w gates same are.1
+
+  -- of a course that may go beside the copy some steps may
   front_beside : (copied : ℕ) (w : World O) (steps taken : List (Step O)) → MayGoBeside m copied w steps → Begins steps taken → MayGoBeside m copied w taken
-  front_beside copied w steps taken may begins = record {
-    allowed = begins-allowed m w steps taken begins may.allowed;
-    beside = part_beside copied w taken begins.rest (subst (λ (l : List (Step O)). AreBeside m copied w l) begins.split may.beside);
-  }
+  front_beside copied w steps taken may begins =
+      let first = beside_parts copied w begins.front (gates_of begins.gates ++ begins.rest) (subst (λ (l : List (Step O)). AreBeside m copied w l) begins.split may.beside) in
+      let v = run m w begins.front in
+      let gates = (beside_parts copied v (gates_of begins.gates) begins.rest first.1).0 in
+      record {
+        allowed = begins-allowed m w steps taken begins may.allowed;
+        beside = subst (λ (l : List (Step O)). AreBeside m copied w l) (sym begins.picks) (beside_both copied w begins.front (gates_of (picked begins.which begins.gates)) first.0 (beside_picked copied begins.which v v begins.gates refl gates));
+      }
 
   -- a copy of a world is one of it but for its open group, and back
   pub in_group : (w : World O) (copied : ℕ) (cells : ℕ → Cell) → IsCopied m (ungrouped w) copied cells → IsCopied m w copied cells

@@ -16,7 +16,7 @@ use Rattle.formats.specs.declared.params.Params.{Params}
 use Rattle.log_records.specs.RecordLog.{RecordLogView}
 use Rattle.explain_core.specs.History.{Member, commands_of}
 use Rattle.explain_core.specs.History.Member.{Command}
-use Rattle.explain_core.specs.RunLaws.{Begins, begins-all, begins-allowed}
+use Rattle.explain_core.specs.RunLaws.{Begins, begins-all, begins-allowed, begins-one}
 use Rattle.explain_core.specs.StableLaws.{commands_of-append}
 use Rattle.explain_core.specs.Sound.{IsGroup, IsSound}
 use Rattle.explain_core.specs.Taken.{IsAfterSome}
@@ -55,12 +55,6 @@ use Rattle.store_engine.proofs.Holding.{IsGroupCounted, IsLiveMap, Stand, holds_
 use Rattle.store_engine.proofs.Keeping.{KeepsRuns, between_front, small_shown}
 use Rattle.store_engine.proofs.Steps.{ArePlain, HasFront, are_plain, front_appended, front_extended, plain_front, same_commands, stable_inside, steps_extend}
 
--- a list of one step begins with none, or with it
-pub one_begins : {O : Type 0} (s : Step O) (taken : List (Step O)) → Begins (s ∷ []) taken → (taken ≡ []) ⊎ (taken ≡ s ∷ [])
-one_begins s [] begins = inl refl
-one_begins {O} s (t ∷ []) begins = inr (sym (ap (λ (l : List (Step O)). take 1 l) begins.split))
-one_begins {O} s (t ∷ u ∷ rest) begins = absurd (omega (arith, ap (λ (l : List (Step O)). length l) begins.split))
-
 -- the course of every sound live world may be taken, also while a group is open
 abbrev pub MayExecAll : {O : Type 0} → (Bounds → Meaning O) → ℕ → O → Type 0
 MayExecAll {O} meaning limit op = (b : Bounds) (w : World O) (used : ℕ) → IsSmall b → IsSound (meaning b) w → IsLive w → MayExec (meaning b) limit op w used
@@ -90,7 +84,7 @@ module _ {O : Type 0} (m : Meaning O) (grouped : Bool) (limit : ℕ) (op : O) (w
   unplaced_plain false = are_plain (force_steps m w) (upkeep_force m w)
 
   append_ways : AllWays (Append (Command op) ∷ [])
-  append_ways taken begins = elim (one_begins (Append (Command op)) taken begins) [ inl none ↦ inl (subst (λ (l : List (Step O)). ArePlain l) (sym none) tt) | inr all ↦ inr all ]
+  append_ways taken begins = elim (begins-one (Append (Command op)) taken begins) [ inl none ↦ inl (subst (λ (l : List (Step O)). ArePlain l) (sym none) tt) | inr all ↦ inr all ]
 
   pub taken_ways : (taken : List (Step O)) → Begins (exec_course m grouped limit op w used).steps taken → Ways taken
   taken_ways = course_ways AllWays (plain_ways [] tt) (plain_ways (unplaced_steps m grouped w) (unplaced_plain grouped)) append_ways

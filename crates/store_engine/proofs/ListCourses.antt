@@ -6,7 +6,7 @@ use Rattle.std.proofs.lemmas.Bool.{both_ways, cond_both}
 use Rattle.oper_core.specs.Meaning.{Meaning}
 use Rattle.explain_core.specs.History.{commands_of}
 use Rattle.explain_core.specs.History.Member.{Command}
-use Rattle.explain_core.specs.RunLaws.{Begins, run-append}
+use Rattle.explain_core.specs.RunLaws.{Begins, begins-empty, begins-one, run-append}
 use Rattle.explain_core.specs.StableLaws.{commands_of-append}
 use Rattle.explain_core.specs.Taken.{IsAfterSome, after_all, after_behind, after_longer}
 use Rattle.explain_core.specs.World.{World, Step, run, step, end_of, IsLive}
@@ -22,16 +22,10 @@ use Rattle.running_store.specs.Commands.{command_length}
 use Rattle.cache_manager.specs.Upkeep.{upkeep_force}
 use Rattle.execution.specs.Courses.{append_course, needed, unplaced_steps}
 use Rattle.store_engine.specs.Lists.{EndsBy, IsBehind, commands_course}
-use Rattle.store_engine.proofs.Commands.{one_begins}
 
 logged-append : {O : Type 0} (xs ys : List (Step O)) → logged_in (xs ++ ys) ≡ logged_in xs ++ logged_in ys
 logged-append [] ys = refl
 logged-append (s ∷ xs) ys = ap (λ (l : List ℕ). logged_by s ++ l) (logged-append xs ys) ∙ sym (append_assoc (logged_by s) (logged_in xs) (logged_in ys))
-
--- a list without steps begins with none
-none_begins : {O : Type 0} (taken : List (Step O)) → Begins [] taken → taken ≡ []
-none_begins [] begins = refl
-none_begins {O} (s ∷ taken) begins = absurd (omega (arith, ap (λ (l : List (Step O)). length l) begins.split))
 
 module _ {O : Type 0} (m : Meaning O) (limit : ℕ) (op : O) (w : World O) (used : ℕ) where
   abbrev one : Course O
@@ -77,11 +71,11 @@ module _ {O : Type 0} (m : Meaning O) (limit : ℕ) (op : O) (w : World O) (used
 
   pub same_none : IsSameWhereAsMany []
   unfolding run
-  same_none taken begins as_many = ap (λ (l : List (Step O)). commands_of (run m w l).history) (none_begins taken begins)
+  same_none taken begins as_many = ap (λ (l : List (Step O)). commands_of (run m w l).history) (begins-empty taken begins)
 
   same_gate : IsSameWhereAsMany (Block_gate ∷ [])
   unfolding run step
-  same_gate taken begins as_many = elim (one_begins Block_gate taken begins) [
+  same_gate taken begins as_many = elim (begins-one Block_gate taken begins) [
     | inl none ↦ ap (λ (l : List (Step O)). commands_of (run m w l).history) none
     | inr all ↦ ap (λ (l : List (Step O)). commands_of (run m w l).history) all
   ]
@@ -95,7 +89,7 @@ module _ {O : Type 0} (m : Meaning O) (limit : ℕ) (op : O) (w : World O) (used
 
   same_append : IsSameWhereAsMany (Append (Command op) ∷ [])
   unfolding run
-  same_append taken begins as_many = elim (one_begins (Append (Command op)) taken begins) [
+  same_append taken begins as_many = elim (begins-one (Append (Command op)) taken begins) [
     | inl none ↦ ap (λ (l : List (Step O)). commands_of (run m w l).history) none
     | inr all ↦ absurd (omega (arith, as_many, ap (λ (l : List (Step O)). length (commands_of (run m w l).history)) all, ap (λ (l : List O). length l) command_added, length-append (commands_of w.history) (op ∷ [])))
   ]

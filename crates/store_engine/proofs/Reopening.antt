@@ -1,5 +1,5 @@
 -- A restart keeps the commands that the files stand for, and all of them are forced after it.
-use Rattle.std.proofs.Common.{◌≡◌, ◌∙◌, sym, subst, ap, ℕ, ◌≤◌, List, [], ◌∷◌, ◌++◌, length, take, drop, refl, arith, inl, ⊎_elim, None}
+use Rattle.std.proofs.Common.{◌≡◌, ◌∙◌, sym, subst, ap, ℕ, ◌≤◌, List, [], ◌∷◌, ◌++◌, length, take, drop, refl, arith, inl, inr, ⊎_elim, None}
 use Rattle.std.specs.Prelude.{false}
 use Rattle.std.proofs.lemmas.List.{take_all}
 use Rattle.disk_model.specs.Disk.{Files, Disk, LeavesOnly}
@@ -9,7 +9,7 @@ use Rattle.oper_core.specs.declared.bounds.Bounds.{Bounds}
 use Rattle.formats.specs.Objects.{bounds_of}
 use Rattle.formats.specs.declared.params.Params.{Params}
 use Rattle.explain_core.specs.History.{Member, commands_of}
-use Rattle.explain_core.specs.RunLaws.{Begins, begins-allowed}
+use Rattle.explain_core.specs.RunLaws.{Begins, begins-allowed, begins-first}
 use Rattle.explain_core.specs.World.{World, Step, step, run, AreAllowed}
 use Rattle.explain_core.specs.World.Step.{Crash}
 use Rattle.standing.specs.Moments.{ShowsSome}
@@ -51,12 +51,10 @@ module _ {O : Type 0} (m : Meaning O) (p : Params) (files : Files) (commands : L
 
   some_extended : (taken : List (Step O)) → Begins (restart_course m dirty w used).steps taken → ExtendsPlainly w (run m w taken)
   unfolding run
-  some_extended [] begins = extends_same w w refl (omega arith) within (inl refl)
-  some_extended (s ∷ taken) begins =
-      let first : Crash ∷ [] ≡ s ∷ [] = ap (λ (l : List (Step O)). take 1 l) begins.split in
-      let later : rest ≡ taken ++ begins.rest = ap (λ (l : List (Step O)). drop 1 l) begins.split in
-      let front : Begins rest taken = record { rest = begins.rest; split = later } in
-      subst (λ (l : List (Step O)). ExtendsPlainly w (run m w (l ++ taken))) first (extended taken (plain_front rest taken front rest_plain))
+  some_extended taken begins = elim (begins-first Crash rest taken (λ g same. cc) begins) [
+    | inl none ↦ subst (λ (l : List (Step O)). ExtendsPlainly w (run m w l)) (sym none) (extends_same w w refl (omega arith) within (inl refl))
+    | inr more ↦ subst (λ (l : List (Step O)). ExtendsPlainly w (run m w l)) (sym more.1) (extended more.0 (plain_front rest more.0 more.2 rest_plain))
+  ]
 
   pub restart_keeps : commands_of (run m w (restart_course m dirty w used).steps).history ≡ commands
   restart_keeps = same_commands w (run m w (restart_course m dirty w used).steps) all_extended ∙ found.commands_are

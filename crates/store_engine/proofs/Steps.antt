@@ -6,7 +6,7 @@ use Rattle.std.proofs.lemmas.List.{append-nil, take-append-le, take-take}
 use Rattle.oper_core.specs.Meaning.{Meaning}
 use Rattle.explain_core.specs.History.{Member, commands_of}
 use Rattle.explain_core.specs.History.Member.{Command, Identity}
-use Rattle.explain_core.specs.RunLaws.{Begins}
+use Rattle.explain_core.specs.RunLaws.{Begins, begins-each}
 use Rattle.explain_core.specs.StableLaws.{commands_of-append}
 use Rattle.explain_core.specs.World.{World, Step, step, run}
 use Rattle.explain_core.specs.World.Step.{Begin, End, Append, Block_gate, Check, Slot_gate, Removal, Header_gate, Replay, Crash}
@@ -77,13 +77,9 @@ module _ {O : Type 0} where
   plain_append [] ys first second = second
   plain_append (x ∷ xs) ys first second = (first.0, plain_append xs ys first.1 second)
 
-  plain_part : (xs ys : List (Step O)) → ArePlain (xs ++ ys) → ArePlain xs
-  plain_part [] ys are = tt
-  plain_part (x ∷ xs) ys are = (are.0, plain_part xs ys are.1)
-
-  -- of plain steps the first ones are plain
+  -- of plain steps some are plain
   pub plain_front : (steps taken : List (Step O)) → Begins steps taken → ArePlain steps → ArePlain taken
-  plain_front steps taken begins are = plain_part taken begins.rest (subst (λ (l : List (Step O)). ArePlain l) begins.split are)
+  plain_front steps taken begins are = begins-each IsPlain ArePlain tt (λ s more one rest. (one, rest)) (λ s more both. both) steps taken begins are
 
   pub extends_same : (w later : World O) → later.history ≡ w.history → w.forced ≤ later.forced → later.forced ≤ length later.history
       → (later.forced ≡ w.forced) ⊎ (length (commands_of (take later.forced later.history)) ≡ length (commands_of later.history)) → ExtendsPlainly w later

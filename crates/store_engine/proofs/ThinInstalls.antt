@@ -17,6 +17,7 @@ use Rattle.install_order.specs.Computed.{least_below, some_below}
 use Rattle.log_frames.specs.LogView.{used_of}
 use Rattle.log_records.specs.RecordLog.{RecordLogView}
 use Rattle.explain_core.specs.History.{Member}
+use Rattle.explain_core.specs.RunLaws.{begins-one}
 use Rattle.explain_core.specs.Sound.{IsSound}
 use Rattle.explain_core.specs.Taken.{IsAfterSome, after_none}
 use Rattle.explain_core.specs.Turns.{count_below, dirty_in, has_thin, has_work, is_dirty_in, must_install, thin_name, thin_steps, turns}
@@ -39,7 +40,6 @@ use Rattle.store_engine.specs.Engine.{Between, EngineView, Holds, KeepsCommands,
 use Rattle.store_engine.specs.Following.{HasInstalledThin, thin_course}
 use Rattle.store_engine.specs.Store.{meaning_in}
 use Rattle.store_engine.proofs.Calls.{call_of, fine, takes_of}
-use Rattle.store_engine.proofs.Commands.{one_begins}
 use Rattle.store_engine.proofs.Grouped.{alone_shown}
 use Rattle.store_engine.proofs.Holding.{Stand, no_records}
 use Rattle.store_engine.proofs.Keeping.{KeepsRuns, between_plainly, small_shown, takes_holds}
@@ -112,7 +112,7 @@ module _ {O : Type 0} (m : Meaning O) (w : World O) where
   -- a removal changes nothing that files hold
   removal_hidden : (p : Params) (files : Files) → IsAfterSome m (FilesShow m p files) w (Removal node ∷ []) → FilesShow m p files w
   unfolding run step
-  removal_hidden p files some = elim (one_begins (Removal node) some.taken some.begins) [
+  removal_hidden p files some = elim (begins-one (Removal node) some.taken some.begins) [
     | inl none ↦ subst (λ (l : List (Step O)). FilesShow m p files (run m w l)) none some.holds
     | inr all ↦ subst (λ (l : List (Step O)). FilesShow m p files (run m w l)) all some.holds
   ]

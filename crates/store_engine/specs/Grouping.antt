@@ -2,7 +2,7 @@
 use Rattle.std.proofs.Common.{◌≡◌, ◌∙◌, sym, subst, ap, ℕ, List, [], ◌∷◌, ◌++◌, refl, Option, None, Some}
 use Rattle.std.specs.Prelude.{⊤}
 use Rattle.oper_core.specs.Meaning.{Meaning}
-use Rattle.explain_core.specs.RunLaws.{Begins}
+use Rattle.explain_core.specs.RunLaws.{Begins, begins-each}
 use Rattle.explain_core.specs.World.{World, Step, step, run}
 use Rattle.explain_core.specs.World.Step.{Begin, End, Append, Block_gate, Check, Slot_gate, Removal, Header_gate, Replay, Crash}
 
@@ -93,10 +93,6 @@ module _ {O : Type 0} (m : Meaning O) where
   same_waits begun w (s ∷ steps) are = same_waits begun (step m w s) steps are.1 ∙ step_waits begun w s are.0
 
 module _ {O : Type 0} (group : Option ℕ) where
-  part_inside : (xs ys : List (Step O)) → AreInside group (xs ++ ys) → AreInside group xs
-  part_inside [] ys are = tt
-  part_inside (x ∷ xs) ys are = (are.0, part_inside xs ys are.1)
-
-  -- so are first ones of them
+  -- so are some of them
   pub front_inside : (steps taken : List (Step O)) → Begins steps taken → AreInside group steps → AreInside group taken
-  front_inside steps taken begins are = part_inside taken begins.rest (subst (λ (l : List (Step O)). AreInside group l) begins.split are)
+  front_inside steps taken begins are = begins-each (IsInside group) (AreInside group) tt (λ s more one rest. (one, rest)) (λ s more both. both) steps taken begins are
