@@ -1,0 +1,8 @@
+mod Undone
+mod Making
+mod RoomLemmas
+mod Begun
+mod Committed
+mod OverlayLemmas
+mod Reading
+mod Staging

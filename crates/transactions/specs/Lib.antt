@@ -1,0 +1,6 @@
+pub mod Accepted
+pub mod Room
+pub mod Committing
+pub mod Staged
+pub mod Admitted
+pub mod Whole

@@ -1,0 +1,16 @@
+//! Transactions over the engine: commands of which all are added, or none.
+#![tactic(auto)]
+
+mod admitting;
+mod beginning;
+mod commit_err;
+mod committing;
+mod overlay;
+mod rolling_back;
+mod running;
+mod seeing;
+mod transaction;
+
+pub use commit_err::CommitErr;
+pub use rolling_back::roll_back;
+pub use transaction::Transaction;
