@@ -1,6 +1,6 @@
 -- Objects are made ready for their flush, and the store shows the world that it showed.
-use Rattle.std.proofs.Common.{◌≡◌, ◌∙◌, sym, subst, ap, ℕ, ◌<◌, Bool, true, false, List, [], refl, inl, inr, arith, Some, Ok, Err}
-use Rattle.std.specs.Prelude.{◌||◌, nat_lt, IsErr, OnOk, Result}
+use Rattle.std.proofs.Common.{◌≡◌, ◌∙◌, sym, subst, ap, ℕ, ◌<◌, ⊎_elim, All, Bool, true, false, List, [], refl, inl, inr, arith, Some, Ok, Err}
+use Rattle.std.specs.Prelude.{◌||◌, nat_lt, IsErr, IsSome, OnOk, Result}
 use Rattle.std.proofs.lemmas.Bool.{both_ways, cases_lt, le-ltb, cond-false}
 use Rattle.disk_model.specs.Disk.{Any, Disk, Files, In, IsSettled, LeavesOnly, Rises, Runs, Same}
 use Rattle.disk_model.specs.Moments.{runs_join, runs_wider}
@@ -31,7 +31,7 @@ use Rattle.running_store.specs.Faults.{has_failed}
 use Rattle.running_store.specs.Joins.{stored_here}
 use Rattle.running_store.specs.Kept.{KeepsLog}
 use Rattle.running_store.specs.KeptLaws.{beside_log}
-use Rattle.running_store.specs.Laid.{IsLaidOn, Laid, cell_or}
+use Rattle.running_store.specs.Laid.{HasClosedSpare, IsLaidOn, Laid, cell_or}
 use Rattle.running_store.specs.Parts.{AreInUse, Shows, ShowsLog, Volatile, VolatileShows, meaning_in, parts, volatile}
 use Rattle.running_store.specs.Stored.{keeps_beside, store_shown, unflushed_files}
 use Rattle.running_store.specs.StoreView.{IsUsable, StoreView, view_of}
@@ -40,11 +40,18 @@ use Rattle.running_store.specs.Taking.Ending.{Done, Failed}
 use Rattle.running_store.specs.TakesLaws.{takes_failed}
 use Rattle.running_store.proofs.Inside.{call_inside, flag_before, quiet_one}
 
--- what is known while spare slots are closed, one after the other
-pub record HaveClosed (first now : Disk) (before after : Laid) : Type 0 where
+-- a closed spare slot stays so
+pub stays_closed : (before after : Laid) (x : ℕ) → IsClosing before.slots after.slots → after.cache ≡ before.cache → HasClosedSpare before x → HasClosedSpare after x
+stays_closed before after x closing same closed cached =
+    let was = closed (subst (λ (c : Contents). IsSome (held c x)) same cached) in
+    ⊎_elim (λ kept. kept ∙ was) (λ none. none) (closing.spare_ids x)
+
+-- what is known while the spare slots of some objects are closed, one after the other
+pub record HaveClosed (first now : Disk) (before after : Laid) (done : List ℕ) : Type 0 where
   pub runs : Runs (In Objects (KeepsButGates before.slots)) Same first now
   pub slots : IsClosing before.slots after.slots
   pub cache : after.cache ≡ before.cache
+  pub closed : All (HasClosedSpare after) done
   pub are : first.tells_files → AreOf before.slots (first.reads Objects) → AreOf after.slots (now.reads Objects)
 
 -- The spare slots are closed, and then filled.

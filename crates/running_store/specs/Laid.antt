@@ -1,10 +1,11 @@
 -- The objects of a store in use: a cache, laid over the slots.
-use Rattle.std.specs.Prelude.{◌≡◌, ◌<◌, ◌≤◌, ℕ, if◌then◌else◌, List, length, Option, None, Some, false}
+use Rattle.std.specs.Prelude.{◌≡◌, ◌<◌, ◌≤◌, ℕ, IsSome, if◌then◌else◌, List, length, Option, None, Some, false}
 use Rattle.oper_core.specs.State.{State, value_for, is_among}
 use Rattle.oper_core.specs.Cell.{Cell}
 use Rattle.formats.specs.Objects.{IsInRange, cell_of}
 use Rattle.formats.specs.declared.params.Params.{Params}
 use Rattle.stable_objects.specs.SlotsView.{SlotsView, id_in, AreOf}
+use Rattle.stable_objects.specs.Spares.{spare_id}
 use Rattle.dirty_cache.specs.Contents.{Contents, cell_of_entry, held, is_dirty}
 use Rattle.dirty_cache.specs.declared.entry.Entry.{Entry}
 
@@ -44,6 +45,10 @@ pub record IsLaidOn (laid : Laid) (file : List ℕ) : Type 0 where
   pub slots : AreOf laid.slots file
   pub clean : (x : ℕ) (entry : Entry) → is_dirty laid.cache x ≡ false → held laid.cache x ≡ Some entry
       → cell_of x file ≡ cell_of_entry entry
+
+-- the slot that doesn't hold an object is closed, if the object is cached
+abbrev pub HasClosedSpare : Laid → ℕ → Type 0
+HasClosedSpare laid x = IsSome (held laid.cache x) → spare_id laid.slots x ≡ 0
 
 -- each object has the pair that it had
 abbrev pub KeepsCells : List ℕ → Laid → Laid → Type 0

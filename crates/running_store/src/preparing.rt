@@ -1,6 +1,6 @@
 // Objects are made ready for their flush: what is cached of them is written to the slots that don't hold them, whose gates stay
 // closed.
-ghost use Rattle.std.specs.Prelude.{◌≡◌, [], false, OnOk, IsErr};
+ghost use Rattle.std.specs.Prelude.{◌≡◌, [], All, false, OnOk, IsErr};
 ghost use Rattle.disk_model.specs.Disk.{Any, In, IsSettled, LeavesOnly, Rises, Runs, Same};
 ghost use Rattle.disk_model.specs.declared.machine.FileNo.TheVariants.{Objects as ObjectsFile};
 ghost use Rattle.formats.specs.declared.params.Params.{Params as Numbers};
@@ -12,7 +12,7 @@ ghost use Rattle.running_store.specs.Beside.{IsOnObjectsAlone};
 ghost use Rattle.running_store.specs.Calls.{IsCall, Never, ending_of_force};
 ghost use Rattle.running_store.specs.Courses.{course};
 ghost use Rattle.running_store.specs.Courses.Stop.{Through};
-ghost use Rattle.running_store.specs.Laid.{IsLaidOn};
+ghost use Rattle.running_store.specs.Laid.{HasClosedSpare, IsLaidOn};
 ghost use Rattle.running_store.specs.Parts.{VolatileShows, meaning_in};
 ghost use Rattle.running_store.specs.Taking.{Takes};
 
@@ -28,6 +28,7 @@ impl Objects {
         ensures runs { Runs (In ObjectsFile (KeepsButGates self.old.slots)) Same (M.disk machine.old) (M.disk machine.new) }
         ensures slots { IsClosing self.old.slots self.new.slots }
         ensures cache { self.new.cache ≡ self.old.cache }
+        ensures closed { OnOk result (HasClosedSpare self.new object) }
         ensures are { (M.disk machine.old).tells_files → AreOf self.old.slots ((M.disk machine.old).reads ObjectsFile) →
             OnOk result (AreOf self.new.slots ((M.disk machine.new).reads ObjectsFile)) }
         ensures cause { IsErr result → Rises (M.disk machine.old).disk_faults (M.disk machine.new).disk_faults }
@@ -43,6 +44,7 @@ impl Objects {
         ensures runs { Runs (In ObjectsFile (KeepsButGates self.old.slots)) Same (M.disk machine.old) (M.disk machine.new) }
         ensures slots { IsClosing self.old.slots self.new.slots }
         ensures cache { self.new.cache ≡ self.old.cache }
+        ensures closed { OnOk result (All (HasClosedSpare self.new) objects.now) }
         ensures are { (M.disk machine.old).tells_files → AreOf self.old.slots ((M.disk machine.old).reads ObjectsFile) →
             OnOk result (AreOf self.new.slots ((M.disk machine.new).reads ObjectsFile)) }
         ensures settled { IsSettled (M.disk machine.old) → OnOk result (IsSettled (M.disk machine.new)) }
@@ -89,6 +91,7 @@ impl Objects {
         ensures runs { Runs (In ObjectsFile Any) Same (M.disk machine.old) (M.disk machine.new) }
         ensures slots { IsClosing self.old.slots self.new.slots }
         ensures cache { self.new.cache ≡ self.old.cache }
+        ensures closed { OnOk result (All (HasClosedSpare self.new) objects.now) }
         ensures unseen { (M.disk machine.old).tells_files → AreOf self.old.slots ((M.disk machine.old).reads ObjectsFile) →
             OnOk result (IsUnseen self.old.slots.params ((M.disk machine.old).reads ObjectsFile) ((M.disk machine.new).reads ObjectsFile)) }
         ensures laid { (M.disk machine.old).tells_files → IsLaidOn self.old ((M.disk machine.old).reads ObjectsFile) →
@@ -117,6 +120,7 @@ impl<O: Oper> Store<O> {
         ensures beside { IsOnObjectsAlone (M.disk machine.old) (M.disk machine.new) self.old self.new }
         ensures entries { self.new.parts.volatile.entries ≡ self.old.parts.volatile.entries }
         ensures cache { self.new.parts.volatile.objects.cache ≡ self.old.parts.volatile.objects.cache }
+        ensures closed { OnOk result (All (HasClosedSpare self.new.parts.volatile.objects) objects.now) }
         ensures shows { (p : Numbers) (w : World O) → let m = meaning_in O.meaning p in
             VolatileShows m p (M.disk machine.old) self.old.parts.volatile w → OnOk result (VolatileShows m p (M.disk machine.new) self.new.parts.volatile w) }
         ensures steps { (M.disk machine.old).tells_moments → (p : Numbers) (w : World O) → let m = meaning_in O.meaning p in

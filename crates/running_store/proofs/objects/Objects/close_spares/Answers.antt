@@ -1,10 +1,14 @@
-use Rattle.std.proofs.Common.{◌∙◌, refl, subst, sym, arith}
+use Rattle.std.proofs.Common.{◌∙◌, All, List, ℕ, refl, subst, sym, arith}
+use Rattle.std.proofs.lemmas.List.{take_all}
 use Rattle.disk_model.specs.Disk.{Files, In}
 use Rattle.disk_model.specs.Moments.{runs_none, runs_then_stays}
 use Rattle.disk_model.specs.declared.machine.FileNo.TheVariants.{Objects}
 use Rattle.stable_objects.specs.SlotsView.{AreOf, layout_of}
 use Rattle.stable_objects.specs.SpareLaws.{closing_none, closing_twice, gates_run, keeps_none, sync_settles}
 use Rattle.stable_objects.specs.Spares.{IsSpareGate, KeepsButGates}
+use Rattle.running_store.specs.Laid.{HasClosedSpare}
+use Rattle.running_store.proofs.PrepareLemmas.{stays_closed}
+use Rattle.running_store.proofs.SetLemmas.{all_next}
 use Rattle.running_store.proofs.objects.Objects.close_spares.Goals as goal
 
 pub loop-object-init : goal.loop-object-init
@@ -14,6 +18,7 @@ loop-object-init g c =
       runs = runs_none (g.M.Machine.disk c.args.machine.now) (In Objects (KeepsButGates slots)) (λ files. record { changed = keeps_none (layout_of slots) (IsSpareGate slots) (files Objects); others = λ other ne. refl }) (g.met.M.Machine.lawful c.args.machine.now);
       slots = closing_none slots;
       cache = refl;
+      closed = λ k d below. absurd (omega (arith, below));
       are = λ told are. are;
     }
 
@@ -24,6 +29,8 @@ loop-object-preserved g c =
       runs = gates_run _ _ _ _ _ inv.slots inv.runs c.close_spare.ensures.runs;
       slots = closing_twice _ _ _ inv.slots c.close_spare.ensures.slots;
       cache = c.close_spare.ensures.cache ∙ inv.cache;
+      closed = all_next (HasClosedSpare c.loop-object.self) (HasClosedSpare c.close_spare.new.self) c.args.objects.now c.loop-object.object-index
+          (λ x. stays_closed c.loop-object.self c.close_spare.new.self x c.close_spare.ensures.slots c.close_spare.ensures.cache) inv.closed c.loop-object-test.true c.in_ok-close_spare.ensures.closed;
       are = λ told are. c.in_ok-close_spare.ensures.are (inv.runs.time.files_told.0 told) (inv.are told are);
     }
 
@@ -52,3 +59,7 @@ returns-clause-are g c told are =
 
 pub returns-clause-settled : goal.returns-clause-settled
 returns-clause-settled g c settled = sync_settles _ _ _ _ settled c.loop-object.invariant.runs c.sync.ensures.kept c.in_ok-sync.ensures.settled
+
+pub returns-clause-closed : goal.returns-clause-closed
+returns-clause-closed g c =
+    subst (λ (l : List ℕ). All (HasClosedSpare c.loop-object.self) l) (take_all c.loop-object.object-index c.args.objects.now c.loop-object-test.false) c.loop-object.invariant.closed
