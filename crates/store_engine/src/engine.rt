@@ -1,9 +1,9 @@
-ghost use Rattle.std.specs.Prelude.{◌≡◌, ℕ, List, false, true, nat_lt, IfOk};
+ghost use Rattle.std.specs.Prelude.{◌≡◌, ◌≤◌, ℕ, List, false, length, true, nat_lt, IfOk};
 ghost use Rattle.std.specs.Result.{result_err};
 ghost use Rattle.formats.specs.Objects.{IsInRange};
 ghost use Rattle.formats.specs.declared.params.Params.{Params as Numbers};
 ghost use Rattle.running_store.specs.Laid.{values_in};
-ghost use Rattle.store_engine.specs.Engine.{Holds, IsCached, params_of};
+ghost use Rattle.store_engine.specs.Engine.{Holds, IsCached, params_of, used_in};
 ghost use Rattle.store_engine.specs.Commands.{HasFetched};
 ghost use Rattle.store_engine.specs.Lists.{AreCalls, as_exec};
 ghost use Rattle.store_engine.specs.Store.{state_of};
@@ -67,6 +67,20 @@ impl<O: Oper> Engine<O> {
         self.store.log().accepted()
     }
 
+    /// How long the log is, in bytes, with the block that a force would add for what waits.
+    pub fn used(&self) -> u64
+        ensures { result ≡ used_in self.now }
+    {
+        self.store.log().used()
+    }
+
+    /// The number that the next record gets.
+    pub fn next(&self) -> u64
+        ensures { result ≡ self.now.parts.log.next }
+    {
+        self.store.log().next()
+    }
+
     /// Sees that an object is cached, so that `get` reports its value: where it is not, its slot is read. It answers whether
     /// there is such an object.
     ///
@@ -95,6 +109,7 @@ impl<O: Oper> Engine<O> {
     pub fn get(&self, object: u32) -> &[u8]
         requires { IsCached self.now object }
         ensures value { (file : List ℕ) → result.now ≡ values_in self.now.parts.volatile.objects file object }
+        ensures short { length result.now ≤ (params_of self.now).cap }
     {
         self.store.objects().value(object)
     }
