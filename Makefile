@@ -6,6 +6,7 @@ override PREFIX := $(abspath $(PREFIX))
 bin = $(DESTDIR)$(PREFIX)/bin
 libexec = $(DESTDIR)$(PREFIX)/libexec/redo
 man = $(DESTDIR)$(PREFIX)/share/man/man1
+doc = $(DESTDIR)$(PREFIX)/share/doc/redo
 completions = $(DESTDIR)$(PREFIX)/share/bash-completion/completions
 lib = $(DESTDIR)$(PREFIX)/lib
 include = $(DESTDIR)$(PREFIX)/include
@@ -16,7 +17,7 @@ all:
 	@echo "Nothing is to be made: ./redo starts the program. 'make install PREFIX=..' installs it."
 
 install:
-	install -d $(bin) $(libexec) $(man) $(completions) $(lib)/pkgconfig $(include)
+	install -d $(bin) $(libexec) $(man) $(doc) $(completions) $(lib)/pkgconfig $(include)
 	install -m 755 release/redo-x86_64-linux $(libexec)/redo
 	sed 's|@PROGRAM@|$(PREFIX)/libexec/redo/redo|' release/start >$(bin)/redo
 	for name in redo_log redo_check; do \
@@ -25,6 +26,7 @@ install:
 	done
 	chmod 755 $(bin)/redo $(bin)/redo_log $(bin)/redo_check
 	install -m 644 docs/redo.1 $(man)/redo.1
+	install -m 644 LICENSE-MIT LICENSE-APACHE THIRD-PARTY $(doc)
 	install -m 644 release/completion.bash $(completions)/redo
 	install -m 755 release/libredo-x86_64-linux.so $(lib)/libredo.so.1
 	ln -sf libredo.so.1 $(lib)/libredo.so
@@ -36,11 +38,12 @@ uninstall:
 	rm -f $(bin)/redo $(bin)/redo_log $(bin)/redo_check $(man)/redo.1 $(completions)/redo
 	rm -f $(libexec)/redo $(libexec)/redo_log $(libexec)/redo_check
 	rm -f $(lib)/libredo.so $(lib)/libredo.so.1 $(lib)/pkgconfig/redo.pc $(include)/redo.h
-	-rmdir $(libexec)
+	rm -f $(doc)/LICENSE-MIT $(doc)/LICENSE-APACHE $(doc)/THIRD-PARTY
+	-rmdir $(libexec) $(doc)
 
 # what runs and reads without the sources: unpack it and `make install`
 dist:
 	tar -czf redo-$(version)-x86_64-linux.tar.gz --transform 's|^|redo-$(version)/|' \
-	  README.md CHANGELOG.md Makefile docs release/redo-x86_64-linux release/redo_log-x86_64-linux \
+	  README.md CHANGELOG.md LICENSE-MIT LICENSE-APACHE THIRD-PARTY Makefile docs release/redo-x86_64-linux release/redo_log-x86_64-linux \
 	  release/redo_check-x86_64-linux release/start release/look release/completion.bash release/libredo-x86_64-linux.so \
 	  capi/redo.h capi/redo.pc.in capi/redo.py capi/pyproject.toml capi/build_wheel.py
