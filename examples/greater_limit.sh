@@ -5,7 +5,8 @@ printf 'put 0 aa\ncopy 0 2\nput 3 0b\n' | redo run
 
 copy() {
   mkdir "$1"
-  redo dump >dump.txt && sed '/^commands/d; s/.*/put &\ndrain\ntrim/' dump.txt | (cd "$1" && redo init 4 16 65536 && redo run)
+  redo dump >dump.txt && awk -v limit=65536 '/^commands/ { exit } (n += length + 18) > limit - 100 { print "drain\ntrim"; n = length + 18 }
+    { print "put " $0 }' dump.txt | (redo -C "$1" init 4 16 65536 && redo -C "$1" run)
 }
 
 copy new && (cd new && redo dump)

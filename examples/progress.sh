@@ -23,3 +23,12 @@ for _ in {1..300}; do
 done
 kill $! && wait $! 2>/dev/null
 grep -ao 'of [0-9]* bytes of the log are read' said | head -n 1
+
+# Typed lines reach the program through a pipe, and its work is told of all the same.
+REDO_PROGRAM=$PWD/slow script -qfec "stty cols 0; $start run" typed >/dev/null 2>&1 &
+for _ in {1..300}; do
+  ! grep -aqs 'are read' typed || break
+  sleep 0.2
+done
+kill $! && wait $! 2>/dev/null
+grep -ao 'of [0-9]* bytes of the log are read' typed | head -n 1
