@@ -80,6 +80,18 @@ module _ {O : Type 0} (meaning : Bounds → Meaning O) (unmoved : StandStill mea
   pub unchanged_images : IsDisk old → old.tells_moments → LeavesOnly old old (IsSilent (StandsInEither meaning p q forced) old.said)
   unchanged_images lawful told = started old (IsSilent (StandsInEither meaning p q forced) old.said) (λ files said left. record { silent = lawful.said_now told files said left; holds = unchanged.1 told files said left })
 
+  pub unchanged_moments : IsDisk old → old.tells_moments → LeavesOnly old old (IsGrowing old engine.parts.volatile.objects.slots q)
+  unchanged_moments lawful told = started old (IsGrowing old engine.parts.volatile.objects.slots q) (λ files said left.
+      let same : files ≡ old.reads = λ i file. settled file told files said left i in
+      record {
+        objects = inl (record {
+          are = subst (λ (f : Files). AreOf engine.parts.volatile.objects.slots (f Objects)) (sym same) shown.store.laid.slots;
+          cells = λ x below. ap (λ (f : Files). cell_of x (f Objects)) same;
+        });
+        others = λ other is_other. ap (λ (f : Files). f other) same;
+        silent = lawful.said_now told files said left;
+      })
+
   -- where the store grows
   module _ (new : Disk) (slots : SlotsView) (same : slots ≡ engine.parts.volatile.objects.slots) (larger : IsLarger slots.params q) (run : Runs (In Objects Any) Same old new) where
     are : AreOf slots (old.reads Objects)
@@ -94,6 +106,9 @@ module _ {O : Type 0} (meaning : Bounds → Meaning O) (unmoved : StandStill mea
     pub grows_images : old.tells_moments → (old.tells_moments → IsSettled old → AreOf slots (old.reads Objects) → LeavesOnly old new (IsGrowing old slots q)) → LeavesOnly old new (IsSilent (StandsInEither meaning p q forced) old.said)
     grows_images told moments = weaker old new (IsGrowing old slots q) (IsSilent (StandsInEither meaning p q forced) old.said) (moments told settled are)
         (λ files said is. record { silent = is.silent; holds = stands_in files is.others is.objects })
+
+    pub grows_moments : old.tells_moments → (old.tells_moments → IsSettled old → AreOf slots (old.reads Objects) → LeavesOnly old new (IsGrowing old slots q)) → LeavesOnly old new (IsGrowing old engine.parts.volatile.objects.slots q)
+    grows_moments told moments = subst (λ (v : SlotsView). LeavesOnly old new (IsGrowing old v q)) same (moments told settled are)
 
     pub grows : (old.tells_files → AreOf slots (old.reads Objects) → IsStillOrGrown slots q (old.reads Objects) (new.reads Objects)) → (old.tells_moments → IsSettled old → AreOf slots (old.reads Objects) → LeavesOnly old new (IsGrowing old slots q))
         → InEachImage new (StandsInEither meaning p q forced)
@@ -163,6 +178,7 @@ module _ {O : Type 0} (meaning : Bounds → Meaning O) (unmoved : StandStill mea
     upgraded = λ p commands holds. tt;
     stands = λ p commands holds. unchanged meaning unmoved enlarged p q old engine commands holds (now_stands p commands holds);
     images = λ told p commands holds. unchanged_images meaning unmoved enlarged p q old engine commands holds (now_stands p commands holds) lawful told;
+    growing = λ told p commands holds. unchanged_moments meaning unmoved enlarged p q old engine commands holds (now_stands p commands holds) lawful told;
   }
 
   pub too_small : (objects cap : ℕ) → IsTooSmall engine q objects cap → IsUpgrading meaning old old engine q (Err (Smaller objects cap))
@@ -177,6 +193,7 @@ module _ {O : Type 0} (meaning : Bounds → Meaning O) (unmoved : StandStill mea
     upgraded = λ p commands holds. tt;
     stands = λ p commands holds. unchanged meaning unmoved enlarged p q old engine commands holds (now_stands p commands holds);
     images = λ told p commands holds. unchanged_images meaning unmoved enlarged p q old engine commands holds (now_stands p commands holds) lawful told;
+    growing = λ told p commands holds. unchanged_moments meaning unmoved enlarged p q old engine commands holds (now_stands p commands holds) lawful told;
   }
 
   -- the slots of the engine, and the machine after their growth
@@ -198,6 +215,7 @@ module _ {O : Type 0} (meaning : Bounds → Meaning O) (unmoved : StandStill mea
       upgraded = λ p commands holds. tt;
       stands = λ p commands holds. grows meaning unmoved enlarged p q old engine commands holds (now_stands p commands holds) new slots same larger run left moments;
       images = λ told p commands holds. grows_images meaning unmoved enlarged p q old engine commands holds (now_stands p commands holds) new slots same larger run told moments;
+      growing = λ told p commands holds. grows_moments meaning unmoved enlarged p q old engine commands holds (now_stands p commands holds) new slots same larger run told moments;
     }
 
     pub done : (IsSettled old → IsSettled new) → (old.tells_files → AreOf slots (old.reads Objects) → IsGrown slots.params q (old.reads Objects) (new.reads Objects)) → IsUpgrading meaning old new engine q (Ok tt)
@@ -212,4 +230,5 @@ module _ {O : Type 0} (meaning : Bounds → Meaning O) (unmoved : StandStill mea
       upgraded = λ p commands holds. grows_whole meaning unmoved enlarged p q old engine commands holds (now_stands p commands holds) new slots same larger run settles grown;
       stands = λ p commands holds. grows meaning unmoved enlarged p q old engine commands holds (now_stands p commands holds) new slots same larger run left moments;
       images = λ told p commands holds. grows_images meaning unmoved enlarged p q old engine commands holds (now_stands p commands holds) new slots same larger run told moments;
+      growing = λ told p commands holds. grows_moments meaning unmoved enlarged p q old engine commands holds (now_stands p commands holds) new slots same larger run told moments;
     }

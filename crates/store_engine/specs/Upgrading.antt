@@ -10,7 +10,7 @@ use Rattle.formats.specs.Objects.{is_second}
 use Rattle.formats.specs.declared.params.Params.{Params}
 use Rattle.formats.specs.declared.read_err.ReadErr.{ReadErr}
 use Rattle.formats.specs.declared.read_err.ReadErr.TheVariants as of_read
-use Rattle.stable_objects.specs.Growing.{IsCutAt}
+use Rattle.stable_objects.specs.Growing.{IsCutAt, IsGrowing}
 use Rattle.stable_objects.specs.Larger.{IsFirst, IsLarger, HasLastHead}
 use Rattle.store_engine.specs.Engine.{EngineView, Holds, InEachImage, IsAttached, forced_in, params_of}
 use Rattle.store_engine.specs.Store.{Stands}
@@ -92,3 +92,5 @@ module _ {O : Type 0} (meaning : Bounds → Meaning O) where
     pub stands : (p : Params) (commands : List O) → Holds meaning p old engine commands → InEachImage new (StandsInEither p q (take (forced_in engine) commands))
     pub images : old.tells_moments → (p : Params) (commands : List O) → Holds meaning p old engine commands
         → LeavesOnly old new (IsSilent (StandsInEither p q (take (forced_in engine) commands)) old.said)
+    -- then the other files are as they were, and each object has its pair in the one store or the other
+    pub growing : old.tells_moments → (p : Params) (commands : List O) → Holds meaning p old engine commands → LeavesOnly old new (IsGrowing old engine.parts.volatile.objects.slots q)
