@@ -18,6 +18,7 @@ use Rattle.frame_stream.specs.FrameBuffer.{taken_by}
 use Rattle.log_frames.specs.LogView.{growth_of}
 use Rattle.log_records.specs.Codec.{StartsWithRecord}
 use Rattle.explain_core.specs.History.{Member, commands_of}
+use Rattle.explain_core.specs.RunLaws.{Begins, begins-empty, begins-one}
 use Rattle.explain_core.specs.Sound.{IsSound}
 use Rattle.explain_core.specs.World.{IsLive, Step, World, end_of, run, step}
 use Rattle.explain_core.specs.World.Step.{Append}
@@ -160,23 +161,18 @@ module _ {O : Type 0} (meaning : Bounds → Meaning O) (old new : Disk) (before 
   shown_still none there = subst (λ (l : List (Step O)). ShowsIn meaning p new after (run m w l)) none there
 
   -- it took some, and the log has no record more
-  some_none : (steps taken rest : List (Step O)) → IsFew steps → steps ≡ taken ++ rest → after.parts.log.next ≡ before.engine.parts.log.next → ShowsIn meaning p new after (run m w taken) → ShowsIn meaning p new after w
+  some_none : (steps taken : List (Step O)) → IsFew steps → Begins steps taken → after.parts.log.next ≡ before.engine.parts.log.next → ShowsIn meaning p new after (run m w taken) → ShowsIn meaning p new after w
   unfolding run step
-  some_none steps [] rest few split same there = there
-  some_none steps (s ∷ []) rest few split same there = ⊎_elim
-      (λ none. let h : [] ≡ s ∷ rest = sym none ∙ split in absurd cc)
+  some_none steps taken few begins same there =
+      let shows : List (Step O) → Type 0 = λ (l : List (Step O)). ShowsIn meaning p new after (run m w l) in
+      ⊎_elim
+      (λ none. subst shows (begins-empty taken (subst (λ (l : List (Step O)). Begins l taken) none begins)) there)
       (λ (one : (member : Member O) × (judge_in m w r ≡ Taken member) × (steps ≡ Append member ∷ [])).
-      let h : Append one.0 ∷ [] ≡ s ∷ rest = sym one.2 ∙ split in
-      let is : s ≡ Append one.0 = cc in
-      let v : World O = step m w (Append one.0) in
-      let shows : ShowsIn meaning p new after v = subst (λ (k : Step O). ShowsIn meaning p new after (step m w k)) is there in
-      absurd (omega (arith, same, next_number m p old before.engine.parts (ungrouped w) shown, next_number m p new after.parts (ungrouped v) shows.shows, length-append w.history (one.0 ∷ []))))
-      few
-  some_none steps (s ∷ t ∷ taken) rest few split same there = ⊎_elim
-      (λ none. let h : [] ≡ s ∷ t ∷ (taken ++ rest) = sym none ∙ split in absurd cc)
-      (λ (one : (member : Member O) × (judge_in m w r ≡ Taken member) × (steps ≡ Append member ∷ [])).
-      let h : Append one.0 ∷ [] ≡ s ∷ t ∷ (taken ++ rest) = sym one.2 ∙ split in absurd cc)
-      few
+      ⊎_elim (λ nothing. subst shows nothing there)
+      (λ all.
+      let after_it : ShowsIn meaning p new after (step m w (Append one.0)) = subst shows all there in
+      absurd (omega (arith, same, next_number m p old before.engine.parts (ungrouped w) shown, next_number m p new after.parts (ungrouped (step m w (Append one.0))) after_it.shows, length-append w.history (one.0 ∷ []))))
+      (begins-one (Append one.0) taken (subst (λ (l : List (Step O)). Begins l taken) one.2 begins))) few
 
   -- ---- the standby goes on
 
@@ -311,7 +307,7 @@ module _ {O : Type 0} (meaning : Bounds → Meaning O) (old new : Disk) (before 
   by_answer (Err (of_record.Damaged file place)) it = absurd (it.in_world p w f.shows)
   by_answer (Err of_record.Memory) it =
       let some = it.takes.follows p w f.shows in
-      let there = some_none c.steps some.taken some.begins.rest (steps_by (judge_in m w r) refl) some.begins.split it.untaken some.holds in
+      let there = some_none c.steps some.taken (steps_by (judge_in m w r) refl) some.begins it.untaken some.holds in
       (following_same there, rising_still there)
 
 -- ---- the step that it is
@@ -339,7 +335,7 @@ damaged_so (Err of_record.DiskFault) file place same = cc
 damaged_so (Err (of_record.Damaged f n)) file place same = cc
 damaged_so (Err of_record.Memory) file place same = cc
 
-some_bytes : {O : Type 0} (m : Meaning O) (r : Record O) → 0 < length (record_code m r)
+pub some_bytes : {O : Type 0} (m : Meaning O) (r : Record O) → 0 < length (record_code m r)
 some_bytes m (Logged_command number op) = omega arith
 some_bytes m (Logged_identity number x value) = omega arith
 some_bytes m (Logged_check table) = omega arith
