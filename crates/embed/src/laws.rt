@@ -1,13 +1,15 @@
 // What a store in memory is worth for the real files.
 ghost use Rattle.std.specs.Prelude.{◌≡◌, ◌⊎◌, ℕ, List, [], None, Option, length};
-ghost use Rattle.disk_model.specs.Disk.{Files, IsSettled, LeavesOnly, Passes};
+ghost use Rattle.disk_model.specs.Disk.{Files, In, IsSettled, LeavesOnly, Passes, Runs, Same};
+ghost use Rattle.disk_model.specs.declared.machine.FileNo.TheVariants.{Objects};
 ghost use Rattle.formats.specs.declared.params.Params.{Params};
 ghost use Rattle.op_codec.specs.AllOps.{AllOps as Command, all_meaning};
 ghost use Rattle.explain_core.specs.World.{World};
+ghost use Rattle.stable_objects.specs.Making.{KeepsGate};
 ghost use Rattle.restart.specs.Starts.{OrAtStart};
 ghost use Rattle.store_engine.specs.Engine.{Between, EngineView, InEachImage, Opens};
 ghost use Rattle.store_engine.specs.Store.{Stands};
-ghost use Rattle.backup_copy.specs.Calls.{IsShutOrWhole};
+ghost use Rattle.backup_copy.specs.Calls.{BeginsNone, IsShutOrWhole, NoneIn};
 ghost use Rattle.backup_copy.specs.Copies.{Copies};
 ghost use Rattle.backup_copy.specs.Target.{AreShut};
 ghost use Rattle.write_queue.specs.Memory.{disk_of, waiting_in, IsLeftByFront, LooksTheSame};
@@ -18,8 +20,9 @@ use disk_model::Machine;
 
 /// Real files on which some front of what a call queued was made, in order, and which then crash, stand for such a front of the
 /// commands as the call says of the machine: none that was forced is lost, and no group is split. Where the call opens a store
-/// they stand for its commands. Those of a backup have a closed gate meanwhile, or stand for the commands. Once all calls are made,
-/// the real files stand for the commands that each image stands for. Nothing is taken within a call: that is the caller's to do.
+/// they stand for its commands. Those of a backup are no store while it is started, have a closed gate while objects are copied,
+/// and while it is finished have that or stand for the commands. Once all calls are made, the real files stand for the commands
+/// that each image stands for. Nothing is taken within a call: that is the caller's to do.
 pub fn real_files_keep_what_is_forced()
     ensures since { (old new : QueueMem) → waiting_in old ≡ [] → Passes (disk_of old) (disk_of new) → IsSinceTaken old new }
     ensures calls { (p : Params) (old new : QueueMem) (group : Option ℕ) (forced start : ℕ) (commands : List Command) → IsSinceTaken old new →
@@ -28,6 +31,12 @@ pub fn real_files_keep_what_is_forced()
     ensures opening { (p : Params) (old new : QueueMem) (commands : List Command) → IsSinceTaken old new → IsSettled (disk_of old) → Opens all_meaning p (disk_of old) commands →
         LeavesOnly (disk_of old) (disk_of new) (OrAtStart (disk_of old) (Between all_meaning p (disk_of old) None (length commands) (length commands) commands)) →
         (files : Files) (said : List ℕ) → IsLeftByFront new files said → Stands all_meaning p files commands }
+    ensures starting { (old new : QueueMem) → IsSinceTaken old new → IsSettled (disk_of old) → BeginsNone (disk_of old).reads →
+        LeavesOnly (disk_of old) (disk_of new) (OrAtStart (disk_of old) (NoneIn (disk_of old))) →
+        (files : Files) (said : List ℕ) → IsLeftByFront new files said → BeginsNone files }
+    ensures copying { (p : Params) (source old new : QueueMem) (engine : EngineView) (w : World Command) → IsSinceTaken old new →
+        Copies all_meaning p (disk_of source) engine w (disk_of old) → Runs (In Objects KeepsGate) Same (disk_of old) (disk_of new) →
+        (files : Files) (said : List ℕ) → IsLeftByFront new files said → AreShut files }
     ensures backup { (p : Params) (old new : QueueMem) (commands : List Command) → IsSinceTaken old new →
         LeavesOnly (disk_of old) (disk_of new) (IsShutOrWhole all_meaning p commands (disk_of old)) →
         (files : Files) (said : List ℕ) → IsLeftByFront new files said → AreShut files ⊎ Stands all_meaning p files commands }
