@@ -3,3 +3,11 @@ pub mod Ending
 pub mod Reading
 pub mod ProgramRuns
 pub mod Refused
+pub mod ByteLists
+pub mod EntryBytes
+pub mod RowBytes
+pub mod NodeBytes
+pub mod BlockBytes
+pub mod ValueBytes
+pub mod Accepted
+pub mod Given

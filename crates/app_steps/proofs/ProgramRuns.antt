@@ -95,7 +95,7 @@ module _ (p : Params) (app : ℕ) (code : List ℕ) where
   writes op = is_among app ((meaning_in all_meaning p).writes op)
 
   -- the state after one command more
-  after_one : (commands : List AllOps) (op : AllOps) → state_of all_meaning p (commands ++ op ∷ []) ≡ after (meaning_in all_meaning p) (state_of all_meaning p commands) op
+  pub after_one : (commands : List AllOps) (op : AllOps) → state_of all_meaning p (commands ++ op ∷ []) ≡ after (meaning_in all_meaning p) (state_of all_meaning p commands) op
   after_one commands op = fold-append (after (meaning_in all_meaning p)) start commands (op ∷ [])
 
   -- a command that does not write the object does nothing to the machine

@@ -1,6 +1,6 @@
 -- What the commands of a store do to an interpreted application whose object they write only by feeding it and by steps of one
 -- program.
-use Rattle.std.specs.Prelude.{◌≡◌, ◌≤◌, ⊤, ℕ, ◌+◌, ◌==◌, true, None, List, [], ◌∷◌, ◌++◌, length, replicate, if◌then◌else◌}
+use Rattle.std.specs.Prelude.{◌≡◌, ◌≤◌, ⊤, All, ℕ, ◌+◌, ◌==◌, true, None, List, [], ◌∷◌, ◌++◌, length, replicate, if◌then◌else◌}
 use Rattle.oper_core.specs.State.{is_among}
 use Rattle.formats.specs.Objects.{IsInRange}
 use Rattle.formats.specs.declared.params.Params.{Params}
@@ -45,6 +45,18 @@ module _ (p : Params) (app : ℕ) where
     IsOfProgram before (Second (Second (First (Step a q)))) = state_of all_meaning p before q ≡ code
     IsOfProgram before op = ⊥
 
+    -- the same, where the machine may be fed with anything
+    abbrev pub IsFeedOrStep : List AllOps → AllOps → Type 0
+    IsFeedOrStep before (Second (Second (First (Feed a x)))) = ⊤
+    IsFeedOrStep before (Second (Second (First (Step a q)))) = state_of all_meaning p before q ≡ code
+    IsFeedOrStep before op = ⊥
+
+    -- each of the commands that writes the object feeds it or is a step of it by that program; the others do what they like
+    abbrev pub HasOnlyThese : List AllOps → List AllOps → Type 0
+    HasOnlyThese before [] = ⊤
+    HasOnlyThese before (op ∷ ops) =
+        (is_among app ((meaning_in all_meaning p).writes op) ≡ true → IsFeedOrStep before op) × HasOnlyThese (before ++ op ∷ []) ops
+
     -- each of the commands that writes the object is accepted, and feeds it or is a step of it by that program; the others do
     -- what they like
     abbrev pub AreOfProgram : List AllOps → List AllOps → Type 0
@@ -53,10 +65,21 @@ module _ (p : Params) (app : ℕ) where
         (is_among app ((meaning_in all_meaning p).writes op) ≡ true → (refusal_after all_meaning p before op ≡ None) × IsOfProgram before op)
         × AreOfProgram (before ++ op ∷ []) ops
 
+-- what each command has in the log consists of bytes, as it does for every operation that a program has
+abbrev pub AreOfBytes : Params → List AllOps → Type 0
+AreOfBytes p commands = All (λ op. AreBytes ((meaning_in all_meaning p).code op)) commands
+
 -- Where after some first commands the object was empty, and the others wrote it only by feeds and by steps of the program in
 -- the other object, then after k steps more its value is that of the machine that has done these too on all that was fed.
 abbrev pub RunsOn : Params → ℕ → ℕ → List AllOps → ℕ → Type 0
 RunsOn p app program commands k =
     let code = state_of all_meaning p commands program in
     (before since : List AllOps) → commands ≡ before ++ since → IsInRange p → IsValue p code → state_of all_meaning p before app ≡ [] → AreOfProgram p app code before since
+    → HasDone code (fed_to p app before since) (steps_done p app before since + k) (state_of all_meaning p (commands ++ replicate k (program_step app program)) app)
+
+-- The same of the commands for which an engine stands, each of which was accepted: it is enough that they consist of bytes.
+abbrev pub RunsOnBytes : Params → ℕ → ℕ → List AllOps → ℕ → Type 0
+RunsOnBytes p app program commands k =
+    let code = state_of all_meaning p commands program in
+    (before since : List AllOps) → commands ≡ before ++ since → AreOfBytes p commands → state_of all_meaning p before app ≡ [] → HasOnlyThese p app code before since
     → HasDone code (fed_to p app before since) (steps_done p app before since + k) (state_of all_meaning p (commands ++ replicate k (program_step app program)) app)

@@ -1,5 +1,8 @@
 // What many steps make of an application, and when one is refused.
 ghost use Rattle.std.specs.Prelude.{◌≡◌, ◌<◌, ◌≤◌, ◌^◌, ◌++◌, ◌⊎◌, ℕ, [], List, Some, length, min, replicate};
+ghost use Rattle.disk_model.specs.Disk.{Files};
+ghost use Rattle.oper_core.specs.Meaning.{IsSmall, state_after};
+ghost use Rattle.oper_core.specs.declared.bounds.Bounds.{Bounds};
 ghost use Rattle.oper_core.specs.declared.refusal.Refusal.{Refusal};
 ghost use Rattle.oper_core.specs.declared.refusal.Refusal.TheVariants.{NoObject, NotApp, NoInput};
 ghost use Rattle.formats.specs.Objects.{IsInRange};
@@ -7,10 +10,17 @@ ghost use Rattle.formats.specs.declared.params.Params.{Params};
 ghost use Rattle.op_meaning.specs.AppState.{Application, state_in};
 ghost use Rattle.op_codec.specs.AllOps.{AllOps as Command, all_meaning};
 ghost use Rattle.app_program.specs.State.{HasDone};
-ghost use Rattle.store_engine.specs.Store.{refusal_after, state_of};
-ghost use Rattle.app_steps.specs.Programs.{AreOfProgram, IsValue, fed_to, steps_done};
+ghost use Rattle.explain_core.specs.History.{IsHistory, Member, commands_of};
+ghost use Rattle.store_engine.specs.Engine.{Holds};
+ghost use Rattle.store_engine.specs.Store.{Stands, refusal_after, state_of};
+ghost use Rattle.app_steps.specs.Programs.{AreOfBytes, AreOfProgram, HasOnlyThese, IsValue, fed_to, steps_done};
 ghost use Rattle.app_steps.specs.Runs.{IsRunnable, after_steps, has_read};
 ghost use Rattle.app_steps.specs.Steps.{step_of, steps_accepted};
+
+use disk_model::Machine;
+use op_codec::AllOps;
+use oper_core::Oper;
+use store_engine::Engine;
 
 /// So many steps read as many bytes of the input: the number of steps grows by so many modulo 2^64, and sum and output are
 /// those that these bytes give, one after the other. It is so on the map too; there as many steps are accepted as there are
@@ -38,3 +48,32 @@ pub fn a_program_runs_on_all_that_is_fed()
         state_of all_meaning p before app ≡ [] → AreOfProgram p app code before commands →
         HasDone code (fed_to p app before commands) (steps_done p app before commands) (state_of all_meaning p (before ++ commands) app) }
 {}
+
+// After some first commands of a history no value is too long.
+fn values_fit<O: Oper>()
+    ensures { (b : Bounds) (h : List (Member O)) (before since : List O) → IsSmall b → IsHistory (O.meaning b) h → commands_of h ≡ before ++ since →
+        (x : ℕ) → length (state_after (O.meaning b) before x) ≤ b.cap }
+{}
+
+/// The values of a store, and those that it had after some first commands, are lists of at most CAP bytes, where the commands
+/// consist of bytes, as all do that a program has ([`known_as_bytes`](crate::known_as_bytes)). So what a run asks of the commands
+/// before it is given at each engine that stands for them.
+pub fn values_are_bytes<M: Machine>(machine: &M, engine: &Engine<AllOps>)
+    ensures range { (p : Params) (commands : List Command) → Holds all_meaning p (M.disk machine.now) engine.now commands → IsInRange p }
+    ensures values { (p : Params) (commands before since : List Command) → Holds all_meaning p (M.disk machine.now) engine.now commands →
+        commands ≡ before ++ since → AreOfBytes p before → (x : ℕ) → IsValue p (state_of all_meaning p before x) }
+    ensures given { (p : Params) (commands before since : List Command) (app : ℕ) (code : List ℕ) → Holds all_meaning p (M.disk machine.now) engine.now commands →
+        commands ≡ before ++ since → AreOfBytes p commands → HasOnlyThese p app code before since → AreOfProgram p app code before since }
+{
+    values_fit::<AllOps>();
+    let _ = machine;
+    let _ = engine.params();
+}
+
+/// The same of the values of files that stand for commands, such as a crash leaves.
+pub fn stored_values_are_bytes()
+    ensures { (p : Params) (files : Files) (commands before since : List Command) → Stands all_meaning p files commands →
+        commands ≡ before ++ since → AreOfBytes p before → (x : ℕ) → IsValue p (state_of all_meaning p before x) }
+{
+    values_fit::<AllOps>();
+}

@@ -5,9 +5,10 @@ ghost use Rattle.op_codec.specs.AllOps.{AllOps as Command, all_meaning};
 ghost use Rattle.store_engine.specs.Engine.{Holds};
 ghost use Rattle.store_engine.specs.Lists.{AddsFront, AreCalls, ending_of};
 ghost use Rattle.store_engine.specs.Commands.{HasRun};
-ghost use Rattle.app_steps.specs.Programs.{RunsOn};
+ghost use Rattle.app_steps.specs.Programs.{RunsOn, RunsOnBytes};
 ghost use Rattle.app_steps.specs.Steps.{HasAnswer, program_drain, program_feed, program_step, steps};
 
+use crate::laws::values_are_bytes;
 use crate::steps::{self, Steps};
 use app_program::ProgramOp;
 use disk_model::Machine;
@@ -109,7 +110,11 @@ impl ProgApp {
         // So a run goes on with what the program does on all that was fed.
         ensures machine { (p : Params) (commands : List Command) → Holds all_meaning p (M.disk machine.old) engine.old commands →
             IfOk result (λ k. RunsOn p self.now.app self.now.program commands k) }
+        // It asks no more of the commands than that they consist of bytes.
+        ensures of_bytes { (p : Params) (commands : List Command) → Holds all_meaning p (M.disk machine.old) engine.old commands →
+            IfOk result (λ k. RunsOnBytes p self.now.app self.now.program commands k) }
     {
+        values_are_bytes(machine, engine);
         steps::run(self, engine, machine, most)
     }
 }

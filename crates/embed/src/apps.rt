@@ -7,7 +7,7 @@ ghost use Rattle.op_codec.specs.AllOps.{AllOps as Command, all_meaning};
 ghost use Rattle.store_engine.specs.Commands.{HasRun};
 ghost use Rattle.store_engine.specs.Engine.{Holds};
 ghost use Rattle.store_engine.specs.Lists.{AddsFront, AreCalls, ending_of};
-ghost use Rattle.app_steps.specs.Programs.{RunsOn};
+ghost use Rattle.app_steps.specs.Programs.{RunsOn, RunsOnBytes};
 ghost use Rattle.app_steps.specs.Steps.{HasAnswer, drain_of, feed_of, program_drain as drain_program, program_feed as feed_program, program_step, step_of, steps};
 ghost use Rattle.embed.specs.Embedded.{IsStillBroken};
 
@@ -95,6 +95,8 @@ impl<M: Machine + Drop> Store<M> {
             HasAnswer p commands (program_step app.now.app app.now.program) most result }
         ensures machine { (p : Params) (commands : List Command) → Holds all_meaning p (M.disk self.old.machine) self.old.engine commands →
             IfOk result (λ k. RunsOn p app.now.app app.now.program commands k) }
+        ensures of_bytes { (p : Params) (commands : List Command) → Holds all_meaning p (M.disk self.old.machine) self.old.engine commands →
+            IfOk result (λ k. RunsOnBytes p app.now.app app.now.program commands k) }
         ensures broken { self.old.engine.broken ≡ true → IsStillBroken ExecErr.DiskFault self.old self.new result }
     {
         if self.engine.is_broken() {
