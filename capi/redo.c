@@ -15,7 +15,6 @@
 #include <stdlib.h>
 #include <string.h>
 #include <sys/file.h>
-#include <sys/stat.h>
 #include <unistd.h>
 
 _Static_assert(sizeof(redo_t) == 128, "the size of a handle is the same in all versions");
@@ -53,18 +52,18 @@ void redo_close_files(redo_files_t *files) {
     *files = no_files;
 }
 
-/* The whole of a file, once what was written to it is on the disk. A file that is not there has no bytes. */
+/* The whole of a file, once what was written to it is on the disk. A file that is not there has no bytes. (Its length is where its
+ * end is: the C libraries before glibc 2.33 export no fstat.) */
 static int32_t read_file(redo_t *db, redo_files_t *files, uint32_t i, bytes_t *bytes) {
-    struct stat st;
     if (!open_file(files, i, 0)) return errno == ENOENT ? REDO_OK : redo_because(db, REDO_DISK_FAULT);
     int fd = files->file_[i];
-    if (fsync(fd) != 0 || fstat(fd, &st) != 0) return redo_because(db, REDO_DISK_FAULT);
-    size_t size = (size_t)st.st_size;
+    off_t size = fsync(fd) == 0 ? lseek(fd, 0, SEEK_END) : -1;
+    if (size < 0) return redo_because(db, REDO_DISK_FAULT);
     if (size == 0) return REDO_OK;
-    if (!(bytes->at = malloc(size))) return REDO_MEMORY;
-    while (bytes->length < size) {
+    if (!(bytes->at = malloc((size_t)size))) return REDO_MEMORY;
+    while (bytes->length < (size_t)size) {
         errno = 0;
-        ssize_t n = pread(fd, bytes->at + bytes->length, size - bytes->length, (off_t)bytes->length);
+        ssize_t n = pread(fd, bytes->at + bytes->length, (size_t)size - bytes->length, (off_t)bytes->length);
         if (n < 0 && errno == EINTR) continue;
         if (n <= 0) return redo_because(db, REDO_DISK_FAULT);
         bytes->length += (size_t)n;
@@ -102,8 +101,8 @@ static bool write_all(int fd, const uint8_t *bytes, size_t length, uint64_t at) 
 
 /* A write of no bytes past the end lengthens the file. */
 static bool lengthen(int fd, uint64_t at) {
-    struct stat st;
-    return fstat(fd, &st) == 0 && ((uint64_t)st.st_size >= at || ftruncate(fd, (off_t)at) == 0);
+    off_t size = lseek(fd, 0, SEEK_END);
+    return size >= 0 && ((uint64_t)size >= at || ftruncate(fd, (off_t)at) == 0);
 }
 
 /* What is said is on no file. A file that is not there has nothing to sync. */

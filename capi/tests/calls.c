@@ -11,7 +11,7 @@
 #include <sys/syscall.h>
 #include <unistd.h>
 
-const char *const call_names[CALLS] = {"open", "flock", "openat", "fstat", "pread", "fsync", "pwrite", "ftruncate", "fdatasync"};
+const char *const call_names[CALLS] = {"open", "flock", "openat", "lseek", "pread", "fsync", "pwrite", "ftruncate", "fdatasync"};
 enum which fail_which;
 unsigned fail_at;
 int fail_why = EIO;
@@ -98,7 +98,7 @@ int openat(int folder, const char *path, int how, ...) {
     return fd;
 }
 int flock(int fd, int how) { return fails(LOCK) ? -1 : (int)syscall(SYS_flock, fd, how); }
-int fstat(int fd, struct stat *st) { return file_of(fd) >= 0 && fails(FSTAT) ? -1 : (int)syscall(SYS_fstat, fd, st); }
+off_t lseek(int fd, off_t at, int from) { return file_of(fd) >= 0 && fails(LSEEK) ? -1 : syscall(SYS_lseek, fd, at, from); }
 ssize_t pread(int fd, void *into, size_t n, off_t at) {
     if (fails(PREAD)) return -1;
     record(READ, fd, 0, 0, 0);

@@ -6,7 +6,7 @@
 #include <stdint.h>
 #include <stddef.h>
 
-enum which { OPEN, LOCK, OPENAT, FSTAT, PREAD, FSYNC, PWRITE, FTRUNCATE, FDATASYNC, CALLS };
+enum which { OPEN, LOCK, OPENAT, LSEEK, PREAD, FSYNC, PWRITE, FTRUNCATE, FDATASYNC, CALLS };
 extern const char *const call_names[CALLS];
 
 /* The call that fails: the `fail_at`-th of this kind from 1 on, with errno `fail_why`; none where it is 0. A pwrite writes

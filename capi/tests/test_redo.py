@@ -243,7 +243,7 @@ def faults(folder):
     answers = [f"{fault} {fault} {fault} True", "NotOpen NoFolder No such file or directory"]
     for words in ("pwrite 1", "fdatasync 1"):
         assert fails(folder, words, is_open=True) == answers, (words, fails(folder, words, is_open=True))
-    for words in ("fsync 1", "openat 1", "fstat 1", "pread 1"):
+    for words in ("fsync 1", "openat 1", "lseek 1", "pread 1"):
         assert fails(folder, words) == ["redo.DiskFault"], (words, fails(folder, words))
     for words in ("open 1", "flock 1"):
         assert fails(folder, words) == ["redo.NoFolder"]
