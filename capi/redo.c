@@ -20,6 +20,7 @@
 _Static_assert(sizeof(redo_t) == 128, "the size of a handle is the same in all versions");
 
 enum { CLOSED = 0, OPEN = 1, FAILED = 2 };
+enum { LOG_HEADER = 33 };                       /* bytes before a log's first block: docs/FORMATS.md */
 static const char *const names[3] = {"objects.rdo", "log_a.rdo", "log_b.rdo"};
 static const redo_files_t no_files = {-1, {-1, -1, -1}};
 
@@ -105,13 +106,24 @@ static bool lengthen(int fd, uint64_t at) {
     return size >= 0 && ((uint64_t)size >= at || ftruncate(fd, (off_t)at) == 0);
 }
 
-/* What is said is on no file. A file that is not there has nothing to sync. */
+/* Whether these are the zeros that a log is filled ahead with, for blocks to come (docs/DISK.md). Nothing else that is written
+ * behind the header of a log whose gate is open is zeros alone: a block begins with its length. */
+static bool are_spare(int fd, const redo_call_t *call, const uint8_t *bytes) {
+    uint8_t gate;
+    if (call->file == 0 || call->at <= LOG_HEADER || bytes[0] != 0 || memcmp(bytes, bytes + 1, call->length - 1) != 0) return false;
+    return pread(fd, &gate, 1, 0) == 1 && gate == 1;
+}
+
+/* What is said is on no file. A file that is not there has nothing to sync. Zeros ahead that cannot be written, as on a full disk,
+ * are passed over, as the program does: the bytes behind the end of a log are free, and there may still be room for a block. */
 static bool make_call(redo_files_t *files, const redo_call_t *call, const uint8_t *bytes) {
     uint32_t i = call->file;
     if (call->kind == REDO_CALL_SAY) return true;
     if (call->kind == REDO_CALL_SYNC) return files->file_[i] < 0 || fdatasync(files->file_[i]) == 0;
     if (!is_there(files, i)) return false;
-    return call->length ? write_all(files->file_[i], bytes, call->length, call->at) : lengthen(files->file_[i], call->at);
+    int fd = files->file_[i];
+    if (call->length == 0) return lengthen(fd, call->at);
+    return write_all(fd, bytes, call->length, call->at) || are_spare(fd, call, bytes);
 }
 
 /* Makes all calls that wait, in order, on these files. False leaves errno. */
@@ -154,7 +166,7 @@ int32_t redo_report(redo_t *db, uint32_t answer) {
 }
 
 /* Whether the bytes are a log with an open header and a block behind it. */
-static bool is_log(bytes_t bytes) { return bytes.length > 33 && memcmp(bytes.at, "\1RDOLOG01", 9) == 0 && bytes.at[33] == 1; }
+static bool is_log(bytes_t bytes) { return bytes.length > LOG_HEADER && memcmp(bytes.at, "\1RDOLOG01", 9) == 0 && bytes.at[LOG_HEADER] == 1; }
 bool redo_has_log(bytes_t bytes[3]) { return is_log(bytes[1]) || is_log(bytes[2]); }
 
 /* Opens a store, or makes one with these numbers: not where a log tells of a store whose objects file is spoilt. */

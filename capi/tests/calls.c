@@ -16,6 +16,7 @@ enum which fail_which;
 unsigned fail_at;
 int fail_why = EIO;
 size_t most;
+uint64_t disk_end;
 bool has_failed, recording;
 const char *recorded;
 unsigned calls_after;
@@ -38,6 +39,10 @@ static bool fails(enum which call) {
     return true;
 }
 static size_t as_much(size_t n) { return most && n > most ? most : n; }
+/* How many bytes there is still room for. */
+static size_t that_fit(size_t n, uint64_t at) {
+    return disk_end && at + n > disk_end ? (at < disk_end ? disk_end - at : 0) : n;
+}
 
 /* The path of an open file. */
 static ssize_t path_of(int fd, char path[4096]) {
@@ -106,6 +111,7 @@ ssize_t pread(int fd, void *into, size_t n, off_t at) {
 }
 ssize_t pwrite(int fd, const void *bytes, size_t n, off_t at) {
     bool is_failing = fails(PWRITE);
+    if (n && !(n = that_fit(n, (uint64_t)at))) return errno = ENOSPC, -1;
     ssize_t done = syscall(SYS_pwrite64, fd, bytes, is_failing ? n / 2 : as_much(n), at);
     if (done > 0) record(WRITTEN, fd, bytes, (size_t)done, (uint64_t)at);
     return is_failing ? (errno = fail_why, -1) : done;

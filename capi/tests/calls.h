@@ -15,6 +15,8 @@ extern enum which fail_which;
 extern unsigned fail_at;
 extern int fail_why;
 extern size_t most;
+/* Where this is not 0, the disk is full past this length of a file. */
+extern uint64_t disk_end;
 extern bool has_failed;
 /* How many such calls were made since. */
 extern unsigned calls_after;

@@ -13,6 +13,7 @@ typedef struct {
     entry_t *map; size_t count;                 /* rising names */
     bytes_t block;                              /* changes that are not written */
     uint64_t epoch, end, accepted, forced;      /* of the log in force */
+    uint64_t filled, growths;                   /* how far its file goes, and how many blocks let it grow */
     bool in_group; uint64_t group;
     bool in_backup, is_store; uint32_t copied;      /* of a backup: whether its folder has a store */
     waiting_t *first, **last;
@@ -78,8 +79,10 @@ static void ask(store_t *s, uint32_t kind, uint32_t file, uint64_t at, const voi
     *s->last = w, s->last = &w->next;
 }
 
-/* A block of the log: epoch, commands so far, length, checksum, changes. */
-enum { HEAD = 32 };
+/* A block of the log: epoch, commands so far, length, checksum, changes. The low byte of each epoch is 1, so that each log begins
+ * with an open gate. From the seventeenth block on that lets the file grow, zeros are written ahead. */
+enum { HEAD = 32, FIRST_EPOCH = 1, NEXT_EPOCH = 256, GROWTHS = 16, ZEROS = 1 << 16 };
+static uint32_t log_of(uint64_t epoch) { return 1 + (epoch / NEXT_EPOCH & 1); }
 static uint64_t sum_of(const uint64_t head[4], bytes_t changes) {
     uint64_t sum = 14695981039346656037u;
     for (int i = 0; i < 3; i++) sum = (sum ^ head[i]) * 1099511628211u;
@@ -88,8 +91,16 @@ static uint64_t sum_of(const uint64_t head[4], bytes_t changes) {
 }
 static void write_block(store_t *s, bytes_t changes) {
     uint64_t head[4] = {s->epoch, s->accepted, changes.n, 0};
-    uint32_t file = 1 + (s->epoch & 1);
+    static const uint8_t zeros[ZEROS];
+    uint32_t file = log_of(s->epoch);
+    uint64_t end = s->end + HEAD + changes.n;
     bytes_t all = {0, 0};
+    if (end > s->filled && s->growths++ >= GROWTHS) {
+        uint64_t from = s->filled > s->end + 1 ? s->filled : s->end + 1;
+        ask(s, REDO_CALL_WRITE, file, from, zeros, ZEROS), ask(s, REDO_CALL_SYNC, file, 0, 0, 0);
+        s->filled = from + ZEROS;
+    }
+    if (end > s->filled) s->filled = end;
     head[3] = sum_of(head, changes);
     add(&all, head, HEAD), add(&all, changes.at, changes.n);
     ask(s, REDO_CALL_WRITE, file, s->end, all.at, all.n), ask(s, REDO_CALL_SYNC, file, 0, 0, 0);
@@ -115,14 +126,14 @@ static bytes_t whole(store_t *s) {
 }
 static void trim(store_t *s) {
     bytes_t all = whole(s);
-    s->epoch++, s->end = 0, s->block.n = 0;
+    s->epoch += NEXT_EPOCH, s->end = s->filled = 0, s->block.n = 0;
     write_block(s, all);
     free(all.at);
 }
 
 static store_t *new_store(void) {
     store_t *s = calloc(1, sizeof *s);
-    s->last = &s->first;
+    s->epoch = FIRST_EPOCH, s->last = &s->first;
     return s;
 }
 static void drop_pairs(store_t *s) {
@@ -168,8 +179,10 @@ uint32_t redo_core_open(redo_core_t *c, redo_bytes_t o, size_t n, redo_bytes_t a
     store_t *s = new_store();
     s->epoch = !first || (second && other[0] > head[0]) ? other[0] : head[0];
     memcpy(&s->numbers, o + 1, sizeof s->numbers);
-    while (block_at(logs[s->epoch & 1], s->end, head, &changes) && head[0] == s->epoch)
+    bytes_t log = logs[log_of(s->epoch) - 1];
+    while (block_at(log, s->end, head, &changes) && head[0] == s->epoch)
         redo_changes(s, changes), s->accepted = s->forced = head[1], s->end += HEAD + changes.n;
+    s->filled = log.n;
     return opened(c, s);
 }
 uint32_t redo_core_close(redo_core_t *c) {

@@ -225,6 +225,41 @@ static void each_fault_of_open(void) {
     WANT(REDO_LOCKED, redo_open(&db, folder));
 }
 
+/* On a disk that is full past some length of a file forces go on as long as there is room for their blocks, zeros ahead of them or
+ * not; then they fail, and what was forced stays. */
+static void each_full_disk(void) {
+    const char *folder = in_root("full");
+    unsigned forces = 0;
+    for (uint64_t end = 1400; end <= 4096; end += 71) {
+        redo_t db = REDO_CLOSED;
+        redo_detail_t d;
+        redo_stat_t s;
+        uint64_t n, forced = 0, used = 0;
+        empty(folder);
+        WANT(REDO_OK, redo_create(&db, folder, 4, 64, 65536));
+        disk_end = end;
+        int32_t answer = REDO_OK;
+        for (forces = 0; answer == REDO_OK; forces++) {
+            WANT(REDO_OK, redo_stat(&db, &s)), used = s.used;
+            if ((answer = redo_put(&db, 0, numbers, 16)) == REDO_OK) answer = redo_force(&db, &n);
+            if (answer == REDO_OK) forced = n;
+        }
+        WANT(REDO_DISK_FAULT, answer);
+        redo_last_detail(&db, &d);
+        if (d.first != ENOSPC) fail("the reason is %d", (int)d.first);
+        if (used + 128 < end) fail("%u forces, and %d bytes of %d are used", forces, (int)used, (int)end);
+        disk_end = 0;
+        WANT(REDO_OK, redo_close(&db));
+        WANT(REDO_OK, redo_open(&db, folder));
+        WANT(REDO_OK, redo_stat(&db, &s));
+        if (s.accepted != forced && s.accepted != forced + 1) fail("%d commands of %d", (int)s.accepted, (int)forced);
+        for (int i = 0; i < 40; i++) WANT(REDO_OK, redo_put(&db, 1, numbers, 16)), WANT(REDO_OK, redo_force(&db, &n));
+        WANT(REDO_OK, redo_close(&db));
+    }
+    if (forces < 40) fail("%u forces", forces);
+    printf("%u forces on the last full disk\n", forces - 1);
+}
+
 /* The files at one moment: what reads give, and what a crash leaves where nothing unsynced has reached the disk. */
 typedef struct { uint8_t *now, *synced; size_t length, synced_length; bool is_made, is_named; } file_t;
 enum { MOST = 1 << 18, IMAGES = 6 };
@@ -351,7 +386,7 @@ int main(int argc, char **argv) {
     snprintf(root, sizeof root, "%s", argc > 1 ? argv[1] : ".");
     for (int i = 0; i < COMMANDS; i++) numbers[i] = (uint8_t)i;
     has_input = fcntl(0, F_GETFD) >= 0;
-    each_interruption(), each_fault(), each_fault_of_open(), each_fault_of_backup();
+    each_interruption(), each_fault(), each_fault_of_open(), each_fault_of_backup(), each_full_disk();
     most = 7;                           /* the system moves seven bytes a call */
     each_fault(), each_front(), each_fault_of_backup(), each_front_of_backup();
     most = 0;
