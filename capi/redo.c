@@ -19,17 +19,9 @@
 
 _Static_assert(sizeof(redo_t) == 128, "the size of a handle is the same in all versions");
 
-enum { CLOSED = 0, OPEN = 1, FAILED = 2 };
 enum { LOG_HEADER = 33 };                       /* bytes before a log's first block: docs/FORMATS.md */
 static const char *const names[3] = {"objects.rdo", "log_a.rdo", "log_b.rdo"};
 static const redo_files_t no_files = {-1, {-1, -1, -1}};
-
-/* Answers with nothing beside it, or with the system's reason. */
-static int32_t alone(redo_t *db, int32_t answer) { return db->detail_ = (redo_detail_t){0, 0, 0}, answer; }
-int32_t redo_because(redo_t *db, int32_t answer) {
-    db->detail_ = (redo_detail_t){(uint64_t)errno, 0, 0};
-    return answer;
-}
 
 /* A number above those of the standard streams, which the program may close and print to. */
 static int above_streams(int fd) {
@@ -45,10 +37,11 @@ static bool open_file(redo_files_t *files, uint32_t i, int how) {
     return files->file_[i] >= 0;
 }
 
-/* Ends the lock too. */
-void redo_close_files(redo_files_t *files) {
+/* Ends the lock too, which a child between its fork and its exec would else keep; but a child does not end that of its parent. */
+void redo_close_files(const redo_t *db, redo_files_t *files) {
     for (int i = 0; i < 3; i++)
         if (files->file_[i] >= 0) close(files->file_[i]);
+    if (files->folder_ >= 0 && redo_is_own(db)) flock(files->folder_, LOCK_UN);
     if (files->folder_ >= 0) close(files->folder_);
     *files = no_files;
 }
@@ -143,25 +136,28 @@ bool redo_make_calls(redo_t *db, redo_files_t *files, next_call_t *next, redo_co
     return true;
 }
 
+/* A child that was forked in the middle of another thread's call has memory that nothing can be said of: it stays as it is. */
 static void let_go(redo_t *db) {
-    redo_end_backup(db);
-    redo_core_close(&db->core_);
-    redo_close_files(&db->files_);
-    free(db->buffer_);
+    if (redo_is_own(db) || !db->busy_) {
+        redo_end_backup(db);
+        redo_core_close(&db->core_);
+        free(db->buffer_);
+    }
+    redo_close_files(db, &db->copy_);
+    redo_close_files(db, &db->files_);
 }
 
 /* Gives the answer, once all that it stands on was made. At a disk fault the files are a front of what was asked for: the store
  * is let go, with its lock, and a new handle may open it. */
 int32_t redo_report(redo_t *db, uint32_t answer) {
-    if (db->state_ == FAILED) return REDO_DISK_FAULT;
-    if (db->state_ == CLOSED) return alone(db, REDO_NOT_OPEN);
     if (answer != REDO_OK) redo_core_detail(&db->core_, &db->detail_);
     if (answer != REDO_DISK_FAULT) {
         if (redo_make_calls(db, &db->files_, redo_core_next, &db->core_)) return (int32_t)answer;
         redo_because(db, REDO_DISK_FAULT);
     }
     let_go(db);
-    *db = (redo_t){.state_ = FAILED, .files_ = no_files, .copy_ = no_files, .detail_ = db->detail_};
+    *db = (redo_t){.state_ = REDO_IS_FAILED, .files_ = no_files, .copy_ = no_files, .detail_ = db->detail_};
+    redo_own(db);
     return REDO_DISK_FAULT;
 }
 
@@ -172,17 +168,19 @@ bool redo_has_log(bytes_t bytes[3]) { return is_log(bytes[1]) || is_log(bytes[2]
 /* Opens a store, or makes one with these numbers: not where a log tells of a store whose objects file is spoilt. */
 static int32_t start(redo_t *db, const char *path, const redo_params_t *numbers) {
     bytes_t bytes[3] = {{0, 0}, {0, 0}, {0, 0}};
-    if (db->state_ != CLOSED) return alone(db, REDO_ALREADY_OPEN);
-    *db = (redo_t){.files_ = no_files, .copy_ = no_files};
+    if (db->state_ != REDO_IS_CLOSED) return db->busy_ ? REDO_BUSY : redo_alone(db, REDO_ALREADY_OPEN);
+    *db = (redo_t){.state_ = REDO_IS_OPENING, .files_ = no_files, .copy_ = no_files};
+    redo_own(db);
     int32_t answer = redo_open_files(db, &db->files_, path, bytes);
     if (answer == REDO_OK)
         answer = (int32_t)(numbers ? redo_core_create(&db->core_, FILES(bytes), numbers, &db->detail_)
                                    : redo_core_open(&db->core_, FILES(bytes), &db->detail_));
     if (answer == REDO_OK && numbers && redo_has_log(bytes)) redo_core_close(&db->core_), answer = REDO_OLD_LOG;
     for (int i = 0; i < 3; i++) free(bytes[i].at);
-    if (answer == REDO_OK) db->state_ = OPEN, answer = redo_report(db, REDO_OK);
-    if (answer != REDO_OK) redo_close_files(&db->files_), *db = (redo_t){.detail_ = db->detail_};
-    return answer;
+    if (answer == REDO_OK) answer = redo_report(db, REDO_OK);
+    if (answer != REDO_OK) redo_close_files(db, &db->files_), *db = (redo_t){.detail_ = db->detail_};
+    else db->state_ = REDO_IS_OPEN;
+    return redo_leave(db, answer);
 }
 
 int32_t redo_create(redo_t *db, const char *path, uint32_t objects, uint32_t cap, uint32_t limit) {
@@ -190,10 +188,12 @@ int32_t redo_create(redo_t *db, const char *path, uint32_t objects, uint32_t cap
     return start(db, path, &numbers);
 }
 int32_t redo_open(redo_t *db, const char *path) { return start(db, path, 0); }
+
+/* That of a parent too: the child lets its own copy go. */
 int32_t redo_close(redo_t *db) {
-    if (db->state_ == CLOSED) return alone(db, REDO_NOT_OPEN);
-    if (db->state_ == OPEN) let_go(db);
+    int32_t answer = redo_enter(db);
+    if (answer != REDO_OK && answer != REDO_FORKED && answer != REDO_DISK_FAULT) return answer;
+    if (db->state_ != REDO_IS_FAILED) let_go(db);
     *db = (redo_t)REDO_CLOSED;
     return REDO_OK;
 }
-int32_t redo_last_detail(const redo_t *db, redo_detail_t *detail) { return *detail = db->detail_, REDO_OK; }

@@ -24,7 +24,7 @@ typedef struct redo_detail { uint64_t first, second, third; } redo_detail_t;
 typedef struct redo_core { uint8_t opened_; void *at_; } redo_core_t;
 typedef struct redo_files { int32_t folder_, file_[3]; } redo_files_t;
 typedef struct redo {
-    int32_t state_, spare_;
+    int32_t state_, busy_;
     redo_files_t files_;
     redo_core_t core_;
     uint8_t *buffer_;
@@ -32,7 +32,8 @@ typedef struct redo {
     redo_detail_t detail_;
     redo_files_t copy_;
     redo_core_t target_;
-    uint64_t later_[2];
+    const struct redo *self_;
+    uint32_t forks_, spare_;
 } redo_t;
 #ifdef __cplusplus
 #define REDO_CLOSED {}
@@ -81,6 +82,9 @@ enum {
     REDO_BAD_KEY = 49,       /* a key, or the value of a key, has 1 to 32 bytes */
     REDO_NOT_OPEN = 64,      /* the handle is closed */
     REDO_ALREADY_OPEN = 65,  /* the handle is open */
+    REDO_BUSY = 66,          /* another call with this handle is under way: one that a signal has interrupted, or another thread's */
+    REDO_COPIED = 67,        /* the handle is a copy of an open one, or was moved since it was opened */
+    REDO_FORKED = 68,        /* the handle is the parent's: this process may close it, and nothing else */
     REDO_LOCKED = 71,        /* another handle, or another process, has the store */
     REDO_NO_FOLDER = 72,     /* the folder is not there, or cannot be locked; detail: errno */
     REDO_OLD_LOG = 73        /* the folder in which a store is to be made has none, but the log of one: see docs/SCRIPT.md */

@@ -7,7 +7,7 @@
 void redo_end_backup(redo_t *db) {
     if (!db->target_.opened_) return;
     redo_core_target_close(&db->target_);
-    redo_close_files(&db->copy_);
+    redo_close_files(db, &db->copy_);
 }
 
 /* Gives the answer, once what it stands on was made on the store's files and then on those of the backup. */
@@ -28,15 +28,15 @@ static int32_t open_target(redo_t *db, const char *folder, bool *has_log) {
     int32_t answer = redo_open_files(db, &db->copy_, folder, bytes);
     if (answer == REDO_DISK_FAULT) answer = REDO_BACKUP_FAULT;
     if (answer == REDO_OK) answer = (int32_t)redo_core_target_open(&db->target_, FILES(bytes));
-    if (answer != REDO_OK) redo_close_files(&db->copy_);
+    if (answer != REDO_OK) redo_close_files(db, &db->copy_);
     *has_log = redo_has_log(bytes);
     for (int i = 0; i < 3; i++) free(bytes[i].at);
     return answer;
 }
 
 /* A start that would overwrite the log of a store whose objects file is spoilt is taken back, before anything is written there. */
-int32_t redo_backup_start(redo_t *db, const char *folder) {
-    bool is_first = db->core_.opened_ && !db->target_.opened_, has_log = false;
+static int32_t start(redo_t *db, const char *folder) {
+    bool is_first = !db->target_.opened_, has_log = false;
     int32_t answer = is_first ? open_target(db, folder, &has_log) : REDO_OK;
     if (answer != REDO_OK) return answer;
     uint32_t core_answer = redo_core_backup_start(&db->core_, &db->target_);
@@ -49,19 +49,18 @@ int32_t redo_backup_start(redo_t *db, const char *folder) {
     if (is_first && answer != REDO_OK) redo_end_backup(db);
     return answer;
 }
+/* Where the answer is REDO_OK the backup is over. */
+static int32_t end(redo_t *db, uint32_t core_answer) {
+    int32_t answer = report(db, core_answer);
+    if (answer == REDO_OK) redo_end_backup(db);
+    return answer;
+}
 
+int32_t redo_backup_start(redo_t *db, const char *folder) { return REDO_CALL(start(db, folder)); }
 int32_t redo_backup_copy(redo_t *db, uint32_t count, uint64_t *copied) {
-    return report(db, redo_core_backup_copy(&db->core_, &db->target_, count, COUNT(copied)));
+    return REDO_CALL(report(db, redo_core_backup_copy(&db->core_, &db->target_, count, COUNT(copied))));
 }
-
 int32_t redo_backup_finish(redo_t *db, uint64_t *commands) {
-    int32_t answer = report(db, redo_core_backup_finish(&db->core_, &db->target_, COUNT(commands)));
-    if (answer == REDO_OK) redo_end_backup(db);
-    return answer;
+    return REDO_CALL(end(db, redo_core_backup_finish(&db->core_, &db->target_, COUNT(commands))));
 }
-
-int32_t redo_backup_give_up(redo_t *db) {
-    int32_t answer = report(db, redo_core_backup_give_up(&db->core_));
-    if (answer == REDO_OK) redo_end_backup(db);
-    return answer;
-}
+int32_t redo_backup_give_up(redo_t *db) { return REDO_CALL(end(db, redo_core_backup_give_up(&db->core_))); }

@@ -3,7 +3,8 @@
 
 /* Room of the caller's, or none. */
 #define INTO(pointer, room) ((pointer) ? (pointer) : &(uint8_t){0}), ((pointer) ? (room) : 0)
-#define REPORT(name, ...) redo_report(db, redo_core_##name(&db->core_, __VA_ARGS__))
+#define REPORT(name, ...) REDO_CALL(redo_report(db, redo_core_##name(&db->core_, __VA_ARGS__)))
+#define REPORT_OF(name) REDO_CALL(redo_report(db, redo_core_##name(&db->core_)))
 
 int32_t redo_put(redo_t *db, uint32_t object, const void *value, size_t length) {
     return REPORT(put, object, redo_some(value), length);
@@ -19,11 +20,11 @@ int32_t redo_get(redo_t *db, uint32_t object, void *into, size_t room, uint64_t 
 
 int32_t redo_force(redo_t *db, uint64_t *commands) { return REPORT(force, COUNT(commands)); }
 int32_t redo_install(redo_t *db, uint64_t *installed) { return REPORT(install, COUNT(installed)); }
-int32_t redo_drain(redo_t *db) { return redo_report(db, redo_core_drain(&db->core_)); }
-int32_t redo_checkpoint(redo_t *db) { return redo_report(db, redo_core_checkpoint(&db->core_)); }
-int32_t redo_trim(redo_t *db) { return redo_report(db, redo_core_trim(&db->core_)); }
-int32_t redo_begin(redo_t *db) { return redo_report(db, redo_core_begin(&db->core_)); }
-int32_t redo_end(redo_t *db) { return redo_report(db, redo_core_end(&db->core_)); }
+int32_t redo_drain(redo_t *db) { return REPORT_OF(drain); }
+int32_t redo_checkpoint(redo_t *db) { return REPORT_OF(checkpoint); }
+int32_t redo_trim(redo_t *db) { return REPORT_OF(trim); }
+int32_t redo_begin(redo_t *db) { return REPORT_OF(begin); }
+int32_t redo_end(redo_t *db) { return REPORT_OF(end); }
 int32_t redo_stat(redo_t *db, redo_stat_t *stat) { return REPORT(stat, stat ? stat : &(redo_stat_t){0}); }
 int32_t redo_params(redo_t *db, redo_params_t *params) { return REPORT(params, params ? params : &(redo_params_t){0}); }
 

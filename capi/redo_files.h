@@ -1,4 +1,4 @@
-/* What redo.c has for the other pages of C. It is not for programs. */
+/* What redo.c and redo_handle.c have for the other pages of C. It is not for programs. */
 #ifndef REDO_FILES_H
 #define REDO_FILES_H
 #include "redo.h"
@@ -10,12 +10,24 @@ typedef struct bytes { uint8_t *at; size_t length; } bytes_t;
 #define COUNT(pointer) ((pointer) ? (pointer) : &(uint64_t){0})
 #define FILES(b) redo_some(b[0].at), b[0].length, redo_some(b[1].at), b[1].length, redo_some(b[2].at), b[2].length
 
-/* What a call of redo.h answers, where the library has answered this. */
-int32_t redo_report(redo_t *, uint32_t);
+/* Of redo_handle.c. `state_` of a handle is one of these: where it is failed, it has let its store go. */
+enum { REDO_IS_CLOSED = 0, REDO_IS_OPEN = 1, REDO_IS_FAILED = 2, REDO_IS_OPENING = 3 };
+/* A call on an open store: what is made where the handle may be used, or why it may not. */
+#define REDO_CALL(made) (redo_enter(db) ?: redo_leave(db, made))
+int32_t redo_enter(redo_t *);
+int32_t redo_leave(redo_t *, int32_t);
+/* This place, this process and a call that is under way have the handle. */
+void redo_own(redo_t *);
+bool redo_is_own(const redo_t *);
+/* Answers with nothing beside it, or with the system's reason. */
+int32_t redo_alone(redo_t *, int32_t);
 int32_t redo_because(redo_t *, int32_t);
 
+/* What a call of redo.h answers, where the library has answered this. */
+int32_t redo_report(redo_t *, uint32_t);
+
 int32_t redo_open_files(redo_t *, redo_files_t *, const char *, bytes_t[3]);
-void redo_close_files(redo_files_t *);
+void redo_close_files(const redo_t *, redo_files_t *);
 /* Whether a log has records, whatever the file of the objects is. */
 bool redo_has_log(bytes_t[3]);
 

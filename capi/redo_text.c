@@ -42,6 +42,9 @@ const char *redo_strerror(int32_t answer) {
     case REDO_BAD_KEY: return "a key, or the value of a key, has 1 to 32 bytes";
     case REDO_NOT_OPEN: return "the handle is closed";
     case REDO_ALREADY_OPEN: return "the handle is open";
+    case REDO_BUSY: return "another call with this handle is under way";
+    case REDO_COPIED: return "the handle is a copy of one that is open";
+    case REDO_FORKED: return "the handle is that of the parent process";
     case REDO_LOCKED: return "another handle or process has the store";
     case REDO_NO_FOLDER: return "the folder is not there, or cannot be locked";
     case REDO_OLD_LOG: return "the folder has no store, but the log of one";

@@ -17,6 +17,7 @@ unsigned fail_at;
 int fail_why = EIO;
 size_t most;
 uint64_t disk_end;
+void (*meanwhile)(void);
 bool has_failed, recording;
 const char *recorded;
 unsigned calls_after;
@@ -102,7 +103,7 @@ int openat(int folder, const char *path, int how, ...) {
     if (is_new && fd >= 0) record(MADE, fd, 0, 0, 0);
     return fd;
 }
-int flock(int fd, int how) { return fails(LOCK) ? -1 : (int)syscall(SYS_flock, fd, how); }
+int flock(int fd, int how) { return how != LOCK_UN && fails(LOCK) ? -1 : (int)syscall(SYS_flock, fd, how); }
 off_t lseek(int fd, off_t at, int from) { return file_of(fd) >= 0 && fails(LSEEK) ? -1 : syscall(SYS_lseek, fd, at, from); }
 ssize_t pread(int fd, void *into, size_t n, off_t at) {
     if (fails(PREAD)) return -1;
@@ -127,6 +128,8 @@ int fsync(int fd) {
     return (int)syscall(SYS_fsync, fd);
 }
 int fdatasync(int fd) {
+    void (*first)(void) = meanwhile;
+    if (first) meanwhile = 0, first();
     if (fails(FDATASYNC)) return -1;
     record(SYNCED, fd, 0, 0, 0);
     return (int)syscall(SYS_fdatasync, fd);

@@ -21,6 +21,8 @@ extern bool has_failed;
 /* How many such calls were made since. */
 extern unsigned calls_after;
 void read_words(const char *words);
+/* What is done in the middle of the next fdatasync, once. */
+extern void (*meanwhile)(void);
 
 /* What was done: bytes written at a place of file 0 to 2, a sync of the file, its making, a read of it; or a sync of the folder
  * (file 3). */
