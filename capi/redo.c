@@ -11,7 +11,6 @@
 #include "redo_files.h"
 #include <errno.h>
 #include <fcntl.h>
-#include <stdbool.h>
 #include <stdlib.h>
 #include <string.h>
 #include <sys/file.h>
@@ -169,6 +168,7 @@ bool redo_has_log(bytes_t bytes[3]) { return is_log(bytes[1]) || is_log(bytes[2]
 static int32_t start(redo_t *db, const char *path, const redo_params_t *numbers) {
     bytes_t bytes[3] = {{0, 0}, {0, 0}, {0, 0}};
     if (db->state_ != REDO_IS_CLOSED) return db->busy_ ? REDO_BUSY : redo_alone(db, REDO_ALREADY_OPEN);
+    if (!path) return redo_alone(db, REDO_NULL);
     *db = (redo_t){.state_ = REDO_IS_OPENING, .files_ = no_files, .copy_ = no_files};
     redo_own(db);
     int32_t answer = redo_open_files(db, &db->files_, path, bytes);

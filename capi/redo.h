@@ -12,7 +12,7 @@ extern "C" {
 #endif
 
 /* Of this header: greater where something was added, which never changes what was there. */
-#define REDO_VERSION 2
+#define REDO_VERSION 3
 uint32_t redo_version(void);            /* of the library that runs */
 size_t redo_handle_size(void);          /* sizeof(redo_t) in it, which is 128 in all versions */
 
@@ -85,9 +85,11 @@ enum {
     REDO_BUSY = 66,          /* another call with this handle is under way: one that a signal has interrupted, or another thread's */
     REDO_COPIED = 67,        /* the handle is a copy of an open one, or was moved since it was opened */
     REDO_FORKED = 68,        /* the handle is the parent's: this process may close it, and nothing else */
+    REDO_NULL = 69,          /* a pointer to bytes, or to room for some, is null and its length is not 0; or a path is null */
     REDO_LOCKED = 71,        /* another handle, or another process, has the store */
     REDO_NO_FOLDER = 72,     /* the folder is not there, or cannot be locked; detail: errno */
-    REDO_OLD_LOG = 73        /* the folder in which a store is to be made has none, but the log of one: see docs/SCRIPT.md */
+    REDO_OLD_LOG = 73,       /* the folder in which a store is to be made has none, but the log of one: see docs/SCRIPT.md */
+    REDO_NO_LENGTH = 74      /* a value is longer than the room, and `length` is null; the room has the beginning of it */
 };
 const char *redo_strerror(int32_t answer);      /* a constant text for each number */
 /* What the last answer of this handle that was not 0 says beside its number; zeros where it says nothing. */
@@ -109,7 +111,8 @@ int32_t redo_cut(redo_t *db, uint32_t from, uint32_t to, uint32_t place);       
 int32_t redo_sort(redo_t *db, uint32_t from, uint32_t to, uint32_t width);
 int32_t redo_swap(redo_t *db, uint32_t first, uint32_t second);
 
-/* A value: as much of it as there is room for is copied. `length` says how many bytes it has, so room 0 asks for that alone.
+/* A value: as much of it as there is room for is copied. `length` says how many bytes it has, so room 0 asks for that alone; where
+ * it is null, a value that has more than there is room for is REDO_NO_LENGTH.
  * Here and below, a number that is told is told where its pointer is not null, and only with REDO_OK. */
 int32_t redo_get(redo_t *db, uint32_t object, void *into, size_t room, uint64_t *length);
 

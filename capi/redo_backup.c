@@ -56,7 +56,9 @@ static int32_t end(redo_t *db, uint32_t core_answer) {
     return answer;
 }
 
-int32_t redo_backup_start(redo_t *db, const char *folder) { return REDO_CALL(start(db, folder)); }
+int32_t redo_backup_start(redo_t *db, const char *folder) {
+    return REDO_CALL(folder ? start(db, folder) : redo_alone(db, REDO_NULL));
+}
 int32_t redo_backup_copy(redo_t *db, uint32_t count, uint64_t *copied) {
     return REDO_CALL(report(db, redo_core_backup_copy(&db->core_, &db->target_, count, COUNT(copied))));
 }

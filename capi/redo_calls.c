@@ -1,13 +1,31 @@
 /* The calls of redo.h that ask for no more than the proved library: each hands its words on, and reports the answer. */
 #include "redo_files.h"
 
+/* Bytes, or room for some, that are at no place. */
+#define NOWHERE(pointer, length) (!(pointer) && (length))
 /* Room of the caller's, or none. */
-#define INTO(pointer, room) ((pointer) ? (pointer) : &(uint8_t){0}), ((pointer) ? (room) : 0)
-#define REPORT(name, ...) REDO_CALL(redo_report(db, redo_core_##name(&db->core_, __VA_ARGS__)))
+#define INTO(pointer, room) ((pointer) ? (pointer) : &(uint8_t){0}), (room)
+
+#define MADE(name, ...) redo_report(db, redo_core_##name(&db->core_, __VA_ARGS__))
+#define REPORT(name, ...) REDO_CALL(MADE(name, __VA_ARGS__))
 #define REPORT_OF(name) REDO_CALL(redo_report(db, redo_core_##name(&db->core_)))
+/* The same, but where bytes that it names are nowhere. */
+#define UNLESS(nowhere, made) REDO_CALL((nowhere) ? redo_alone(db, REDO_NULL) : (made))
+
+/* How much of a value is handed on, which the library copies before it asks for CAP: with one byte past it it is too large. */
+static size_t up_to_cap(redo_t *db, size_t length) {
+    redo_params_t p;
+    return redo_core_params(&db->core_, &p) == REDO_OK && length > p.cap ? (size_t)p.cap + 1 : length;
+}
+
+/* The answer of a call that puts a value into room of the caller's. Where its length is not asked for, none of it may be missing. */
+static int32_t told(redo_t *db, int32_t answer, const void *into, size_t room, const uint64_t *unasked) {
+    return answer == REDO_OK && into && *unasked > room ? redo_alone(db, REDO_NO_LENGTH) : answer;
+}
+#define VALUE(name, ...) told(db, MADE(name, __VA_ARGS__, INTO(into, room), length ? length : &unasked), into, room, &unasked)
 
 int32_t redo_put(redo_t *db, uint32_t object, const void *value, size_t length) {
-    return REPORT(put, object, redo_some(value), length);
+    return UNLESS(NOWHERE(value, length), MADE(put, object, redo_some(value), up_to_cap(db, length)));
 }
 int32_t redo_copy(redo_t *db, uint32_t from, uint32_t to) { return REPORT(copy, from, to); }
 int32_t redo_append(redo_t *db, uint32_t from, uint32_t to) { return REPORT(append, from, to); }
@@ -15,7 +33,8 @@ int32_t redo_cut(redo_t *db, uint32_t from, uint32_t to, uint32_t place) { retur
 int32_t redo_sort(redo_t *db, uint32_t from, uint32_t to, uint32_t width) { return REPORT(sort, from, to, width); }
 int32_t redo_swap(redo_t *db, uint32_t first, uint32_t second) { return REPORT(swap, first, second); }
 int32_t redo_get(redo_t *db, uint32_t object, void *into, size_t room, uint64_t *length) {
-    return REPORT(get, object, INTO(into, room), COUNT(length));
+    uint64_t unasked = 0;
+    return UNLESS(NOWHERE(into, room), VALUE(get, object));
 }
 
 int32_t redo_force(redo_t *db, uint64_t *commands) { return REPORT(force, COUNT(commands)); }
@@ -29,35 +48,44 @@ int32_t redo_stat(redo_t *db, redo_stat_t *stat) { return REPORT(stat, stat ? st
 int32_t redo_params(redo_t *db, redo_params_t *params) { return REPORT(params, params ? params : &(redo_params_t){0}); }
 
 int32_t redo_tree_insert(redo_t *db, redo_range_t tree, const void *key, size_t key_length, const void *value, size_t length) {
-    return REPORT(tree_insert, &tree, redo_some(key), key_length, redo_some(value), length);
+    return UNLESS(NOWHERE(key, key_length) || NOWHERE(value, length),
+                  MADE(tree_insert, &tree, redo_some(key), key_length, redo_some(value), length));
 }
 int32_t redo_tree_delete(redo_t *db, redo_range_t tree, const void *key, size_t key_length) {
-    return REPORT(tree_delete, &tree, redo_some(key), key_length);
+    return UNLESS(NOWHERE(key, key_length), MADE(tree_delete, &tree, redo_some(key), key_length));
 }
 int32_t redo_tree_get(redo_t *db, redo_range_t tree, const void *key, size_t key_length, void *into, size_t room,
                       uint64_t *length) {
-    return REPORT(tree_get, &tree, redo_some(key), key_length, INTO(into, room), COUNT(length));
+    uint64_t unasked = 0;
+    return UNLESS(NOWHERE(key, key_length) || NOWHERE(into, room), VALUE(tree_get, &tree, redo_some(key), key_length));
 }
 int32_t redo_tree_range(redo_t *db, redo_range_t tree, const void *from, size_t from_length, const void *to, size_t to_length,
                         uint64_t *count) {
-    return REPORT(tree_range, &tree, redo_some(from), from_length, redo_some(to), to_length, COUNT(count));
+    return UNLESS(NOWHERE(from, from_length) || NOWHERE(to, to_length),
+                  MADE(tree_range, &tree, redo_some(from), from_length, redo_some(to), to_length, COUNT(count)));
+}
+/* (Where there is no such pair, the library's detail is that of the call before.) */
+static int32_t tree_pair(redo_t *db, uint64_t pair, void *key, size_t key_room, void *value, size_t room, redo_lengths_t *lengths) {
+    redo_lengths_t unasked = {0, 0};
+    int32_t answer = MADE(tree_pair, pair, INTO(key, key_room), INTO(value, room), lengths ? lengths : &unasked);
+    if (answer == REDO_NO_KEY) return redo_alone(db, answer);
+    return told(db, told(db, answer, key, key_room, &unasked.key), value, room, &unasked.value);
 }
 int32_t redo_tree_pair(redo_t *db, uint64_t pair, void *key, size_t key_room, void *value, size_t room,
                        redo_lengths_t *lengths) {
-    redo_lengths_t unasked;
-    int32_t answer = REPORT(tree_pair, pair, INTO(key, key_room), INTO(value, room), lengths ? lengths : &unasked);
-    if (answer == REDO_NO_KEY) db->detail_ = (redo_detail_t){0, 0, 0};      /* the library's detail is that of the call before */
-    return answer;
+    return UNLESS(NOWHERE(key, key_room) || NOWHERE(value, room), tree_pair(db, pair, key, key_room, value, room, lengths));
 }
 int32_t redo_hash_put(redo_t *db, redo_range_t hash, const void *key, size_t key_length, const void *value, size_t length) {
-    return REPORT(hash_put, &hash, redo_some(key), key_length, redo_some(value), length);
+    return UNLESS(NOWHERE(key, key_length) || NOWHERE(value, length),
+                  MADE(hash_put, &hash, redo_some(key), key_length, redo_some(value), length));
 }
 int32_t redo_hash_delete(redo_t *db, redo_range_t hash, const void *key, size_t key_length) {
-    return REPORT(hash_delete, &hash, redo_some(key), key_length);
+    return UNLESS(NOWHERE(key, key_length), MADE(hash_delete, &hash, redo_some(key), key_length));
 }
 int32_t redo_hash_get(redo_t *db, redo_range_t hash, const void *key, size_t key_length, void *into, size_t room,
                       uint64_t *length) {
-    return REPORT(hash_get, &hash, redo_some(key), key_length, INTO(into, room), COUNT(length));
+    uint64_t unasked = 0;
+    return UNLESS(NOWHERE(key, key_length) || NOWHERE(into, room), VALUE(hash_get, &hash, redo_some(key), key_length));
 }
 
 int32_t redo_app_exec(redo_t *db, uint32_t app) { return REPORT(app_exec, app); }

@@ -45,9 +45,11 @@ const char *redo_strerror(int32_t answer) {
     case REDO_BUSY: return "another call with this handle is under way";
     case REDO_COPIED: return "the handle is a copy of one that is open";
     case REDO_FORKED: return "the handle is that of the parent process";
+    case REDO_NULL: return "bytes at no place, or no path";
     case REDO_LOCKED: return "another handle or process has the store";
     case REDO_NO_FOLDER: return "the folder is not there, or cannot be locked";
     case REDO_OLD_LOG: return "the folder has no store, but the log of one";
+    case REDO_NO_LENGTH: return "the value is longer than the room, and its length is not asked for";
     default: return "no answer of this library";
     }
 }

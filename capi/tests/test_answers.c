@@ -1,10 +1,25 @@
 /* Answers that the small store of fake_core.c has not: test_answers FOLDER, an empty one. */
 #include "want.h"
+#include <sys/mman.h>
+#include <sys/resource.h>
 
 static void detail_is(const redo_t *db, uint64_t first, uint64_t second) {
     redo_detail_t d;
     WANT(REDO_OK, redo_last_detail(db, &d));
     if (d.first != first || d.second != second) fail("detail %d %d", (int)d.first, (int)d.second);
+}
+
+/* No value makes a call ask for memory that is longer than a store's may be. */
+static void huge(redo_t *db) {
+    size_t length = (size_t)1 << 30;
+    void *bytes = mmap(0, length, PROT_READ, MAP_PRIVATE | MAP_ANONYMOUS | MAP_NORESERVE, -1, 0);
+    struct rlimit some = {(rlim_t)3 << 29, (rlim_t)3 << 29};
+    if (bytes == MAP_FAILED || setrlimit(RLIMIT_AS, &some)) fail("no memory");
+    WANT(REDO_TOO_LARGE, redo_put(db, 0, bytes, length));
+    WANT(REDO_NO_OBJECT, redo_put(db, 16, bytes, length));
+    WANT(REDO_BAD_KEY, redo_tree_insert(db, range(5, 5), B("k"), bytes, length));
+    WANT(REDO_BAD_KEY, redo_hash_get(db, range(6, 7), bytes, length, 0, 0, 0));
+    munmap(bytes, length);
 }
 
 int main(int argc, char **argv) {
@@ -33,6 +48,7 @@ int main(int argc, char **argv) {
     WANT(REDO_NO_ROOM, redo_hash_put(&db, range(6, 7), B("k7"), B("v"))), detail_is(&db, 0, 0);
     WANT(REDO_OK, redo_put(&db, 9, B("no directory")));
     WANT(REDO_BAD_HASH, redo_hash_get(&db, range(9, 12), B("k"), got, sizeof got, &n)), detail_is(&db, 9, 0);
+    huge(&db);
     WANT(REDO_OK, redo_force(&db, &n));
     WANT(REDO_OK, redo_close(&db));
 

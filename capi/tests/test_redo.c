@@ -100,6 +100,36 @@ static void values(void) {
     if (n != 5 || memcmp(got, "he!", 3)) fail("a value that was cut");
 }
 
+/* Bytes at no place, and values that would be cut without a word. */
+static void nowhere(const char *folder) {
+    redo_range_t r = range(0, 7);
+    redo_lengths_t l;
+    WANT(REDO_NULL, redo_put(&db, 0, 0, 16)), detail_is(0, 0), is(0, "hello");
+    WANT(REDO_NULL, redo_get(&db, 0, 0, 16, &n));
+    WANT(REDO_NULL, redo_tree_insert(&db, r, 0, 1, "v", 1));
+    WANT(REDO_NULL, redo_tree_insert(&db, r, "k", 1, 0, 1));
+    WANT(REDO_NULL, redo_tree_delete(&db, r, 0, 1));
+    WANT(REDO_NULL, redo_tree_get(&db, r, 0, 1, got, 1, &n));
+    WANT(REDO_NULL, redo_tree_get(&db, r, "k", 1, 0, 1, &n));
+    WANT(REDO_NULL, redo_tree_range(&db, r, 0, 1, "k", 1, &n));
+    WANT(REDO_NULL, redo_tree_range(&db, r, "k", 1, 0, 1, &n));
+    WANT(REDO_NULL, redo_tree_pair(&db, 0, 0, 1, got, 1, &l));
+    WANT(REDO_NULL, redo_tree_pair(&db, 0, got, 1, 0, 1, &l));
+    WANT(REDO_NULL, redo_hash_put(&db, r, 0, 1, "v", 1));
+    WANT(REDO_NULL, redo_hash_put(&db, r, "k", 1, 0, 1));
+    WANT(REDO_NULL, redo_hash_delete(&db, r, 0, 1));
+    WANT(REDO_NULL, redo_hash_get(&db, r, 0, 1, got, 1, &n));
+    WANT(REDO_NULL, redo_hash_get(&db, r, "k", 1, 0, 1, &n));
+    WANT(REDO_NULL, redo_backup_start(&db, 0));
+    WANT(REDO_NULL, redo_open(&other, 0));
+    WANT(REDO_ALREADY_OPEN, redo_open(&db, folder));
+    WANT(REDO_BAD_KEY, redo_tree_insert(&db, r, 0, 0, "v", 1));
+    WANT(REDO_NO_LENGTH, redo_get(&db, 0, got, 2, 0)), detail_is(0, 0);
+    WANT(REDO_NO_LENGTH, redo_get(&db, 0, got, 0, 0));
+    WANT(REDO_OK, redo_get(&db, 0, got, 5, 0));
+    WANT(REDO_NO_OBJECT, redo_get(&db, 8, got, 2, 0));
+}
+
 static void groups(void) {
     WANT(REDO_NO_GROUP, redo_end(&db));
     WANT(REDO_OK, redo_begin(&db));
@@ -208,6 +238,12 @@ static void maps(const char *folder) {
     if (n != 6) fail("the range has %d pairs", (int)n);
     WANT(REDO_OK, redo_tree_pair(&s, 3, key, sizeof key, got, sizeof got, &l));
     if (l.key != 3 || l.value != 3 || memcmp(key, "k09", 3) || memcmp(got, "k09", 3)) fail("pair 3");
+    WANT(REDO_NO_LENGTH, redo_tree_pair(&s, 3, key, 2, got, sizeof got, 0));
+    WANT(REDO_NO_LENGTH, redo_tree_pair(&s, 3, key, sizeof key, got, 2, 0));
+    WANT(REDO_OK, redo_tree_pair(&s, 3, key, 3, got, 3, 0));
+    WANT(REDO_OK, redo_tree_pair(&s, 3, key, sizeof key, 0, 0, 0));
+    WANT(REDO_NO_LENGTH, redo_tree_get(&s, range(0, 63), B("k07"), got, 4, 0));
+    WANT(REDO_NO_LENGTH, redo_hash_get(&s, range(64, 127), B("k33"), got, 2, 0));
     WANT(REDO_NO_KEY, redo_tree_pair(&s, 6, key, sizeof key, got, sizeof got, &l));
     WANT(REDO_OK, redo_hash_get(&s, range(64, 127), B("k33"), got, sizeof got, &n));
     if (n != 3 || memcmp(got, "k33", 3)) fail("the hash file's k33");
@@ -284,7 +320,7 @@ static void closed_streams(const char *folder) {
 
 int main(int argc, char **argv) {
     const char *folder = argc > 1 ? argv[1] : ".";
-    closed(folder), made(folder), values(), groups(), upkeep(), backups(folder), maps(folder), applications(), killed(folder), threads();
+    closed(folder), made(folder), values(), nowhere(folder), groups(), upkeep(), backups(folder), maps(folder), applications(), killed(folder), threads();
     WANT(REDO_OK, redo_last_detail(&db, &(redo_detail_t){0, 0, 0}));
     closed_streams(folder);
     WANT(REDO_OK, redo_close(&db));
