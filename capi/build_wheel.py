@@ -31,7 +31,7 @@ def _files(version: str) -> dict[str, bytes]:
         raise FileNotFoundError("release/ has no library, and capi/make has made none")
     info = f"{NAME}-{version}.dist-info"
     files = {
-        "redo/__init__.py": _read(os.path.join(HERE, "redo.py")),
+        "redo/__init__.py": _read(os.path.join(HERE, "redo.py")).replace(b'__version__ = "0"', f'__version__ = "{version}"'.encode()),
         "redo/py.typed": b"",
         "redo/libredo.so.1": _read(library),
         f"{info}/METADATA": f"Metadata-Version: 2.1\nName: redo-store\nVersion: {version}\nRequires-Python: >=3.9\n".encode(),

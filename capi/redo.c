@@ -161,7 +161,7 @@ int32_t redo_report(redo_t *db, uint32_t answer) {
 }
 
 /* Whether the bytes are a log with an open header and a block behind it. */
-static bool is_log(bytes_t bytes) { return bytes.length > LOG_HEADER && memcmp(bytes.at, "\1RDOLOG01", 9) == 0 && bytes.at[LOG_HEADER] == 1; }
+static bool is_log(bytes_t b) { return b.length > LOG_HEADER && memcmp(b.at, "\1RDOLOG01", 9) == 0 && b.at[LOG_HEADER] == 1; }
 bool redo_has_log(bytes_t bytes[3]) { return is_log(bytes[1]) || is_log(bytes[2]); }
 
 /* Opens a store, or makes one with these numbers: not where a log tells of a store whose objects file is spoilt. */

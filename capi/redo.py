@@ -14,17 +14,25 @@
         print(dict(tree.range(b"a", b"b")))
 
 `force` alone makes commands durable. The end of a `with` closes the store and forces nothing, as a kill would.
-A store may be used by several threads, one call, or one group, after the other. After a fork the child has no store.
+A store may be used by several threads, one call, or one group, after the other. A call in the middle of another one of the same
+thread, as in a signal handler, or of a task within the group of another one, is Busy. After a fork the child has no store.
+What a `with` has begun ends with it, whatever interrupts it (from Python 3.10 on; 3.9 may lose the end of any `with`).
 """
 from __future__ import annotations
 
 import ctypes
 import os
+import struct
+import sys
 import threading
 import weakref
 from collections.abc import Callable, Iterator, MutableMapping
-from contextlib import contextmanager, suppress
-from typing import NamedTuple, NoReturn, Union
+from contextlib import AbstractContextManager
+from functools import partial
+from operator import index
+from typing import Any, NamedTuple, NoReturn, Union
+
+__version__ = "0"       # in the wheel that of the program (build_wheel.py)
 
 __all__ = ["Backup", "Error", "Hash", "Params", "Stat", "Store", "Tree", "create", "open", "version"]
 
@@ -87,14 +95,18 @@ class _Stat(ctypes.Structure):
 
 _lib = _load()
 _u32, _u64, _size, _bytes, _into = ctypes.c_uint32, ctypes.c_uint64, ctypes.c_size_t, ctypes.c_char_p, ctypes.c_void_p
-_u64p, _pair = ctypes.POINTER(_u64), [_bytes, _size]
-_objects, _room, _key = [_u32, _u32], [_into, _size, _u64p], [_Range, *_pair]
+_u64p = ctypes.POINTER(_u64)
+_pair: list[type] = [_bytes, _size]
+_objects: list[type] = [_u32, _u32]
+_room: list[type] = [_into, _size, _u64p]
+_key: list[type] = [_Range, *_pair]
 
 
 def _c(name: str, *types: type) -> Callable[..., int]:
     function = getattr(_lib, "redo_" + name)
     function.argtypes, function.restype = [ctypes.POINTER(_Handle), *types], ctypes.c_int32
-    return function
+    call: Callable[..., int] = function
+    return call
 
 
 _create, _open, _close = _c("create", _bytes, _u32, _u32, _u32), _c("open", _bytes), _c("close")
@@ -115,13 +127,14 @@ _app_run, _program_run = _c("app_run", _u32, _u64, _u64p), _c("program_run", *_o
 _program_exec, _program_read, _program_write = (_c("program_" + name, *_objects) for name in ("exec", "read", "write"))
 _lib.redo_strerror.restype, _lib.redo_strerror.argtypes = _bytes, [ctypes.c_int32]
 _lib.redo_version.restype, _lib.redo_handle_size.restype = _u32, _size
-if _lib.redo_version() < 2 or _lib.redo_handle_size() != ctypes.sizeof(_Handle):
+if _lib.redo_version() < 3 or _lib.redo_handle_size() != ctypes.sizeof(_Handle):
     raise ImportError("the library is none that this module knows")
 
 
 def version() -> int:
     """The version of the library."""
-    return _lib.redo_version()
+    number: int = _lib.redo_version()
+    return number
 
 
 class Error(Exception):
@@ -173,9 +186,14 @@ class NoRoom(Error): code = 48
 class BadKey(Error): code = 49
 class NotOpen(Error): code = 64
 class AlreadyOpen(Error): code = 65
+class Busy(Error): code = 66
+class Copied(Error): code = 67
+class Forked(Error): code = 68
+class Null(Error): code = 69
 class Locked(Error): code = 71
 class NoFolder(Error): code = 72
 class OldLog(Error): code = 73
+class NoLength(Error): code = 74
 # fmt: on
 
 
@@ -185,7 +203,7 @@ for _code, _class in _ERRORS.items():
 __all__ += [error.__name__ for error in _ERRORS.values()]
 
 
-def _error(code: int, detail: tuple[int, int, int]) -> Error:
+def _error(code: int, detail: tuple[int, int, int] = (0, 0, 0)) -> Error:
     text = _lib.redo_strerror(code).decode()
     if code in (5, 11, 72) and detail[0]:
         text += f": {os.strerror(detail[0])}"
@@ -194,85 +212,214 @@ def _error(code: int, detail: tuple[int, int, int]) -> Error:
     return _ERRORS.get(code, Error)(text, detail)
 
 
-def _whole(n: int, error: type[Error]) -> int:
+def _path(path: str | os.PathLike[str]) -> bytes:
+    name = os.fsencode(path)
+    if b"\0" in name:
+        raise ValueError("embedded null byte")
+    return name
+
+
+def _count(n: int, bits: int) -> int:
+    n = index(n)
+    if not 0 <= n < 1 << bits:
+        raise ValueError(f"{n} is no count of {bits} bits")
+    return n
+
+
+def _whole(n: int, error: type[Error] = NoObject) -> int:
+    n = index(n)
     if not 0 <= n < 1 << 32:
         raise error(f"{n} is no number of 32 bits")
     return n
 
 
-def _object(x: int) -> int:
-    return _whole(x, NoObject)
+_LAST = b"\xff" * 32
+_MOST = 1 << 20
 
 
 def _of(value: Bytes) -> bytes:
-    return value if type(value) is bytes else bytes(memoryview(value))
+    """The bytes of a value. Of one that is longer than each value of a store no more is copied than shows that."""
+    if type(value) is bytes:
+        return value
+    view = memoryview(value)
+    if view.nbytes > _MOST and view.c_contiguous:
+        view = view.cast("B")[:_MOST + 1]
+    return bytes(view)
+
+
+def _task() -> object:
+    """The task of asyncio that runs, if one does."""
+    asyncio = sys.modules.get("asyncio")
+    try:
+        return asyncio.current_task() if asyncio else None
+    except RuntimeError:
+        return None
+
+
+_RLock: Any = type(threading.RLock())
+
+
+class _Turn(_RLock):  # type: ignore[misc]
+    """The lock of a store. A thread has it for a call, and for a group: this is what stands behind the `with` of that.
+
+    It is let go in C, where no exception of a signal handler comes in between. So the thread has it no more once the `with` is over,
+    whatever has ended that, and the next call ends the group in the library."""
+
+    store: Callable[[], Store | None]
+
+    def __init__(self) -> None:
+        self.call = _Held(_RLock.__enter__.__get__(self), _RLock.__exit__.__get__(self))
+
+    def __enter__(self) -> Store:
+        store = self.store()
+        if store is None:
+            raise _error(NotOpen.code)
+        if self._is_owned():
+            store._do(store._refuse_group)
+        try:
+            self.acquire()
+            store._do(store._open_group)
+            return store
+        except BaseException:
+            try:
+                self.release()
+            except RuntimeError:        # it was not taken yet
+                pass
+            raise
+
+
+class _Held:
+    """Stands behind a `with` for two functions, which Python finds without a line of Python in between."""
+
+    __slots__ = ("__enter__", "__exit__")
+
+    def __init__(self, enter: Callable[[], object], leave: Callable[..., None]) -> None:
+        self.__enter__, self.__exit__ = enter, leave
 
 
 class Store:
-    """A store that is open. Values and keys are `bytes`; objects are numbers from 0 on."""
+    """A store that is open. Values and keys are `bytes`; objects are numbers from 0 on, and NoObject is raised at others.
+
+    A command that is refused has changed nothing. Beside what is said of each, a call may raise NotOpen, Busy (in the middle of
+    another call, or within the group of another task), LogFull (where the log has no room for a command: `drain` and `trim` make
+    some), OutOfMemory, and DiskFault, after which the store answers nothing else. A store is true while it is open, and is neither
+    copied nor pickled."""
 
     def __init__(self) -> None:
         self._handle = _Handle()
-        self._lock = threading.RLock()
         self._count = _u64()
         self._room = ctypes.create_string_buffer(4096)
+        self._begin()
         _stores.add(self)
+
+    def _begin(self) -> None:
+        self._turn = _Turn()
+        self._turn.store = weakref.ref(self)
+        self._busy = False
+        self._grouped = False                       # the library may have a group open
+        self._task: object = None                   # whose it is
+        self._saving: Callable[[], object] | None = None        # of a backup that may be under way: None where its `with` is over
+
+    def _do(self, work: Callable[..., Any], *words: object) -> Any:
+        """Does work at this thread's turn. In the middle of other work of the thread, as in a signal handler, it is Busy."""
+        turn = self._turn
+        had_turn = turn._is_owned()
+        with turn.call:
+            if self._busy and had_turn:
+                raise _error(Busy.code)
+            self._busy = True
+            try:
+                if self._grouped or self._saving:
+                    self._settle(had_turn)
+                return work(*words)
+            finally:
+                self._busy = False
+
+    def _settle(self, in_group: bool) -> None:
+        """Another task of the thread has no part in a group. What a `with` has begun that is over is ended."""
+        if in_group and self._grouped and self._task is not _task():
+            raise _error(Busy.code)
+        if in_group:
+            return
+        if self._grouped:
+            _end(self._handle)
+            self._grouped, self._task = False, None
+        if self._saving and self._saving() is None:
+            _backup_give_up(self._handle)
+            self._saving = None
 
     def _raise(self, code: int) -> NoReturn:
         detail = _Detail()
         _last_detail(self._handle, detail)
         raise _error(code, (detail.first, detail.second, detail.third))
 
-    def _call(self, function: Callable[..., int], *words: object) -> None:
-        with self._lock:
-            if code := function(self._handle, *words):
-                self._raise(code)
+    def _made(self, function: Callable[..., int], *words: object) -> None:
+        if code := function(self._handle, *words):
+            self._raise(code)
 
-    def _number(self, function: Callable[..., int], *words: object) -> int:
-        with self._lock:
-            if code := function(self._handle, *words, self._count):
-                self._raise(code)
-            return self._count.value
+    def _counted(self, function: Callable[..., int], *words: object) -> int:
+        self._made(function, *words, self._count)
+        return self._count.value
 
-    def _value(self, function: Callable[..., int], *words: object) -> bytes:
-        with self._lock:
+    def _copied(self, function: Callable[..., int], *words: object) -> bytes:
+        while True:
             room = len(self._room)
             if code := function(self._handle, *words, self._room, room, self._count):
                 self._raise(code)
             length = self._count.value
-            if length > room:
-                self._room = ctypes.create_string_buffer(length)
-                return self._value(function, *words)
-            return ctypes.string_at(self._room, length)
+            if length <= room:
+                return ctypes.string_at(self._room, length)
+            self._room = ctypes.create_string_buffer(length)
+
+    def _call(self, function: Callable[..., int], *words: object) -> None:
+        self._do(self._made, function, *words)
+
+    def _number(self, function: Callable[..., int], *words: object) -> int:
+        number: int = self._do(self._counted, function, *words)
+        return number
+
+    def _value(self, function: Callable[..., int], *words: object) -> bytes:
+        value: bytes = self._do(self._copied, function, *words)
+        return value
+
+    def _open_group(self) -> None:
+        if self._grouped:                           # that of a `with` that is over
+            _end(self._handle)
+        self._grouped, self._task = True, _task()
+        self._made(_begin)
+
+    def _refuse_group(self) -> NoReturn:
+        raise _error(InGroup.code)
 
     def put(self, x: int, value: Bytes) -> None:
-        """Object x holds these bytes."""
+        """Object x holds these bytes: as many as `params().cap` at most, or TooLarge is raised."""
         value = _of(value)
-        self._call(_put, _object(x), value, len(value))
+        self._call(_put, _whole(x), value, len(value))
 
     def get(self, x: int) -> bytes:
         """The value of object x."""
-        return self._value(_get, _object(x))
+        return self._value(_get, _whole(x))
 
     def copy(self, x: int, y: int) -> None:
         """Object y gets the value of x."""
-        self._call(_copy, _object(x), _object(y))
+        self._call(_copy, _whole(x), _whole(y))
 
     def append(self, x: int, y: int) -> None:
-        """The value of x is added at the end of that of y."""
-        self._call(_append, _object(x), _object(y))
+        """The value of x is added at the end of that of y. Raises TooLarge, and Same where x is y."""
+        self._call(_append, _whole(x), _whole(y))
 
     def cut(self, x: int, y: int, place: int) -> None:
-        """Object x keeps its first bytes up to the place, and y gets the others."""
-        self._call(_cut, _object(x), _object(y), _whole(place, BadPlace))
+        """Object x keeps its first bytes up to the place, and y gets the others. Raises BadPlace where x has fewer, and Same."""
+        self._call(_cut, _whole(x), _whole(y), _whole(place, BadPlace))
 
     def sort(self, x: int, y: int, width: int) -> None:
-        """Object y gets the value of x with its records, each of this many bytes, in byte order."""
-        self._call(_sort, _object(x), _object(y), _whole(width, BadWidth))
+        """Object y gets the value of x with its records, each of this many bytes, in byte order. Raises BadWidth where they do not
+        fill the value."""
+        self._call(_sort, _whole(x), _whole(y), _whole(width, BadWidth))
 
     def swap(self, x: int, y: int) -> None:
-        """The values of x and y are exchanged."""
-        self._call(_swap, _object(x), _object(y))
+        """The values of x and y are exchanged. Raises Same where x is y."""
+        self._call(_swap, _whole(x), _whole(y))
 
     def __getitem__(self, x: int) -> bytes:
         return self.get(x)
@@ -284,31 +431,33 @@ class Store:
         return self.params().objects
 
     def force(self) -> int:
-        """Makes all commands durable, and says how many there are since the store was made."""
+        """Makes all commands durable, and says how many there are since the store was made. Raises InGroup within a group, as do
+        `install`, `drain`, `checkpoint`, `trim` and all of a backup."""
         return self._number(_force)
 
-    @contextmanager
-    def group(self) -> Iterator[Store]:
-        """Commands of which a crash leaves all or none; the next `force` after the group makes them durable. Other threads
-        wait for its end.
+    def group(self) -> AbstractContextManager[Store]:
+        """For a `with`: commands of which a crash leaves all or none; the next `force` after the group makes them durable. Other
+        threads wait for its end, and other tasks of asyncio are Busy until then. In a group there is no other one: InGroup.
 
         Nothing is undone: after an exception the commands before it stay, as a group of their own."""
-        with self._lock:
-            self._call(_begin)
-            try:
-                yield self
-            except BaseException:
-                with suppress(Error):
-                    self._call(_end)
-                raise
-            self._call(_end)
+        group: AbstractContextManager[Store] = self._turn
+        return group
+
+    def end_group(self) -> bool:
+        """Ends a group before its `with` does: the commands that follow there are in none. False where no group is open."""
+        return bool(self._do(self._end_group))
+
+    def _end_group(self) -> bool:
+        was_open, self._grouped = _end(self._handle) == 0, False
+        return was_open
 
     def install(self) -> bool:
         """Installs one node of the write graph. False where none was left."""
         return self._number(_install) != 0
 
     def drain(self) -> None:
-        """Installs all nodes of the write graph."""
+        """Installs all nodes of the write graph. Where it raises LogFull or OutOfMemory some may be installed, as of a `trim` a part
+        may be done: no value and no command changes by that."""
         self._call(_drain)
 
     def checkpoint(self) -> None:
@@ -316,30 +465,36 @@ class Store:
         self._call(_checkpoint)
 
     def trim(self) -> None:
-        """Rewrites the log without the records that no restart needs. After a `drain` it is as short as it can be."""
+        """Rewrites the log without the records that no restart needs. After a `drain` it is as short as it can be. Raises InBackup
+        while a backup is being made."""
         self._call(_trim)
 
     def backup(self, path: str | os.PathLike[str]) -> int:
-        """Saves the store in this folder, which is there and has none. Answers how many commands the copy has: all of them."""
+        """Saves the store in this folder, which is there and has none. Answers how many commands the copy has: all of them. Raises
+        AlreadyStore, OldLog, NoFolder, Locked and InBackup, and BackupFault where a file of the copy fails."""
         with self.backing_up(path) as backup:
             pass
         return backup.commands
 
-    @contextmanager
-    def backing_up(self, path: str | os.PathLike[str]) -> Iterator[Backup]:
-        """A backup that is made piece by piece, while the store is used: `copy` of what it gives copies some objects. Its end
-        copies the others and finishes it; after an exception it is given up, and the folder has no store."""
-        self._call(_backup_start, os.fsencode(path))
-        backup = Backup(self)
-        try:
-            yield backup
-            with self._lock:
-                backup.copy(65535)
-                backup.commands = self._number(_backup_finish)
-        except BaseException:
-            with suppress(Error):
-                self._call(_backup_give_up)
-            raise
+    def backing_up(self, path: str | os.PathLike[str]) -> Backup:
+        """For a `with`: a backup that is made piece by piece, while the store is used: `copy` of what it gives copies some objects.
+        Its end copies the others and finishes it; after an exception it is given up, and the folder has no store. Raises what
+        `backup` does."""
+        return Backup(self, path)
+
+    def _start_backup(self, saving: Callable[[], object], path: bytes) -> None:
+        if self._saving is None:
+            self._saving = saving
+        self._made(_backup_start, path)
+
+    def _finish_backup(self, backup: Backup) -> None:
+        backup.copied = self._counted(_backup_copy, 65535)
+        backup.commands = self._counted(_backup_finish)
+        self._saving = None
+
+    def _give_up_backup(self, saving: Callable[[], object]) -> None:
+        if self._saving is saving and _backup_give_up(self._handle) != InGroup.code:
+            self._saving = None
 
     def stat(self) -> Stat:
         """What the store reports of itself."""
@@ -362,47 +517,52 @@ class Store:
         return Hash(self, low, high)
 
     def app_exec(self, app: int) -> None:
-        """The application whose state is the value of `app` takes one step."""
-        self._call(_app_exec, _object(app))
+        """The application whose state is the value of `app` takes one step. Raises NoInput where its input is empty, and NotApp."""
+        self._call(_app_exec, _whole(app))
 
     def app_read(self, app: int, x: int) -> None:
-        """The value of x is added to its input."""
-        self._call(_app_read, _object(app), _object(x))
+        """The value of x is added to its input. Raises TooLarge and NotApp."""
+        self._call(_app_read, _whole(app), _whole(x))
 
     def app_write(self, app: int, x: int) -> None:
-        """Object x gets its output."""
-        self._call(_app_write, _object(app), _object(x))
+        """Object x gets its output. Raises NotApp."""
+        self._call(_app_write, _whole(app), _whole(x))
 
     def app_run(self, app: int, most: int) -> int:
-        """It takes steps, at most so many. Answers how many it took."""
-        return self._number(_app_run, _object(app), most)
+        """It takes steps, at most so many (below 2^64), as long as it has input. Answers how many it took."""
+        return self._number(_app_run, _whole(app), _count(most, 64))
 
     def program_exec(self, app: int, program: int) -> None:
-        """The program in one object takes a step on the state in another."""
-        self._call(_program_exec, _object(app), _object(program))
+        """The program in one object takes a step on the state in another. Raises NotCode, Halted, NoInput, TooLarge and NotApp."""
+        self._call(_program_exec, _whole(app), _whole(program))
 
     def program_read(self, app: int, x: int) -> None:
         """The value of x is added to the input of the state."""
-        self._call(_program_read, _object(app), _object(x))
+        self._call(_program_read, _whole(app), _whole(x))
 
     def program_write(self, app: int, x: int) -> None:
         """Object x gets the output of the state."""
-        self._call(_program_write, _object(app), _object(x))
+        self._call(_program_write, _whole(app), _whole(x))
 
     def program_run(self, app: int, program: int, most: int) -> int:
-        """The program takes steps, at most so many. Answers how many it took."""
-        return self._number(_program_run, _object(app), _object(program), most)
+        """The program takes steps, at most so many (below 2^64), as long as it has input. Answers how many it took."""
+        return self._number(_program_run, _whole(app), _whole(program), _count(most, 64))
 
     @property
     def is_open(self) -> bool:
         """False before the store is open and after it was closed; true after a disk fault."""
-        return self._handle.state != 0
+        return self._handle.state in (1, 2)
+
+    def __bool__(self) -> bool:
+        return self.is_open
 
     def close(self) -> None:
         """Forces nothing: what was not forced may be lost. A store that is closed stays closed."""
-        with self._lock:
-            if self.is_open:
-                self._call(_close)
+        self._do(self._shut)
+
+    def _shut(self) -> None:
+        if self.is_open:
+            self._made(_close)
 
     def __enter__(self) -> Store:
         return self
@@ -410,32 +570,65 @@ class Store:
     def __exit__(self, *_: object) -> None:
         self.close()
 
+    def __reduce__(self) -> NoReturn:
+        raise TypeError("a store is neither copied nor pickled")
+
     def __del__(self, _close: Callable[..., int] = _close) -> None:
         if hasattr(self, "_handle"):
             _close(self._handle)
 
 
-class Backup:
-    """A backup that is being made."""
+class _Leaving:
+    """The `__exit__` of a backup. The `with` alone has what it gives, so that the store knows when the `with` is over, also where
+    an exception of a signal handler came before the first line of `__exit__`."""
 
-    def __init__(self, store: Store) -> None:
-        self._store = store
+    def __get__(self, backup: Backup | None, owner: type[Backup]) -> Callable[..., None]:
+        if backup is None:
+            return Backup._leave
+        leave = partial(Backup._leave, backup)
+        backup._saving = weakref.ref(leave)
+        return leave
+
+
+class Backup:
+    """A backup that is being made: of `copied` objects so far, and, once it is finished, of `commands` commands."""
+
+    __exit__ = _Leaving()
+
+    def __init__(self, store: Store, path: str | os.PathLike[str]) -> None:
+        self._store, self._path = store, _path(path)
+        self._saving: Callable[[], object] = weakref.ref(self)
         self.copied = 0
         self.commands = 0
 
+    def __enter__(self) -> Backup:
+        self._store._do(self._store._start_backup, self._saving, self._path)
+        return self
+
+    def _leave(self, error: object, *_: object) -> None:
+        try:
+            if error is None:
+                self._store._do(self._store._finish_backup, self)
+        finally:
+            self._store._do(self._store._give_up_backup, self._saving)
+
     def copy(self, count: int) -> int:
-        """Copies so many objects more, fewer at the end. Answers how many are copied."""
-        self.copied = self._store._number(_backup_copy, _whole(count, NoObject))
+        """Copies so many objects more (below 2^32), fewer at the end. Answers how many are copied."""
+        self.copied = self._store._number(_backup_copy, _count(count, 32))
         return self.copied
 
 
-class _Map:
+class _Map(MutableMapping[bytes, bytes]):
+    """A map of bytes in a range of objects. A key, and the value of a key, has 1 to 32 bytes: BadKey is raised at others.
+
+    Iteration is over the keys of the moment at which it begins. That, as `len` and `bool`, reads the whole map."""
+
     _set: Callable[..., int]
     _get: Callable[..., int]
     _delete: Callable[..., int]
 
     def __init__(self, store: Store, low: int, high: int) -> None:
-        self._store, self._range = store, _Range(_object(low), _object(high))
+        self._store, self._range = store, _Range(_whole(low), _whole(high))
 
     def __getitem__(self, key: Bytes) -> bytes:
         key = _of(key)
@@ -457,51 +650,14 @@ class _Map:
         """The key leaves the map, with its value. NoKey, a KeyError, where it is not there."""
         del self[key]
 
-    def get(self, key: Bytes, default: bytes | None = None) -> bytes | None:
-        """The value of the key, or the default where it is not there."""
-        try:
-            return self[key]
-        except KeyError:
-            return default
-
     def __contains__(self, key: object) -> bool:
-        return isinstance(key, (bytes, bytearray, memoryview)) and self.get(key) is not None
-
-
-class Hash(_Map):
-    """A map in a range of objects. It has no order, and cannot be iterated."""
-
-    _set, _get, _delete = staticmethod(_hash_put), staticmethod(_hash_get), staticmethod(_hash_delete)
-    __iter__ = None
-
-
-class Tree(_Map, MutableMapping[bytes, bytes]):
-    """An ordered map in a range of objects: iteration is by rising keys."""
-
-    _set, _get, _delete = staticmethod(_tree_insert), staticmethod(_tree_get), staticmethod(_tree_delete)
-
-    def range(self, low: Bytes = b"\0", high: Bytes | None = None) -> Iterator[tuple[bytes, bytes]]:
-        """The pairs whose keys are not below `low` and are below `high`, by rising key, as they are now."""
-        return iter(self._pairs(_of(low), None if high is None else _of(high)))
-
-    def _pairs(self, low: bytes, high: bytes | None) -> list[tuple[bytes, bytes]]:
-        store, last = self._store, b"\xff" * 32
-        to = last if high is None else high
-        key, value, lengths = ctypes.create_string_buffer(32), ctypes.create_string_buffer(32), _Lengths()
-        pairs: list[tuple[bytes, bytes]] = []
-        with store._lock:
-            for i in range(store._number(_tree_range, self._range, low, len(low), to, len(to))):
-                store._call(_tree_pair, i, key, 32, value, 32, lengths)
-                pairs.append((key.raw[:lengths.key], value.raw[:lengths.value]))
-            if high is None and (at_last := self.get(last)) is not None:
-                pairs.append((last, at_last))
-        return pairs
-
-    def __iter__(self) -> Iterator[bytes]:
-        return (key for key, _ in self._pairs(b"\0", None))
-
-    def __len__(self) -> int:
-        return len(self._pairs(b"\0", None))
+        if not isinstance(key, (bytes, bytearray, memoryview)):
+            return False
+        try:
+            self[key]
+        except (NoKey, BadKey):
+            return False
+        return True
 
     def clear(self) -> None:
         """All keys leave the map."""
@@ -509,30 +665,105 @@ class Tree(_Map, MutableMapping[bytes, bytes]):
             del self[key]
 
 
+class Hash(_Map):
+    """A hash file in a range of objects: a map without an order, that reads one bucket for a key. Raises BadHash where an object of
+    the range is not of it, and NoRoom and HashFull where it has no room for a key."""
+
+    _set, _get, _delete = staticmethod(_hash_put), staticmethod(_hash_get), staticmethod(_hash_delete)
+
+    def __iter__(self) -> Iterator[bytes]:
+        keys: list[bytes] = self._store._do(self._keys)
+        return iter(keys)
+
+    def __len__(self) -> int:
+        return len(self._store._do(self._keys))
+
+    def _keys(self) -> list[bytes]:
+        """Those of the buckets that the directory names (docs/FORMATS.md)."""
+        directory = self._block(self._range.low, 3)
+        entries = struct.unpack_from(f"<{(len(directory) - 2) // 4}I", directory, 2) if directory else ()
+        return [key for bucket in dict.fromkeys(entries) for key in self._keys_in(self._block(bucket, 4))]
+
+    def _block(self, x: int, kind: int) -> bytes:
+        value = self._store._copied(_get, x)
+        if value[:1] != bytes([kind]) and (value or kind == 4):
+            raise _error(BadHash.code, (x, 0, 0))
+        return value
+
+    @staticmethod
+    def _keys_in(bucket: bytes) -> Iterator[bytes]:
+        at = 3
+        for _ in range(bucket[2]):
+            end = at + 1 + bucket[at]
+            yield bucket[at + 1:end]
+            at = end + 1 + bucket[end]
+
+
+class Tree(_Map):
+    """An ordered map in a range of objects: iteration is by rising keys. Raises BadTree where an object of the range is none of its
+    nodes, and TreeFull where the range has no room for a key."""
+
+    _set, _get, _delete = staticmethod(_tree_insert), staticmethod(_tree_get), staticmethod(_tree_delete)
+
+    def range(self, low: Bytes = b"\0", high: Bytes | None = None) -> Iterator[tuple[bytes, bytes]]:
+        """The pairs whose keys are not below `low` and are below `high`, by rising key, as they are now: all are found at once."""
+        pairs: list[tuple[bytes, bytes]] = self._store._do(self._pairs, _of(low), None if high is None else _of(high))
+        return iter(pairs)
+
+    def __iter__(self) -> Iterator[bytes]:
+        return (key for key, _ in self.range())
+
+    def __len__(self) -> int:
+        return int(self._store._do(self._size))
+
+    def _found(self, low: bytes, high: bytes) -> int:
+        return self._store._counted(_tree_range, self._range, low, len(low), high, len(high))
+
+    def _last(self) -> list[tuple[bytes, bytes]]:
+        """The pair of the greatest key that there may be, which is below none."""
+        try:
+            return [(_LAST, self._store._copied(_tree_get, self._range, _LAST, len(_LAST)))]
+        except NoKey:
+            return []
+
+    def _pairs(self, low: bytes, high: bytes | None) -> list[tuple[bytes, bytes]]:
+        key, value, lengths = ctypes.create_string_buffer(32), ctypes.create_string_buffer(32), _Lengths()
+        pairs: list[tuple[bytes, bytes]] = []
+        for i in range(self._found(low, _LAST if high is None else high)):
+            self._store._made(_tree_pair, i, key, 32, value, 32, lengths)
+            pairs.append((key.raw[:lengths.key], value.raw[:lengths.value]))
+        self._found(b"\0", b"\0")              # lets the pairs in the library go
+        return pairs + self._last() if high is None else pairs
+
+    def _size(self) -> int:
+        size = self._found(b"\0", _LAST) + len(self._last())
+        self._found(b"\0", b"\0")
+        return size
+
+
 _stores: weakref.WeakSet[Store] = weakref.WeakSet()
 
 
 def _leave_to_parent() -> None:
     for store in list(_stores):
-        if store._lock.acquire(blocking=False):
-            _close(store._handle)
-            store._lock.release()
-        store._handle, store._lock = _Handle(), threading.RLock()
+        _close(store._handle)
+        store._begin()
 
 
 os.register_at_fork(after_in_child=_leave_to_parent)
 
 
 def open(path: str | os.PathLike[str]) -> Store:
-    """Opens the store in this folder."""
+    """Opens the store in this folder, and reads its files into memory. Raises NotAStore, Damaged, NoFolder and Locked."""
     store = Store()
-    store._call(_open, os.fsencode(path))
+    store._call(_open, _path(path))
     return store
 
 
 def create(path: str | os.PathLike[str], objects: int, cap: int, limit: int) -> Store:
-    """Makes a store in this folder, which is there, and opens it: so many objects of at most `cap` bytes, and a log of at most
-    `limit` bytes."""
+    """Makes a store in this folder, which is there, and opens it: 1 to 65,535 objects of at most `cap` bytes (16 to 1,048,576), and
+    a log of at most `limit` bytes (2 cap + 4,096 to 536,870,912). Raises BadParams at other numbers, AlreadyStore, OldLog, NoFolder
+    and Locked."""
     store = Store()
-    store._call(_create, os.fsencode(path), *(_whole(n, BadParams) for n in (objects, cap, limit)))
+    store._call(_create, _path(path), *(_whole(n, BadParams) for n in (objects, cap, limit)))
     return store

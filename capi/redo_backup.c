@@ -65,4 +65,7 @@ int32_t redo_backup_copy(redo_t *db, uint32_t count, uint64_t *copied) {
 int32_t redo_backup_finish(redo_t *db, uint64_t *commands) {
     return REDO_CALL(end(db, redo_core_backup_finish(&db->core_, &db->target_, COUNT(commands))));
 }
-int32_t redo_backup_give_up(redo_t *db) { return REDO_CALL(end(db, redo_core_backup_give_up(&db->core_))); }
+/* (The library looks for a group first, and the two above for a backup.) */
+int32_t redo_backup_give_up(redo_t *db) {
+    return REDO_CALL(db->target_.opened_ ? end(db, redo_core_backup_give_up(&db->core_)) : redo_alone(db, REDO_NO_BACKUP));
+}

@@ -313,7 +313,11 @@ uint32_t redo_core_target_close(redo_core_t *t) { return t->opened_ ? redo_core_
 uint32_t redo_core_target_next(redo_core_t *t, redo_call_t *call, uint8_t *into, size_t room) {
     return t->opened_ ? redo_core_next(t, call, into, room) : REDO_NO_BACKUP;
 }
-#define TARGET ALONE; store_t *to = t->at_; if (!t->opened_) return refuse(s, REDO_NO_BACKUP)
+#define TARGET \
+    STORE; \
+    store_t *to = t->at_; \
+    if (!t->opened_) return refuse(s, REDO_NO_BACKUP); \
+    if (s->in_group) return s->detail = (redo_detail_t){s->group, 0, 0}, REDO_IN_GROUP
 uint32_t redo_core_backup_start(redo_core_t *c, redo_core_t *t) {
     TARGET;
     if (s->in_backup) return s->detail = (redo_detail_t){s->copied, 0, 0}, REDO_IN_BACKUP;
@@ -378,15 +382,14 @@ uint32_t redo_core_program_run(redo_core_t *c, uint32_t app, uint32_t p, uint64_
     return most ? refuse(s, REDO_NOT_CODE) : (*steps = 0, REDO_OK);
 }
 
+#define RANGE(r, kind) if ((r)->low + ((kind) == 'h') > (r)->high) return refuse(s, REDO_NO_OBJECT)
 #define KEY(n) if ((n) < 1 || (n) > 32) return refuse(s, REDO_BAD_KEY)
 static uint32_t map_set(redo_core_t *c, char kind, const redo_range_t *r, redo_bytes_t k, size_t kn, redo_bytes_t v, size_t n) {
-    STORE; HAS(r->high); KEY(kn); KEY(n);
-    if (r->low + (kind == 'h') > r->high) return refuse(s, REDO_NO_OBJECT);
+    STORE; RANGE(r, kind); KEY(kn); KEY(n); HAS(r->high);
     return command(s, &(step_t){named(&(name_t){{0}}, kind, r->low, r->high, k, kn), {(uint8_t *)v, n}, false}, 1);
 }
 static uint32_t map_get(redo_core_t *c, char kind, const redo_range_t *r, redo_bytes_t k, size_t kn, bytes_t *v) {
-    STORE; HAS(r->high); KEY(kn);
-    if (r->low + (kind == 'h') > r->high) return refuse(s, REDO_NO_OBJECT);
+    STORE; RANGE(r, kind); KEY(kn); HAS(r->high);
     bool found;
     *v = value_of(s, named(&(name_t){{0}}, kind, r->low, r->high, k, kn), &found);
     return found ? REDO_OK : refuse(s, REDO_NO_KEY);
@@ -422,8 +425,7 @@ uint32_t redo_core_hash_get(redo_core_t *c, const redo_range_t *r, redo_bytes_t 
     return map_give(c, 'h', r, k, kn, into, room, length);
 }
 uint32_t redo_core_tree_range(redo_core_t *c, const redo_range_t *r, redo_bytes_t f, size_t fn, redo_bytes_t t, size_t tn, uint64_t *count) {
-    STORE; HAS(r->high); KEY(fn); KEY(tn);
-    if (r->low > r->high) return refuse(s, REDO_NO_OBJECT);
+    STORE; RANGE(r, 't'); KEY(fn); KEY(tn); HAS(r->high);
     bytes_t from = named(&(name_t){{0}}, 't', r->low, r->high, f, fn), to = named(&(name_t){{0}}, 't', r->low, r->high, t, tn);
     drop_pairs(s);
     for (size_t i = place(s, from); i < s->count && order(s->map[i].name, to) < 0; i++) {

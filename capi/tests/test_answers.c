@@ -2,6 +2,7 @@
 #include "want.h"
 #include <sys/mman.h>
 #include <sys/resource.h>
+#include <sys/stat.h>
 
 static void detail_is(const redo_t *db, uint64_t first, uint64_t second) {
     redo_detail_t d;
@@ -51,6 +52,19 @@ int main(int argc, char **argv) {
     huge(&db);
     WANT(REDO_OK, redo_force(&db, &n));
     WANT(REDO_OK, redo_close(&db));
+
+    /* A create that was cut short at its first byte, which a crash may leave as any, has made no store, and may be made again. */
+    for (int byte = 0; byte < 3; byte++) {
+        char file[sizeof path + 16];
+        snprintf(path, sizeof path, "%s/torn%d", folder, byte);
+        snprintf(file, sizeof file, "%s/objects.rdo", path);
+        mkdir(path, 0777);
+        FILE *torn = fopen(file, "wb");
+        if (!torn || fputc(byte, torn) == EOF || fclose(torn)) fail("%s cannot be written", file);
+        WANT(byte == 1 ? REDO_DAMAGED : REDO_NOT_A_STORE, redo_open(&db, path));
+        WANT(REDO_OK, redo_create(&db, path, 16, 1024, 65536));
+        WANT(REDO_OK, redo_close(&db));
+    }
 
     /* A byte of the header is spoilt: the store says where, and the handle is closed. */
     snprintf(path, sizeof path, "%s/objects.rdo", folder);

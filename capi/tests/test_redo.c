@@ -178,7 +178,17 @@ static void backups(const char *folder) {
     remove_log(path);
     WANT(REDO_OK, redo_begin(&db));
     WANT(REDO_IN_GROUP, redo_backup_start(&db, path));
+    WANT(REDO_NO_BACKUP, redo_backup_copy(&db, 1, &n));
+    WANT(REDO_NO_BACKUP, redo_backup_finish(&db, &n));
+    WANT(REDO_NO_BACKUP, redo_backup_give_up(&db));
     WANT(REDO_OK, redo_end(&db));
+    WANT(REDO_OK, redo_backup_start(&db, path));
+    WANT(REDO_OK, redo_begin(&db));
+    WANT(REDO_IN_GROUP, redo_backup_copy(&db, 1, &n));
+    WANT(REDO_IN_GROUP, redo_backup_finish(&db, &n));
+    WANT(REDO_IN_GROUP, redo_backup_give_up(&db));
+    WANT(REDO_OK, redo_end(&db));
+    WANT(REDO_OK, redo_backup_give_up(&db));
     WANT(REDO_OK, redo_backup_start(&db, path));
     WANT(REDO_IN_BACKUP, redo_backup_start(&db, path)), detail_is(0, 0);
     WANT(REDO_LOCKED, redo_open(&other, path));
@@ -253,6 +263,9 @@ static void maps(const char *folder) {
     WANT(REDO_BAD_KEY, redo_tree_insert(&s, range(0, 63), "", 0, B("v")));
     WANT(REDO_BAD_KEY, redo_hash_put(&s, range(64, 127), B("a key of more than thirty-two bytes"), B("v")));
     WANT(REDO_NO_OBJECT, redo_tree_insert(&s, range(9, 8), B("k"), B("v")));
+    WANT(REDO_NO_OBJECT, redo_tree_insert(&s, range(9, 8), "", 0, B("v")));
+    WANT(REDO_BAD_KEY, redo_tree_insert(&s, range(60, 128), "", 0, B("v")));
+    WANT(REDO_BAD_KEY, redo_hash_get(&s, range(60, 128), "", 0, got, sizeof got, &n));
     WANT(REDO_NO_OBJECT, redo_tree_insert(&s, range(60, 128), B("k"), B("v")));
     WANT(REDO_NO_OBJECT, redo_hash_put(&s, range(9, 9), B("k"), B("v")));
     WANT(REDO_OK, redo_force(&s, &n));

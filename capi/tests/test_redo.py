@@ -4,6 +4,7 @@ import signal
 import subprocess
 import sys
 import threading
+from collections.abc import MutableMapping
 
 sys.dont_write_bytecode = True
 sys.path.insert(0, os.path.join(os.path.dirname(os.path.abspath(__file__)), os.pardir))
@@ -71,7 +72,6 @@ def values(folder):
 
 def groups(folder):
     with redo.open(folder) as s:
-        refused(redo.NoGroup, s._call, redo._end)
         with s.group():
             s.put(5, b"a")
             assert refused(redo.InGroup, s.force).detail[0] == 1
@@ -124,6 +124,7 @@ def maps(folder):
     with redo.create(folder + "/maps", 128, 1024, 1 << 20) as s:
         tree, index = s.tree(0, 63), s.hash(64, 127)
         assert not tree and len(tree) == 0 and list(tree) == []
+        assert isinstance(tree, MutableMapping) and isinstance(index, MutableMapping) and list(index) == []
         for i in range(60):
             key = b"k%02d" % (i * 7 % 60)
             tree[key] = index[key] = b"v" + key
@@ -145,6 +146,11 @@ def maps(folder):
         refused(redo.NoObject, s.tree(9, 8).set, b"k", b"v")
         refused(redo.NoObject, s.hash(9, 9).set, b"k", b"v")
         assert index[b"k33"] == b"vk33" and index.get(b"x") is None and b"k33" in index
+        if len(sys.argv) > 2:       # (the small store has no buckets)
+            assert bool(index) and len(index) == 60 and sorted(index) == [b"k%02d" % i for i in range(60)]
+            assert dict(index) == {key: b"v" + key for key in index}
+            refused(redo.BadHash, list, s.hash(0, 1))
+        assert index.pop(b"k32") == b"vk32" and index.setdefault(b"k32", b"new") == b"new" and index.get(b"x", b"d") == b"d"
         index.delete(b"k33")
         refused(redo.NoKey, index.delete, b"k33")
         s.force()
