@@ -1,7 +1,8 @@
 /* A store of objects within a program: commands, values, durability, groups, ordered maps, hash files, applications.
  *
  * redo_close forces nothing: what no redo_force has answered for may be lost, as by a kill.
- * A handle is used by one thread at a time, and never after fork; a second handle on a store is refused (REDO_LOCKED).
+ * A handle is used where it was opened, in the process that opened it, by one call at a time; other calls are refused (REDO_COPIED,
+ * REDO_FORKED, REDO_BUSY), and so is a second handle on a store (REDO_LOCKED).
  * docs/LIBRARY.md says more, and docs/SCRIPT.md ("Lines") what the commands do. */
 #ifndef REDO_H
 #define REDO_H
@@ -20,7 +21,7 @@ size_t redo_handle_size(void);          /* sizeof(redo_t) in it, which is 128 in
 typedef struct redo_detail { uint64_t first, second, third; } redo_detail_t;
 
 /* A handle: memory of the caller that begins as REDO_CLOSED (zeros) and that the library alone reads and writes. It is not
- * copied or moved between redo_open and redo_close. */
+ * copied or moved between redo_open and redo_close: what was is REDO_COPIED, and its redo_close closes nothing. */
 typedef struct redo_core { uint8_t opened_; void *at_; } redo_core_t;
 typedef struct redo_files { int32_t folder_, file_[3]; } redo_files_t;
 typedef struct redo {
@@ -42,25 +43,27 @@ typedef struct redo {
 #endif
 
 /* The answers: 0, or why a call was not done. A number is never used again for something else. Below 32 the store or the machine
- * speaks (numbers below 16 are the statuses of the program, which ends with 3 in the place of 6),
- * from 32 on a command is refused, and from 64 on a call is misused. What is refused or misused has changed nothing; of a call that
- * is several commands (maps, hash files, runs of an application) those before the refusal stay. After REDO_DISK_FAULT a handle
- * answers that until it is closed. */
+ * speaks (numbers below 16 are the statuses of the program, which ends with 3 in the place of 6), from 32 on a command is refused,
+ * and from 64 on a call is misused. What is refused or misused has changed nothing; of a call that is several commands (maps, hash
+ * files, runs of an application) those before the refusal stay. An install, a drain, a checkpoint or a trim that is answered with
+ * REDO_LOG_FULL or REDO_MEMORY may have done a part of its work, which changes no value, and may be called again. After
+ * REDO_DISK_FAULT a handle answers that until it is closed. */
 enum {
     REDO_OK = 0,
     REDO_BAD_PARAMS = 2,     /* redo_create: numbers that no store may have */
     REDO_NOT_A_STORE = 3,    /* redo_open: the folder has none */
-    REDO_DAMAGED = 4,        /* a file is damaged; detail: the file (0 objects, 1 log A, 2 log B) and the place */
+    REDO_DAMAGED = 4,        /* a file is damaged, or a redo_create was cut short; detail: the file (0 objects, 1 log A, 2 log B) and
+                              * the place */
     REDO_DISK_FAULT = 5,     /* a file could not be read, written or synced, or there was no memory to do so; detail: errno, or 0 */
     REDO_ALREADY_STORE = 6,  /* the folder in which a store is to be made has one */
     REDO_MEMORY = 8,         /* out of memory */
     REDO_BACKUP_FAULT = 11,  /* as REDO_DISK_FAULT, of a backup's files: the backup is given up, and the store goes on */
     REDO_LOG_FULL = 16,      /* detail: bytes used, bytes needed, limit; redo_drain and redo_trim make room */
     REDO_EXHAUSTED = 17,     /* no number is left for a command; detail: the last one */
-    REDO_IN_GROUP = 18,      /* not within a group; detail: how many commands the group has */
+    REDO_IN_GROUP = 18,      /* not within a group; detail: how many commands it has */
     REDO_NO_GROUP = 19,      /* redo_end: no group is open */
     REDO_IN_BACKUP = 20,     /* not while a backup is being made; detail: how many objects are copied */
-    REDO_NO_BACKUP = 21,     /* no backup is being made */
+    REDO_NO_BACKUP = 21,     /* no backup is being made: said before REDO_IN_GROUP */
     REDO_NOT_COPIED = 22,    /* redo_backup_finish: not all objects are copied; detail: how many are */
     REDO_NO_OBJECT = 32,     /* the store has no such object, or the range is none */
     REDO_SAME = 33,          /* the two objects are one */
@@ -79,7 +82,7 @@ enum {
     REDO_BAD_HASH = 46,      /* an object of the range is not of the hash file; detail: the object */
     REDO_HASH_FULL = 47,     /* a bucket cannot be split once more; detail: the object */
     REDO_NO_ROOM = 48,       /* the range has too few empty objects; detail: how many */
-    REDO_BAD_KEY = 49,       /* a key, or the value of a key, has 1 to 32 bytes */
+    REDO_BAD_KEY = 49,       /* a key, or the value of a key, has 1 to 32 bytes; said before a range is held against the store */
     REDO_NOT_OPEN = 64,      /* the handle is closed */
     REDO_ALREADY_OPEN = 65,  /* the handle is open */
     REDO_BUSY = 66,          /* another call with this handle is under way: one that a signal has interrupted, or another thread's */
@@ -97,13 +100,15 @@ int32_t redo_last_detail(const redo_t *db, redo_detail_t *detail);
 
 /* A store is the files objects.rdo, log_a.rdo and log_b.rdo of a folder. redo_create makes one in a folder that is there, and
  * leaves it open: 1 to 65535 objects, each of at most `cap` bytes (16 to 1048576), a log of at most `limit` bytes (2 cap + 4096
- * to 536870912). Opening a store reads its files into memory. */
+ * to 536870912). One that was cut short has made no store: redo_open says REDO_NOT_A_STORE or REDO_DAMAGED, and redo_create makes one
+ * (after REDO_OLD_LOG once the log files are removed). Opening a store reads its files into memory, and takes twice their length
+ * while it does. */
 int32_t redo_create(redo_t *db, const char *folder, uint32_t objects, uint32_t cap, uint32_t limit);
 int32_t redo_open(redo_t *db, const char *folder);
-int32_t redo_close(redo_t *db);                 /* forces nothing: what was not forced may be lost */
+int32_t redo_close(redo_t *db);                 /* forces nothing; in a child it lets the child's copy of the handle go */
 
 /* Commands on values. With REDO_OK a command is accepted, and redo_get sees it; it is durable once redo_force says so. Bytes are
- * a pointer and a length, and are copied; those of length 0 may be at no place. */
+ * a pointer and a length, and are copied; those of length 0 may be at no place, others at none are REDO_NULL. */
 int32_t redo_put(redo_t *db, uint32_t object, const void *value, size_t length);
 int32_t redo_copy(redo_t *db, uint32_t from, uint32_t to);
 int32_t redo_append(redo_t *db, uint32_t from, uint32_t to);                    /* the value of `from` behind that of `to` */

@@ -260,6 +260,31 @@ static void each_full_disk(void) {
     printf("%u forces on the last full disk\n", forces - 1);
 }
 
+/* Zeros of a value are none that are written ahead: where a trim cannot write them, that is a fault, and the log before it counts. */
+static void each_fault_of_trim(void) {
+    enum { LENGTH = 400000 };
+    static uint8_t got[LENGTH], zeros[LENGTH];
+    const char *folder = in_root("trimmed");
+    bool is_failed = true;
+    for (unsigned at = 1; is_failed; at++) {
+        redo_t db = REDO_CLOSED;
+        uint64_t n;
+        empty(folder);
+        WANT(REDO_OK, redo_create(&db, folder, 4, LENGTH, 4000000));
+        WANT(REDO_OK, redo_put(&db, 0, zeros, LENGTH));
+        WANT(REDO_OK, redo_force(&db, &n));
+        fail_which = PWRITE, fail_at = at, has_failed = false, fail_why = ENOSPC;
+        int32_t answer = redo_trim(&db);
+        fail_at = 0, is_failed = has_failed;
+        WANT(is_failed ? REDO_DISK_FAULT : REDO_OK, answer);
+        WANT(REDO_OK, redo_close(&db));
+        WANT(REDO_OK, redo_open(&db, folder));
+        WANT(REDO_OK, redo_get(&db, 0, got, LENGTH, &n));
+        if (n != LENGTH || memcmp(got, zeros, LENGTH)) fail("%d bytes after fault %u", (int)n, at);
+        WANT(REDO_OK, redo_close(&db));
+    }
+}
+
 /* The files at one moment: what reads give, and what a crash leaves where nothing unsynced has reached the disk. */
 typedef struct { uint8_t *now, *synced; size_t length, synced_length; bool is_made, is_named; } file_t;
 enum { MOST = 1 << 18, IMAGES = 6 };
@@ -386,7 +411,7 @@ int main(int argc, char **argv) {
     snprintf(root, sizeof root, "%s", argc > 1 ? argv[1] : ".");
     for (int i = 0; i < COMMANDS; i++) numbers[i] = (uint8_t)i;
     has_input = fcntl(0, F_GETFD) >= 0;
-    each_interruption(), each_fault(), each_fault_of_open(), each_fault_of_backup(), each_full_disk();
+    each_interruption(), each_fault(), each_fault_of_open(), each_fault_of_backup(), each_fault_of_trim(), each_full_disk();
     most = 7;                           /* the system moves seven bytes a call */
     each_fault(), each_front(), each_fault_of_backup(), each_front_of_backup();
     most = 0;
