@@ -18,13 +18,16 @@ ghost use Rattle.embed.specs.Real.{IsSinceTaken};
 
 use disk_model::Machine;
 
-/// Real files on which some front of what a call queued was made, in order, and which then crash, stand for such a front of the
-/// commands as the call says of the machine: none that was forced is lost, and no group is split. Where the call opens a store
-/// they stand for its commands. Those of a backup are no store while it is started, have a closed gate while objects are copied,
-/// and while it is finished have that or stand for the commands. Once all calls are made, the real files stand for the commands
-/// that each image stands for. Nothing is taken within a call: that is the caller's to do.
+/// What a crash leaves of real files on which some front of what a call queued was made, in order, is among what the machine says
+/// that it leaves since the call began (`each`). So what the call says of its moments is true of them: they stand for such a front
+/// of the commands, none that was forced is lost, and no group is split. Where the call opens a store they stand for its commands.
+/// Those of a backup are no store while it is started, have a closed gate while objects are copied, and while it is finished have
+/// that or stand for the commands. Once all calls are made, the real files stand for the commands that each image stands for.
+/// Nothing is taken within a call: that is the caller's to do.
 pub fn real_files_keep_what_is_forced()
     ensures since { (old new : QueueMem) → waiting_in old ≡ [] → Passes (disk_of old) (disk_of new) → IsSinceTaken old new }
+    ensures each { (old new : QueueMem) → IsSinceTaken old new → (files : Files) (said : List ℕ) → IsLeftByFront new files said →
+        (disk_of new).left_since (disk_of old).clock files said }
     ensures calls { (p : Params) (old new : QueueMem) (group : Option ℕ) (forced start : ℕ) (commands : List Command) → IsSinceTaken old new →
         LeavesOnly (disk_of old) (disk_of new) (Between all_meaning p (disk_of old) group forced start commands) →
         (files : Files) (said : List ℕ) → IsLeftByFront new files said → Between all_meaning p (disk_of old) group forced start commands files said }

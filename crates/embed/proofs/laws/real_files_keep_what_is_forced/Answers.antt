@@ -25,6 +25,9 @@ since_start : (old new : QueueMem) (files : Files) (said : List ℕ) → IsSince
     → (disk_of new).left_since (disk_of old).clock files said
 since_start old new files said since left = subst (λ (t : ℕ). (disk_of new).left_since t files said) (began old new since) left
 
+pub returns-clause-each : goal.returns-clause-each
+returns-clause-each c old new since files said front = since_start old new files said since ((c.fronts_are_what_is_left.ensures new files said).1 front)
+
 pub returns-clause-calls : goal.returns-clause-calls
 returns-clause-calls c p old new group forced start commands since leaves files said front =
     leaves.each files said (since_start old new files said since ((c.fronts_are_what_is_left.ensures new files said).1 front))
