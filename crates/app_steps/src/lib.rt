@@ -3,6 +3,10 @@
 //! The one contract is that of [`App`] and of [`ProgApp`], whose program is an object's value too: each of their calls is a
 //! command of the engine, and a run is as many steps as are accepted one after the other, at most so many as are asked for.
 //! What a run makes of engine and files, wherever it ends, is what store_engine says of several commands.
+//!
+//! Its laws say what many steps make of a state, and that the values of a store are lists of at most CAP bytes
+//! ([`values_are_bytes`]), so that a run asks no more of the commands before it than that they are operations of a program
+//! ([`known_as_bytes`]).
 #![tactic(auto)]
 
 mod app;
