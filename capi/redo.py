@@ -16,7 +16,8 @@
 `force` alone makes commands durable. The end of a `with` closes the store and forces nothing, as a kill would.
 A store may be used by several threads, one call, or one group, after the other. A call in the middle of another one of the same
 thread, as in a signal handler, or of a task within the group of another one, is Busy. After a fork the child has no store.
-What a `with` has begun ends with it, whatever interrupts it (from Python 3.10 on; 3.9 may lose the end of any `with`).
+What the `with` of a group or a backup has begun ends with it, whatever interrupts it (from Python 3.10 on; 3.9 may lose the end of
+any `with`).
 """
 from __future__ import annotations
 
@@ -338,7 +339,7 @@ class Store:
     def _settle(self, in_group: bool) -> None:
         """Another task of the thread has no part in a group. What a `with` has begun that is over is ended."""
         if in_group and self._grouped and self._task is not _task():
-            raise _error(Busy.code)
+            raise Busy("another task has a group open")
         if in_group:
             return
         if self._grouped:
@@ -753,17 +754,23 @@ def _leave_to_parent() -> None:
 os.register_at_fork(after_in_child=_leave_to_parent)
 
 
+def _opened(function: Callable[..., int], *words: object) -> Store:
+    store = Store()
+    try:
+        store._call(function, *words)
+        return store
+    except BaseException:       # which may have come once the store was open
+        _close(store._handle)
+        raise
+
+
 def open(path: str | os.PathLike[str]) -> Store:
     """Opens the store in this folder, and reads its files into memory. Raises NotAStore, Damaged, NoFolder and Locked."""
-    store = Store()
-    store._call(_open, _path(path))
-    return store
+    return _opened(_open, _path(path))
 
 
 def create(path: str | os.PathLike[str], objects: int, cap: int, limit: int) -> Store:
     """Makes a store in this folder, which is there, and opens it: 1 to 65,535 objects of at most `cap` bytes (16 to 1,048,576), and
     a log of at most `limit` bytes (2 cap + 4,096 to 536,870,912). Raises BadParams at other numbers, AlreadyStore, OldLog, NoFolder
     and Locked."""
-    store = Store()
-    store._call(_create, _path(path), *(_whole(n, BadParams) for n in (objects, cap, limit)))
-    return store
+    return _opened(_create, _path(path), *(_whole(n, BadParams) for n in (objects, cap, limit)))

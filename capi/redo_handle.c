@@ -18,7 +18,11 @@ int32_t redo_because(redo_t *db, int32_t answer) {
     db->detail_ = (redo_detail_t){(uint64_t)errno, 0, 0};
     return answer;
 }
-int32_t redo_last_detail(const redo_t *db, redo_detail_t *detail) { return *detail = db->detail_, REDO_OK; }
+int32_t redo_last_detail(const redo_t *db, redo_detail_t *detail) {
+    if (!detail) return REDO_NULL;
+    *detail = db->detail_;
+    return REDO_OK;
+}
 
 /* The other call may have all of the handle in its hands: REDO_BUSY leaves it alone. */
 int32_t redo_enter(redo_t *db) {

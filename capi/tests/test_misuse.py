@@ -133,6 +133,24 @@ def interrupted_backups(folder):
             assert saved[0] == b"saved"
 
 
+def interrupted_opens(folder):
+    """A store that no one was given is closed."""
+    redo.create(folder, 8, 64, 65536).close()
+    given = []
+
+    def work():
+        given.clear()
+        given.append(redo.open(folder))
+        given[0].close()
+
+    def check():
+        for s in given:
+            s.close()
+        redo.open(folder).close()
+
+    interrupts(work, check)
+
+
 def ended_groups(folder):
     """A call ends a group before its `with` does."""
     with redo.create(folder, 8, 1024, 1 << 20) as s:
@@ -296,7 +314,7 @@ def words(folder):
 
 def main():
     folder = sys.argv[1] if len(sys.argv) > 1 else "."
-    for test in (interrupted_groups, interrupted_backups, ended_groups, calls_within_calls, tasks, copies, forks, programs, words):
+    for test in (interrupted_groups, interrupted_backups, interrupted_opens, ended_groups, calls_within_calls, tasks, copies, forks, programs, words):
         os.mkdir(f"{folder}/{test.__name__}")
         if sys.argv[2:] in ([], [test.__name__]):
             test(f"{folder}/{test.__name__}")

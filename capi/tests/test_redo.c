@@ -121,6 +121,7 @@ static void nowhere(const char *folder) {
     WANT(REDO_NULL, redo_hash_get(&db, r, 0, 1, got, 1, &n));
     WANT(REDO_NULL, redo_hash_get(&db, r, "k", 1, 0, 1, &n));
     WANT(REDO_NULL, redo_backup_start(&db, 0));
+    WANT(REDO_NULL, redo_last_detail(&db, 0));
     WANT(REDO_NULL, redo_open(&other, 0));
     WANT(REDO_ALREADY_OPEN, redo_open(&db, folder));
     WANT(REDO_BAD_KEY, redo_tree_insert(&db, r, 0, 0, "v", 1));

@@ -10,7 +10,7 @@ static int failed(const char *what, int32_t answer) {
 int main(int argc, char **argv) {
     redo_t db = REDO_CLOSED;
     uint64_t n = 0;
-    uint8_t value[64];
+    uint8_t value[1024];                                /* as much as an object of this store may hold */
     int32_t rc = redo_open(&db, argc > 1 ? argv[1] : ".");
     if (rc != REDO_OK) return failed("open", rc);
     if ((rc = redo_append(&db, 0, 2)) != REDO_OK) return failed("append", rc);
