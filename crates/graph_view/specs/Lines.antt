@@ -1,9 +1,12 @@
 -- The entries of the commands that the lines of a script ask for, all of them taken as accepted.
-use Rattle.std.specs.Prelude.{◌≡◌, ⊤, ℕ, ◌+◌, false, List, [], ◌∷◌, ◌++◌, length, Option, Some, None}
+use Rattle.std.specs.Prelude.{◌≡◌, ◌≤◌, ⊤, ℕ, ◌+◌, ◌^◌, false, List, [], ◌∷◌, ◌++◌, length, Option, Some, None}
+use Rattle.disk_model.specs.Disk.{Rises}
 use Rattle.install_order.specs.declared.entry.Entry.{Entry}
 use Rattle.oper_core.specs.Meaning.{Meaning}
 use Rattle.op_codec.specs.AllOps.{AllOps, all_meaning}
 use Rattle.script_lines.specs.Grammar.{Request, AsksFor, IsBad, lines_of}
+use Rattle.script_lines.specs.declared.read_error.ReadError.{ReadError}
+use Rattle.script_lines.specs.declared.read_error.ReadError.TheVariants.{ReadFault, TooLong, Memory}
 use Rattle.script_lines.specs.declared.line.Line.TheVariants.{Run, AppRun, ProgramRun, TreeInsert, TreeDelete, TreeGet, TreeRange, HashPut, HashGet, HashDelete, Get, Force, Install, Drain, Checkpoint, Trim, Begin, End, Stat, BackupStart, BackupCopy, BackupFinish, Skip}
 use Rattle.graph_view.specs.declared.accesses.Accesses.{Accesses}
 use Rattle.graph_view.specs.declared.asked.Asked.{Asked}
@@ -68,15 +71,34 @@ pub data AreEntries : ℕ → List (List ℕ) → List Entry → Type 0 where
 abbrev pub IsGraphOf : List (List ℕ) → List ℕ → Type 0
 IsGraphOf lines text = (entries : List Entry) × AreEntries 1 lines entries × IsGraph entries text
 
--- the line of this number, from 1 on, is this to the write graph
-abbrev pub IsAskedAt : List (List ℕ) → ℕ → Asked → Type 0
-IsAskedAt lines n asked = (before after : List (List ℕ)) × (line : List ℕ) × (lines ≡ before ++ line ∷ after) × (n ≡ length before + 1) × IsAsked line asked
+-- The first line that is refused has this number, from 1 on, and is this to the write graph: all lines before it ask for
+-- commands, or for nothing.
+pub record IsFirstRefused (lines : List (List ℕ)) (n : ℕ) (why : Asked) : Type 0 where
+  pub before : List (List ℕ)
+  pub line : List ℕ
+  pub after : List (List ℕ)
+  pub split : lines ≡ before ++ line ∷ after
+  pub number : n ≡ length before + 1
+  pub is : IsAsked line why
+  pub entries : List Entry
+  pub accepted : AreEntries 1 before entries
 
--- why the lines are not drawn
-abbrev pub IsCause : List (List ℕ) → DrawError → Type 0
-IsCause lines (errors.Bad n) = IsAskedAt lines n Bad
-IsCause lines (errors.Several n) = IsAskedAt lines n Several
-IsCause lines error = ⊤
+-- why the lines of an input are not drawn
+abbrev pub IsCause : List ℕ → DrawError → Type 0
+IsCause input (errors.Bad n) = IsFirstRefused (lines_of input) n Bad
+IsCause input (errors.Several n) = IsFirstRefused (lines_of input) n Several
+IsCause input (errors.Read TooLong) = 2 ^ 40 ≤ length input
+IsCause input (errors.Read error) = ⊤
+
+-- a fault of the input is told only where the source counted one
+abbrev pub CountsRead : ℕ → ℕ → ReadError → Type 0
+CountsRead before after ReadFault = Rises before after
+CountsRead before after error = ⊤
+
+-- the same where no graph is printed
+abbrev pub CountsFault : ℕ → ℕ → DrawError → Type 0
+CountsFault before after (errors.Read error) = CountsRead before after error
+CountsFault before after error = ⊤
 
 -- what one line asks was added to the entries before it
 abbrev pub IsAdded : List Entry → Asked → List Entry → Type 0
@@ -88,7 +110,7 @@ IsAdded before asked after = ⊥
 abbrev pub IsRefused : Asked → ℕ → DrawError → Type 0
 IsRefused asked n (errors.Bad line) = (line ≡ n) × (asked ≡ Bad)
 IsRefused asked n (errors.Several line) = (line ≡ n) × (asked ≡ Several)
-IsRefused asked n error = ⊤
+IsRefused asked n (errors.Read error) = error ≡ Memory
 
 -- old is what was left, new what is left after a line was taken, if there was one
 abbrev pub IsNextAsked : Option Asked → List ℕ → List ℕ → Type 0

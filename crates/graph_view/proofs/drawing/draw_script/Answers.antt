@@ -27,3 +27,15 @@ returns-in_err-into_dot-in-Ok-clause-some g c = IfOk-from_err c.from_residual-in
 
 pub returns-in_ok-into_dot-in-Ok-clause-some : goal.returns-in_ok-into_dot-in-Ok-clause-some
 returns-in_ok-into_dot-in-Ok-clause-some g c = (c.read_script.new.commands, c.in_ok-into_dot-in-Ok.ensures)
+
+pub returns-in_err-commands-clause-faults : goal.returns-in_err-commands-clause-faults
+returns-in_err-commands-clause-faults g c = handed_on c.from_residual.result (errors.Read OutOfMemory) _ c.from_residual.ensures.1 tt
+
+pub returns-in_err-into_dot-in-Ok-clause-faults : goal.returns-in_err-into_dot-in-Ok-clause-faults
+returns-in_err-into_dot-in-Ok-clause-faults g c = handed_on c.from_residual-in_err-into_dot-in-Ok.result (errors.Read OutOfMemory) _ c.from_residual-in_err-into_dot-in-Ok.ensures.1 tt
+
+pub returns-in-Err-clause-cause : goal.returns-in-Err-clause-cause
+returns-in-Err-clause-cause g c = c.in-Err.ensures.cause
+
+pub returns-in-Err-clause-faults : goal.returns-in-Err-clause-faults
+returns-in-Err-clause-faults g c = c.in-Err.ensures.faults
