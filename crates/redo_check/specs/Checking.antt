@@ -1,7 +1,7 @@
 -- What is said of a store, and how it ends.
-use Rattle.std.specs.Prelude.{◌≡◌, ⊤, ◌<◌, ◌≤◌, ◌+◌, ◌*◌, ◌-◌, ◌^◌, ◌++◌, ℕ, List, [], None, Some, codes, map, min, true, false}
+use Rattle.std.specs.Prelude.{◌≡◌, ⊤, ◌<◌, ◌≤◌, ◌+◌, ◌*◌, ◌-◌, ◌^◌, ◌++◌, ◌⊎◌, ℕ, List, [], None, Some, codes, map, min, true, false}
 use Rattle.analysis_pass.specs.Analysis.{least_start, plan_table}
-use Rattle.disk_model.specs.Disk.{Files}
+use Rattle.disk_model.specs.Disk.{Files, SaysFront}
 use Rattle.disk_model.specs.declared.machine.FileNo.{FileNo}
 use Rattle.disk_model.specs.declared.machine.FileNo.TheVariants.{Objects}
 use Rattle.formats.specs.Bytes.{IsClosedAt}
@@ -64,13 +64,14 @@ pub record IsRestart (files : Files) (it : Restart) : Type 0 where
   pub records : HasRecords (all_meaning it.bounds) files it.records
   pub none_late : (x s : ℕ) → IsOpenSlot (files Objects) x s → identifier_at (place_in (files Objects) x s) (files Objects) < it.records.next
 
--- about how many bytes of memory it takes: 240 for each record, and for the values at most those of all objects, and at most 64 MiB
--- (the greatest number that is said is 2^64 - 1)
+-- the memory that is told, reckoned from counts: 240 bytes for each record, and for values those of all objects at CAP bytes each, or
+-- 64 MiB where that is less. It is no bound: values that wait in nodes of several objects, or were only read, are left out. (The
+-- greatest number that is said is 2^64 - 1.)
 abbrev pub memory : Restart → ℕ
 memory it = min (min ((it.records.next - it.records.start) * 240) (2 ^ 64 - 1) + min (it.bounds.objects * it.bounds.cap) (2 ^ 26)) (2 ^ 64 - 1)
 
 -- the line of it: the number at which the redo begins, how many records it does again, how many bytes of the log it reads, and
--- about how much memory it takes
+-- the memory that is reckoned for it
 abbrev pub restart_line : Restart → List ℕ
 restart_line it =
     codes "restart from" ++ spaced it.records.start ++ codes " records" ++ spaced (it.records.next - it.records.start) ++ codes " bytes" ++ spaced it.records.end ++ codes " memory" ++ spaced (memory it) ++ codes "\n"
@@ -120,3 +121,28 @@ pub record Checks (files : Files) (before after : List ℕ) (status : Status) : 
   pub text : List ℕ
   pub lines : SaysLines files text
   pub ends : Ends files (before ++ text) after status
+
+-- the last line, where one is said: what a restart does; that there is no store; or the first fault of the files
+pub data IsLastLine (files : Files) (text : List ℕ) : Type 0 where
+  none_said : text ≡ [] → IsLastLine files text
+  restarts : (it : Restart) → IsRestart files it → text ≡ restart_line it → IsLastLine files text
+  no_store : IsClosedAt 0 (files Objects) → text ≡ not_a_store → IsLastLine files text
+  broken : (file : FileNo) (place : ℕ) → IsDamaged all_meaning files file place → text ≡ damaged file place → IsLastLine files text
+
+-- a front of these lines and of the last one was said
+pub record SaysPart (files : Files) (before after : List ℕ) : Type 0 where
+  pub text : List ℕ
+  pub lines : SaysLines files text
+  pub last : List ℕ
+  pub last_is : IsLastLine files last
+  pub front : SaysFront (text ++ last) before after
+
+-- nothing else was said
+abbrev pub SaysNoMore : Files → List ℕ → List ℕ → Type 0
+SaysNoMore files before after = (after ≡ before) ⊎ SaysPart files before after
+
+-- the line that a stop means, where it means one
+abbrev pub stop_line : Stop → List ℕ
+stop_line stops.NotAStore = not_a_store
+stop_line (stops.Damaged file place) = damaged file place
+stop_line stop = []

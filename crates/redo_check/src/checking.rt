@@ -1,8 +1,8 @@
 // Checks a store.
-ghost use Rattle.std.specs.Prelude.{◌≡◌, ◌≢◌, ◌⊎◌, ◌-◌, ◌++◌, ℕ, IfOk};
+ghost use Rattle.std.specs.Prelude.{◌≡◌, ◌≢◌, ◌⊎◌, ◌-◌, ◌++◌, List, ℕ, IfOk};
 ghost use Rattle.disk_model.specs.Disk.{Runs, Same, SaysFront};
 ghost use Rattle.disk_model.specs.declared.machine.FileNo.{FileNo as File};
-ghost use Rattle.redo_check.specs.Checking.{Checks, Ends, HasVerdict, damaged, memory, not_a_store, restart_line};
+ghost use Rattle.redo_check.specs.Checking.{Checks, Ends, HasVerdict, IsLastLine, SaysNoMore, damaged, memory, not_a_store, restart_line, stop_line};
 ghost use Rattle.redo_check.specs.Faults.{CountsFaults, EndsBy, HandsOn};
 ghost use Rattle.redo_check.specs.Saying.{OnlySays};
 
@@ -19,7 +19,8 @@ use std::alloc::Global;
 /// About how many bytes of memory the restart of a record takes.
 const RECORD_MEMORY: u64 = 240;
 
-/// About how many bytes of values a restart has in memory at the most.
+/// So many bytes of values are reckoned at the most. A restart installs what it can where it has more to write, but values that wait
+/// in nodes of several objects stay in memory whatever they take.
 const VALUES_MEMORY: u64 = 1 << 26;
 
 /// How many records a restart does again.
@@ -29,7 +30,7 @@ fn redone(it: Restart) -> u64
     it.records.next.saturating_sub(it.records.start)
 }
 
-/// About how many bytes of memory a restart takes.
+/// The memory of a restart as counts tell it, without a look at the records and the values. It bounds nothing.
 fn memory_of(it: Restart) -> u64
     ensures { result ≡ memory it }
 {
@@ -86,6 +87,7 @@ fn end_with<M: Machine>(machine: &mut M, line: &[u8], status: Status) -> Status
 fn end_damaged<M: Machine>(alloc: Global, machine: &mut M, file: FileNo, place: u64) -> Status
     ensures runs { OnlySays (M.disk machine.old) (M.disk machine.new) }
     ensures all { (M.disk machine.old).tells_files → result ≡ Status.Damaged → (M.disk machine.new).said ≡ (M.disk machine.old).said ++ damaged file place }
+    ensures front { (M.disk machine.old).tells_files → SaysFront (damaged file place) (M.disk machine.old).said (M.disk machine.new).said }
     ensures status { (result ≡ Status.Damaged) ⊎ ((result ≡ Status.Memory) ⊎ (result ≡ Status.SayFault)) }
     ensures faults { EndsBy (M.disk machine.old) (M.disk machine.new) result }
 {
@@ -101,6 +103,7 @@ fn end_stopped<M: Machine>(alloc: Global, machine: &mut M, stop: Stop) -> Status
     ensures no_store { (M.disk machine.old).tells_files → result ≡ Status.NotAStore → (stop ≡ Stop.NotAStore) × ((M.disk machine.new).said ≡ (M.disk machine.old).said ++ not_a_store) }
     ensures damaged { (M.disk machine.old).tells_files → result ≡ Status.Damaged → (file : File) × (place : ℕ) × (stop ≡ Stop.Damaged file place)
         × ((M.disk machine.new).said ≡ (M.disk machine.old).said ++ damaged file place) }
+    ensures front { (M.disk machine.old).tells_files → SaysFront (stop_line stop) (M.disk machine.old).said (M.disk machine.new).said }
     ensures undone { result ≢ Status.Done }
     ensures faults { HandsOn (M.disk machine.old) (M.disk machine.new) stop result }
 {
@@ -117,6 +120,7 @@ fn end_stopped<M: Machine>(alloc: Global, machine: &mut M, stop: Stop) -> Status
 fn end_whole<M: Machine>(alloc: Global, machine: &mut M, it: Restart) -> Status
     ensures runs { OnlySays (M.disk machine.old) (M.disk machine.new) }
     ensures all { (M.disk machine.old).tells_files → result ≡ Status.Done → (M.disk machine.new).said ≡ (M.disk machine.old).said ++ restart_line it }
+    ensures front { (M.disk machine.old).tells_files → SaysFront (restart_line it) (M.disk machine.old).said (M.disk machine.new).said }
     ensures status { (result ≡ Status.Done) ⊎ ((result ≡ Status.Memory) ⊎ (result ≡ Status.SayFault)) }
     ensures faults { EndsBy (M.disk machine.old) (M.disk machine.new) result }
 {
@@ -130,6 +134,7 @@ fn end_whole<M: Machine>(alloc: Global, machine: &mut M, it: Restart) -> Status
 fn end_checked<M: Machine>(alloc: Global, machine: &mut M) -> Status
     ensures runs { OnlySays (M.disk machine.old) (M.disk machine.new) }
     ensures ends { (M.disk machine.old).tells_files → Ends (M.disk machine.old).reads (M.disk machine.old).said (M.disk machine.new).said result }
+    ensures front { (M.disk machine.old).tells_files → (last : List ℕ) × IsLastLine (M.disk machine.old).reads last × SaysFront last (M.disk machine.old).said (M.disk machine.new).said }
     ensures faults { CountsFaults (M.disk machine.old) (M.disk machine.new) result }
 {
     match judge(alloc, machine) {
@@ -145,6 +150,8 @@ pub fn check_store<M: Machine>(alloc: Global, machine: &mut M) -> Status
     ensures keeps { OnlySays (M.disk machine.old) (M.disk machine.new) }
     // The lines of the three files are said whatever these hold, and after them what a restart makes of them.
     ensures checks { (M.disk machine.old).tells_files → HasVerdict result → Checks (M.disk machine.old).reads (M.disk machine.old).said (M.disk machine.new).said result }
+    // With any status no more is said than a front of these lines and of the last one.
+    ensures front { (M.disk machine.old).tells_files → SaysNoMore (M.disk machine.old).reads (M.disk machine.old).said (M.disk machine.new).said }
     // A fault is reported only where the machine counted it: where none was, and memory is not refused, there is a verdict.
     ensures faults { CountsFaults (M.disk machine.old) (M.disk machine.new) result }
 {

@@ -1,10 +1,10 @@
 //! The program `redo_check`: it prints each check of the store in the current folder with what it found, before any restart is
-//! made, and what a restart would read and take. No file is written.
+//! made, and what a restart would read, and the memory that counts tell of it. No file is written.
 //!
 //! The one contract is that of `check_store`: no call of it changes a file; it says first the lines of the three files, each by
 //! itself, and goes on where a check fails; and it ends with what a restart is of files without a fault, or with the first fault
-//! in the order of the format, or that there is no store. The lines of the files are a definition, in specs/Files.antt, over
-//! their bytes alone. It depends on stable_objects, log_records and analysis_pass, whose calls judge the files as a restart does,
+//! in the order of the format, or that there is no store. Where the disk, the output or memory fails it has said a front of that.
+//! The lines of the files are a definition, in specs/Files.antt, over their bytes alone. It depends on stable_objects, log_records and analysis_pass, whose calls judge the files as a restart does,
 //! on op_codec for the operations, on script_lines for the words of a number, and on formats, oper_core and the machine of
 //! disk_model.
 #![tactic(auto)]

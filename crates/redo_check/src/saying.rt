@@ -1,5 +1,5 @@
 // Says lines.
-ghost use Rattle.std.specs.Prelude.{◌≡◌, ◌++◌, ℕ, IfErr, IfOk, List, OnOk};
+ghost use Rattle.std.specs.Prelude.{◌≡◌, ◌⊎◌, ◌++◌, ℕ, IfErr, IfOk, List, OnOk};
 ghost use Rattle.disk_model.specs.Disk.{Files, Rises, Runs, Same, SaysFront, Stays};
 ghost use Rattle.formats.specs.Reading.{FailsBy};
 ghost use Rattle.oper_core.specs.Meaning.{IsSmall};
@@ -105,6 +105,8 @@ fn all_text<M: Machine>(alloc: Global, machine: &mut M) -> Result<Vec<u8>, ReadE
 pub fn say_files<M: Machine>(alloc: Global, machine: &mut M) -> Result<(), Stop>
     ensures runs { OnlySays (M.disk machine.old) (M.disk machine.new) }
     ensures said { (M.disk machine.old).tells_files → OnOk result ((text : List ℕ) × SaysLines (M.disk machine.old).reads text × ((M.disk machine.new).said ≡ (M.disk machine.old).said ++ text)) }
+    ensures front { (M.disk machine.old).tells_files → ((M.disk machine.new).said ≡ (M.disk machine.old).said)
+        ⊎ ((text : List ℕ) × SaysLines (M.disk machine.old).reads text × SaysFront text (M.disk machine.old).said (M.disk machine.new).said) }
     ensures cause { IfErr result (StopsBy (M.disk machine.old) (M.disk machine.new)) }
 {
     let text = all_text(alloc, machine)?;

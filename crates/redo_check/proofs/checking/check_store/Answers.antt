@@ -1,9 +1,11 @@
-use Rattle.std.proofs.Common.{List, ℕ, subst}
+use Rattle.std.proofs.Common.{List, ℕ, inr, subst}
 use Rattle.disk_model.specs.Disk.{Files}
-use Rattle.redo_check.specs.Checking.{Ends}
+use Rattle.redo_check.specs.Checking.{Ends, IsLastLine}
 use Rattle.redo_check.specs.Saying.{says_then}
 use Rattle.redo_check.specs.Faults.{StopsBy}
+use Rattle.redo_check.proofs.EndLemmas.{no_last}
 use Rattle.redo_check.proofs.FaultLemmas.{faults_later}
+use Rattle.redo_check.proofs.FrontLemmas.{front_behind}
 use Rattle.redo_check.proofs.checking.check_store.Goals as goal
 
 pub returns-in-Ok-clause-keeps : goal.returns-in-Ok-clause-keeps
@@ -39,3 +41,31 @@ returns-in-Err-Damaged-clause-checks g c told verdict = absurd (subst (StopsBy (
 
 pub returns-in-Err-Memory-clause-faults : goal.returns-in-Err-Memory-clause-faults
 returns-in-Err-Memory-clause-faults g c = tt
+
+pub returns-in-Ok-clause-front : goal.returns-in-Ok-clause-front
+returns-in-Ok-clause-front g c told =
+    let run = c.say_files.ensures.runs in
+    let found = c.in-Ok.ensures.said told in
+    let (last, is, front) = c.end_checked.ensures.front (run.time.files_told.0 told) in
+    inr (record {
+      text = found.0;
+      lines = found.1;
+      last = last;
+      last_is = subst (λ (f : Files). IsLastLine f last) (run.reads told) is;
+      front = front_behind found.0 last _ _ _ found.2 front;
+    })
+
+pub returns-in-Err-NotAStore-clause-front : goal.returns-in-Err-NotAStore-clause-front
+returns-in-Err-NotAStore-clause-front g c told = no_last _ _ _ (c.say_files.ensures.front told)
+
+pub returns-in-Err-Damaged-clause-front : goal.returns-in-Err-Damaged-clause-front
+returns-in-Err-Damaged-clause-front g c told = no_last _ _ _ (c.say_files.ensures.front told)
+
+pub returns-in-Err-DiskFault-clause-front : goal.returns-in-Err-DiskFault-clause-front
+returns-in-Err-DiskFault-clause-front g c told = no_last _ _ _ (c.say_files.ensures.front told)
+
+pub returns-in-Err-SayFault-clause-front : goal.returns-in-Err-SayFault-clause-front
+returns-in-Err-SayFault-clause-front g c told = no_last _ _ _ (c.say_files.ensures.front told)
+
+pub returns-in-Err-Memory-clause-front : goal.returns-in-Err-Memory-clause-front
+returns-in-Err-Memory-clause-front g c told = no_last _ _ _ (c.say_files.ensures.front told)

@@ -1,8 +1,10 @@
-use Rattle.std.proofs.Common.{List, ℕ, subst}
-use Rattle.redo_check.specs.Checking.{Ends}
+use Rattle.std.proofs.Common.{List, ℕ, refl, subst}
+use Rattle.redo_check.specs.Checking.{Ends, restart_line, stop_line}
+use Rattle.redo_check.specs.Checking.IsLastLine.{restarts}
 use Rattle.redo_check.specs.Saying.{says_nothing, says_then}
 use Rattle.redo_check.proofs.FaultLemmas.{ends_counted, stopped_counted}
-use Rattle.redo_check.proofs.EndLemmas.{ends_stopped, ends_whole}
+use Rattle.redo_check.proofs.EndLemmas.{ends_stopped, ends_whole, last_of_stop}
+use Rattle.redo_check.proofs.FrontLemmas.{front_at}
 use Rattle.redo_check.proofs.checking.end_checked.Goals as goal
 
 pub returns-in-Ok-clause-runs : goal.returns-in-Ok-clause-runs
@@ -33,3 +35,13 @@ returns-in-Ok-clause-faults g c = ends_counted (g.M.Machine.disk c.args.machine.
 
 pub returns-in-Err-clause-faults : goal.returns-in-Err-clause-faults
 returns-in-Err-clause-faults g c = stopped_counted (g.M.Machine.disk c.args.machine.now) (g.M.Machine.disk c.judge.new.machine) (g.M.Machine.disk c.end_stopped.new.machine) c.in-Err.stop c.end_stopped.result c.judge.ensures.kept.time c.end_stopped.ensures.runs.time c.in-Err.ensures.faults c.end_stopped.ensures.faults
+
+pub returns-in-Ok-clause-front : goal.returns-in-Ok-clause-front
+returns-in-Ok-clause-front g c told =
+    let kept = c.judge.ensures.kept in
+    (restart_line c.in-Ok.restart, restarts c.in-Ok.restart (c.in-Ok.ensures.whole told) refl, front_at _ _ _ _ _ refl (kept.said told) (c.end_whole.ensures.front (kept.time.files_told.0 told)))
+
+pub returns-in-Err-clause-front : goal.returns-in-Err-clause-front
+returns-in-Err-clause-front g c told =
+    let kept = c.judge.ensures.kept in
+    (stop_line c.in-Err.stop, last_of_stop (g.M.Machine.disk c.args.machine.now).reads c.in-Err.stop (c.in-Err.ensures.cause told), front_at _ _ _ _ _ refl (kept.said told) (c.end_stopped.ensures.front (kept.time.files_told.0 told)))

@@ -1,9 +1,10 @@
-use Rattle.std.proofs.Common.{◌++◌, ◌∙◌}
+use Rattle.std.proofs.Common.{◌++◌, ◌∙◌, inl, inr}
 use Rattle.redo_check.specs.Saying.{says_front, says_nothing, says_then}
 use Rattle.redo_check.specs.Faults.{StopsBy}
 use Rattle.redo_check.specs.Stops.{stop_from_read}
 use Rattle.redo_check.proofs.JudgeLemmas.{stopped_by}
 use Rattle.redo_check.proofs.FaultLemmas.{read_stops, stops_later}
+use Rattle.redo_check.proofs.FrontLemmas.{front_at}
 use Rattle.redo_check.proofs.saying.say_files.Goals as goal
 
 pub returns-in_err-text-clause-runs : goal.returns-in_err-text-clause-runs
@@ -25,3 +26,16 @@ returns-in_err-text-clause-cause g c = stopped_by c.from_residual.result (stop_f
 
 pub returns-in_err-say_text-clause-cause : goal.returns-in_err-say_text-clause-cause
 returns-in_err-say_text-clause-cause g c = stops_later (g.M.Machine.disk c.args.machine.now) (g.M.Machine.disk c.all_text.new.machine) (g.M.Machine.disk c.say_text.new.machine) c.from_residual-in_err-say_text.result c.in_err-say_text.field-0.0 c.all_text.ensures.kept.time c.from_residual-in_err-say_text.ensures.1 c.in_err-say_text.ensures.cause
+
+pub returns-in_err-text-clause-front : goal.returns-in_err-text-clause-front
+returns-in_err-text-clause-front g c told = inl (c.all_text.ensures.kept.said told)
+
+pub returns-in_err-say_text-clause-front : goal.returns-in_err-say_text-clause-front
+returns-in_err-say_text-clause-front g c told =
+    let kept = c.all_text.ensures.kept in
+    inr (c.in_ok-text.text.items, c.in_ok-text.ensures.text told, front_at _ _ _ _ _ c.as_slice.ensures.value (kept.said told) (c.say_text.ensures.runs.said (kept.time.files_told.0 told)))
+
+pub returns-clause-front : goal.returns-clause-front
+returns-clause-front g c told =
+    let kept = c.all_text.ensures.kept in
+    inr (c.in_ok-text.text.items, c.in_ok-text.ensures.text told, front_at _ _ _ _ _ c.as_slice.ensures.value (kept.said told) (c.say_text.ensures.runs.said (kept.time.files_told.0 told)))
