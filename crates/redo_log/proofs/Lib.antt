@@ -1,7 +1,9 @@
 pub mod FaultLemmas
+pub mod FrontLemmas
 pub mod LineLemmas
 pub mod ReadLemmas
 pub mod Steps
+pub mod PartLemmas
 pub mod UsedLemmas
 pub mod RecordLemmas
 pub mod ListLemmas

@@ -11,19 +11,24 @@ use Rattle.log_frames.specs.Laws.{length-block}
 use Rattle.redo_log.specs.Lines.{block_lines, blocks_lines, line, record_lines, record_words}
 
 module _ (m : Meaning AllOps) (file : FileNo) where
-  -- one record more
-  pub records_more : (place : ℕ) (part : List (Record AllOps)) (r : Record AllOps)
-      → record_lines m file place (part ++ r ∷ []) ≡ record_lines m file place part ++ line file (place + length (payload_of m part)) (length (record_code m r)) (record_words r)
-  records_more place [] r =
+  -- more records
+  pub records_append : (place : ℕ) (part more : List (Record AllOps)) → record_lines m file place (part ++ more) ≡ record_lines m file place part ++ record_lines m file (place + length (payload_of m part)) more
+  records_append place [] more =
       let here : place ≡ place + 0 = omega arith in
-      append-nil (line file place (length (record_code m r)) (record_words r)) ∙ ap (λ (k : ℕ). line file k (length (record_code m r)) (record_words r)) here
-  records_more place (s ∷ part) r =
+      ap (λ (k : ℕ). record_lines m file k more) here
+  records_append place (s ∷ part) more =
       let code = length (record_code m s) in
       let first = line file place code (record_words s) in
       let here : place + code + length (payload_of m part) ≡ place + length (payload_of m (s ∷ part)) = omega (arith, length-append (record_code m s) (payload_of m part)) in
-      ap (λ (l : List ℕ). first ++ l) (records_more (place + code) part r)
-      ∙ sym (append_assoc first (record_lines m file (place + code) part) (line file (place + code + length (payload_of m part)) (length (record_code m r)) (record_words r)))
-      ∙ ap (λ (k : ℕ). (first ++ record_lines m file (place + code) part) ++ line file k (length (record_code m r)) (record_words r)) here
+      ap (λ (l : List ℕ). first ++ l) (records_append (place + code) part more)
+      ∙ sym (append_assoc first (record_lines m file (place + code) part) (record_lines m file (place + code + length (payload_of m part)) more))
+      ∙ ap (λ (k : ℕ). (first ++ record_lines m file (place + code) part) ++ record_lines m file k more) here
+
+  -- one record more
+  pub records_more : (place : ℕ) (part : List (Record AllOps)) (r : Record AllOps)
+      → record_lines m file place (part ++ r ∷ []) ≡ record_lines m file place part ++ line file (place + length (payload_of m part)) (length (record_code m r)) (record_words r)
+  records_more place part r =
+      records_append place part (r ∷ []) ∙ ap (λ (l : List ℕ). record_lines m file place part ++ l) (append-nil (line file (place + length (payload_of m part)) (length (record_code m r)) (record_words r)))
 
   -- one block more
   pub blocks_more : (place : ℕ) (groups : List (List (Record AllOps))) (group : List (Record AllOps))

@@ -22,18 +22,20 @@ use Rattle.redo_log.specs.Reading.{SaysBlock, SaysRecord}
 use Rattle.redo_log.specs.Saying.{OnlySays}
 use Rattle.redo_log.proofs.LineLemmas.{blocks_more, records_more}
 
+-- how many bytes were not taken
+pub untaken_long : (file : List ℕ) (it : PayloadReaderView) (all passed : List (List ℕ)) (taken : List ℕ) (later : List (List ℕ)) → IsInLog file it all passed taken later → length (untaken file it) ≡ remaining it
+untaken_long file it all passed taken later is = omega (arith, length-append it.bytes (read_of file it.place it.left), length-read_of file it.place it.left (omega (arith, is.within)))
+
 -- the place of the first byte that was not taken
 pub place_is : (file : List ℕ) (it : PayloadReaderView) (all passed : List (List ℕ)) (taken : List ℕ) (later : List (List ℕ)) (place : ℕ) → IsInLog file it all passed taken later → 0 < remaining it
     → place + length it.bytes ≡ it.place → place ≡ end_of passed + 5 + length taken
 place_is file it all passed taken later place is some here =
-    let behind = read_of file it.place it.left in
     let rest = untaken file it in
     let payload = taken ++ rest in
-    let long = length-read_of file it.place it.left (omega (arith, is.within)) in
-    let untaken_long = length-append it.bytes behind in
+    let long = untaken_long file it all passed taken later is in
     let payload_long = length-append taken rest in
-    let one : with_block passed payload ≡ passed ++ payload ∷ [] = with_block-some passed payload (omega (arith, some, long, untaken_long, payload_long)) in
-    omega (arith, here, is.gate, ap end_of one, ap length (blocks-push passed payload), length-append (blocks passed) (block payload), length-block payload, long, untaken_long, payload_long)
+    let one : with_block passed payload ≡ passed ++ payload ∷ [] = with_block-some passed payload (omega (arith, some, long, payload_long)) in
+    omega (arith, here, is.gate, ap end_of one, ap length (blocks-push passed payload), length-append (blocks passed) (block payload), length-block payload, long, payload_long)
 
 -- a code has a byte
 pub code_some : (m : Meaning AllOps) (r : Record AllOps) → 0 < length (record_code m r)
@@ -130,13 +132,18 @@ nil_of : (l : List ℕ) → length l ≡ 0 → l ≡ []
 nil_of [] none = refl
 nil_of (x ∷ l) none = absurd (omega (arith, none))
 
+-- where nothing is left no byte is
+pub nothing_left : (file : List ℕ) (it : PayloadReaderView) → remaining it ≡ 0 → untaken file it ≡ []
+nothing_left file it none =
+    let bytes : it.bytes ≡ [] = nil_of it.bytes (omega (arith, none)) in
+    let left : it.left ≡ 0 = omega (arith, none) in
+    λ i. bytes i ++ read_of file it.place (left i)
+
 -- a payload of which nothing is left is passed
 pub rest_between : (file : List ℕ) (it : PayloadReaderView) (all passed : List (List ℕ)) (taken : List ℕ) (later : List (List ℕ)) → IsInLog file it all passed taken later → remaining it ≡ 0
     → IsInLog file it all (with_block passed taken) [] later
 rest_between file it all passed taken later is none =
-    let bytes : it.bytes ≡ [] = nil_of it.bytes (omega (arith, none)) in
-    let left : it.left ≡ 0 = omega (arith, none) in
-    let rest : untaken file it ≡ [] = λ i. bytes i ++ read_of file it.place (left i) in
+    let rest = nothing_left file it none in
     let here : with_block passed (taken ++ untaken file it) ≡ with_block (with_block passed taken) (untaken file it) =
     ap (λ (l : List ℕ). with_block passed (taken ++ l)) rest ∙ ap (with_block passed) (append-nil taken) ∙ sym (ap (with_block (with_block passed taken)) rest) in
     record {

@@ -33,13 +33,13 @@ says_record m first mid new old searched moved all passed taken later r f n plac
     record_said m (first.reads old.file) old searched moved all passed taken later r f n place first.said new.said starts long all_of (is_file ∙ same) some stood (takes (first.reads old.file) all passed taken later stood) took here
     (said ∙ λ i. kept.said told i ++ text_is i)
 
--- where the line of a block stands
-pub head_said : (file : List ℕ) (old : PayloadReaderView) (all passed later : List (List ℕ)) (f : FileNo) (place gate count : ℕ) (text before now : List ℕ) → f ≡ old.file
-    → place + length old.bytes ≡ old.place → gate ≡ place - 5 → count ≡ remaining old → text ≡ line f gate count (codes "block") → now ≡ before ++ text
-    → IsInLog file old all passed [] later → 0 < remaining old → now ≡ before ++ line old.file (end_of passed) (remaining old) (codes "block")
-head_said file old all passed later f place gate count text before now is_file here gate_is count_is text_is said is some =
+-- the line of a block
+pub head_text : (file : List ℕ) (old : PayloadReaderView) (all passed later : List (List ℕ)) (f : FileNo) (place gate count : ℕ) (text : List ℕ) → f ≡ old.file
+    → place + length old.bytes ≡ old.place → gate ≡ place - 5 → count ≡ remaining old → text ≡ line f gate count (codes "block")
+    → IsInLog file old all passed [] later → 0 < remaining old → text ≡ line old.file (end_of passed) (remaining old) (codes "block")
+head_text file old all passed later f place gate count text is_file here gate_is count_is text_is is some =
     let at : gate ≡ end_of passed = omega (arith, gate_is, place_is file old all passed [] later place is some here) in
-    said ∙ ap (λ (l : List ℕ). before ++ l) (text_is ∙ λ i. line (is_file i) (at i) (count_is i) (codes "block"))
+    text_is ∙ λ i. line (is_file i) (at i) (count_is i) (codes "block")
 
 -- the line of a block was said, and no record yet
 pub block_begun : (m : Meaning AllOps) (first now : Disk) (old : PayloadReaderView) → OnlySays first now

@@ -4,4 +4,5 @@ pub mod Lines
 pub mod Saying
 pub mod Reading
 pub mod Faults
+pub mod Fronts
 pub mod Listing

@@ -44,6 +44,10 @@ record_lines m file place (r ∷ records) = line file place (length (record_code
 abbrev pub block_lines : Meaning AllOps → FileNo → ℕ → List (Record AllOps) → List ℕ
 block_lines m file place group = line file place (length (payload_of m group)) (codes "block") ++ record_lines m file (place + 5) group
 
+-- those of a block with this payload, and of the records that stand first in it
+abbrev pub begun_lines : Meaning AllOps → FileNo → ℕ → List ℕ → List (Record AllOps) → List ℕ
+begun_lines m file place payload part = line file place (length payload) (codes "block") ++ record_lines m file (place + 5) part
+
 -- those of blocks, the first of which stands at this place
 abbrev pub blocks_lines : Meaning AllOps → FileNo → ℕ → List (List (Record AllOps)) → List ℕ
 blocks_lines m file place [] = []

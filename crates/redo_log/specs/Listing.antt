@@ -1,5 +1,5 @@
 -- What is said of the log of a store.
-use Rattle.std.specs.Prelude.{◌≡◌, ⊤, ℕ, All, List, ◌++◌, codes, drop, map}
+use Rattle.std.specs.Prelude.{◌≡◌, ⊤, ℕ, All, List, ◌++◌, drop, map}
 use Rattle.disk_model.specs.Disk.{Files}
 use Rattle.disk_model.specs.declared.machine.FileNo.{FileNo}
 use Rattle.disk_model.specs.declared.machine.FileNo.TheVariants.{Objects}
@@ -13,10 +13,9 @@ use Rattle.formats.specs.Log.{Header, end_of}
 use Rattle.formats.specs.Objects.{bounds_of, params_in}
 use Rattle.formats.specs.Records.{HoldsRecordLog, IsRecord, payload_of, records_of}
 use Rattle.formats.specs.declared.record.Record.{Record}
-use Rattle.script_lines.specs.Replies.{spaced}
 use Rattle.redo_log.specs.declared.stop.Stop.{Stop}
 use Rattle.redo_log.specs.declared.stop.Stop.TheVariants as stops
-use Rattle.redo_log.specs.Lines.{log_lines, name_of_file, used}
+use Rattle.redo_log.specs.Lines.{log_lines, used}
 
 -- what operations mean in the store of these files
 abbrev pub meaning_of : Files → Meaning AllOps
@@ -29,12 +28,6 @@ pub record IsListed (files : Files) (before after : List ℕ) : Type 0 where
   pub groups : List (List (Record AllOps))
   pub log : HoldsRecordLog (meaning_of files) active header groups files
   pub said : after ≡ before ++ log_lines (meaning_of files) active header groups (used (drop (end_of (map (payload_of (meaning_of files)) groups)) (files active)))
-
-abbrev pub not_a_store : List ℕ
-not_a_store = codes "not a store\n"
-
-abbrev pub damaged : FileNo → ℕ → List ℕ
-damaged file place = codes "damaged " ++ name_of_file file ++ spaced place ++ codes "\n"
 
 -- what the files are where the lines end early: no store, or damaged at that place
 abbrev pub IsStopped : Files → Stop → Type 0
@@ -63,11 +56,3 @@ pub record SaysLog (m : Meaning AllOps) (files : Files) (active : FileNo) (heade
   pub in_grammar : All (IsRecord m) (records_of groups)
   pub payloads_are : payloads ≡ map (payload_of m) groups
   pub said : after ≡ before ++ log_lines m active header groups (used (drop (end_of payloads) (files active)))
-
--- the files break their format at this place, which the last line says; before it are some lines of the log
-pub record IsDamageSaid (files : Files) (before after : List ℕ) : Type 0 where
-  pub file : FileNo
-  pub place : ℕ
-  pub is : IsDamaged all_meaning files file place
-  pub lines : List ℕ
-  pub said : after ≡ before ++ lines ++ damaged file place

@@ -3,7 +3,7 @@ ghost use Rattle.std.specs.Prelude.{◌≡◌, ◌++◌, OnOk, IfOk};
 ghost use Rattle.std.specs.List.{flat_map};
 ghost use Rattle.script_lines.specs.Replies.{spaced};
 ghost use Rattle.redo_log.specs.Lines.{line, name_of_file, header_words, record_words, start_words};
-ghost use Rattle.redo_log.specs.Listing.{damaged};
+ghost use Rattle.redo_log.specs.Fronts.{damaged};
 
 use crate::words::{push_number, push_op, push_spaced};
 use disk_model::FileNo;

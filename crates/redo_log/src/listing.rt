@@ -1,18 +1,20 @@
 // Lists the log of a store.
-ghost use Rattle.std.specs.Prelude.{◌≡◌, ◌≢◌, ◌⊎◌, ⊤, ◌++◌, [], List, ℕ, Err as Error, IfErr, IfOk, IsOk, OnOk, codes, drop};
+ghost use Rattle.std.specs.Prelude.{◌≡◌, ◌≢◌, ◌⊎◌, ⊤, ◌++◌, [], List, ℕ, Err as Error, IfErr, IfOk, IsOk, OnErr, OnOk, codes, drop};
 ghost use Rattle.disk_model.specs.Disk.{Rises, Runs, Same, SaysFront, Stays};
 ghost use Rattle.disk_model.specs.declared.machine.FileNo.{FileNo as File};
 ghost use Rattle.disk_model.specs.declared.machine.FileNo.TheVariants.{Objects};
 ghost use Rattle.formats.specs.Bytes.{IsClosedAt};
+ghost use Rattle.formats.specs.FirstFault.{IsFirstObjectsFault};
 ghost use Rattle.formats.specs.InForce.{HoldsLog};
 ghost use Rattle.formats.specs.Log.{Header, end_of};
 ghost use Rattle.formats.specs.Reading.{FailsBy};
 ghost use Rattle.log_records.specs.Loading.{IsLoadFault};
 ghost use Rattle.op_codec.specs.AllOps.{all_meaning};
 ghost use Rattle.oper_core.specs.Meaning.{IsSmall};
-ghost use Rattle.redo_log.specs.Faults.{AreReadable, AreUnreadable, CountsFaults, CountsStop, EndsBy, HandsOn, IsBroken, StopsBy};
+ghost use Rattle.redo_log.specs.Faults.{AreReadable, CountsFaults, CountsStop, EndsBy, HandsOn, IsBroken, StopsBy};
+ghost use Rattle.redo_log.specs.Fronts.{AreLinesBefore, AreLinesToNone, AreLogLines, IsDamage, IsDamageSaid, SaysNoMore, SaysOfLog, damaged, not_a_store, stop_line};
 ghost use Rattle.redo_log.specs.Lines.{header_words, line, used};
-ghost use Rattle.redo_log.specs.Listing.{ArePlaced, HasStore, IsDamageSaid, IsListed, IsLogStopped, IsStopped, SaysLog, damaged, not_a_store};
+ghost use Rattle.redo_log.specs.Listing.{ArePlaced, HasStore, IsListed, IsLogStopped, IsStopped, SaysLog, meaning_of};
 ghost use Rattle.redo_log.specs.Saying.{OnlySays};
 
 use crate::left::left_behind;
@@ -47,6 +49,7 @@ fn end_with<M: Machine>(machine: &mut M, line: &[u8], status: Status) -> Status
 fn end_damaged<M: Machine>(alloc: Global, machine: &mut M, file: FileNo, place: u64) -> Status
     ensures runs { OnlySays (M.disk machine.old) (M.disk machine.new) }
     ensures all { (M.disk machine.old).tells_files → result ≡ Status.Damaged → (M.disk machine.new).said ≡ (M.disk machine.old).said ++ damaged file place }
+    ensures front { (M.disk machine.old).tells_files → SaysFront (damaged file place) (M.disk machine.old).said (M.disk machine.new).said }
     ensures status { (result ≡ Status.Damaged) ⊎ ((result ≡ Status.Memory) ⊎ (result ≡ Status.SayFault)) }
     ensures faults { EndsBy (M.disk machine.old) (M.disk machine.new) result }
 {
@@ -62,6 +65,7 @@ fn end_stopped<M: Machine>(alloc: Global, machine: &mut M, stop: Stop) -> Status
     ensures no_store { (M.disk machine.old).tells_files → result ≡ Status.NotAStore → (stop ≡ Stop.NotAStore) × ((M.disk machine.new).said ≡ (M.disk machine.old).said ++ not_a_store) }
     ensures damaged { (M.disk machine.old).tells_files → result ≡ Status.Damaged → (file : File) × (place : ℕ) × (stop ≡ Stop.Damaged file place)
         × ((M.disk machine.new).said ≡ (M.disk machine.old).said ++ damaged file place) }
+    ensures front { (M.disk machine.old).tells_files → SaysFront (stop_line stop) (M.disk machine.old).said (M.disk machine.new).said }
     ensures undone { result ≢ Status.Done }
     ensures faults { HandsOn (M.disk machine.old) (M.disk machine.new) stop result }
 {
@@ -79,6 +83,7 @@ fn read_bounds<M: Machine>(alloc: Global, machine: &mut M) -> Result<Bounds, Sto
     ensures kept { Stays (M.disk machine.old) (M.disk machine.new) }
     ensures whole { (M.disk machine.old).tells_files → IfOk result (HasStore (M.disk machine.old).reads) }
     ensures cause { (M.disk machine.old).tells_files → IfErr result (IsStopped (M.disk machine.old).reads) }
+    ensures damage { (M.disk machine.old).tells_files → IfErr result (λ stop. IsDamage stop → (place : ℕ) × IsFirstObjectsFault ((M.disk machine.old).reads Objects) place) }
     ensures faults { IfErr result (CountsStop (M.disk machine.old) (M.disk machine.new)) }
 {
     let slots = Slots::load(alloc, machine)?;
@@ -90,6 +95,8 @@ fn say_end<M: Machine>(alloc: Global, machine: &mut M, file: FileNo, end: u64) -
     ensures runs { OnlySays (M.disk machine.old) (M.disk machine.new) }
     ensures said { (M.disk machine.old).tells_files
         → OnOk result ((M.disk machine.new).said ≡ (M.disk machine.old).said ++ line file end (used (drop end ((M.disk machine.old).reads file))) (codes "end")) }
+    ensures front { (M.disk machine.old).tells_files
+        → SaysFront (line file end (used (drop end ((M.disk machine.old).reads file))) (codes "end")) (M.disk machine.old).said (M.disk machine.new).said }
     ensures cause { IfErr result (StopsBy (M.disk machine.old) (M.disk machine.new) (λ file place. ⊥)) }
 {
     let left = left_behind(alloc, machine, file, end)?;
@@ -103,6 +110,7 @@ fn say_header<M: Machine>(alloc: Global, machine: &mut M, log: &LogFile) -> Resu
     ensures runs { OnlySays (M.disk machine.old) (M.disk machine.new) }
     ensures said { (M.disk machine.old).tells_files
         → OnOk result ((M.disk machine.new).said ≡ (M.disk machine.old).said ++ line log.now.active 0 33 (header_words log.now.header)) }
+    ensures front { (M.disk machine.old).tells_files → SaysFront (line log.now.active 0 33 (header_words log.now.header)) (M.disk machine.old).said (M.disk machine.new).said }
     ensures cause { IfErr result (StopsBy (M.disk machine.old) (M.disk machine.new) (λ file place. ⊥)) }
 {
     let line = header_line(alloc, log.active(), log.epoch(), log.base(), log.commands())?;
@@ -116,8 +124,12 @@ fn say_log<M: Machine>(alloc: Global, machine: &mut M, b: Bounds, log: &LogFile)
     ensures said { (M.disk machine.old).tells_files → (payloads : List (List ℕ)) → HoldsLog log.now.active log.now.header payloads (M.disk machine.old).reads
         → log.now.end ≡ end_of payloads → log.now.pending ≡ []
         → OnOk result (SaysLog (all_meaning b) (M.disk machine.old).reads log.now.active log.now.header payloads (M.disk machine.old).said (M.disk machine.new).said) }
+    ensures front { (M.disk machine.old).tells_files → (payloads : List (List ℕ)) → HoldsLog log.now.active log.now.header payloads (M.disk machine.old).reads
+        → log.now.end ≡ end_of payloads → log.now.pending ≡ []
+        → OnErr result ((text : List ℕ) × AreLogLines (all_meaning b) (M.disk machine.old).reads log.now.active log.now.header payloads text × SaysFront text (M.disk machine.old).said (M.disk machine.new).said) }
     ensures cause { IfErr result (StopsBy (M.disk machine.old) (M.disk machine.new) (λ file place. (M.disk machine.old).tells_files → (payloads : List (List ℕ))
-        → HoldsLog log.now.active log.now.header payloads (M.disk machine.old).reads → AreUnreadable (all_meaning b) payloads)) }
+        → HoldsLog log.now.active log.now.header payloads (M.disk machine.old).reads → (lines : List ℕ) × AreLinesToNone (all_meaning b) log.now.active payloads lines
+        × ((M.disk machine.new).said ≡ (M.disk machine.old).said ++ (line log.now.active 0 33 (header_words log.now.header) ++ lines)))) }
 {
     say_header(alloc, machine, log)?;
     let mut payloads = log.reader(alloc, machine)?;
@@ -180,6 +192,7 @@ fn end_listing<M: Machine>(
     ensures cause { (M.disk machine.old).tells_files → HasStore (M.disk machine.old).reads b → (active : File) (header : Header) (payloads : List (List ℕ))
         → HoldsLog active header payloads (M.disk machine.old).reads → IfErr said (IsBroken (all_meaning b) payloads) → IfErr result (IsLogStopped (M.disk machine.old).reads) }
     ensures faults { IfErr result (λ stop. CountsStop (M.disk machine.old) (M.disk machine.new) stop ⊎ (said ≡ Error stop)) }
+    ensures damage { IfErr result (λ stop. IsDamage stop → IfErr said IsDamage) }
     ensures all { OnOk result (IsOk said) }
 {
     match said {
@@ -201,6 +214,9 @@ fn list_log<M: Machine>(alloc: Global, machine: &mut M, b: Bounds) -> Result<(),
     ensures listed { (M.disk machine.old).tells_files → HasStore (M.disk machine.old).reads b
         → OnOk result (IsListed (M.disk machine.old).reads (M.disk machine.old).said (M.disk machine.new).said) }
     ensures cause { (M.disk machine.old).tells_files → HasStore (M.disk machine.old).reads b → IfErr result (IsLogStopped (M.disk machine.old).reads) }
+    ensures damage { (M.disk machine.old).tells_files → IfErr result (λ stop. IsDamage stop → (lines : List ℕ) × AreLinesBefore (all_meaning b) (M.disk machine.old).reads lines
+        × ((M.disk machine.new).said ≡ (M.disk machine.old).said ++ lines)) }
+    ensures front { (M.disk machine.old).tells_files → SaysOfLog (all_meaning b) (M.disk machine.old).reads (M.disk machine.old).said (M.disk machine.new).said }
     ensures faults { IfErr result (CountsStop (M.disk machine.old) (M.disk machine.new)) }
 {
     let log = LogFile::load(alloc, machine)?;
@@ -217,7 +233,9 @@ fn list_open<M: Machine>(alloc: Global, machine: &mut M, b: Bounds) -> Status
         → IsListed (M.disk machine.old).reads (M.disk machine.old).said (M.disk machine.new).said }
     ensures a_store { (M.disk machine.old).tells_files → HasStore (M.disk machine.old).reads b → result ≢ Status.NotAStore }
     ensures damaged { (M.disk machine.old).tells_files → HasStore (M.disk machine.old).reads b → result ≡ Status.Damaged
-        → IsDamageSaid (M.disk machine.old).reads (M.disk machine.old).said (M.disk machine.new).said }
+        → IsDamageSaid (all_meaning b) (M.disk machine.old).reads (M.disk machine.old).said (M.disk machine.new).said }
+    ensures front { (M.disk machine.old).tells_files → HasStore (M.disk machine.old).reads b
+        → SaysNoMore (all_meaning b) (M.disk machine.old).reads (M.disk machine.old).said (M.disk machine.new).said }
     ensures faults { CountsFaults (M.disk machine.old) (M.disk machine.new) result }
 {
     match list_log(alloc, machine, b) {
@@ -227,7 +245,7 @@ fn list_open<M: Machine>(alloc: Global, machine: &mut M, b: Bounds) -> Status
 }
 
 /// Says the log of the store as lines, one for the header, each block, each record, and the end. It writes no file. Where there is
-/// no store it says that; where the files break their format it says some lines, and the place.
+/// no store it says that; where the files break their format it says the lines before the damage, and its place.
 pub fn list_store<M: Machine>(alloc: Global, machine: &mut M) -> Status
     // No file changes, at no moment.
     ensures keeps { OnlySays (M.disk machine.old) (M.disk machine.new) }
@@ -235,7 +253,11 @@ pub fn list_store<M: Machine>(alloc: Global, machine: &mut M) -> Status
     ensures listed { (M.disk machine.old).tells_files → result ≡ Status.Done → IsListed (M.disk machine.old).reads (M.disk machine.old).said (M.disk machine.new).said }
     ensures no_store { (M.disk machine.old).tells_files → result ≡ Status.NotAStore
         → IsClosedAt 0 ((M.disk machine.old).reads Objects) × ((M.disk machine.new).said ≡ (M.disk machine.old).said ++ not_a_store) }
-    ensures damaged { (M.disk machine.old).tells_files → result ≡ Status.Damaged → IsDamageSaid (M.disk machine.old).reads (M.disk machine.old).said (M.disk machine.new).said }
+    // The lines before a damage are those of the records that stand before it, or of all records where it is the number of one.
+    ensures damaged { (M.disk machine.old).tells_files → result ≡ Status.Damaged
+        → IsDamageSaid (meaning_of (M.disk machine.old).reads) (M.disk machine.old).reads (M.disk machine.old).said (M.disk machine.new).said }
+    // With any status no more is said than a front of these lines and of the last one.
+    ensures front { (M.disk machine.old).tells_files → SaysNoMore (meaning_of (M.disk machine.old).reads) (M.disk machine.old).reads (M.disk machine.old).said (M.disk machine.new).said }
     // A fault is reported only where the machine counted it: where none was, and memory is not refused, the lines end with one of these.
     ensures faults { CountsFaults (M.disk machine.old) (M.disk machine.new) result }
 {

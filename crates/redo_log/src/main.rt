@@ -2,8 +2,9 @@
 //! record and the end. No file is written.
 //!
 //! The one contract is that of `list_store`: no call of it changes a file, and what it says is exactly the lines of the records
-//! that the log holds, in their order, or that there is no store, or, after some lines, where the files break their format. One
-//! record is in memory at a time. It depends on stable_objects for the bounds of the store, on log_frames, whose reader gives the
+//! that the log holds, in their order, or that there is no store, or, after the lines of the records before it, where the files
+//! break their format. Where the disk, the output or memory fails it has said a front of that. One record is in memory at a time.
+//! It depends on stable_objects for the bounds of the store, on log_frames, whose reader gives the
 //! payloads, on log_records, which decodes the records and checks them, on op_codec and the families of operations, whose words
 //! these are, on the hexadecimal of script_lines, on redo_tables for the starts of a check, and on formats, oper_core and the
 //! machine of disk_model.

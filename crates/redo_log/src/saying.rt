@@ -1,10 +1,11 @@
 // Says what a log holds, record by record.
-ghost use Rattle.std.specs.Prelude.{◌≡◌, ◌<◌, ◌≤◌, ◌++◌, [], List, ℕ, IfErr, OnOk, codes};
+ghost use Rattle.std.specs.Prelude.{◌≡◌, ◌<◌, ◌≤◌, ◌++◌, [], List, ℕ, IfErr, OnErr, OnOk, codes};
 ghost use Rattle.disk_model.specs.Disk.{Runs, Same, SaysFront};
 ghost use Rattle.log_frames.specs.Payloads.{IsInLog, ahead, remaining};
 ghost use Rattle.formats.specs.Log.{end_of};
 ghost use Rattle.op_codec.specs.AllOps.{all_meaning};
-ghost use Rattle.redo_log.specs.Faults.{AreUnreadable, HasNoRecord, IsUnreadable, StopsBy};
+ghost use Rattle.redo_log.specs.Faults.{StopsBy};
+ghost use Rattle.redo_log.specs.Fronts.{AreFirstLines, AreLinesToNone, SaysBlockToNone, SaysNone, SaysSomeOfBlock, SaysSomeRecords};
 ghost use Rattle.redo_log.specs.Lines.{line};
 ghost use Rattle.redo_log.specs.Saying.{OnlySays};
 ghost use Rattle.redo_log.specs.Reading.{SaysRecord, SaysBlock, SaysBlocks};
@@ -43,8 +44,12 @@ fn say_record<M: Machine>(
     ensures said { (M.disk machine.old).tells_files → (all passed : List (List ℕ)) (taken : List ℕ) (later : List (List ℕ))
         → IsInLog ((M.disk machine.old).reads payloads.old.file) payloads.old all passed taken later → 0 < remaining payloads.old
         → OnOk result (SaysRecord (all_meaning b) ((M.disk machine.old).reads payloads.old.file) payloads.old payloads.new all passed taken later (M.disk machine.old).said (M.disk machine.new).said) }
+    ensures front { (M.disk machine.old).tells_files → (all passed : List (List ℕ)) (taken : List ℕ) (later : List (List ℕ))
+        → IsInLog ((M.disk machine.old).reads payloads.old.file) payloads.old all passed taken later → 0 < remaining payloads.old
+        → OnErr result (SaysSomeRecords (all_meaning b) payloads.old.file (remaining payloads.old) all passed taken later (M.disk machine.old).said (M.disk machine.new).said) }
     ensures cause { IfErr result (StopsBy (M.disk machine.old) (M.disk machine.new) (λ file place. (M.disk machine.old).tells_files → (all passed : List (List ℕ)) (taken : List ℕ) (later : List (List ℕ))
-        → IsInLog ((M.disk machine.old).reads payloads.old.file) payloads.old all passed taken later → 0 < remaining payloads.old → HasNoRecord (all_meaning b) all passed taken later)) }
+        → IsInLog ((M.disk machine.old).reads payloads.old.file) payloads.old all passed taken later → 0 < remaining payloads.old
+        → SaysNone (all_meaning b) (remaining payloads.old) all passed taken later (M.disk machine.old).said (M.disk machine.new).said)) }
 {
     let (it, length) = find_record(alloc, machine, b, payloads)?;
     let line = record_line(alloc, payloads.file(), payloads.place(), length as u64, &it)?;
@@ -63,6 +68,9 @@ fn say_head<M: Machine>(
     ensures said { (M.disk machine.old).tells_files → (all passed later : List (List ℕ))
         → IsInLog ((M.disk machine.old).reads payloads.now.file) payloads.now all passed [] later → 0 < remaining payloads.now
         → OnOk result ((M.disk machine.new).said ≡ (M.disk machine.old).said ++ line payloads.now.file (end_of passed) (remaining payloads.now) (codes "block")) }
+    ensures front { (M.disk machine.old).tells_files → (all passed later : List (List ℕ))
+        → IsInLog ((M.disk machine.old).reads payloads.now.file) payloads.now all passed [] later → 0 < remaining payloads.now
+        → SaysFront (line payloads.now.file (end_of passed) (remaining payloads.now) (codes "block")) (M.disk machine.old).said (M.disk machine.new).said }
     ensures cause { IfErr result (StopsBy (M.disk machine.old) (M.disk machine.new) (λ file place. ⊥)) }
 {
     let line = line_of(
@@ -89,8 +97,12 @@ fn say_block<M: Machine>(
     ensures said { (M.disk machine.old).tells_files → (all passed later : List (List ℕ))
         → IsInLog ((M.disk machine.old).reads payloads.old.file) payloads.old all passed [] later → 0 < remaining payloads.old
         → OnOk result (SaysBlock (all_meaning b) ((M.disk machine.old).reads payloads.old.file) payloads.old payloads.new all passed later (M.disk machine.old).said (M.disk machine.new).said) }
+    ensures front { (M.disk machine.old).tells_files → (all passed later : List (List ℕ))
+        → IsInLog ((M.disk machine.old).reads payloads.old.file) payloads.old all passed [] later → 0 < remaining payloads.old
+        → OnErr result (SaysSomeOfBlock (all_meaning b) payloads.old.file all passed later (M.disk machine.old).said (M.disk machine.new).said) }
     ensures cause { IfErr result (StopsBy (M.disk machine.old) (M.disk machine.new) (λ file place. (M.disk machine.old).tells_files → (all passed later : List (List ℕ))
-        → IsInLog ((M.disk machine.old).reads payloads.old.file) payloads.old all passed [] later → 0 < remaining payloads.old → IsUnreadable (all_meaning b) all passed later)) }
+        → IsInLog ((M.disk machine.old).reads payloads.old.file) payloads.old all passed [] later → 0 < remaining payloads.old
+        → SaysBlockToNone (all_meaning b) payloads.old.file all passed later (M.disk machine.old).said (M.disk machine.new).said)) }
 {
     say_head(alloc, machine, payloads)?;
     loop {
@@ -112,8 +124,11 @@ pub fn say_blocks<M: Machine>(
     ensures runs { OnlySays (M.disk machine.old) (M.disk machine.new) }
     ensures said { (M.disk machine.old).tells_files → (all : List (List ℕ)) → IsInLog ((M.disk machine.old).reads payloads.old.file) payloads.old all [] [] all
         → OnOk result (SaysBlocks (all_meaning b) payloads.old all (M.disk machine.old).said (M.disk machine.new).said) }
+    ensures front { (M.disk machine.old).tells_files → (all : List (List ℕ)) → IsInLog ((M.disk machine.old).reads payloads.old.file) payloads.old all [] [] all
+        → OnErr result ((text : List ℕ) × AreFirstLines (all_meaning b) payloads.old.file all text × SaysFront text (M.disk machine.old).said (M.disk machine.new).said) }
     ensures cause { IfErr result (StopsBy (M.disk machine.old) (M.disk machine.new) (λ file place. (M.disk machine.old).tells_files → (all : List (List ℕ))
-        → IsInLog ((M.disk machine.old).reads payloads.old.file) payloads.old all [] [] all → AreUnreadable (all_meaning b) all)) }
+        → IsInLog ((M.disk machine.old).reads payloads.old.file) payloads.old all [] [] all
+        → (text : List ℕ) × AreLinesToNone (all_meaning b) payloads.old.file all text × ((M.disk machine.new).said ≡ (M.disk machine.old).said ++ text))) }
 {
     loop {
         if !payloads.next_payload(machine)? {

@@ -34,8 +34,5 @@ returns-in_err-commands-clause-faults g c = handed_on c.from_residual.result (er
 pub returns-in_err-into_dot-in-Ok-clause-faults : goal.returns-in_err-into_dot-in-Ok-clause-faults
 returns-in_err-into_dot-in-Ok-clause-faults g c = handed_on c.from_residual-in_err-into_dot-in-Ok.result (errors.Read OutOfMemory) _ c.from_residual-in_err-into_dot-in-Ok.ensures.1 tt
 
-pub returns-in-Err-clause-cause : goal.returns-in-Err-clause-cause
-returns-in-Err-clause-cause g c = c.in-Err.ensures.cause
-
 pub returns-in-Err-clause-faults : goal.returns-in-Err-clause-faults
 returns-in-Err-clause-faults g c = c.in-Err.ensures.faults

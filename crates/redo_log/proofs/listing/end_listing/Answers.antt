@@ -1,7 +1,8 @@
-use Rattle.std.proofs.Common.{◌≡◌, inl, rules, subst}
+use Rattle.std.proofs.Common.{◌≡◌, inl, rules, subst, sym}
 use Rattle.std.specs.Prelude.{Err, IfErr, Result}
 use Rattle.op_codec.specs.AllOps.{all_meaning}
 use Rattle.redo_log.specs.Faults.{IsBroken}
+use Rattle.redo_log.specs.Fronts.{IsDamage}
 use Rattle.redo_log.specs.declared.stop.Stop.{Stop}
 use Rattle.redo_log.specs.declared.stop.Stop.TheVariants as stops
 use Rattle.redo_log.proofs.ListLemmas.{stopped_by}
@@ -35,3 +36,25 @@ pub returns-in-Err-NotAStore-clause-cause : goal.returns-in-Err-NotAStore-clause
 returns-in-Err-NotAStore-clause-cause g c told store active header payloads holds broken =
     let same : c.args.said ≡ Err stops.NotAStore = search rules in
     absurd (subst (λ (r : Result _ Stop). IfErr r (IsBroken (all_meaning c.args.b) payloads)) same broken)
+
+pub returns-in_err-check_store-in-Err-Damaged-clause-damage : goal.returns-in_err-check_store-in-Err-Damaged-clause-damage
+returns-in_err-check_store-in-Err-Damaged-clause-damage g c =
+    let same : c.args.said ≡ Err (stops.Damaged c.in-Err-Damaged.file c.in-Err-Damaged.place) = search rules in
+    stopped_by c.from_residual.result c.in_err-check_store-in-Err-Damaged.field-0.0 _ c.from_residual.ensures.1 (λ damage. subst (λ (r : Result _ Stop). IfErr r IsDamage) (sym same) tt)
+
+pub returns-in_ok-check_store-in-Err-Damaged-clause-damage : goal.returns-in_ok-check_store-in-Err-Damaged-clause-damage
+returns-in_ok-check_store-in-Err-Damaged-clause-damage g c damage =
+    let same : c.args.said ≡ Err (stops.Damaged c.in-Err-Damaged.file c.in-Err-Damaged.place) = search rules in
+    subst (λ (r : Result _ Stop). IfErr r IsDamage) (sym same) tt
+
+pub returns-in-Err-NotAStore-clause-damage : goal.returns-in-Err-NotAStore-clause-damage
+returns-in-Err-NotAStore-clause-damage g c damage = absurd damage
+
+pub returns-in-Err-DiskFault-clause-damage : goal.returns-in-Err-DiskFault-clause-damage
+returns-in-Err-DiskFault-clause-damage g c damage = absurd damage
+
+pub returns-in-Err-SayFault-clause-damage : goal.returns-in-Err-SayFault-clause-damage
+returns-in-Err-SayFault-clause-damage g c damage = absurd damage
+
+pub returns-in-Err-Memory-clause-damage : goal.returns-in-Err-Memory-clause-damage
+returns-in-Err-Memory-clause-damage g c damage = absurd damage

@@ -1,9 +1,14 @@
-use Rattle.std.proofs.Common.{◌++◌, ◌∙◌, [], List, ℕ, ap, subst, sym}
+use Rattle.std.proofs.Common.{◌++◌, ◌∙◌, [], List, ℕ, ap, refl, subst, sym}
 use Rattle.std.proofs.lemmas.List.{append-nil}
 use Rattle.disk_model.specs.Disk.{Files}
-use Rattle.redo_log.specs.Listing.{HasStore, IsDamageSaid, IsListed, IsStopped, damaged, not_a_store}
+use Rattle.oper_core.specs.declared.bounds.Bounds.{Bounds}
+use Rattle.op_codec.specs.AllOps.{all_meaning}
+use Rattle.redo_log.specs.Fronts.{IsDamage, IsDamageSaid, SaysNoMore, damaged, not_a_store}
+use Rattle.redo_log.specs.Fronts.AreLinesBefore.{of_objects}
+use Rattle.redo_log.specs.Listing.{HasStore, IsListed, IsStopped, meaning_of}
 use Rattle.redo_log.specs.Saying.{says_nothing, says_then}
 use Rattle.redo_log.proofs.FaultLemmas.{faults_later, stopped_counted}
+use Rattle.redo_log.proofs.ListLemmas.{unopened_part}
 use Rattle.redo_log.proofs.listing.list_store.Goals as goal
 
 pub returns-in-Ok-clause-keeps : goal.returns-in-Ok-clause-keeps
@@ -31,7 +36,9 @@ returns-in-Ok-clause-damaged g c told done =
     let mid = g.M.Machine.disk c.read_bounds.new.machine in
     let new = g.M.Machine.disk c.list_open.new.machine in
     let store = subst (λ (f : Files). HasStore f c.in-Ok.b) (sym (kept.reads told)) (c.in-Ok.ensures.whole told) in
-    subst (λ (f : Files). IsDamageSaid f first.said new.said) (kept.reads told) (subst (λ (s : List ℕ). IsDamageSaid mid.reads s new.said) (kept.said told) (c.list_open.ensures.damaged (kept.time.files_told.0 told) store done))
+    let m = all_meaning c.in-Ok.b in
+    subst (λ (b : Bounds). IsDamageSaid (all_meaning b) first.reads first.said new.said) (c.in-Ok.ensures.whole told).1
+    (subst (λ (f : Files). IsDamageSaid m f first.said new.said) (kept.reads told) (subst (λ (s : List ℕ). IsDamageSaid m mid.reads s new.said) (kept.said told) (c.list_open.ensures.damaged (kept.time.files_told.0 told) store done)))
 
 pub returns-in-Err-clause-keeps : goal.returns-in-Err-clause-keeps
 returns-in-Err-clause-keeps g c = says_then (says_nothing c.read_bounds.ensures.kept) c.end_stopped.ensures.runs
@@ -57,6 +64,7 @@ returns-in-Err-clause-damaged g c told done =
       place = is.1;
       is = subst (IsStopped (g.M.Machine.disk c.args.machine.now).reads) is.2 (c.in-Err.ensures.cause told);
       lines = [];
+      lines_are = let fault = c.in-Err.ensures.damage told (subst IsDamage (sym is.2) tt) in of_objects fault.0 fault.1 refl;
       said = is.3 ∙ ap (λ (l : List ℕ). l ++ damaged is.0 is.1) (kept.said told ∙ sym (append-nil before));
     }
 
@@ -65,3 +73,20 @@ returns-in-Ok-clause-faults g c = faults_later (g.M.Machine.disk c.args.machine.
 
 pub returns-in-Err-clause-faults : goal.returns-in-Err-clause-faults
 returns-in-Err-clause-faults g c = stopped_counted (g.M.Machine.disk c.args.machine.now) (g.M.Machine.disk c.read_bounds.new.machine) (g.M.Machine.disk c.end_stopped.new.machine) c.in-Err.stop c.end_stopped.result c.read_bounds.ensures.kept.time c.end_stopped.ensures.runs.time c.in-Err.ensures.faults c.end_stopped.ensures.faults
+
+pub returns-in-Ok-clause-front : goal.returns-in-Ok-clause-front
+returns-in-Ok-clause-front g c told =
+    let kept = c.read_bounds.ensures.kept in
+    let first = g.M.Machine.disk c.args.machine.now in
+    let mid = g.M.Machine.disk c.read_bounds.new.machine in
+    let new = g.M.Machine.disk c.list_open.new.machine in
+    let m = all_meaning c.in-Ok.b in
+    let store = subst (λ (f : Files). HasStore f c.in-Ok.b) (sym (kept.reads told)) (c.in-Ok.ensures.whole told) in
+    subst (λ (b : Bounds). SaysNoMore (all_meaning b) first.reads first.said new.said) (c.in-Ok.ensures.whole told).1
+    (subst (λ (f : Files). SaysNoMore m f first.said new.said) (kept.reads told) (subst (λ (s : List ℕ). SaysNoMore m mid.reads s new.said) (kept.said told) (c.list_open.ensures.front (kept.time.files_told.0 told) store)))
+
+pub returns-in-Err-clause-front : goal.returns-in-Err-clause-front
+returns-in-Err-clause-front g c told =
+    let kept = c.read_bounds.ensures.kept in
+    let files = (g.M.Machine.disk c.args.machine.now).reads in
+    unopened_part (meaning_of files) files _ _ _ c.in-Err.stop (c.in-Err.ensures.cause told) (c.in-Err.ensures.damage told) (kept.said told) (c.end_stopped.ensures.front (kept.time.files_told.0 told))

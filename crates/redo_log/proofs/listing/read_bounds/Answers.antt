@@ -2,7 +2,7 @@ use Rattle.disk_model.specs.Moments.{told_agrees}
 use Rattle.redo_log.specs.Listing.{IsStopped}
 use Rattle.redo_log.specs.Stops.{stop_from_open}
 use Rattle.redo_log.proofs.FaultLemmas.{open_counted}
-use Rattle.redo_log.proofs.ListLemmas.{has_store, objects_damaged, stopped_by, unopened}
+use Rattle.redo_log.proofs.ListLemmas.{has_store, objects_damaged, objects_fault, stopped_by, unopened}
 use Rattle.redo_log.proofs.listing.read_bounds.Goals as goal
 
 pub returns-clause-whole : goal.returns-clause-whole
@@ -19,3 +19,9 @@ returns-in_err-slots-clause-cause g c told =
 
 pub returns-in_err-slots-clause-faults : goal.returns-in_err-slots-clause-faults
 returns-in_err-slots-clause-faults g c = stopped_by c.from_residual.result (stop_from_open c.in_err-slots.field-0.0) _ c.from_residual.ensures.1 (open_counted (g.M.Machine.disk c.args.machine.now) (g.M.Machine.disk c.load.new.machine) _ _ c.in_err-slots.field-0.0 c.in_err-slots.ensures.cause)
+
+pub returns-in_err-slots-clause-damage : goal.returns-in_err-slots-clause-damage
+returns-in_err-slots-clause-damage g c told =
+    let files = (g.M.Machine.disk c.args.machine.now).reads in
+    stopped_by c.from_residual.result (stop_from_open c.in_err-slots.field-0.0) _ c.from_residual.ensures.1
+    (objects_fault files _ _ _ c.in_err-slots.field-0.0 (λ file place is. (is.1 files (told_agrees c.load.ensures.kept told)).fault) c.in_err-slots.ensures.cause)

@@ -1,8 +1,9 @@
-use Rattle.std.proofs.Common.{◌++◌, ◌∙◌, List, ℕ, ap}
+use Rattle.std.proofs.Common.{◌++◌, ◌∙◌, List, ℕ, ap, refl}
 use Rattle.disk_model.specs.Moments.{stays_here}
 use Rattle.redo_log.specs.Lines.{header_words, line}
 use Rattle.redo_log.specs.Saying.{says_front, says_nothing}
 use Rattle.redo_log.proofs.FaultLemmas.{stops_first}
+use Rattle.redo_log.proofs.FrontLemmas.{front_at, nothing_said}
 use Rattle.redo_log.proofs.listing.say_header.Goals as goal
 
 pub returns-in_err-line-clause-runs : goal.returns-in_err-line-clause-runs
@@ -21,3 +22,16 @@ returns-clause-said g c told =
 
 pub returns-in_err-say_line-clause-cause : goal.returns-in_err-say_line-clause-cause
 returns-in_err-say_line-clause-cause g c = stops_first (g.M.Machine.disk c.args.machine.now) (g.M.Machine.disk c.say_line.new.machine) _ _ c.from_residual-in_err-say_line.result c.in_err-say_line.field-0.0 (λ file place none. absurd none) c.from_residual-in_err-say_line.ensures.1 c.in_err-say_line.ensures.cause
+
+pub returns-in_err-line-clause-front : goal.returns-in_err-line-clause-front
+returns-in_err-line-clause-front g c told = nothing_said (line c.args.log.now.active 0 33 (header_words c.args.log.now.header)) _ _ refl
+
+pub returns-in_err-say_line-clause-front : goal.returns-in_err-say_line-clause-front
+returns-in_err-say_line-clause-front g c told =
+    let text = c.as_slice.ensures.value ∙ c.in_ok-line.ensures ∙ λ i. line (c.active.ensures i) 0 33 (header_words (record { epoch = c.epoch.ensures i; base = c.base.ensures i; commands = c.commands.ensures i })) in
+    front_at _ _ _ _ _ text refl (c.say_line.ensures.runs.said told)
+
+pub returns-clause-front : goal.returns-clause-front
+returns-clause-front g c told =
+    let text = c.as_slice.ensures.value ∙ c.in_ok-line.ensures ∙ λ i. line (c.active.ensures i) 0 33 (header_words (record { epoch = c.epoch.ensures i; base = c.base.ensures i; commands = c.commands.ensures i })) in
+    front_at _ _ _ _ _ text refl (c.say_line.ensures.runs.said told)

@@ -4,6 +4,8 @@ use Rattle.op_codec.specs.AllOps.{all_meaning}
 use Rattle.redo_log.specs.Saying.{says_then}
 use Rattle.redo_log.proofs.BrokenLemmas.{block_broken}
 use Rattle.redo_log.proofs.FaultLemmas.{stops_first, stops_later}
+use Rattle.redo_log.proofs.FrontLemmas.{on_any}
+use Rattle.redo_log.proofs.PartLemmas.{block_stops, head_in_part}
 use Rattle.redo_log.proofs.ReadLemmas.{block_said}
 use Rattle.redo_log.proofs.Steps.{block_begun, block_goes_on, some_left}
 use Rattle.redo_log.proofs.saying.say_block.Goals as goal
@@ -32,4 +34,14 @@ pub returns-in_err-say_head-clause-cause : goal.returns-in_err-say_head-clause-c
 returns-in_err-say_head-clause-cause g c = stops_first (g.M.Machine.disk c.args.machine.now) (g.M.Machine.disk c.say_head.new.machine) _ _ c.from_residual.result c.in_err-say_head.field-0.0 (λ file place none. absurd none) c.from_residual.ensures.1 c.in_err-say_head.ensures.cause
 
 pub returns-in_err-say_record-clause-cause : goal.returns-in_err-say_record-clause-cause
-returns-in_err-say_record-clause-cause g c = stops_later (g.M.Machine.disk c.args.machine.now) (g.M.Machine.disk c.loop-alloc.machine) (g.M.Machine.disk c.say_record.new.machine) _ _ c.from_residual-in_err-say_record.result c.in_err-say_record.field-0.0 c.loop-alloc.invariant.run.time (λ file place none. block_broken (all_meaning c.args.b) (g.M.Machine.disk c.args.machine.now) (g.M.Machine.disk c.loop-alloc.machine) c.args.payloads.now c.loop-alloc.payloads c.loop-alloc.invariant (some_left (remaining c.loop-alloc.payloads) (λ nothing. c.if-remaining-eq0.false (c.remaining.ensures ∙ nothing))) none) c.from_residual-in_err-say_record.ensures.1 c.in_err-say_record.ensures.cause
+returns-in_err-say_record-clause-cause g c = stops_later (g.M.Machine.disk c.args.machine.now) (g.M.Machine.disk c.loop-alloc.machine) (g.M.Machine.disk c.say_record.new.machine) _ _ c.from_residual-in_err-say_record.result c.in_err-say_record.field-0.0 c.loop-alloc.invariant.run.time (λ file place none. block_broken (all_meaning c.args.b) (g.M.Machine.disk c.args.machine.now) (g.M.Machine.disk c.loop-alloc.machine) (g.M.Machine.disk c.say_record.new.machine).said c.args.payloads.now c.loop-alloc.payloads c.loop-alloc.invariant (some_left (remaining c.loop-alloc.payloads) (λ nothing. c.if-remaining-eq0.false (c.remaining.ensures ∙ nothing))) none) c.from_residual-in_err-say_record.ensures.1 c.in_err-say_record.ensures.cause
+
+pub returns-in_err-say_head-clause-front : goal.returns-in_err-say_head-clause-front
+returns-in_err-say_head-clause-front g c told all passed later stands some =
+    let first = g.M.Machine.disk c.args.machine.now in
+    on_any c.from_residual.result (head_in_part (all_meaning c.args.b) (first.reads c.args.payloads.now.file) c.args.payloads.now all passed later first.said (g.M.Machine.disk c.say_head.new.machine).said stands some (c.say_head.ensures.front told all passed later stands some))
+
+pub returns-in_err-say_record-clause-front : goal.returns-in_err-say_record-clause-front
+returns-in_err-say_record-clause-front g c told all passed later stands some =
+    on_any c.from_residual-in_err-say_record.result (block_stops (all_meaning c.args.b) (g.M.Machine.disk c.args.machine.now) (g.M.Machine.disk c.loop-alloc.machine) (g.M.Machine.disk c.say_record.new.machine).said c.args.payloads.now c.loop-alloc.payloads c.loop-alloc.invariant
+    (some_left (remaining c.loop-alloc.payloads) (λ nothing. c.if-remaining-eq0.false (c.remaining.ensures ∙ nothing))) c.in_err-say_record.ensures.front told all passed later stands some)

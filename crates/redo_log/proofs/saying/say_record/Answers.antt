@@ -4,6 +4,8 @@ use Rattle.op_codec.specs.AllOps.{all_meaning}
 use Rattle.redo_log.specs.Saying.{says_front, says_nothing, says_then}
 use Rattle.redo_log.proofs.BrokenLemmas.{none_found}
 use Rattle.redo_log.proofs.FaultLemmas.{stops_first, stops_later}
+use Rattle.redo_log.proofs.FrontLemmas.{on_any}
+use Rattle.redo_log.proofs.PartLemmas.{no_record, one_record}
 use Rattle.redo_log.proofs.ReadLemmas.{ahead_off, code_some, code_within, taken_off}
 use Rattle.redo_log.proofs.Steps.{says_record}
 use Rattle.redo_log.proofs.saying.say_record.Goals as goal
@@ -49,3 +51,23 @@ returns-in_err-it-clause-cause g c = stops_first (g.M.Machine.disk c.args.machin
 
 pub returns-in_err-say_line-clause-cause : goal.returns-in_err-say_line-clause-cause
 returns-in_err-say_line-clause-cause g c = stops_later (g.M.Machine.disk c.args.machine.now) (g.M.Machine.disk c.find_record.new.machine) (g.M.Machine.disk c.say_line.new.machine) _ _ c.from_residual-in_err-say_line.result c.in_err-say_line.field-0.0 c.find_record.ensures.kept.time (λ file place none. absurd none) c.from_residual-in_err-say_line.ensures.1 c.in_err-say_line.ensures.cause
+
+pub returns-in_err-it-clause-front : goal.returns-in_err-it-clause-front
+returns-in_err-it-clause-front g c told all passed taken later is some =
+    let first = g.M.Machine.disk c.args.machine.now in
+    on_any c.from_residual.result (no_record (all_meaning c.args.b) (first.reads c.args.payloads.now.file) c.args.payloads.now all passed taken later first.said (g.M.Machine.disk c.find_record.new.machine).said is (c.find_record.ensures.kept.said told))
+
+pub returns-in_err-line-clause-front : goal.returns-in_err-line-clause-front
+returns-in_err-line-clause-front g c told all passed taken later is some =
+    let first = g.M.Machine.disk c.args.machine.now in
+    on_any c.from_residual-in_err-line.result (no_record (all_meaning c.args.b) (first.reads c.args.payloads.now.file) c.args.payloads.now all passed taken later first.said (g.M.Machine.disk c.find_record.new.machine).said is (c.find_record.ensures.kept.said told))
+
+pub returns-in_err-say_line-clause-front : goal.returns-in_err-say_line-clause-front
+returns-in_err-say_line-clause-front g c told all passed taken later is some =
+    let first = g.M.Machine.disk c.args.machine.now in
+    let kept = c.find_record.ensures.kept in
+    let searched = c.find_record.new.payloads in
+    let found = c.in_ok-it.ensures.found in
+    on_any c.from_residual-in_err-say_line.result (one_record (all_meaning c.args.b) (first.reads searched.file) c.args.payloads.now searched all passed taken later c.in_ok-it.it c.file.result c.in_ok-it.length c.place.result _
+    first.said (g.M.Machine.disk c.find_record.new.machine).said (g.M.Machine.disk c.say_line.new.machine).said found.0 found.1 c.in_ok-it.ensures.all.0 (c.file.ensures ∙ c.find_record.ensures.file) some
+    (c.in_ok-it.ensures.read first.reads (told_agrees kept told) all passed taken later is) c.place.ensures (c.as_slice.ensures.value ∙ c.in_ok-line.ensures) (kept.said told) (c.say_line.ensures.runs.said (kept.time.files_told.0 told)))

@@ -1,0 +1,133 @@
+-- What is said of a log, of all of it or of a part.
+use Rattle.std.specs.Prelude.{◌≡◌, ◌⊎◌, ⊤, ◌+◌, ℕ, All, List, [], ◌∷◌, ◌++◌, codes, drop, length, map}
+use Rattle.disk_model.specs.Disk.{Files, SaysFront}
+use Rattle.disk_model.specs.declared.machine.FileNo.{FileNo}
+use Rattle.disk_model.specs.declared.machine.FileNo.TheVariants.{Objects}
+use Rattle.oper_core.specs.Meaning.{Meaning}
+use Rattle.op_codec.specs.AllOps.{AllOps, all_meaning}
+use Rattle.formats.specs.Bytes.{IsClosedAt}
+use Rattle.formats.specs.FirstFault.{IsDamaged, IsFirstLogFault, IsFirstObjectsFault}
+use Rattle.formats.specs.InForce.{HoldsLog}
+use Rattle.formats.specs.Log.{Header, end_of}
+use Rattle.formats.specs.Records.{IsRecord, payload_of, records_of}
+use Rattle.formats.specs.declared.record.Record.{Record}
+use Rattle.log_frames.specs.Forcing.{with_block}
+use Rattle.script_lines.specs.Replies.{spaced}
+use Rattle.redo_log.specs.Faults.{HasNoRecord, IsUnreadable}
+use Rattle.redo_log.specs.Lines.{begun_lines, blocks_lines, header_words, line, log_lines, name_of_file, record_lines, used}
+use Rattle.redo_log.specs.declared.stop.Stop.{Stop}
+use Rattle.redo_log.specs.declared.stop.Stop.TheVariants as stops
+
+-- of a payload that goes on with so many bytes some records stand next, and a front of their lines was said
+pub record SaysSomeRecords (m : Meaning AllOps) (file : FileNo) (count : ℕ) (all passed : List (List ℕ)) (taken : List ℕ) (later : List (List ℕ)) (before after : List ℕ) : Type 0 where
+  pub part : List (Record AllOps)
+  pub rest : List ℕ
+  pub in_grammar : All (IsRecord m) part
+  pub here : all ≡ with_block passed (taken ++ (payload_of m part ++ rest)) ++ later
+  pub long : length (payload_of m part ++ rest) ≡ count
+  pub front : SaysFront (record_lines m file (end_of passed + 5 + length taken) part) before after
+
+-- in a block some records stand first, and a front of its line and of theirs was said
+pub record SaysSomeOfBlock (m : Meaning AllOps) (file : FileNo) (all passed later : List (List ℕ)) (before after : List ℕ) : Type 0 where
+  pub part : List (Record AllOps)
+  pub rest : List ℕ
+  pub in_grammar : All (IsRecord m) part
+  pub here : all ≡ passed ++ (payload_of m part ++ rest) ∷ later
+  pub front : SaysFront (begun_lines m file (end_of passed) (payload_of m part ++ rest) part) before after
+
+-- the lines of a log's first blocks, or of these and of the first records of the next block
+pub data AreFirstLines (m : Meaning AllOps) (file : FileNo) (payloads : List (List ℕ)) (text : List ℕ) : Type 0 where
+  to_block : (groups : List (List (Record AllOps))) (later : List (List ℕ)) → All (IsRecord m) (records_of groups) → payloads ≡ map (payload_of m) groups ++ later → text ≡ blocks_lines m file 33 groups
+      → AreFirstLines m file payloads text
+  to_record : (groups : List (List (Record AllOps))) (part : List (Record AllOps)) (rest : List ℕ) (later : List (List ℕ)) → All (IsRecord m) (records_of groups) → All (IsRecord m) part
+      → payloads ≡ map (payload_of m) groups ++ (payload_of m part ++ rest) ∷ later
+      → text ≡ blocks_lines m file 33 groups ++ begun_lines m file (end_of (map (payload_of m) groups)) (payload_of m part ++ rest) part → AreFirstLines m file payloads text
+
+-- the lines of a log: all of them; or its header and the first ones behind it
+pub data AreLogLines (m : Meaning AllOps) (files : Files) (active : FileNo) (header : Header) (payloads : List (List ℕ)) (text : List ℕ) : Type 0 where
+  all_lines : (groups : List (List (Record AllOps))) → All (IsRecord m) (records_of groups) → payloads ≡ map (payload_of m) groups
+      → text ≡ log_lines m active header groups (used (drop (end_of payloads) (files active))) → AreLogLines m files active header payloads text
+  first_lines : (lines : List ℕ) → AreFirstLines m active payloads lines → text ≡ line active 0 33 (header_words header) ++ lines → AreLogLines m files active header payloads text
+
+-- a front of the lines of the log in force was said
+pub record SaysLogPart (m : Meaning AllOps) (files : Files) (before after : List ℕ) : Type 0 where
+  pub active : FileNo
+  pub header : Header
+  pub payloads : List (List ℕ)
+  pub log : HoldsLog active header payloads files
+  pub text : List ℕ
+  pub lines : AreLogLines m files active header payloads text
+  pub front : SaysFront text before after
+
+-- nothing else was said
+abbrev pub SaysOfLog : Meaning AllOps → Files → List ℕ → List ℕ → Type 0
+SaysOfLog m files before after = (after ≡ before) ⊎ SaysLogPart m files before after
+
+-- Bytes that are no record.
+
+-- no record begins with the bytes that were not taken, and nothing was said
+pub record SaysNone (m : Meaning AllOps) (count : ℕ) (all passed : List (List ℕ)) (taken : List ℕ) (later : List (List ℕ)) (before after : List ℕ) : Type 0 where
+  pub behind : HasNoRecord m all passed taken later
+  pub long : length behind.rest ≡ count
+  pub silent : after ≡ before
+
+-- a block was said to the first bytes of it that are no record
+pub record SaysBlockToNone (m : Meaning AllOps) (file : FileNo) (all passed later : List (List ℕ)) (before after : List ℕ) : Type 0 where
+  pub is : IsUnreadable m all passed later
+  pub said : after ≡ before ++ begun_lines m file (end_of passed) (payload_of m is.part ++ is.behind.rest) is.part
+
+-- the lines of a log's blocks to the first bytes of them that are no record
+pub record AreLinesToNone (m : Meaning AllOps) (file : FileNo) (payloads : List (List ℕ)) (text : List ℕ) : Type 0 where
+  pub groups : List (List (Record AllOps))
+  pub later : List (List ℕ)
+  pub in_grammar : All (IsRecord m) (records_of groups)
+  pub is : IsUnreadable m payloads (map (payload_of m) groups) later
+  pub text_is : text ≡ blocks_lines m file 33 groups ++ begun_lines m file (end_of (map (payload_of m) groups)) (payload_of m is.part ++ is.behind.rest) is.part
+
+-- What is said of damaged files before the damage: nothing, where it is one of the objects file or of a log's header or blocks;
+-- all lines of the log, where each record is one by itself; else those of the records before the first bytes that are none.
+pub data AreLinesBefore (m : Meaning AllOps) (files : Files) (text : List ℕ) : Type 0 where
+  of_objects : (place : ℕ) → IsFirstObjectsFault (files Objects) place → text ≡ [] → AreLinesBefore m files text
+  of_logs : (file : FileNo) (place : ℕ) → IsFirstLogFault files file place → text ≡ [] → AreLinesBefore m files text
+  of_places : (active : FileNo) (header : Header) (groups : List (List (Record AllOps))) → HoldsLog active header (map (payload_of m) groups) files → All (IsRecord m) (records_of groups)
+      → text ≡ log_lines m active header groups (used (drop (end_of (map (payload_of m) groups)) (files active))) → AreLinesBefore m files text
+  of_records : (active : FileNo) (header : Header) (payloads : List (List ℕ)) (lines : List ℕ) → HoldsLog active header payloads files → AreLinesToNone m active payloads lines
+      → text ≡ line active 0 33 (header_words header) ++ lines → AreLinesBefore m files text
+
+-- The last line.
+
+abbrev pub not_a_store : List ℕ
+not_a_store = codes "not a store\n"
+
+abbrev pub damaged : FileNo → ℕ → List ℕ
+damaged file place = codes "damaged " ++ name_of_file file ++ spaced place ++ codes "\n"
+
+-- the line that a stop means, where it means one
+abbrev pub stop_line : Stop → List ℕ
+stop_line stops.NotAStore = not_a_store
+stop_line (stops.Damaged file place) = damaged file place
+stop_line stop = []
+
+-- it reports damage
+abbrev pub IsDamage : Stop → Type 0
+IsDamage (stops.Damaged file place) = ⊤
+IsDamage stop = ⊥
+
+-- the files break their format at this place, which the last line says
+pub record IsDamageSaid (m : Meaning AllOps) (files : Files) (before after : List ℕ) : Type 0 where
+  pub file : FileNo
+  pub place : ℕ
+  pub is : IsDamaged all_meaning files file place
+  pub lines : List ℕ
+  pub lines_are : AreLinesBefore m files lines
+  pub said : after ≡ before ++ lines ++ damaged file place
+
+-- what is said of files: that they are no store; lines of the log; or the lines before a damage, and the damage
+pub data IsReport (m : Meaning AllOps) (files : Files) (text : List ℕ) : Type 0 where
+  no_store : IsClosedAt 0 (files Objects) → text ≡ not_a_store → IsReport m files text
+  of_log : (active : FileNo) (header : Header) (payloads : List (List ℕ)) → HoldsLog active header payloads files → AreLogLines m files active header payloads text → IsReport m files text
+  of_damage : (lines : List ℕ) (file : FileNo) (place : ℕ) → AreLinesBefore m files lines → IsDamaged all_meaning files file place → text ≡ lines ++ damaged file place → IsReport m files text
+
+-- nothing else was said than a front of it
+abbrev pub SaysNoMore : Meaning AllOps → Files → List ℕ → List ℕ → Type 0
+SaysNoMore m files before after = (after ≡ before) ⊎ ((text : List ℕ) × IsReport m files text × SaysFront text before after)
