@@ -10,7 +10,7 @@ use Rattle.disk_model.specs.declared.machine.FileNo.TheVariants.{Objects}
 use Rattle.oper_core.specs.Meaning.{Meaning}
 use Rattle.oper_core.specs.declared.bounds.Bounds.{Bounds}
 use Rattle.formats.specs.declared.params.Params.{Params}
-use Rattle.explain_core.specs.History.{commands_of}
+use Rattle.explain_core.specs.History.{Member}
 use Rattle.explain_core.specs.World.{World, Step, run, step}
 use Rattle.explain_core.specs.World.Step.{Block_gate}
 use Rattle.running_store.specs.Courses.{force_steps, waits}
@@ -57,11 +57,9 @@ module _ {O : Type 0} (m : Meaning O) (w : World O) where
         omega (arith, same, ltb-false w.forced (length w.history) (first_false (nat_lt w.forced (length w.history)) (nat_lt 0 (length w.pending)) not))
   ]
 
-  -- so what the files then stand for are all commands
-  pub forced_commands : w.forced ≤ length w.history → commands_of (take forced_world.forced forced_world.history) ≡ commands_of w.history
-  forced_commands within =
-      ap (λ (h : List _). commands_of (take forced_world.forced h)) forced_history
-      ∙ ap (λ (h : List _). commands_of h) (take_all forced_world.forced w.history (forced_all within))
+  -- so all of its history is
+  pub forced_stable : w.forced ≤ length w.history → take forced_world.forced forced_world.history ≡ w.history
+  forced_stable within = ap (λ (h : List (Member O)). take forced_world.forced h) forced_history ∙ take_all forced_world.forced w.history (forced_all within)
 
 module _ {O : Type 0} (meaning : Bounds → Meaning O) where
   -- where the files stay, what the machine reports is as it was

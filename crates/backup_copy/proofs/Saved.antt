@@ -1,33 +1,36 @@
 -- The log is copied into the target, which has all objects.
-use Rattle.std.proofs.Common.{◌≡◌, ◌⊎◌, ◌∙◌, inl, inr, ⊎_elim, ◌<◌, ◌≤◌, ℕ, List, [], ◌∷◌, refl, sym, ap, subst, arith, take}
+use Rattle.std.proofs.Common.{◌≡◌, ◌⊎◌, ◌∙◌, inl, inr, ⊎_elim, ◌<◌, ◌≤◌, ◌-◌, ℕ, Bool, List, [], ◌∷◌, length, refl, sym, ap, subst, arith, take, drop}
 use Rattle.std.specs.Prelude.{nat_lt}
 use Rattle.std.proofs.lemmas.Bool.{cases_lt, cond-true, cond-false, le-ltb, lt-ltb}
+use Rattle.std.proofs.lemmas.List.{take_all}
 use Rattle.disk_model.specs.Disk.{Files, Disk, Runs, Same, In, Any, IsSettledIn, LeavesOnly}
 use Rattle.disk_model.specs.Moments.{first_call, runs_on, weaker}
 use Rattle.disk_model.specs.declared.machine.FileNo.{FileNo}
 use Rattle.disk_model.specs.declared.machine.FileNo.TheVariants.{Objects, LogA, LogB}
 use Rattle.oper_core.specs.Cell.{Cell}
-use Rattle.oper_core.specs.Meaning.{Meaning}
+use Rattle.oper_core.specs.Meaning.{IsSmall, Meaning}
 use Rattle.oper_core.specs.declared.bounds.Bounds.{Bounds}
 use Rattle.formats.specs.Log.{Header}
-use Rattle.formats.specs.Objects.{IsObjectsFile, cell_of}
+use Rattle.formats.specs.Objects.{IsObjectsFile, bounds_of, cell_of}
 use Rattle.formats.specs.Records.{HoldsRecordLog, records_of}
 use Rattle.formats.specs.declared.params.Params.{Params}
 use Rattle.formats.specs.declared.record.Record.{Record}
 use Rattle.log_frames.specs.Creating.{IsNewLog}
 use Rattle.stable_objects.specs.Making.{IsClosedFile, opened}
-use Rattle.explain_core.specs.Backup.{IsCopied, backup_of, copy_of}
-use Rattle.explain_core.specs.History.{commands_of}
+use Rattle.explain_core.specs.Backup.{IsCopied, backup_of, copy_of, installed_in_copy}
+use Rattle.explain_core.specs.History.{Member, commands_of}
 use Rattle.explain_core.specs.Sound.{IsSound}
+use Rattle.explain_core.specs.Stable.{IsStableOf, Stable, stable_of, world_of}
 use Rattle.explain_core.specs.World.{World, Starts, plan_of}
 use Rattle.standing.specs.Members.{tables_in}
-use Rattle.standing.specs.Standing.{HoldsStable, stored}
+use Rattle.standing.specs.OneStable.{small_store}
+use Rattle.standing.specs.Standing.{FilesShow, HoldsStable, stored}
 use Rattle.store_engine.specs.Engine.{EngineView, InEachImage, ShowsIn}
 use Rattle.store_engine.specs.Grouping.{ungrouped}
 use Rattle.store_engine.specs.LogOf.{HoldsLogOf}
 use Rattle.store_engine.specs.Store.{Stands, meaning_in}
 use Rattle.backup_copy.specs.Calls.{IsShutOrWhole}
-use Rattle.backup_copy.specs.Target.{AreShut, IsPartCopy, IsShutOrOpened, IsTarget, open_files}
+use Rattle.backup_copy.specs.Target.{AreShut, IsBackup, IsPartCopy, IsShutOrOpened, IsTarget, open_files}
 
 -- the log stands in these files as well whose gate is open
 log_opened : {O : Type 0} (m : Meaning O) (active : FileNo) (header : Header) (groups : List (List (Record O))) (files : Files) → HoldsRecordLog m active header groups files → HoldsRecordLog m active header groups (open_files files)
@@ -51,20 +54,27 @@ module _ {O : Type 0} (meaning : Bounds → Meaning O) (p : Params) where
   abbrev m : Meaning O
   m = meaning_in meaning p
 
-  -- files that hold the copy of a world's slots and its log stand for its stable commands
-  abbrev pub CopyStands : Type 0
-  CopyStands = (files : Files) (w : World O) (copied : ℕ) (cells : ℕ → Cell) (tables : List Starts) → IsSound m w → IsCopied m w copied cells → (tables ≡ []) ⊎ (tables ≡ plan_of [] w.base ∷ [])
-      → HoldsStable m p files (copy_of w copied cells tables) → Stands meaning p files (commands_of (take w.forced w.history))
+  -- the copy of a world's slots, with its log and these checks, may be what is stable of its stable history
+  abbrev pub CopyIsStable : (World O → List Starts) → Type 0
+  CopyIsStable tables = (w : World O) (copied : ℕ) (cells : ℕ → Cell) → IsSound m w → IsCopied m w copied cells
+      → IsStableOf m (copy_of w copied cells (tables w)) (take w.forced w.history) (installed_in_copy m w copied cells)
 
-  -- with its gate open the target stands for the commands
-  pub opened_stands : (d : Disk) (engine : EngineView) (w : World O) (t : Disk) (files : Files) (copied : ℕ) (cells : ℕ → Cell) → CopyStands → ShowsIn meaning p d engine w → IsCopied m (ungrouped w) copied cells → copied ≡ p.objects
-      → IsPartCopy p copied cells t → files Objects ≡ t.reads Objects → HoldsLogOf m w files → Stands meaning p (open_files files) (commands_of (take w.forced w.history))
-  opened_stands d engine w t files copied cells stands shows is all part same log =
-      let tables = tables_in (records_of log.groups) in
+  -- the world that a restart makes of stable parts is sound
+  abbrev pub PartsAreSound : Type 0
+  PartsAreSound = (parts : Stable O) (history : List (Member O)) (installed : ℕ → Bool) → IsSmall (bounds_of p) → IsStableOf m parts history installed → IsSound m (world_of m parts history installed)
+
+  -- the files stand for the commands of this history by itself
+  abbrev pub StandsBy : List (Member O) → Files → Type 0
+  StandsBy history files = (it : Stands meaning p files (commands_of history)) × (it.history ≡ history)
+
+  -- with its gate open the target holds the copy
+  opened_holds : (d : Disk) (engine : EngineView) (w : World O) (t : Disk) (files : Files) (copied : ℕ) (cells : ℕ → Cell) → ShowsIn meaning p d engine w → copied ≡ p.objects → IsPartCopy p copied cells t → files Objects ≡ t.reads Objects
+      → (log : HoldsLogOf m w files) → HoldsStable m p (open_files files) (copy_of (ungrouped w) copied cells (tables_in (records_of log.groups)))
+  opened_holds d engine w t files copied cells shows all part same log =
       let filled = part.objects.filled in
       let none : (x : ℕ) → p.objects ≤ x → w.slots x ≡ record { id = 0; value = [] } = λ x past.
       sym (shows.shows.store.slots x) ∙ cond-false (nat_lt x p.objects) (cell_of x (d.reads Objects)) (record { id = 0; value = [] }) (le-ltb x p.objects past) in
-      stands (open_files files) (ungrouped w) copied cells tables shows.shows.running.sound is log.tables (record {
+      record {
         objects = subst (λ (l : List ℕ). IsObjectsFile p (opened l)) (sym same) filled.whole;
         cells = λ x. ap (λ (l : List ℕ). stored p (opened l) x) same ∙ all_cells p (opened (t.reads Objects)) copied cells w.slots all (λ x less below. filled.held x less below) none x;
         active = log.active;
@@ -75,7 +85,49 @@ module _ {O : Type 0} (meaning : Bounds → Meaning O) (p : Params) where
         commands_before = log.commands_before;
         members = log.members;
         tables = refl;
-      })
+      }
+
+  -- so it stands for the commands, by the history
+  pub opened_stands : (d : Disk) (engine : EngineView) (w : World O) (t : Disk) (files : Files) (copied : ℕ) (cells : ℕ → Cell) → CopyIsStable (λ w. []) → CopyIsStable (λ w. plan_of [] w.base ∷ []) → ShowsIn meaning p d engine w
+      → IsCopied m (ungrouped w) copied cells → copied ≡ p.objects → IsPartCopy p copied cells t → files Objects ≡ t.reads Objects → HoldsLogOf m w files → StandsBy (take w.forced w.history) (open_files files)
+  opened_stands d engine w t files copied cells unchecked checked shows is all part same log =
+      let sound = shows.shows.running.sound in
+      let installed = installed_in_copy m (ungrouped w) copied cells in
+      let is_stable : List Starts → Type 0 = λ tables. IsStableOf m (copy_of (ungrouped w) copied cells tables) (take w.forced w.history) installed in (
+        record {
+          parts = copy_of (ungrouped w) copied cells (tables_in (records_of log.groups));
+          holds = opened_holds d engine w t files copied cells shows all part same log;
+          history = take w.forced w.history;
+          installed = installed;
+          stable = ⊎_elim (λ none. subst is_stable (sym none) (unchecked (ungrouped w) copied cells sound is)) (λ one. subst is_stable (sym one) (checked (ungrouped w) copied cells sound is)) log.tables;
+          commands_are = refl;
+        },
+        refl,
+      )
+
+  -- what is stable of the world that a restart makes of stable parts are these parts
+  same_parts : (parts : Stable O) (history : List (Member O)) (installed : ℕ → Bool) → IsStableOf m parts history installed → stable_of (world_of m parts history installed) ≡ parts
+  same_parts parts history installed is =
+      let records : drop (parts.base - 1) (take (length history) history) ≡ parts.records = ap (λ (l : List (Member O)). drop (parts.base - 1) l) (take_all (length history) history (omega arith)) ∙ is.records in
+      λ i. record { slots = parts.slots; tables = parts.tables; base = parts.base; commands_before = parts.commands_before; records = records i }
+
+  -- and so it is a backup
+  pub standing_backup : (history : List (Member O)) (files : Files) → PartsAreSound → StandsBy history files → IsBackup m p history files
+  standing_backup history files sound by =
+      let it = by.0 in record {
+        world = world_of m it.parts it.history it.installed;
+        shows = subst (λ (parts : Stable O). HoldsStable m p files parts) (sym (same_parts it.parts it.history it.installed it.stable)) it.holds;
+        sound = sound it.parts it.history it.installed (small_store p (files Objects) it.holds.objects) it.stable;
+        history_is = by.1;
+        stable = refl;
+      }
+
+  -- a backup stands for the commands of its history
+  pub backup_stands : ((files : Files) (w : World O) → IsSound m w → FilesShow m p files w → Stands meaning p files (commands_of (take w.forced w.history))) → (history : List (Member O)) (files : Files) → IsBackup m p history files
+      → Stands meaning p files (commands_of history)
+  backup_stands stand history files is =
+      let all : take is.world.forced is.world.history ≡ history = take_all is.world.forced is.world.history (omega (arith, is.stable)) ∙ is.history_is in
+      subst (λ (h : List (Member O)). Stands meaning p files (commands_of h)) all (stand files is.world is.sound is.shows)
 
 -- while the log is copied the gate is closed
 module _ (old new : Disk) (run : Runs (In LogB Any) Same old new) where
@@ -123,9 +175,6 @@ module _ {O : Type 0} (meaning : Bounds → Meaning O) (p : Params) (commands : 
       (weaker mid new (IsShutOrOpened mid) (IsShutOrWhole meaning p commands old) leaves
       (λ files said is. (⊎_elim (λ shut. inl shut) (λ same. inr (subst (λ (f : Files). Stands meaning p f commands) (sym same) stands)) is.0, is.1 ∙ quiet)))
 
-  -- at the end each image is the whole store
-  pub saved : InEachImage new (λ files. files ≡ open_files mid.reads) → InEachImage new (λ files. Stands meaning p files commands)
-  saved all = (
-    subst (λ (f : Files). Stands meaning p f commands) (sym all.0) stands,
-    λ told files said left. subst (λ (f : Files). Stands meaning p f commands) (sym (all.1 told files said left)) stands,
-  )
+-- what is true of the whole store is true of each image at the end
+pub saved : (files : Files) (new : Disk) (P : Files → Type 0) → P files → InEachImage new (λ image. image ≡ files) → InEachImage new P
+saved files new P is all = (subst P (sym all.0) is, λ told image said left. subst P (sym (all.1 told image said left)) is)

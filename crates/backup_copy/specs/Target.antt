@@ -1,10 +1,15 @@
 -- The files of a machine to which a store is copied.
-use Rattle.std.specs.Prelude.{◌≡◌, ◌⊎◌, ◌<◌, ◌^◌, ℕ, List, []}
+use Rattle.std.specs.Prelude.{◌≡◌, ◌⊎◌, ◌<◌, ◌^◌, ℕ, List, [], length}
 use Rattle.disk_model.specs.Disk.{Files, Disk, IsSettledIn}
 use Rattle.disk_model.specs.declared.machine.FileNo.TheVariants.{Objects, LogA, LogB}
 use Rattle.oper_core.specs.Cell.{Cell}
+use Rattle.oper_core.specs.Meaning.{Meaning}
 use Rattle.formats.specs.Objects.{layout_in}
 use Rattle.formats.specs.declared.params.Params.{Params}
+use Rattle.explain_core.specs.History.{Member}
+use Rattle.explain_core.specs.Sound.{IsSound}
+use Rattle.explain_core.specs.World.{World}
+use Rattle.standing.specs.Standing.{FilesShow}
 use Rattle.log_frames.specs.Creating.{IsNewLog}
 use Rattle.stable_objects.specs.Filling.{IsFilledTo}
 use Rattle.stable_objects.specs.Layouts.{new_layout}
@@ -42,3 +47,12 @@ open_files files LogB = files LogB
 -- at a moment while the gate is opened it is closed, or open, and all else is as it was; nothing more is said
 abbrev pub IsShutOrOpened : Disk → Files → List ℕ → Type 0
 IsShutOrOpened old files said = (AreShut files ⊎ (files ≡ open_files old.reads)) × (said ≡ old.said)
+
+-- The files are a backup of a store with this history: they show a sound world that has just these members, identity writes among
+-- them, all of them stable. So the next record has the number that it has in the store.
+pub record IsBackup {O : Type 0} (m : Meaning O) (p : Params) (history : List (Member O)) (files : Files) : Type 0 where
+  pub world : World O
+  pub shows : FilesShow m p files world
+  pub sound : IsSound m world
+  pub history_is : world.history ≡ history
+  pub stable : world.forced ≡ length world.history

@@ -14,7 +14,7 @@ ghost use Rattle.backup_copy.specs.Calls.{FinishFailsBy, ForcesFirst, HasLength,
 ghost use Rattle.backup_copy.specs.Copies.{Copies};
 ghost use Rattle.backup_copy.specs.Length.{backup_length};
 ghost use Rattle.backup_copy.specs.Refusals.{IsRefusedSo, judge_finish};
-ghost use Rattle.backup_copy.specs.Target.{AreShut, IsShutOrOpened, open_files};
+ghost use Rattle.backup_copy.specs.Target.{AreShut, IsBackup, IsShutOrOpened, open_files};
 
 use crate::BackupErr;
 use crate::forcing::force;
@@ -47,7 +47,7 @@ fn save<O: Oper, M: Machine, T: Machine>(
     requires unbroken { engine.old.broken ≡ false }
     ensures read { IsEngineRead O.meaning (M.disk machine.old) (M.disk machine.new) engine.old engine.new (IsErrOf result BackupErr.DiskFault) }
     ensures saved { (p : Numbers) (w : World O) → (is : Copies O.meaning p (M.disk machine.old) engine.old w (T.disk target.old)) → is.done ≡ p.objects → (T.disk target.old).tells_files →
-        OnOk result (InEachImage (T.disk target.new) (λ files. Stands O.meaning p files (commands_of (take w.forced w.history)))) }
+        OnOk result (InEachImage (T.disk target.new) (IsBackup (meaning_in O.meaning p) p (take w.forced w.history))) }
     ensures moments { (T.disk target.old).tells_moments → (p : Numbers) (w : World O) → (is : Copies O.meaning p (M.disk machine.old) engine.old w (T.disk target.old)) → is.done ≡ p.objects →
         LeavesOnly (T.disk target.old) (T.disk target.new) (IsShutOrWhole O.meaning p (commands_of (take w.forced w.history)) (T.disk target.old)) }
     ensures again { (p : Numbers) (w : World O) → Copies O.meaning p (M.disk machine.old) engine.old w (T.disk target.old) →
@@ -59,7 +59,8 @@ fn save<O: Oper, M: Machine, T: Machine>(
         (IsTailFault (O.meaning engine.new.parts.log.bounds) (M.disk machine.new) engine.new.parts.log.log) engine.new) }
     ensures long { (p : Numbers) (w : World O) → ShowsIn O.meaning p (M.disk machine.old) engine.old w → HasLength (backup_length (meaning_in O.meaning p) w) result }
 {
-    standing::a_copy_stands::<O>();
+    explain_core::copy_stands::<O>();
+    explain_core::stable_parts_stand::<O>();
     store_engine::a_copied_log_is_of_the_world::<O, M>();
     engine.copy_log(machine, target)?;
     match open(target) {
@@ -99,6 +100,10 @@ pub fn finish<O: Oper, M: Machine, T: Machine>(
     ensures saved { (p : Numbers) (w : World O) → Copies O.meaning p (M.disk machine.old) engine.old w (T.disk target.old) → IfOk result (λ n. (n ≡ length (commands_of w.history))
         × ((T.disk target.old).tells_files → InEachImage (T.disk target.new) (λ files. Stands O.meaning p files (commands_of w.history)))) }
 
+    // Their history is that of the world, so the next record of the target has the number that it has in the store.
+    ensures shows { (T.disk target.old).tells_files → (p : Numbers) (w : World O) → Copies O.meaning p (M.disk machine.old) engine.old w (T.disk target.old) →
+        OnOk result (InEachImage (T.disk target.new) (IsBackup (meaning_in O.meaning p) p w.history)) }
+
     // Until it does its gate is closed.
     ensures moments { (T.disk target.old).tells_moments → (p : Numbers) (w : World O) → Copies O.meaning p (M.disk machine.old) engine.old w (T.disk target.old) →
         LeavesOnly (T.disk target.old) (T.disk target.new) (IsShutOrWhole O.meaning p (commands_of w.history) (T.disk target.old)) }
@@ -117,6 +122,7 @@ pub fn finish<O: Oper, M: Machine, T: Machine>(
     ensures long { (p : Numbers) (w : World O) → ShowsIn O.meaning p (M.disk machine.old) engine.old w →
         HasLength (backup_length (meaning_in O.meaning p) (run (meaning_in O.meaning p) w (force_steps (meaning_in O.meaning p) w))) result }
 {
+    standing::image_stands::<O>();
     store_engine::a_copy_goes_on::<O, M>();
     store_engine::calls_go_beside_a_copy::<O>();
     may_finish(engine)?;

@@ -2,7 +2,8 @@
 //! while commands, installs and checkpoints go on; at the end the log follows, and the target is a store.
 //!
 //! The one contract is [`finish`]: where it answers a number, each image of the target stands for the commands that the store
-//! stands for, which are so many. Until it opens the target's objects gate this is closed at each moment. What holds meanwhile
+//! stands for, which are so many, and has its history, so that a standby may begin with it. Until it opens the target's objects
+//! gate this is closed at each moment. What holds meanwhile
 //! is the record `Copies` of specs/Copies.antt: engine and files show a world, and the target has cells that are a copy of its
 //! first slots; so these are explained at each step ([`the_copy_is_explained`]). [`start`] begins it, [`copy`] goes on with it,
 //! and [`copies_go_on`] keeps it over each call of the engine in between, so that no contract of the engine mentions the

@@ -10,6 +10,7 @@ use Rattle.disk_model.specs.Moments.{first_call}
 use Rattle.disk_model.specs.declared.machine.FileNo.{FileNo}
 use Rattle.oper_core.specs.Meaning.{Meaning}
 use Rattle.oper_core.specs.declared.bounds.Bounds.{Bounds}
+use Rattle.formats.specs.Log.{IsPayload}
 use Rattle.formats.specs.Records.{payload_of, records_of}
 use Rattle.formats.specs.declared.params.Params.{Params}
 use Rattle.formats.specs.declared.record.Record.{Record}
@@ -28,19 +29,23 @@ use Rattle.store_engine.specs.Grouping.{ungrouped}
 use Rattle.store_engine.specs.Store.{Stands, meaning_in}
 use Rattle.standby_node.specs.Feeding.{IsAtFrameEnd}
 use Rattle.standby_node.specs.Standby.{AreFramesOf, BeginsWithFrameOf, IsFollowing, MayBeShipped, StandbyView}
+use Rattle.standby_node.proofs.AllOf.{all_append}
 use Rattle.standby_node.proofs.Judging.{IsLonger, follows_append, follows_longer, refused_front}
 
 -- an image of a sound world stands for its stable commands
 abbrev pub Stand : {O : Type 0} → (Bounds → Meaning O) → Type 0
 Stand {O} meaning = (p : Params) (files : Files) (w : World O) → IsSound (meaning_in meaning p) w → FilesShow (meaning_in meaning p) p files w → StandsFor meaning p files (commands_of (take w.forced w.history))
 
--- one frame more
+-- frames behind others, and one more
+pub frames_join : {O : Type 0} (m : Meaning O) (payloads others : List (List ℕ)) (groups rest : List (List (Record O))) → AreFramesOf m payloads groups → AreFramesOf m others rest → AreFramesOf m (payloads ++ others) (groups ++ rest)
+frames_join m [] others [] rest are more = more
+frames_join m [] others (group ∷ groups) rest are more = absurd are
+frames_join m (payload ∷ payloads) others [] rest are more = absurd are
+frames_join m (payload ∷ payloads) others (group ∷ groups) rest are more = (are.0, frames_join m payloads others groups rest are.1 more)
+
 pub frames_more : {O : Type 0} (m : Meaning O) (payloads : List (List ℕ)) (groups : List (List (Record O))) (begun : List (Record O)) → AreFramesOf m payloads groups → AllByRecursion (MayBeShipped m) begun
     → AreFramesOf m (payloads ++ payload_of m begun ∷ []) (groups ++ begun ∷ [])
-frames_more m [] [] begun are shipped = (record { is = refl; shipped = shipped }, tt)
-frames_more m [] (group ∷ groups) begun are shipped = absurd are
-frames_more m (payload ∷ payloads) [] begun are shipped = absurd are
-frames_more m (payload ∷ payloads) (group ∷ groups) begun are shipped = (are.0, frames_more m payloads groups begun are.1 shipped)
+frames_more m payloads groups begun are shipped = frames_join m payloads (payload_of m begun ∷ []) groups (begun ∷ []) are (record { is = refl; shipped = shipped }, tt)
 
 pub records_more : {O : Type 0} (groups : List (List (Record O))) (begun : List (Record O)) → records_of (groups ++ begun ∷ []) ≡ records_of groups ++ begun
 records_more [] begun = append-nil begun
@@ -95,6 +100,7 @@ module _ {O : Type 0} (meaning : Bounds → Meaning O) (p : Params) (first : Lis
     groups = f.groups;
     rest = s.frames.kept;
     split = f.passed.is;
+    whole = f.passed.whole;
     frames_are = f.frames_are;
     fine = gone_fine;
     enough = enough;
@@ -114,6 +120,7 @@ module _ {O : Type 0} (meaning : Bounds → Meaning O) (p : Params) (first : Lis
         rest = whole.0;
         split = f.passed.is ∙ ap (λ (l : List ℕ). frames f.payloads ++ l) whole.2 ∙ sym (append_assoc (frames f.payloads) (frame (payload_of m f.begun)) whole.0)
             ∙ ap (λ (l : List ℕ). l ++ whole.0) (sym (bytes_more f.payloads (payload_of m f.begun)));
+        whole = all_append IsPayload f.payloads (payload_of m f.begun ∷ []) f.passed.whole (whole.1, tt);
         frames_are = frames_more m f.payloads f.groups f.begun f.frames_are f.in_hand.shipped;
         fine = ap (λ (rs : List (Record O)). first_refused m first rs) same ∙ f.fine;
         enough = omega (arith, enough, ap (λ (h : List (Member O)). length (commands_of h)) all);
@@ -164,6 +171,7 @@ later_end meaning p old mid least more first bytes quiet fewer files said is = r
   groups = is.groups;
   rest = is.rest;
   split = is.split;
+  whole = is.whole;
   frames_are = is.frames_are;
   fine = is.fine;
   enough = omega (arith, is.enough, fewer);

@@ -82,6 +82,7 @@ module _ {O : Type 0} (meaning : Bounds → Meaning O) where
     groups = is.groups;
     rest = is.rest ++ piece;
     split = ap (λ (l : List ℕ). l ++ piece) is.split ∙ append_assoc (frames is.payloads) is.rest piece;
+    whole = is.whole;
     frames_are = is.frames_are;
     fine = is.fine;
     enough = is.enough;
@@ -162,7 +163,7 @@ module _ {O : Type 0} (meaning : Bounds → Meaning O) where
     abbrev m : Meaning O
     m = meaning_in meaning p
 
-    begun_none : f.begun ≡ []
+    pub begun_none : f.begun ≡ []
     begun_none = none_begun m s.frames.kept f.begun (subst (λ (n : ℕ). HasBegun m s.frames.kept n f.begun) none f.in_hand)
 
     pub all_past : f.world.history ≡ past meaning p first bytes d s f

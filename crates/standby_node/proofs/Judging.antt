@@ -41,7 +41,7 @@ module _ {O : Type 0} (m : Meaning O) where
   rest_fine h r rs none = sym (cond-false (is_refused (judged h r)) (Some (judged h r)) (first_refused m (with_judged h (judged h r)) rs) (first_fine h r rs none)) ∙ none
 
   -- what they make of the history behind the first
-  follows_first : (h : List (Member O)) (r : Record O) (rs : List (Record O)) → is_refused (judged h r) ≡ false → follows m h (r ∷ rs) ≡ follows m (with_judged h (judged h r)) rs
+  pub follows_first : (h : List (Member O)) (r : Record O) (rs : List (Record O)) → is_refused (judged h r) ≡ false → follows m h (r ∷ rs) ≡ follows m (with_judged h (judged h r)) rs
   follows_first h r rs fine = cond-false (is_refused (judged h r)) h (follows m (with_judged h (judged h r)) rs) fine
 
   refused_first : (h : List (Member O)) (r : Record O) (rs : List (Record O)) → is_refused (judged h r) ≡ false → first_refused m h (r ∷ rs) ≡ first_refused m (with_judged h (judged h r)) rs

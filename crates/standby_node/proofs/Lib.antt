@@ -1,3 +1,4 @@
+mod AllOf
 mod Judging
 mod InHand
 mod Ends
@@ -13,3 +14,7 @@ mod Primary
 mod Refusals
 mod OneRefusal
 mod Shipped
+mod Stays
+mod Decoded
+mod OnePrimary
+mod Logged

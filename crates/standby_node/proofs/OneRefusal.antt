@@ -155,7 +155,7 @@ module _ {O : Type 0} (meaning : Bounds → Meaning O) (p : Params) (first : Lis
 
       by_place : AreApart a.payloads b.payloads kept_one kept_other → e ≡ f
       by_place (AreApart.Short q qs are kept) =
-          absurd (none_here meaning p first b.payloads b.groups kept_other b.passed.whole b.frames_are (gone_fine meaning p first others then other b) bytes more now one a one_record q qs are kept e why)
+          absurd (none_here meaning p first b.payloads b.groups kept_other b.passed.whole b.frames_are bytes more now one a one_record q qs are kept (gone_fine meaning p first others then other b) e why)
       by_place (AreApart.Long q qs are kept) =
-          absurd (none_here meaning p first a.payloads a.groups kept_one a.passed.whole a.frames_are (gone_fine meaning p first bytes now one a) others rest then other b one_record q qs are kept f why_too)
+          absurd (none_here meaning p first a.payloads a.groups kept_one a.passed.whole a.frames_are others rest then other b one_record q qs are kept (gone_fine meaning p first bytes now one a) f why_too)
       by_place (AreApart.Level payloads kept) = level payloads kept e f why why_too

@@ -1,6 +1,7 @@
 -- The records of a history are followed by whoever has a first part of it.
 use Rattle.std.proofs.Common.{◌≡◌, ◌∙◌, sym, subst, ap, ℕ, zero, suc, ◌+◌, ◌-◌, ◌<◌, ◌≤◌, Bool, true, false, Option, Some, None, List, [], ◌∷◌, ◌++◌, length, take, drop, max, refl, arith, inl, inr, length-take}
-use Rattle.std.specs.Prelude.{◌==◌, nat_lt, slice_get, IfSome, IsTrue}
+use Rattle.std.specs.Prelude.{◌==◌, ⊤, nat_lt, slice_get, IfSome, IsTrue}
+use Rattle.std.specs.List.{AllByRecursion}
 use Rattle.std.proofs.lemmas.Bool.{cases_lt, cond-true, cond-false, eq-eqb, eqb-true, lt-ltb, le-ltb}
 use Rattle.oper_core.specs.Meaning.{Meaning}
 use Rattle.oper_core.specs.State.{State}
@@ -8,12 +9,13 @@ use Rattle.formats.specs.Records.{AreRecords}
 use Rattle.formats.specs.declared.record.Record.{Record}
 use Rattle.formats.specs.declared.record.Record.TheVariants.{Command as Logged_command, Identity as Logged_identity, Check as Logged_check}
 use Rattle.explain_core.specs.GraphLaws.{slice_get-take}
-use Rattle.explain_core.specs.History.{IsHistory, IsMember, Member, made_by, value_at}
+use Rattle.explain_core.specs.History.{IsHistory, IsMember, Member, made_by, numbered, value_at}
 use Rattle.explain_core.specs.History.Member.{Command, Identity}
 use Rattle.explain_core.specs.Stable.{IsStableOf, Stable}
 use Rattle.execution.specs.Judged.{Judged, first_refused, follows, is_refused, judge_behind, judge_member, may_follow, with_judged}
 use Rattle.execution.specs.Judged.Judged.{Passed, Taken, Gap, Differs}
 use Rattle.standing.specs.Members.{members_of}
+use Rattle.standby_node.proofs.Judging.{follows_first}
 
 -- ---- a history is what is stable of a store that has installed none of it
 
@@ -43,20 +45,30 @@ stable_parts m h is = record {
 
 -- ---- the members of a history, one after the other
 
+-- a record is the member that its number says; a check is none
+abbrev pub IsRecordOf : {O : Type 0} → List (Member O) → Record O → Type 0
+IsRecordOf h (Logged_command number op) = numbered h number ≡ Some (Command op)
+IsRecordOf h (Logged_identity number x value) = numbered h number ≡ Some (Identity x value)
+IsRecordOf h (Logged_check table) = ⊤
+
 module _ {O : Type 0} where
   -- one member more of a list, where there is one
-  record IsNext (h : List (Member O)) (k : ℕ) (member : Member O) : Type 0 where
+  pub record IsNext (h : List (Member O)) (k : ℕ) (member : Member O) : Type 0 where
     pub below : k < length h
     pub there : slice_get h k ≡ Some member
     pub more : take (suc k) h ≡ take k h ++ member ∷ []
 
-  next_of : (h : List (Member O)) (k : ℕ) (member : Member O) (rest : List (Member O)) → member ∷ rest ≡ drop k h → IsNext h k member
-  next_of [] zero member rest is = cc
-  next_of (x ∷ h) zero member rest is = let same : member ≡ x = cc in record { below = omega arith; there = ap (λ (t : Member O). Some t) (sym same); more = ap (λ (t : Member O). t ∷ []) (sym same) }
-  next_of [] (suc k) member rest is = cc
-  next_of (x ∷ h) (suc k) member rest is =
-      let it = next_of h k member rest is in
-      record { below = omega (arith, it.below); there = it.there; more = ap (λ (l : List (Member O)). x ∷ l) it.more }
+  pub next_at : (h : List (Member O)) (k : ℕ) (member : Member O) → slice_get h k ≡ Some member → IsNext h k member
+  next_at [] k member is = cc
+  next_at (x ∷ h) zero member is = let same : x ≡ member = cc in record { below = omega arith; there = is; more = ap (λ (t : Member O). t ∷ []) same }
+  next_at (x ∷ h) (suc k) member is = let it = next_at h k member is in record { below = omega (arith, it.below); there = it.there; more = ap (λ (l : List (Member O)). x ∷ l) it.more }
+
+  -- it is the first of those from there on
+  pub first_there : (h : List (Member O)) (k : ℕ) (member : Member O) (rest : List (Member O)) → member ∷ rest ≡ drop k h → (slice_get h k ≡ Some member) × (rest ≡ drop (suc k) h)
+  first_there [] zero member rest is = cc
+  first_there (x ∷ h) zero member rest is = let same : x ≡ member = cc in (ap (λ (t : Member O). Some t) same, cc)
+  first_there [] (suc k) member rest is = cc
+  first_there (x ∷ h) (suc k) member rest is = first_there h k member rest is
 
   -- the rest of a list begins with them
   rest_is : (h : List (Member O)) (j n : ℕ) (member : Member O) (rest : List (Member O)) → member ∷ rest ≡ take (suc n) (drop j h) → (member ∷ drop (suc j) h ≡ drop j h) × (rest ≡ take n (drop (suc j) h))
@@ -118,7 +130,7 @@ module _ {O : Type 0} (m : Meaning O) (h : List (Member O)) where
           | inl next ↦
               let at : j ≡ k + 1 = omega (arith, next, high) in
               let before : j - 1 ≡ k = omega (arith, at) in
-              let here = next_of h k member (drop (suc (j - 1)) h) (split.0 ∙ ap (λ (i : ℕ). drop i h) before) in
+              let here = next_at h k member (first_there h k member (drop (suc (j - 1)) h) (split.0 ∙ ap (λ (i : ℕ). drop i h) before)).0 in
               let one : suc k ≡ k + 1 = omega arith in
               let judged : judge_behind m (take k h) r ≡ Taken member = is ∙ ap (λ (i : ℕ). judge_member m (λ x. value_at m (take k h) (length (take k h)) x) (length (take k h) + 1) i member) at ∙ taken_next k member here in
               let total : max (k + 1) (j + n) ≡ max k (j - 1 + suc n) = omega (arith, at, low) in
@@ -152,3 +164,64 @@ module _ {O : Type 0} (m : Meaning O) (h : List (Member O)) where
         let total : (later : ℕ) → max later (j + 1 - 1 + n) ≡ max later (j + n) = λ later. omega arith in
         one_in_front k j (Identity x value) (Logged_identity number x value) records so within low high members (λ later few old.
         subst (λ (t : ℕ). LeadTo later t records) (total later) (all_lead narrow from later (j + 1) records are.2 few (omega arith) (omega (arith, old)) behind))
+
+    -- ---- some of its records, in any order
+
+    late_gap : (k number : ℕ) (member : Member O) → k ≤ length h → k + 1 < number → judge_member m (λ x. value_at m (take k h) (length (take k h)) x) (length (take k h) + 1) number member ≡ Gap (k + 1) number
+    late_gap k number member within late =
+        let count : length (take k h) ≡ k = omega (arith, length-take k h, within) in
+        let end = length (take k h) + 1 in
+        cond-false (nat_lt number end) Passed _ (le-ltb number end (omega (arith, count, late))) ∙ cond-true (nat_lt end number) (Gap end number) _ (lt-ltb end number (omega (arith, count, late))) ∙ ap (λ (n : ℕ). Gap (n + 1) number) count
+
+    -- what one of them is behind the first k members: it is there already, it is the next, or it leaves a gap
+    pub data IsJudgedOf (k : ℕ) (r : Record O) : Type 0 where
+      Behind : judge_behind m (take k h) r ≡ Passed → IsJudgedOf k r
+      Due : (member : Member O) → k < length h → judge_behind m (take k h) r ≡ Taken member → take k h ++ member ∷ [] ≡ take (k + 1) h → IsJudgedOf k r
+      Ahead : (got : ℕ) → judge_behind m (take k h) r ≡ Gap (k + 1) got → IsJudgedOf k r
+
+    member_judged : (k number : ℕ) (member : Member O) (r : Record O) → judge_behind m (take k h) r ≡ judge_member m (λ x. value_at m (take k h) (length (take k h)) x) (length (take k h) + 1) number member → k ≤ length h → numbered h number ≡ Some member → IsJudgedOf k r
+    member_judged k zero member r is within there = cc
+    member_judged k (suc i) member r is within there = elim (cases_lt i k) [
+      | inl old ↦ IsJudgedOf.Behind (is ∙ passed_before k (suc i) member (omega (arith, old)) within)
+      | inr high ↦ elim (cases_lt k i) [
+        | inl late ↦ IsJudgedOf.Ahead (suc i) (is ∙ late_gap k (suc i) member within (omega (arith, late)))
+        | inr low ↦
+            let at : k ≡ i = omega (arith, high, low) in
+            let next : suc i ≡ k + 1 = omega (arith, at) in
+            let one : suc k ≡ k + 1 = omega arith in
+            let here = next_at h k member (ap (λ (n : ℕ). slice_get h n) at ∙ there) in
+            IsJudgedOf.Due member here.below (is ∙ ap (λ (n : ℕ). judge_member m (λ x. value_at m (take k h) (length (take k h)) x) (length (take k h) + 1) n member) next ∙ taken_next k member here)
+            (sym here.more ∙ ap (λ (n : ℕ). take n h) one)
+      ]
+    ]
+
+    pub record_judged : (k : ℕ) → k ≤ length h → (r : Record O) → IsRecordOf h r → IsJudgedOf k r
+    record_judged k within (Logged_command number op) is = member_judged k number (Command op) (Logged_command number op) refl within is
+    record_judged k within (Logged_identity number x value) is = member_judged k number (Identity x value) (Logged_identity number x value) refl within is
+    record_judged k within (Logged_check table) is = IsJudgedOf.Behind refl
+
+    -- so they lead to first members of it
+    pub record LeadWithin (k : ℕ) (records : List (Record O)) : Type 0 where
+      pub end : ℕ
+      pub within : end ≤ length h
+      pub followed : follows m (take k h) records ≡ take end h
+
+    goes_on : (k later : ℕ) (r : Record O) (records : List (Record O)) (j : Judged O) → judge_behind m (take k h) r ≡ j → is_refused j ≡ false → with_judged (take k h) j ≡ take later h → LeadWithin later records → LeadWithin k (r ∷ records)
+    goes_on k later r records j is fine leads it = record {
+      end = it.end;
+      within = it.within;
+      followed = follows_first m (take k h) r records (ap is_refused is ∙ fine) ∙ ap (λ (t : Judged O). follows m (with_judged (take k h) t) records) is ∙ ap (λ (l : List (Member O)). follows m l records) leads ∙ it.followed;
+    }
+
+    one_within : (k : ℕ) (r : Record O) (records : List (Record O)) → k ≤ length h → ((later : ℕ) → later ≤ length h → LeadWithin later records) → IsJudgedOf k r → LeadWithin k (r ∷ records)
+    one_within k r records within rest (IsJudgedOf.Behind is) = goes_on k k r records Passed is refl refl (rest k within)
+    one_within k r records within rest (IsJudgedOf.Due member below is more) = goes_on k (k + 1) r records (Taken member) is refl more (rest (k + 1) (omega (arith, below)))
+    one_within k r records within rest (IsJudgedOf.Ahead got is) = record {
+      end = k;
+      within = within;
+      followed = cond-true (is_refused (judge_behind m (take k h) r)) (take k h) (follows m (with_judged (take k h) (judge_behind m (take k h) r)) records) (ap is_refused is);
+    }
+
+    pub lead_within : (k : ℕ) → k ≤ length h → (records : List (Record O)) → AllByRecursion (IsRecordOf h) records → LeadWithin k records
+    lead_within k within [] all = record { end = k; within = within; followed = refl }
+    lead_within k within (r ∷ records) all = one_within k r records within (λ later few. lead_within later few records all.1) (record_judged k within r all.0)

@@ -23,6 +23,7 @@ use Rattle.standby_node.specs.Feeding.{BeginsNoRecord, ComeNext, HasRefused, IsJ
 use Rattle.standby_node.specs.Standby.{AreFramesOf, HasBegun, IsFollowing, IsFrameOf, MayBeShipped, StandbyView}
 use Rattle.standby_node.specs.declared.follow_err.FollowErr.{FollowErr}
 use Rattle.standby_node.specs.declared.follow_err.FollowErr.TheVariants.{BadFrame, Gap, Differs, LogFull, DiskFault, Damaged, Memory, Stopped}
+use Rattle.standby_node.proofs.AllOf.{all_behind}
 use Rattle.standby_node.proofs.InHand.{no_code, payload_is}
 use Rattle.standby_node.proofs.Judging.{refused_append, refused_front}
 use Rattle.standby_node.proofs.OneWay.{one_grouping}
@@ -30,22 +31,18 @@ use Rattle.standby_node.proofs.OneWay.{one_grouping}
 -- ---- frames, and first ones of them
 
 -- the frames behind the first ones, and what was kept of them
-record IsBehind (ps qs : List (List ℕ)) (x y : List ℕ) : Type 0 where
+pub record IsBehind (ps qs : List (List ℕ)) (x y : List ℕ) : Type 0 where
   pub more : List (List ℕ)
   pub are : ps ≡ qs ++ more
   pub kept : y ≡ frames more ++ x
 
-behind : (ps qs : List (List ℕ)) (x y : List ℕ) → AllByRecursion IsPayload ps → AllByRecursion IsPayload qs → IsUnfinished x → frames ps ++ x ≡ frames qs ++ y → IsBehind ps qs x y
+pub behind : (ps qs : List (List ℕ)) (x y : List ℕ) → AllByRecursion IsPayload ps → AllByRecursion IsPayload qs → IsUnfinished x → frames ps ++ x ≡ frames qs ++ y → IsBehind ps qs x y
 behind ps [] x y all_p all_q none same = record { more = ps; are = refl; kept = sym same }
 behind [] (q ∷ qs) x y all_p all_q none same = absurd (none q (frames qs ++ y) all_q.0 (same ∙ append_assoc (frame q) (frames qs) y))
 behind (p ∷ ps) (q ∷ qs) x y all_p all_q none same =
     let first = frame_cancel p q (frames ps ++ x) (frames qs ++ y) all_p.0 all_q.0 (sym (append_assoc (frame p) (frames ps) x) ∙ same ∙ append_assoc (frame q) (frames qs) y) in
     let rest = behind ps qs x y all_p.1 all_q.1 none first.1 in
     record { more = rest.more; are = λ i. first.0 i ∷ rest.are i; kept = rest.kept }
-
-all_behind : (ps qs : List (List ℕ)) → AllByRecursion IsPayload (ps ++ qs) → AllByRecursion IsPayload qs
-all_behind [] qs all = all
-all_behind (p ∷ ps) qs all = all_behind ps qs all.1
 
 -- frames have no bad length in front
 pub right_length : (p rest kept : List ℕ) → IsPayload p → kept ≡ frame p ++ rest → HasBadLength kept → ⊥
@@ -54,8 +51,23 @@ right_length p rest kept is stands bad =
     bad.1 (subst IsFrameLength (sym long) (is.some, is.short))
 
 module _ {O : Type 0} (m : Meaning O) (one_record : (bytes : List ℕ) (first second : Record O) → StartsWithRecord m bytes first → StartsWithRecord m bytes second → first ≡ second) where
-  -- the groups of the first payloads, that of the next one, and those behind it
-  record HasGroup (qs : List (List ℕ)) (p : List ℕ) (gs : List (List (Record O))) : Type 0 where
+  -- the groups of the first payloads, and those behind them
+  pub record HasFront (qs ps : List (List ℕ)) (gs : List (List (Record O))) : Type 0 where
+    pub front : List (List (Record O))
+    pub later : List (List (Record O))
+    pub are : gs ≡ front ++ later
+    pub of_front : AreFramesOf m qs front
+    pub of_later : AreFramesOf m ps later
+
+  pub front_of : (qs ps : List (List ℕ)) (gs : List (List (Record O))) → AreFramesOf m (qs ++ ps) gs → HasFront qs ps gs
+  front_of [] ps gs are = record { front = []; later = gs; are = refl; of_front = tt; of_later = are }
+  front_of (q ∷ qs) ps [] are = absurd are
+  front_of (q ∷ qs) ps (g ∷ gs) are =
+      let rest = front_of qs ps gs are.1 in
+      record { front = g ∷ rest.front; later = rest.later; are = ap (λ (l : List (List (Record O))). g ∷ l) rest.are; of_front = (are.0, rest.of_front); of_later = rest.of_later }
+
+  -- that of the next one
+  pub record HasGroup (qs : List (List ℕ)) (p : List ℕ) (gs : List (List (Record O))) : Type 0 where
     pub front : List (List (Record O))
     pub group : List (Record O)
     pub later : List (List (Record O))
@@ -64,14 +76,34 @@ module _ {O : Type 0} (m : Meaning O) (one_record : (bytes : List ℕ) (first se
     pub of_group : IsFrameOf m p group
 
   group_of : (qs : List (List ℕ)) (p : List ℕ) (ps : List (List ℕ)) (gs : List (List (Record O))) → AreFramesOf m (qs ++ p ∷ ps) gs → HasGroup qs p gs
-  group_of [] p ps [] are = absurd are
-  group_of [] p ps (g ∷ gs) are = record { front = []; group = g; later = gs; are = refl; of_front = tt; of_group = are.0 }
-  group_of (q ∷ qs) p ps [] are = absurd are
-  group_of (q ∷ qs) p ps (g ∷ gs) are =
-      let rest = group_of qs p ps gs are.1 in
-      record { front = g ∷ rest.front; group = rest.group; later = rest.later; are = ap (λ (l : List (List (Record O))). g ∷ l) rest.are; of_front = (are.0, rest.of_front); of_group = rest.of_group }
+  group_of qs p ps gs are = let it = front_of qs (p ∷ ps) gs are in by_later it.front it.later it.are it.of_front it.of_later
+    where
+      by_later : (front later : List (List (Record O))) → gs ≡ front ++ later → AreFramesOf m qs front → AreFramesOf m (p ∷ ps) later → HasGroup qs p gs
+      by_later front [] is of_front of_later = absurd of_later
+      by_later front (g ∷ later) is of_front of_later = record { front = front; group = g; later = later; are = is; of_front = of_front; of_group = of_later.0 }
 
-  -- the record of a group behind its first ones, where bytes are left
+  -- the records of a group behind its first ones, of which these bytes are left
+  pub record IsLeft (begun group : List (Record O)) (rest : List ℕ) : Type 0 where
+    pub later : List (Record O)
+    pub are : group ≡ begun ++ later
+    pub shipped : AllByRecursion (MayBeShipped m) later
+    pub codes : payload_of m later ≡ rest
+
+  pub left_in : (begun group : List (Record O)) (rest : List ℕ) → AllByRecursion (MayBeShipped m) begun → AllByRecursion (MayBeShipped m) group → payload_of m group ≡ payload_of m begun ++ rest → IsLeft begun group rest
+  left_in [] group rest all_b all_g same = record { later = group; are = refl; shipped = all_g; codes = same }
+  left_in (b ∷ begun) [] rest all_b all_g same = absurd (no_code m b begun (no_front (payload_of m (b ∷ begun)) rest (sym same)))
+    where
+      no_front : (xs ys : List ℕ) → xs ++ ys ≡ [] → xs ≡ []
+      no_front [] ys is = refl
+      no_front (x ∷ xs) ys is = cc
+  left_in (b ∷ begun) (r ∷ group) rest all_b all_g same =
+      let split = same ∙ append_assoc (record_code m b) (payload_of m begun) rest in
+      let head = one_record (payload_of m (r ∷ group)) r b (record { rest = payload_of m group; split = refl; in_grammar = all_g.0.0 }) (record { rest = payload_of m begun ++ rest; split = split; in_grammar = all_b.0.0 }) in
+      let tail = append_cancel_left (record_code m r) (payload_of m group) (payload_of m begun ++ rest) (split ∙ ap (λ (t : Record O). record_code m t ++ (payload_of m begun ++ rest)) (sym head)) in
+      let it = left_in begun group rest all_b.1 all_g.1 tail in
+      record { later = it.later; are = λ i. head i ∷ it.are i; shipped = it.shipped; codes = it.codes }
+
+  -- the next one, where there are some
   record HasNext (begun group : List (Record O)) (rest : List ℕ) : Type 0 where
     pub next : Record O
     pub later : List (Record O)
@@ -79,20 +111,12 @@ module _ {O : Type 0} (m : Meaning O) (one_record : (bytes : List ℕ) (first se
     pub shipped : MayBeShipped m next
     pub starts : StartsWithRecord m rest next
 
-  next_of : (begun group : List (Record O)) (rest : List ℕ) → AllByRecursion (MayBeShipped m) begun → AllByRecursion (MayBeShipped m) group → payload_of m group ≡ payload_of m begun ++ rest → 0 < length rest → HasNext begun group rest
-  next_of [] [] rest all_b all_g same some = absurd (omega (arith, some, ap (λ (l : List ℕ). length l) same))
-  next_of [] (r ∷ group) rest all_b all_g same some = record { next = r; later = group; are = refl; shipped = all_g.0; starts = record { rest = payload_of m group; split = sym same; in_grammar = all_g.0.0 } }
-  next_of (b ∷ begun) [] rest all_b all_g same some = absurd (no_code m b begun (no_front (payload_of m (b ∷ begun)) rest (sym same)))
+  next_of : (begun group : List (Record O)) (rest : List ℕ) → 0 < length rest → IsLeft begun group rest → HasNext begun group rest
+  next_of begun group rest some it = by_later it.later it.are it.shipped it.codes
     where
-      no_front : (xs ys : List ℕ) → xs ++ ys ≡ [] → xs ≡ []
-      no_front [] ys is = refl
-      no_front (x ∷ xs) ys is = cc
-  next_of (b ∷ begun) (r ∷ group) rest all_b all_g same some =
-      let split = same ∙ append_assoc (record_code m b) (payload_of m begun) rest in
-      let head = one_record (payload_of m (r ∷ group)) r b (record { rest = payload_of m group; split = refl; in_grammar = all_g.0.0 }) (record { rest = payload_of m begun ++ rest; split = split; in_grammar = all_b.0.0 }) in
-      let tail = append_cancel_left (record_code m r) (payload_of m group) (payload_of m begun ++ rest) (split ∙ ap (λ (t : Record O). record_code m t ++ (payload_of m begun ++ rest)) (sym head)) in
-      let it = next_of begun group rest all_b.1 all_g.1 tail some in
-      record { next = it.next; later = it.later; are = λ i. head i ∷ it.are i; shipped = it.shipped; starts = it.starts }
+      by_later : (later : List (Record O)) → group ≡ begun ++ later → AllByRecursion (MayBeShipped m) later → payload_of m later ≡ rest → HasNext begun group rest
+      by_later [] are shipped codes = absurd (omega (arith, some, ap (λ (l : List ℕ). length l) codes))
+      by_later (r ∷ later) are shipped codes = record { next = r; later = later; are = are; shipped = shipped.0; starts = record { rest = payload_of m later; split = sym codes; in_grammar = shipped.0.0 } }
 
   -- a record that is refused is not among records of which none is
   not_refused : (first : List (Member O)) (before : List (Record O)) (r : Record O) (later : List (Record O)) (j : Judged O) → first_refused m first (before ++ r ∷ later) ≡ None → judge_behind m (follows m first before) r ≡ j → is_refused j ≡ true → ⊥
@@ -107,12 +131,12 @@ module _ {O : Type 0} (m : Meaning O) (one_record : (bytes : List ℕ) (first se
       none_is_some j same = cc
 
 -- records of groups, told apart at one of them
-joined : {O : Type 0} (front : List (List (Record O))) (group : List (Record O)) (later : List (List (Record O))) → records_of (front ++ group ∷ later) ≡ records_of front ++ (group ++ records_of later)
+pub joined : {O : Type 0} (front : List (List (Record O))) (group : List (Record O)) (later : List (List (Record O))) → records_of (front ++ group ∷ later) ≡ records_of front ++ (group ++ records_of later)
 joined [] group later = refl
 joined {O} (g ∷ front) group later = ap (λ (l : List (Record O)). g ++ l) (joined front group later) ∙ sym (append_assoc g (records_of front) (group ++ records_of later))
 
-regroup : {O : Type 0} (xs begun : List (Record O)) (r : Record O) (later last : List (Record O)) → xs ++ ((begun ++ r ∷ later) ++ last) ≡ (xs ++ begun) ++ r ∷ (later ++ last)
-regroup {O} xs begun r later last = ap (λ (l : List (Record O)). xs ++ l) (append_assoc begun (r ∷ later) last) ∙ sym (append_assoc xs begun (r ∷ (later ++ last)))
+pub regroup : {O : Type 0} (xs begun later last : List (Record O)) → xs ++ ((begun ++ later) ++ last) ≡ (xs ++ begun) ++ (later ++ last)
+regroup {O} xs begun later last = ap (λ (l : List (Record O)). xs ++ l) (append_assoc begun later last) ∙ sym (append_assoc xs begun (later ++ last))
 
 -- the payload in hand is the codes of the records that were followed, and the bytes that come next
 pub payload_left : {O : Type 0} (m : Meaning O) (s : StandbyView) (begun : List (Record O)) (has : HasBegun m s.frames.kept s.done begun) (left : List ℕ) (come : ComeNext s left) → come.payload ≡ payload_of m begun ++ left
@@ -186,40 +210,62 @@ module _ {O : Type 0} (m : Meaning O) (one_record : (bytes : List ℕ) (first se
       let judged : judge_behind m (follows m first before) it.next ≡ judge_behind m h is.logged = λ i. judge_behind m (sym members i) (sym same i) in
       not_refused m one_record first before it.next it.later (judge_behind m h is.logged) it.fine_with judged is.refused) refused
 
--- A standby has passed the first of these frames, of whose records none is refused, and not the next one.
+-- of all records one begins the bytes that are left behind the first ones
+pub record ComesNext {O : Type 0} (m : Meaning O) (all before : List (Record O)) (left : List ℕ) : Type 0 where
+  pub next : Record O
+  pub later : List (Record O)
+  pub are : all ≡ before ++ next ∷ later
+  pub shipped : MayBeShipped m next
+  pub starts : StartsWithRecord m left next
+
+-- A standby has passed the first of these frames, and not the next one.
 module _ {O : Type 0} (meaning : Bounds → Meaning O) (p : Params) (first : List (Member O)) (payloads : List (List ℕ)) (groups : List (List (Record O))) (rest : List ℕ) (whole : AllByRecursion IsPayload payloads)
-    (frames_are : AreFramesOf (meaning_in meaning p) payloads groups) (fine : first_refused (meaning_in meaning p) first (records_of groups) ≡ None) (bytes more : List ℕ) (d : Disk) (s : StandbyView) (b : IsFollowing meaning p first bytes d s)
+    (frames_are : AreFramesOf (meaning_in meaning p) payloads groups) (bytes more : List ℕ) (d : Disk) (s : StandbyView) (b : IsFollowing meaning p first bytes d s)
     (one_record : (bytes : List ℕ) (first second : Record O) → StartsWithRecord (meaning_in meaning p) bytes first → StartsWithRecord (meaning_in meaning p) bytes second → first ≡ second)
     (q : List ℕ) (others : List (List ℕ)) (are : payloads ≡ b.payloads ++ q ∷ others) (kept : s.frames.kept ++ more ≡ frames (q ∷ others) ++ rest) where
   abbrev m : Meaning O
   m = meaning_in meaning p
 
   all : AllByRecursion IsPayload (q ∷ others)
-  all = all_behind b.payloads (q ∷ others) (subst (λ (l : List (List ℕ)). AllByRecursion IsPayload l) are whole)
+  all = all_behind IsPayload b.payloads (q ∷ others) (subst (λ (l : List (List ℕ)). AllByRecursion IsPayload l) are whole)
 
   behind_q : frames (q ∷ others) ++ rest ≡ frame q ++ (frames others ++ rest)
   behind_q = append_assoc (frame q) (frames others) rest
 
-  -- the next record of the frame in hand is one of these
-  followed_in : (left : List ℕ) → ComeNext s left → IsFollowedNext m one_record first (records_of b.groups ++ b.begun) left
-  followed_in left come =
-      let stands : s.frames.kept ++ more ≡ frame come.payload ++ (come.later ++ more) = ap (λ (l : List ℕ). l ++ more) come.stands ∙ append_assoc (frame come.payload) come.later more in
-      let same : q ≡ come.payload = (frame_cancel q come.payload (frames others ++ rest) (come.later ++ more) all.0 come.is_payload (sym behind_q ∙ sym kept ∙ stands)).0 in
-      let of = group_of m one_record b.payloads q others groups (subst (λ (l : List (List ℕ)). AreFramesOf m l groups) are frames_are) in
-      let fronts : of.front ≡ b.groups = one_grouping m one_record b.payloads of.front b.groups of.of_front b.frames_are in
-      let codes : payload_of m of.group ≡ payload_of m b.begun ++ left = sym of.of_group.is ∙ same ∙ payload_left m s b.begun b.in_hand left come in
-      let some : 0 < length left = omega (arith, come.left, ap (λ (l : List ℕ). length l) come.rest_is, length-drop s.done come.payload) in
-      let it = next_of m one_record b.begun of.group left b.in_hand.shipped of.of_group.shipped codes some in
-      let records : records_of groups ≡ (records_of b.groups ++ b.begun) ++ it.next ∷ (it.later ++ records_of of.later) =
-      ap (λ (gs : List (List (Record O))). records_of gs) of.are ∙ joined of.front of.group of.later ∙ (λ i. records_of (fronts i) ++ (it.are i ++ records_of of.later)) ∙ regroup (records_of b.groups) b.begun it.next it.later (records_of of.later) in
-      record { next = it.next; later = it.later ++ records_of of.later; shipped = it.shipped; starts = it.starts; fine_with = ap (λ (rs : List (Record O)). first_refused m first rs) (sym records) ∙ fine }
+  -- what is kept has no bad length
+  pub right_here : HasBadLength s.frames.kept → ⊥
+  right_here bad = right_length q (frames others ++ rest) (s.frames.kept ++ more) all.0 (kept ∙ behind_q) (bad_more s.frames.kept more bad)
 
-  -- so it has no reason to refuse the stream
-  pub none_here : (e : FollowErr) → HasReason m b.world.history s e → ⊥
-  none_here e why =
-      ⊎_elim (λ (bad : HasBadLength s.frames.kept × (e ≡ BadFrame s.frames.passed)). right_length q (frames others ++ rest) (s.frames.kept ++ more) all.0 (kept ∙ behind_q) (bad_more s.frames.kept more bad.0))
+  -- a payload that the kept bytes begin with is the next one
+  pub same_payload : (payload later : List ℕ) → IsPayload payload → s.frames.kept ≡ frame payload ++ later → q ≡ payload
+  same_payload payload later is stands =
+      (frame_cancel q payload (frames others ++ rest) (later ++ more) all.0 is (sym behind_q ∙ sym kept ∙ ap (λ (l : List ℕ). l ++ more) stands ∙ append_assoc (frame payload) later more)).0
+
+  pub next_group : HasGroup m one_record b.payloads q groups
+  next_group = group_of m one_record b.payloads q others groups (subst (λ (l : List (List ℕ)). AreFramesOf m l groups) are frames_are)
+
+  pub same_front : next_group.front ≡ b.groups
+  same_front = one_grouping m one_record b.payloads next_group.front b.groups next_group.of_front b.frames_are
+
+  -- one of these records comes next
+  pub next_in : (left : List ℕ) → ComeNext s left → ComesNext m (records_of groups) (records_of b.groups ++ b.begun) left
+  next_in left come =
+      let at = next_group in
+      let codes : payload_of m at.group ≡ payload_of m b.begun ++ left = sym at.of_group.is ∙ same_payload come.payload come.later come.is_payload come.stands ∙ payload_left m s b.begun b.in_hand left come in
+      let some : 0 < length left = omega (arith, come.left, ap (λ (l : List ℕ). length l) come.rest_is, length-drop s.done come.payload) in
+      let it = next_of m one_record b.begun at.group left some (left_in m one_record b.begun at.group left b.in_hand.shipped at.of_group.shipped codes) in
+      let records : records_of groups ≡ (records_of b.groups ++ b.begun) ++ it.next ∷ (it.later ++ records_of at.later) =
+      ap (λ (gs : List (List (Record O))). records_of gs) at.are ∙ joined at.front at.group at.later ∙ (λ i. records_of (same_front i) ++ (it.are i ++ records_of at.later)) ∙ regroup (records_of b.groups) b.begun (it.next ∷ it.later) (records_of at.later) in
+      record { next = it.next; later = it.later ++ records_of at.later; are = records; shipped = it.shipped; starts = it.starts }
+
+  -- where none of them is refused it has no reason to refuse the stream
+  pub none_here : first_refused m first (records_of groups) ≡ None → (e : FollowErr) → HasReason m b.world.history s e → ⊥
+  none_here fine e why =
+      ⊎_elim (λ (bad : HasBadLength s.frames.kept × (e ≡ BadFrame s.frames.passed)). right_here bad.0)
       (λ (at : (left : List ℕ) × ComeNext s left × IsRefusedAt m b.world.history s left e).
-      next_fine m one_record first (records_of b.groups ++ b.begun) s b.world.history b.members at.0 (followed_in at.0 at.1) e at.2) why
+      let it = next_in at.0 at.1 in
+      next_fine m one_record first (records_of b.groups ++ b.begun) s b.world.history b.members at.0
+      (record { next = it.next; later = it.later; shipped = it.shipped; starts = it.starts; fine_with = ap (λ (rs : List (Record O)). first_refused m first rs) (sym it.are) ∙ fine }) e at.2) why
 
 module _ {O : Type 0} (meaning : Bounds → Meaning O) (p : Params) (first : List (Member O)) (bytes more : List ℕ) (payloads : List (List ℕ)) (groups : List (List (Record O))) (rest : List ℕ) (splits : Splits (bytes ++ more) payloads rest) (right : HasBadLength rest → ⊥)
     (frames_are : AreFramesOf (meaning_in meaning p) payloads groups) (fine : first_refused (meaning_in meaning p) first (records_of groups) ≡ None) (then : Disk) (other : StandbyView) (b : IsFollowing meaning p first bytes then other)
@@ -243,7 +289,7 @@ module _ {O : Type 0} (meaning : Bounds → Meaning O) (p : Params) (first : Lis
           let come = at.1 in
           let stands : all_kept ≡ frame come.payload ++ (come.later ++ more) = ap (λ (l : List ℕ). l ++ more) come.stands ∙ append_assoc (frame come.payload) come.later more in
           splits.unfinished come.payload (come.later ++ more) come.is_payload (sym kept ∙ stands)) why
-      by_more (q ∷ others) are kept = none_here meaning p first payloads groups rest splits.whole frames_are fine bytes more then other b one_record q others are kept e why
+      by_more (q ∷ others) are kept = none_here meaning p first payloads groups rest splits.whole frames_are bytes more then other b one_record q others are kept fine e why
 
   -- no answer of a stream is one that it gets
   pub not_answered : (e : FollowErr) → HasRefused (meaning_in meaning p) b.world.history other e → IsOfStream e → ⊥

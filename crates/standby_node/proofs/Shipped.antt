@@ -68,7 +68,7 @@ module _ {O : Type 0} where
   numbered_append from (Logged_check table ∷ xs) ys = numbered_append from xs ys
 
   -- the records of the blocks that are shipped are those from the number on
-  blocks_joined : (from : ℕ) (groups : List (List (Record O))) → records_of (blocks_from from groups) ≡ numbered_from from (records_of groups)
+  pub blocks_joined : (from : ℕ) (groups : List (List (Record O))) → records_of (blocks_from from groups) ≡ numbered_from from (records_of groups)
   blocks_joined from [] = refl
   blocks_joined from (g ∷ groups) =
       let here = numbered_from from g in

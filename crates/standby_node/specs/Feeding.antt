@@ -1,5 +1,6 @@
 -- What a piece of a stream makes of a standby.
 use Rattle.std.specs.Prelude.{◌≡◌, ◌⊎◌, ◌↔◌, ◌<◌, ◌≤◌, ◌+◌, ⊤, ℕ, Bool, true, false, ◌&&◌, ◌||◌, nat_lt, List, ◌++◌, drop, length, Option, None, Some, Result, Ok, Err, IsErrOf, OnOk}
+use Rattle.std.specs.List.{AllByRecursion}
 use Rattle.disk_model.specs.Disk.{Disk, Files, LeavesOnly, Passes, Rises}
 use Rattle.disk_model.specs.declared.machine.FileNo.{FileNo}
 use Rattle.oper_core.specs.Meaning.{Meaning}
@@ -164,6 +165,7 @@ module _ {O : Type 0} (meaning : Bounds → Meaning O) where
     pub groups : List (List (Record O))
     pub rest : List ℕ
     pub split : bytes ≡ frames payloads ++ rest
+    pub whole : AllByRecursion IsPayload payloads
     pub frames_are : AreFramesOf (meaning_in meaning p) payloads groups
     pub fine : first_refused (meaning_in meaning p) first (records_of groups) ≡ None
     pub enough : least ≤ length (commands_of (follows (meaning_in meaning p) first (records_of groups)))

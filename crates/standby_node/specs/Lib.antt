@@ -4,3 +4,4 @@ pub mod Feeding
 pub mod Attaching
 pub mod Upkeep
 pub mod Steps
+pub mod OnePrimary

@@ -1,17 +1,25 @@
 ghost use Rattle.std.specs.Prelude.{◌≡◌, ◌≤◌, ◌+◌, ◌-◌, ◌++◌, ℕ, List, None, max, length, take, drop};
+ghost use Rattle.disk_model.specs.Disk.{Files};
+ghost use Rattle.disk_model.specs.declared.machine.FileNo.{FileNo};
 ghost use Rattle.oper_core.specs.Meaning.{AreWithin, IsSmall};
 ghost use Rattle.oper_core.specs.declared.bounds.Bounds.{Bounds};
-ghost use Rattle.formats.specs.Records.{AreRecords, records_of};
-ghost use Rattle.frame_stream.specs.Frames.{HasBadLength, Splits};
+ghost use Rattle.formats.specs.Log.{Header};
+ghost use Rattle.formats.specs.Records.{AreRecords, HoldsRecordLog, records_of};
+ghost use Rattle.frame_stream.specs.Frames.{HasBadLength, Splits, frames};
 ghost use Rattle.log_records.specs.BlockReader.{blocks_from, payloads_from};
 ghost use Rattle.formats.specs.declared.params.Params.{Params};
 ghost use Rattle.formats.specs.declared.record.Record.{Record};
-ghost use Rattle.explain_core.specs.History.{IsHistory, Member};
+ghost use Rattle.explain_core.specs.History.{IsHistory, Member, commands_of};
+ghost use Rattle.explain_core.specs.World.{Step, World, run};
 ghost use Rattle.execution.specs.Judged.{first_refused, follows};
 ghost use Rattle.standing.specs.Members.{members_of};
-ghost use Rattle.store_engine.specs.Engine.{Holds, Says};
-ghost use Rattle.store_engine.specs.Store.{meaning_in};
-ghost use Rattle.standby_node.specs.Feeding.{HasRefusedIn, IsOfStream};
+ghost use Rattle.standing.specs.Standing.{FilesShow};
+ghost use Rattle.restart.specs.Courses.{restart_course};
+ghost use Rattle.store_engine.specs.Engine.{EngineView, Holds, Says, ShowsIn};
+ghost use Rattle.store_engine.specs.Shipping.{AreFramesFrom, base_of};
+ghost use Rattle.store_engine.specs.Store.{Stands, meaning_in};
+ghost use Rattle.standby_node.specs.Feeding.{HasRefusedIn, IsAtFrameEnd, IsOfStream};
+ghost use Rattle.standby_node.specs.OnePrimary.{IsFedBy, IsFront, IsGap, IsShipped, ShipsOnTo, stable_in};
 ghost use Rattle.standby_node.specs.declared.follow_err.FollowErr.{FollowErr as FollowFailure};
 ghost use Rattle.standby_node.specs.Standby.{AreFramesOf, IsBetweenPieces, IsFollowing, StandbyView};
 
@@ -87,3 +95,54 @@ pub fn what_is_shipped_is_followed<O: Oper>()
     ensures members { (b : Bounds) (base from : ℕ) (groups : List (List (Record O))) → base ≤ from → AreRecords (O.meaning b) base base (records_of groups)
         → members_of (records_of (blocks_from from groups)) ≡ drop (from - base) (members_of (records_of groups)) }
 {}
+
+/// What is stable of a store stays a front of what is stable of it, whatever steps it takes, trims and crashes among them; and a
+/// restart makes just that its history. So files that show what was stable of a primary at some time, as a backup does, all of it
+/// stable there, begin a standby with a front of it.
+pub fn what_is_stable_stays<O: Oper>()
+    ensures steps { (b : Bounds) (w : World O) (steps : List (Step O)) → w.forced ≤ length w.history → IsFront (stable_in w) (stable_in (run (O.meaning b) w steps)) }
+    ensures restart { (b : Bounds) (w : World O) (dirty used : ℕ) → w.forced ≤ length w.history → (run (O.meaning b) w (restart_course (O.meaning b) dirty w used).steps).history ≡ stable_in w }
+    ensures begins { (b c : Bounds) (w v : World O) (steps : List (Step O)) (dirty used : ℕ) → w.forced ≤ length w.history → v.forced ≡ length v.history → v.history ≡ stable_in w
+        → IsFront (run (O.meaning c) v (restart_course (O.meaning c) dirty v used).steps).history (stable_in (run (O.meaning b) w steps)) }
+{}
+
+/// The frames of an engine's log, and those of the log in files, are what a store ships in the world that these show.
+pub fn a_log_is_shipped<O: Oper, M: Machine>()
+    ensures engine { (p : Params) (now : M) (engine : EngineView) (w : World O) (from : ℕ) (bytes : List ℕ) → ShowsIn O.meaning p (M.disk now) engine w → base_of engine ≤ from → AreFramesFrom O.meaning (M.disk now) engine from bytes
+        → IsShipped (meaning_in O.meaning p) w from bytes }
+    ensures files { (p : Params) (files : Files) (w : World O) (active : FileNo) (header : Header) (groups : List (List (Record O))) (from : ℕ) → FilesShow (meaning_in O.meaning p) p files w → HoldsRecordLog (meaning_in O.meaning p) active header groups files
+        → header.base ≤ from → IsShipped (meaning_in O.meaning p) w from (frames (payloads_from (meaning_in O.meaning p) from groups)) }
+{}
+
+/// However often a primary ships its log, from whichever numbers, and whatever it does in between, a trim too; whatever is lost of
+/// that, comes twice, or in another order: a standby that began with a front of what is stable of the primary has such a front, its
+/// files stand at each moment for commands that the primary's begin with, and it refuses nothing but a number that leaves a gap.
+pub fn one_primary_is_followed<O: Oper, M: Machine>()
+    ensures followed { (p q : Params) (w : World O) (first : List (Member O)) (bytes : List ℕ) → IsFedBy O.meaning p q w first bytes
+        → (now : M) (standby : StandbyView) → (is : IsFollowing O.meaning q first bytes (M.disk now) standby) → IsFront is.world.history (stable_in w) }
+    ensures refused { (p q : Params) (w : World O) (first : List (Member O)) (bytes : List ℕ) → IsFedBy O.meaning p q w first bytes
+        → (now : M) (standby : StandbyView) (e : FollowFailure) → HasRefusedIn O.meaning q first bytes (M.disk now) standby e → IsOfStream e → IsGap e }
+    ensures images { (p q : Params) (w : World O) (first : List (Member O)) (bytes : List ℕ) → IsFedBy O.meaning p q w first bytes
+        → (old : M) (least : ℕ) (files : Files) (said : List ℕ) → IsAtFrameEnd O.meaning q (M.disk old) least first bytes files said
+        → (commands : List O) × Stands O.meaning q files commands × IsFront commands (commands_of (stable_in w)) }
+{
+    explain_core::stable_parts_stand::<O>();
+    explain_core::wider_bounds_keep_stable_parts::<O>();
+    log_records::one_record::<O>();
+    store_engine::records_are_judged::<O>();
+}
+
+/// What a primary ships now from a number up to the standby's next one is refused nowhere, and where all of it came the standby has
+/// all that is stable of the primary. So does one that begins with a backup: [`what_is_stable_stays`] makes its history a front.
+pub fn a_standby_catches_up<O: Oper, M: Machine>()
+    ensures unrefused { (p q : Params) (w : World O) (first : List (Member O)) (bytes more : List ℕ) → ShipsOnTo O.meaning p q w first (bytes ++ more)
+        → (now : M) (standby : StandbyView) (e : FollowFailure) → HasRefusedIn O.meaning q first bytes (M.disk now) standby e → IsOfStream e → ⊥ }
+    ensures all { (p q : Params) (w : World O) (first : List (Member O)) (bytes : List ℕ) → ShipsOnTo O.meaning p q w first bytes
+        → (now : M) (standby : StandbyView) → (is : IsFollowing O.meaning q first bytes (M.disk now) standby) → IsBetweenPieces standby → is.world.history ≡ stable_in w }
+{
+    explain_core::stable_parts_stand::<O>();
+    explain_core::wider_bounds_keep_stable_parts::<O>();
+    frame_stream::frames_are_told_apart();
+    log_records::one_record::<O>();
+    store_engine::records_are_judged::<O>();
+}

@@ -6,7 +6,9 @@
 //! that. A stream is followed in one way ([`a_stream_is_followed_in_one_way`]), and refused in one
 //! ([`a_stream_is_refused_in_one_way`]); one in which the definition finds no fault is not refused
 //! ([`a_stream_without_fault_is_not_refused`]). What a store ships are frames of its records
-//! ([`what_is_shipped_is_followed`]), in which it finds none ([`a_primary_is_followed`]).
+//! ([`what_is_shipped_is_followed`]), in which it finds none ([`a_primary_is_followed`]). So a standby that begins as a front of its
+//! primary's history, new or as a backup, stays one, whatever comes of what this ships before and behind its trims
+//! ([`one_primary_is_followed`]), and comes to have all ([`a_standby_catches_up`]).
 //!
 //! Between two frames the standby may install, take a check and trim its log, and goes on. It logs no identity write of its own, so
 //! that its records keep their numbers.
@@ -22,7 +24,8 @@ mod upkeep;
 
 pub use follow_err::FollowErr;
 pub use laws::{
-    a_primary_is_followed, a_stream_is_followed_in_one_way, a_stream_is_refused_in_one_way,
-    a_stream_without_fault_is_not_refused, standby_stands, what_is_shipped_is_followed,
+    a_log_is_shipped, a_primary_is_followed, a_standby_catches_up, a_stream_is_followed_in_one_way,
+    a_stream_is_refused_in_one_way, a_stream_without_fault_is_not_refused, one_primary_is_followed,
+    standby_stands, what_is_shipped_is_followed, what_is_stable_stays,
 };
 pub use standby::Standby;

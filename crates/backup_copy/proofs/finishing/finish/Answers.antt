@@ -9,17 +9,19 @@ use Rattle.explain_core.specs.World.{World, run}
 use Rattle.running_store.specs.Courses.{force_steps}
 use Rattle.store_engine.specs.Calls.{IsForcing}
 use Rattle.store_engine.specs.Engine.{EngineView, InEachImage}
-use Rattle.store_engine.specs.Store.{Stands, meaning_in}
+use Rattle.store_engine.specs.Store.{meaning_in}
 use Rattle.backup_copy.specs.Calls.{ForcesFirst, HasLength, IsShutOrWhole, copied_by_finish}
 use Rattle.backup_copy.specs.Copies.{Copies}
 use Rattle.backup_copy.specs.Length.{backup_length}
 use Rattle.backup_copy.specs.Refusals.{judge_finish}
+use Rattle.backup_copy.specs.Target.{IsBackup}
 use Rattle.backup_copy.specs.declared.backup_err.BackupErr.{BackupErr}
 use Rattle.backup_copy.specs.declared.backup_err.BackupErr.TheVariants.{DiskFault, Damaged}
 use Rattle.backup_copy.proofs.Begun.{if_judged}
 use Rattle.backup_copy.proofs.Ends.{error_from, same_error}
 use Rattle.backup_copy.proofs.Finished.{again_so, all_done, cause_noted, counted_so, errors_same, forced_copies, forced_ok, forced_so, forced_still, length_later, shut_first}
-use Rattle.backup_copy.proofs.Forced.{forced_commands}
+use Rattle.backup_copy.proofs.Forced.{forced_stable}
+use Rattle.backup_copy.proofs.Saved.{backup_stands}
 use Rattle.backup_copy.proofs.finishing.finish.Given.{Over}
 use Rattle.backup_copy.proofs.finishing.finish.Goals.{After-note}
 use Rattle.backup_copy.proofs.finishing.finish.Goals as goal
@@ -57,12 +59,19 @@ module _ (g : Over) (c : After-note g) where
   done : (p : Params) (w : World g.row.O.Denot) (is : Copies g.O.Oper.meaning p old c.args.engine.now w t) → (copies p w is).done ≡ p.objects
   done p w is = all_done g.O.Oper.meaning p w old mid c.args.engine.now c.force.new.engine t (world p w) judged forced.call.copied is.shows (copies p w is)
 
-  commands : (p : Params) (w : World g.row.O.Denot) → Copies g.O.Oper.meaning p old c.args.engine.now w t → commands_of (take (world p w).forced (world p w).history) ≡ commands_of w.history
-  commands p w is = forced_commands (meaning_in g.O.Oper.meaning p) w is.shows.sound.forced
+  history : (p : Params) (w : World g.row.O.Denot) → Copies g.O.Oper.meaning p old c.args.engine.now w t → take (world p w).forced (world p w).history ≡ w.history
+  history p w is = forced_stable (meaning_in g.O.Oper.meaning p) w is.shows.sound.forced
 
   moments : t.tells_moments → (p : Params) (w : World g.row.O.Denot) → Copies g.O.Oper.meaning p old c.args.engine.now w t → LeavesOnly t t' (IsShutOrWhole g.O.Oper.meaning p (commands_of w.history) t)
   moments told p w is =
-      subst (λ l. LeavesOnly t t' (IsShutOrWhole g.O.Oper.meaning p l t)) (commands p w is) (c.save-saved.ensures.moments told p (world p w) (copies p w is) (done p w is))
+      subst (λ h. LeavesOnly t t' (IsShutOrWhole g.O.Oper.meaning p (commands_of h) t)) (history p w is) (c.save-saved.ensures.moments told p (world p w) (copies p w is) (done p w is))
+
+  -- each image at the end is a backup
+  backed : c.save-saved.result ≡ Ok tt → t.tells_files → (p : Params) (w : World g.row.O.Denot) → Copies g.O.Oper.meaning p old c.args.engine.now w t → InEachImage t' (IsBackup (meaning_in g.O.Oper.meaning p) p w.history)
+  backed was told p w is =
+      let m = meaning_in g.O.Oper.meaning p in
+      subst (λ h. InEachImage t' (IsBackup m p h)) (history p w is)
+      (subst (λ (r : Result (Unit {0}) BackupErr). OnOk r (InEachImage t' (IsBackup m p (take (world p w).forced (world p w).history)))) was (c.save-saved.ensures.saved p (world p w) (copies p w is) (done p w is) told))
 
 pub returns-in_err-may_finish-clause-moments : goal.returns-in_err-may_finish-clause-moments
 returns-in_err-may_finish-clause-moments g c told = λ p w is.
@@ -130,14 +139,16 @@ returns-clause-forces g c =
 pub returns-clause-saved : goal.returns-clause-saved
 returns-clause-saved g c = λ p w is.
     let at = (goal.at.returns-clause-saved g c).After-note in
-    let l = commands_of w.history in
-    let counted = ((forced g at).forced p l (record { world = w; shows = is.shows; commands_are = refl })).0 in (
+    let counted = ((forced g at).forced p (commands_of w.history) (record { world = w; shows = is.shows; commands_are = refl })).0 in (
       counted,
       λ told.
-          let saved = c.save-saved.ensures.saved p (world g at p w) (copies g at p w is) (done g at p w is) told in
-          subst (λ l. InEachImage (t' g at) (λ files. Stands g.O.Oper.meaning p files l)) (commands g at p w is)
-          (subst (λ (r : Result (Unit {0}) BackupErr). OnOk r (InEachImage (t' g at) (λ files. Stands g.O.Oper.meaning p files (commands_of (take (world g at p w).forced (world g at p w).history))))) c.in_ok-saved.was saved),
+          let all = backed g at c.in_ok-saved.was told p w is in
+          let stands = backup_stands g.O.Oper.meaning p (λ files w sound shows. c.image_stands.ensures p files w sound shows) w.history in
+          (stands (t' g at).reads all.0, λ moments files said left. stands files (all.1 moments files said left)),
     )
+
+pub returns-clause-shows : goal.returns-clause-shows
+returns-clause-shows g c = λ told p w is. backed g (goal.at.returns-clause-shows g c).After-note c.in_ok-saved.was told p w is
 
 pub returns-clause-long : goal.returns-clause-long
 returns-clause-long g c = λ p w shows.
