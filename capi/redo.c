@@ -155,8 +155,8 @@ int32_t redo_report(redo_t *db, uint32_t answer) {
         redo_because(db, REDO_DISK_FAULT);
     }
     let_go(db);
-    *db = (redo_t){.state_ = REDO_IS_FAILED, .files_ = no_files, .copy_ = no_files, .detail_ = db->detail_};
-    redo_own(db);
+    *db = (redo_t){.state_ = REDO_IS_FAILED, .busy_ = 1, .files_ = no_files, .detail_ = db->detail_, .copy_ = no_files,
+                   .self_ = db, .forks_ = db->forks_};
     return REDO_DISK_FAULT;
 }
 

@@ -681,23 +681,31 @@ class Hash(_Map):
 
     def _keys(self) -> list[bytes]:
         """Those of the buckets that the directory names (docs/FORMATS.md)."""
-        directory = self._block(self._range.low, 3)
-        entries = struct.unpack_from(f"<{(len(directory) - 2) // 4}I", directory, 2) if directory else ()
-        return [key for bucket in dict.fromkeys(entries) for key in self._keys_in(self._block(bucket, 4))]
+        low, high = self._range.low, self._range.high
+        directory = self._store._copied(_get, low)
+        if not directory:
+            return []
+        if len(directory) < 6 or directory[0] != 3 or len(directory) != 2 + (4 << directory[1]):
+            raise _error(BadHash.code, (low, 0, 0))
+        keys: list[bytes] = []
+        for bucket in dict.fromkeys(struct.unpack_from(f"<{1 << directory[1]}I", directory, 2)):
+            if not low < bucket <= high:
+                raise _error(BadHash.code, (low, 0, 0))
+            keys += self._keys_in(bucket)
+        return keys
 
-    def _block(self, x: int, kind: int) -> bytes:
-        value = self._store._copied(_get, x)
-        if value[:1] != bytes([kind]) and (value or kind == 4):
+    def _keys_in(self, x: int) -> list[bytes]:
+        bucket, keys, at = self._store._copied(_get, x), [], 3
+        try:
+            for _ in range(bucket[2]):
+                end = at + 1 + bucket[at]
+                keys.append(bucket[at + 1:end])
+                at = end + 1 + bucket[end]
+        except IndexError:
+            at = 0
+        if at != len(bucket) or bucket[0] != 4:
             raise _error(BadHash.code, (x, 0, 0))
-        return value
-
-    @staticmethod
-    def _keys_in(bucket: bytes) -> Iterator[bytes]:
-        at = 3
-        for _ in range(bucket[2]):
-            end = at + 1 + bucket[at]
-            yield bucket[at + 1:end]
-            at = end + 1 + bucket[end]
+        return keys
 
 
 class Tree(_Map):

@@ -149,7 +149,15 @@ def maps(folder):
         if len(sys.argv) > 2:       # (the small store has no buckets)
             assert bool(index) and len(index) == 60 and sorted(index) == [b"k%02d" % i for i in range(60)]
             assert dict(index) == {key: b"v" + key for key in index}
-            refused(redo.BadHash, list, s.hash(0, 1))
+            for number, value in enumerate((b"\x03", b"\x03\x00\x40\x00\x00\x00", b"\x04\x00\x00", b"none")):
+                s.put(126, value)
+                assert refused(redo.BadHash, list, s.hash(126, 127)).detail[0] == 126, number
+            s.put(126, b"\x03\x00\x7f\x00\x00\x00")
+            for value in (b"", b"\x04", b"\x04\x00\x01\x01", b"\x04\x00\x00\x01", b"\x03\x00\x00"):
+                s.put(127, value)
+                assert refused(redo.BadHash, len, s.hash(126, 127)).detail[0] == 127, value
+            s.put(126, b"")
+            s.put(127, b"")
         assert index.pop(b"k32") == b"vk32" and index.setdefault(b"k32", b"new") == b"new" and index.get(b"x", b"d") == b"d"
         index.delete(b"k33")
         refused(redo.NoKey, index.delete, b"k33")
