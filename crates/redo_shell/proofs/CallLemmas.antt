@@ -21,7 +21,8 @@ use Rattle.redo_shell.specs.Saving.{IsBackupCall, IsBackupFor, IsBesideRun}
 use Rattle.redo_shell.specs.Sessions.{AddsNothing, run, init, reads, upgrade, follow}
 use Rattle.redo_shell.specs.Shipping.{ShipMoment}
 use Rattle.redo_shell.specs.Status.{IsOfRun, IsOfDump, IsOfInit, IsOfUpgrade, IsOfShip, IsOfFollow, LacksMemory}
-use Rattle.redo_shell.specs.Store.{Command, IsWellFormed, Opens, Stands}
+use Rattle.redo_shell.specs.Store.{Command, IsWellFormed, Opens, Stands, StandsInEither}
+use Rattle.redo_shell.specs.Upgrading.{UpgradeMoment}
 use Rattle.redo_shell.specs.declared.budget.Budget.{Budget}
 use Rattle.redo_shell.specs.declared.status.Status.{Status}
 use Rattle.redo_shell.specs.declared.status.Status.TheVariants.{Done, Usage, NotAStore, AlreadyStore, Damaged, DiskFault, ReadFault, SayFault, Memory, RestartMemory, TooLong, AlreadyTwo, Smaller, BackupFault, Gone, BadStream, StandbyFull}
@@ -227,7 +228,7 @@ call_goes_on disk {words} {told} {left} old new lawful time call = record {
   );
   upgrade = λ q first next sizes runs said asks before follows.
       upgrade old new next q said before (λ none telling. keeps_judged ((call (Upgrade q) asks).judged (lawful.telling telling)) (λ image. none (image_begins image)))
-      (λ p commands opens. ((call (Upgrade q) asks).stands p commands opens).images) follows;
+      (λ p commands opens telling. or_weaker (disk old) (disk new) (UpgradeMoment p q commands (disk old).reads (disk old).said) (λ files bytes. StandsInEither p q commands files) (((call (Upgrade q) asks).stands p commands opens).images telling) (λ files bytes moment. moment.0)) follows;
 }
 
 -- where files stand for commands as they did, each image does
@@ -239,7 +240,7 @@ pub call_adds_nothing : {T : Type 0} (disk : T → Disk) (budget : Budget) (told
     → status ≡ RestartMemory → AddsNothing disk old new
 call_adds_nothing disk budget told left rest old new Run lawful call is = λ first next sizes runs said before follows.
     reads old new next said before (λ none telling. (call.judged (lawful.telling telling)).keeps (λ image. none (image_begins image)))
-    (λ p commands opens telling. alone p commands ((call.untold.1 p commands opens).unopened telling is)) follows
+    (λ p commands opens telling. alone p commands ((call.untold.1 p commands opens).unopened telling is).still) follows
 call_adds_nothing disk budget told left rest old new Dump lawful call is = λ first next sizes runs said before follows.
     reads old new next said before (λ none telling. (call.judged (lawful.telling telling)).keeps (λ image. none (image_begins image)))
     (λ p commands opens telling. or_weaker (disk old) (disk new) (DumpMoment p commands (disk old).said) (λ files bytes. Stands p files commands) ((call.table p commands opens).images telling) (λ files bytes moment. moment.stands)) follows

@@ -27,7 +27,7 @@ use Rattle.redo_shell.specs.declared.budget.Budget.{Budget}
 use Rattle.redo_shell.specs.declared.status.Status.{Status}
 use Rattle.redo_shell.specs.declared.status.Status.TheVariants.{Done, NotAStore, Damaged, SayFault, Memory as OutOfMemory}
 use Rattle.redo_shell.proofs.HoldLemmas.{holds_stays, stays_between, told_by}
-use Rattle.redo_shell.proofs.OpenLemmas.{OpensSo, opening_failed, still_stands}
+use Rattle.redo_shell.proofs.OpenLemmas.{OpensSo, opening_failed, start_refused}
 use Rattle.redo_shell.proofs.KeepLemmas.{settled_each}
 use Rattle.redo_shell.specs.declared.stop.Stop.{Stop}
 use Rattle.redo_shell.specs.declared.stop.Stop.TheVariants.{DiskFault, Damaged, ReadFault, SayFault, BackupFault, Memory, TooLong}
@@ -183,7 +183,7 @@ dump_unopened {budget} p old mid commands status lawful opens files quiet of sto
       store = store;
       settled = λ disk memory. absurd (opening_failed status of store output disk memory);
       stands = λ disk memory. absurd (opening_failed status of store output disk memory);
-      unopened = λ told is. still_stands p commands files told;
+      unopened = λ told is. start_refused p commands files told;
       steps = λ told first is. or_weaker old mid (OpeningMoment budget p commands old first is) (TableMoment budget p commands old first is) (files.steps told first is) (λ f s here. inl here);
       shows = λ first is done. absurd (subst (λ (s : Status). IsOfUnopened s) done of);
     }

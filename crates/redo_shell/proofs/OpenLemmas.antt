@@ -15,7 +15,7 @@ use Rattle.redo_shell.specs.Store.{Command, IsWellFormed, Stands, Opens, Holds, 
 use Rattle.redo_shell.specs.Stages.{Stage, IsFirst, stage_of}
 use Rattle.redo_shell.specs.Groups.{Account, account_of, waiting}
 use Rattle.redo_shell.specs.Answers.{Begun, Moment, TrueWithin, with_begun, with_line, with_waits, SaysTruly}
-use Rattle.redo_shell.specs.Again.{StandsStill}
+use Rattle.redo_shell.specs.Again.{IsStartRefused, StandsStill}
 use Rattle.redo_shell.specs.Calls.{IsRunOn}
 use Rattle.redo_shell.specs.Courses.{OpeningMoment, RunMoment, StageMoment}
 use Rattle.redo_shell.specs.Causes.{JudgesFiles}
@@ -256,8 +256,8 @@ stands_still p commands {old} {mid} opening quiet again told = record {
       (λ f s b. let enough = b.enough in (subst (λ (l : List Command). Stands p f l) (take_all b.kept commands enough) b.stands, b.quiet));
 }
 
-pub still_stands : {budget : Budget} (p : Params) (commands : List Command) {old mid : Disk} → OpensFiles budget p commands old mid → old.tells_moments → StandsStill p commands old mid
-still_stands p commands files told = stands_still p commands files.images files.quiet (files.again told) told
+pub start_refused : {budget : Budget} (p : Params) (commands : List Command) {old mid : Disk} → OpensFiles budget p commands old mid → old.tells_moments → IsStartRefused budget p commands old mid
+start_refused p commands files told = record { still = stands_still p commands files.images files.quiet (files.again told) told; steps = files.steps told }
 
 pub run_unopened : AreFew → {budget : Budget} {p : Params} (old mid : Disk) {commands : List Command} (script : List (List ℕ)) (status : Status) → IsDisk old → Opens p old commands → OpensFiles budget p commands old mid → Passes old mid
     → IsWellFormed old.reads → IsUnopened old mid status → IsRunOn budget p commands script old mid status
@@ -275,7 +275,7 @@ run_unopened few {budget} {p} old mid {commands} script status lawful opens file
       answers = λ first is. says_nothing script before files.quiet;
       steps = λ told first is. or_weaker old mid (OpeningMoment budget p commands old first is) (RunMoment budget p commands old first is script) (files.steps told first is) (λ f s here. inl here);
       complete = λ first is done. absurd (not_done status unopened.ends done);
-      unopened = λ told is. still_stands p commands files told;
+      unopened = λ told is. start_refused p commands files told;
       store = store;
     }
 

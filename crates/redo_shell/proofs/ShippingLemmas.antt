@@ -44,7 +44,7 @@ use Rattle.redo_shell.specs.declared.stop.Stop.TheVariants as stops
 use Rattle.redo_shell.proofs.HoldLemmas.{attached_said, rises_within, told_by}
 use Rattle.redo_shell.proofs.KeepLemmas.{agreed_said, keeps_none, keeps_settled, says_behind, says_then_stays, says_twice, stays_silent, stays_then_says}
 use Rattle.redo_shell.proofs.DumpLemmas.{dump_stands, dump_steps}
-use Rattle.redo_shell.proofs.OpenLemmas.{opening_failed, still_stands}
+use Rattle.redo_shell.proofs.OpenLemmas.{opening_failed, start_refused}
 
 -- a reader of blocks stands where it stood while something is said
 blocks_said : {O : Type 0} {m : Meaning O} {d new : Disk} {log : LogView} {says : List ℕ → List ℕ → Type 0} → Runs Same says d new → {it : BlockReaderView} {given : List (List ℕ)} → IsReadingBlocks m d log it given
@@ -411,7 +411,7 @@ module _ (p : Params) (commands : List Command) (old : Disk) where
         store = store;
         settled = λ disk memory. absurd (opening_failed status of store output disk memory);
         stands = λ disk memory. absurd (opening_failed status of store output disk memory);
-        unopened = λ told is. still_stands p commands files told;
+        unopened = λ told is. start_refused p commands files told;
         steps = λ told first is. or_weaker old mid (OpeningMoment budget p commands old first is) (TableMoment budget p commands old first is) (files.steps told first is) (λ f s here. inl here);
       }
 

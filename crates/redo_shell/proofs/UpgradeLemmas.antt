@@ -1,76 +1,89 @@
 -- A store that is made larger.
-use Rattle.std.proofs.Common.{◌≡◌, ◌≢◌, ◌⊎◌, inl, inr, ⊎_elim, List, ℕ, length, take, refl, sym, subst, arith, None}
-use Rattle.std.specs.Prelude.{⊤}
+use Rattle.std.proofs.Common.{◌≡◌, ◌≢◌, ◌⊎◌, ◌+◌, ◌∙◌, inl, inr, ⊎_elim, List, ℕ, length, take, refl, ap, sym, subst, arith, None}
+use Rattle.std.specs.Prelude.{⊤, Result, Err}
 use Rattle.std.proofs.lemmas.List.{take_all}
-use Rattle.disk_model.specs.Disk.{Files, Disk, IsDisk, Passes, LeavesOnly, IsSettled}
-use Rattle.disk_model.specs.Moments.{runs_on, weaker}
+use Rattle.disk_model.specs.Disk.{Files, Disk, IsDisk, Passes, LeavesOnly, IsSettled, Runs, Same, SaysFront}
+use Rattle.disk_model.specs.Moments.{first_call, runs_on, weaker}
 use Rattle.disk_model.specs.Silent.{IsSilent}
+use Rattle.disk_model.specs.declared.machine.FileNo.TheVariants.{Objects}
+use Rattle.formats.specs.Objects.{last_slot}
+use Rattle.formats.specs.declared.layout.Layout.{Layout}
 use Rattle.formats.specs.declared.params.Params.{Params}
 use Rattle.restart.specs.Starts.{OrAtStart, or_weaker, from_settled}
+use Rattle.restart.specs.Opening.{KeepsLayout}
 use Rattle.restart.specs.WellFormed.{opens_gate}
 use Rattle.op_codec.specs.AllOps.{all_meaning}
 use Rattle.stable_objects.specs.Larger.{IsLarger}
-use Rattle.store_engine.specs.Engine.{EngineView, InEachImage, params_of}
-use Rattle.store_engine.specs.Upgrading.{IsUncut}
-use Rattle.redo_shell.specs.Calls.{IsUpgradeOn}
+use Rattle.store_engine.specs.Engine.{EngineView, InEachImage, forced_in, params_of}
+use Rattle.store_engine.specs.Upgrading.{IsUncut, IsUpgrading, WhereIdle}
+use Rattle.store_engine.specs.declared.upgrade_err.UpgradeErr.{UpgradeErr}
 use Rattle.redo_shell.specs.Causes.{Sometime, IsCutStore, JudgesFiles, SaysCut}
-use Rattle.redo_shell.specs.Keeps.{KeepsFiles}
+use Rattle.redo_shell.specs.Notices.{damaged}
 use Rattle.redo_shell.specs.Open.{OpensFiles}
 use Rattle.redo_shell.specs.Status.{IsOfSecond, IsOfUnopened, IsOfUpgrade, IsOfOpened}
 use Rattle.redo_shell.specs.Store.{Command, Between, Holds, IsAttached, IsUpgraded, IsWellFormed, Opens, Stands, StandsInEither}
+use Rattle.redo_shell.specs.Upgrading.{IsSilentUpgrade, IsUpgradeOn, IsWhyNot, LeavesEither, SaysWhyNot, UpgradeMoment}
 use Rattle.redo_shell.specs.declared.budget.Budget.{Budget}
 use Rattle.redo_shell.specs.declared.status.Status.{Status}
 use Rattle.redo_shell.specs.declared.status.Status.TheVariants.{NotAStore, Damaged, DiskFault, SayFault, Memory, RestartMemory, AlreadyTwo, Smaller}
-use Rattle.redo_shell.proofs.OpenLemmas.{opening_failed, still_stands}
+use Rattle.redo_shell.proofs.HoldLemmas.{each_stays, in_engine, told_by}
+use Rattle.redo_shell.proofs.OpenLemmas.{opening_failed, start_refused}
 
-module _ (P : Files → Type 0) where
-  -- at each moment of a call that says nothing the files have P
-  pub silent_images : (old new : Disk) → LeavesOnly old new (IsSilent P old.said) → LeavesOnly old new (λ files said. P files)
-  silent_images old new leaves = weaker old new (IsSilent P old.said) (λ files said. P files) leaves (λ files said is. is.holds)
+-- what the files between two calls have a crash at some moment could leave
+pub in_between : (P : Files → Type 0) (old mid new : Disk) → IsDisk mid → Passes old mid → Passes mid new → P mid.reads → old.tells_moments → Sometime old new P
+in_between P old mid new lawful first second here told =
+    let told_mid = first.moments_told.0 told in (
+      mid.reads,
+      mid.said,
+      second.keeps told_mid old.clock mid.reads mid.said first.later (lawful.among old.clock mid.clock mid.reads mid.said first.later (omega arith) (lawful.as_read told_mid)),
+      here,
+    )
 
-  -- where each image has it, and the files are kept, it is so at each moment, and then
-  kept_images : (mid new : Disk) → InEachImage mid P → KeepsFiles mid new → mid.tells_moments → LeavesOnly mid new (λ files said. P files)
-  kept_images mid new here keeps told =
-      weaker mid new (λ files said. mid.left_since mid.clock files mid.said) (λ files said. P files) (keeps.images told) (λ files said left. here.1 told files mid.said left)
+-- an upgrade of an open store that stands for commands, all of them forced
+module _ {p q : Params} {old mid : Disk} {engine : EngineView} {commands : List Command} {answer : Result (Unit {0}) UpgradeErr} (it : IsUpgrading all_meaning old mid engine q answer) (holds : Holds p old engine commands) (all : forced_in engine ≡ length commands) where
+  whole : take (forced_in engine) commands ≡ commands
+  whole = take_all (forced_in engine) commands (omega (arith, all))
 
-  pub kept_each : (mid new : Disk) → IsDisk new → Passes mid new → KeepsFiles mid new → mid.tells_files → InEachImage mid P → InEachImage new P
-  kept_each mid new lawful time keeps told here = (
-    subst P (sym (keeps.reads told)) here.0,
-    λ told_new files said left.
-        let told_mid = time.moments_told.1 told_new in
-        here.1 told_mid files mid.said ((keeps.images told_mid).each files said (lawful.among mid.clock new.clock files said time.later (omega arith) left)),
-  )
+  told_mid : mid.tells_files
+  told_mid = it.time.files_told.0 (told_by holds)
 
-  pub images_behind : (old mid new : Disk) → Passes old mid → old.tells_moments → LeavesOnly old mid (IsSilent P old.said) → InEachImage mid P → KeepsFiles mid new → LeavesOnly old new (λ files said. P files)
-  images_behind old mid new time told first here keeps =
-      runs_on old mid new (λ files said. P files) (silent_images old mid first) (kept_images mid new here keeps (time.moments_told.0 told))
+  pub all_upgraded : InEachImage mid (IsUpgraded q (take (forced_in engine) commands)) → InEachImage mid (IsUpgraded q commands)
+  all_upgraded = subst (λ (l : List Command). InEachImage mid (IsUpgraded q l)) whole
 
-  -- what the files between two calls have a crash at some moment could leave
-  pub in_between : (old mid new : Disk) → IsDisk mid → Passes old mid → Passes mid new → P mid.reads → old.tells_moments → Sometime old new P
-  in_between old mid new lawful first second here told =
-      let told_mid = first.moments_told.0 told in (
-        mid.reads,
-        mid.said,
-        second.keeps told_mid old.clock mid.reads mid.said first.later (lawful.among old.clock mid.clock mid.reads mid.said first.later (omega arith) (lawful.as_read told_mid)),
-        here,
-      )
+  -- nothing is said
+  pub leaves_silent : LeavesEither p q commands old mid
+  leaves_silent = record {
+    images = λ telling. weaker old mid (IsSilent (StandsInEither p q (take (forced_in engine) commands)) old.said) (UpgradeMoment p q commands old.reads old.said) (it.images telling p commands (in_engine holds))
+        (λ files said is. (subst (λ (l : List Command). StandsInEither p q l files) whole is.holds, inl is.silent));
+    stands = subst (λ (l : List Command). InEachImage mid (StandsInEither p q l)) whole (it.stands p commands (in_engine holds));
+    said = inl (it.quiet (told_by holds));
+  }
 
--- where all commands are forced
-module _ (n : ℕ) (commands : List Command) (all : n ≡ length commands) where
-  whole : take n commands ≡ commands
-  whole = take_all n commands (omega (arith, all))
+  -- behind it a line
+  module _ {new : Disk} {line : List ℕ} (run : Runs Same (SaysFront line) mid new) where
+    -- that says why it was not done
+    pub leaves_saying : IsWhyNot p q old.reads line → LeavesEither p q commands old new
+    leaves_saying why =
+        let quiet = it.quiet (told_by holds) in
+        record {
+          images = λ telling.
+              let telling_mid = it.time.moments_told.0 telling in
+              runs_on old mid new (UpgradeMoment p q commands old.reads old.said) (leaves_silent.images telling)
+              (first_call mid new (UpgradeMoment p q commands old.reads old.said) telling_mid run.time (λ files said left.
+              let from = run.crash telling_mid files said left in (
+                subst (λ (f : Files). StandsInEither p q commands f) (sym from.0.2) (leaves_silent.stands.1 telling_mid from.0.0 mid.said from.0.1),
+                inr (line, why, subst (λ (l : List ℕ). SaysFront line l said) quiet from.1),
+              )));
+          stands = each_stays {P = StandsInEither p q commands} run told_mid leaves_silent.stands;
+          said = inr (line, why, subst (λ (l : List ℕ). SaysFront line l new.said) quiet (run.said told_mid));
+        }
 
-  pub all_images : (p q : Params) (old new : Disk) → LeavesOnly old new (λ files said. StandsInEither p q (take n commands) files) → LeavesOnly old new (λ files said. StandsInEither p q commands files)
-  all_images p q old new = subst (λ (l : List Command). LeavesOnly old new (λ files said. StandsInEither p q l files)) whole
-
-  pub all_each : (p q : Params) (new : Disk) → InEachImage new (StandsInEither p q (take n commands)) → InEachImage new (StandsInEither p q commands)
-  all_each p q new = subst (λ (l : List Command). InEachImage new (StandsInEither p q l)) whole
-
-  pub all_still : (p : Params) (new : Disk) → InEachImage new (λ files. Stands p files (take n commands)) → InEachImage new (λ files. Stands p files commands)
-  all_still p new = subst (λ (l : List Command). InEachImage new (λ files. Stands p files l)) whole
-
-  pub all_upgraded : (q : Params) (new : Disk) → InEachImage new (IsUpgraded q (take n commands)) → InEachImage new (IsUpgraded q commands)
-  all_upgraded q new = subst (λ (l : List Command). InEachImage new (IsUpgraded q l)) whole
+    -- where nothing was done the store is as it was
+    pub stays_idle : {e : UpgradeErr} → answer ≡ Err e → (WhereIdle (InEachImage mid (λ files. Stands p files (take (forced_in engine) commands))) (Err e) → InEachImage mid (λ files. Stands p files (take (forced_in engine) commands))) → InEachImage new (λ files. Stands p files commands)
+    stays_idle is idle =
+        let there = InEachImage mid (λ files. Stands p files (take (forced_in engine) commands)) in
+        let left = idle (subst (λ (r : Result (Unit {0}) UpgradeErr). WhereIdle there r) is (it.left p commands (in_engine holds))) in
+        each_stays {P = λ files. Stands p files commands} run told_mid (subst (λ (l : List Command). InEachImage mid (λ files. Stands p files l)) whole left)
 
 -- the numbers of an engine are those of its store
 pub larger_in : {p q : Params} {d : Disk} {engine : EngineView} {commands : List Command} → Holds p d engine commands → IsLarger (params_of engine) q → IsLarger p q
@@ -98,6 +111,11 @@ two_upgrade AlreadyTwo of = (tt, tt)
 two_upgrade SayFault of = (tt, tt)
 two_upgrade status of = absurd of
 
+pub two_loud : (status : Status) → IsOfTwo status → IsSilentUpgrade status → ⊥
+two_loud AlreadyTwo of silent = silent
+two_loud SayFault of silent = silent
+two_loud status of silent = of
+
 abbrev pub IsOfSmaller : Status → Type 0
 IsOfSmaller Smaller = ⊤
 IsOfSmaller Memory = ⊤
@@ -114,6 +132,12 @@ smaller_upgrade Memory of = (tt, tt)
 smaller_upgrade SayFault of = (tt, tt)
 smaller_upgrade status of = absurd of
 
+pub smaller_silent : (status : Status) → IsOfSmaller status → IsSilentUpgrade status → status ≡ Memory
+smaller_silent Smaller of silent = absurd silent
+smaller_silent Memory of silent = refl
+smaller_silent SayFault of silent = absurd silent
+smaller_silent status of silent = absurd of
+
 abbrev pub IsOfDamage : Status → Type 0
 IsOfDamage Damaged = ⊤
 IsOfDamage Memory = ⊤
@@ -129,6 +153,12 @@ damage_upgrade Damaged of = (tt, tt)
 damage_upgrade Memory of = (tt, tt)
 damage_upgrade SayFault of = (tt, tt)
 damage_upgrade status of = absurd of
+
+pub damage_silent : (status : Status) → IsOfDamage status → IsSilentUpgrade status → status ≡ Memory
+damage_silent Damaged of silent = absurd silent
+damage_silent Memory of silent = refl
+damage_silent SayFault of silent = absurd silent
+damage_silent status of silent = absurd of
 
 pub unopened_upgrade : (status : Status) → IsOfUnopened status → IsOfUpgrade status
 unopened_upgrade NotAStore of = tt
@@ -162,42 +192,53 @@ judged_whole status image fine cut = inl (record {
   unopened = λ is. absurd (subst IsOfOpened is fine);
 })
 
-module _ (p q : Params) (commands : List Command) (old : Disk) where
-  -- while the store is opened the files stand for the commands in the store that was there
-  opens_either : {budget : Budget} (mid : Disk) → OpensFiles budget p commands old mid → old.tells_moments → LeavesOnly old mid (OrAtStart old (λ files said. StandsInEither p q commands files))
-  opens_either mid files told =
-      or_weaker old mid (Between p old None (length commands) (length commands) commands) (λ files said. StandsInEither p q commands files) (files.images told)
-      (λ f s b. let enough = b.enough in inl (subst (λ (l : List Command). Stands p f l) (take_all b.kept commands enough) b.stands))
+-- it is said why not of files with the same layout
+module _ {p q : Params} (was now : Files) (keeps : KeepsLayout (was Objects) (now Objects)) where
+  why_before : {line : List ℕ} → IsWhyNot p q now line → IsWhyNot p q was line
+  why_before (inl second) = inl (sym keeps.version ∙ second.0, second.1)
+  why_before (inr other) = inr (⊎_elim (λ small. inl small) (λ cut. inr (cut ∙ ap (λ (l : Layout). damaged Objects (last_slot l + 9)) keeps.layout)) other)
 
-  start_either : Opens p old commands → StandsInEither p q commands old.reads
-  start_either opens = inl opens.stands
+  pub says_before : {before since said : List ℕ} → since ≡ before → SaysWhyNot p q now since said → SaysWhyNot p q was before said
+  says_before quiet (inl none) = inl (none ∙ quiet)
+  says_before {said = said} quiet (inr some) = inr (some.0, why_before some.1, subst (λ (l : List ℕ). SaysFront some.0 l said) quiet some.2)
+
+module _ (p q : Params) (commands : List Command) (old : Disk) where
+  abbrev At : Files → List ℕ → Type 0
+  At files said = UpgradeMoment p q commands old.reads old.said files said
+
+  -- while the store is opened the files stand for the commands in the store that was there, and nothing is said
+  opens_either : {budget : Budget} (mid : Disk) → OpensFiles budget p commands old mid → old.tells_moments → LeavesOnly old mid (OrAtStart old At)
+  opens_either mid files told =
+      or_weaker old mid (Between p old None (length commands) (length commands) commands) At (files.images told)
+      (λ f s b. let enough = b.enough in (inl (subst (λ (l : List Command). Stands p f l) (take_all b.kept commands enough) b.stands), inl b.quiet))
+
+  start_either : Opens p old commands → At old.reads old.said
+  start_either opens = (inl opens.stands, inl refl)
 
   pub upgrade_unopened : {budget : Budget} (mid : Disk) (status : Status) → IsDisk old → Opens p old commands → OpensFiles budget p commands old mid → IsOfUnopened status → (status ≢ NotAStore) × (status ≢ Damaged) → (status ≢ SayFault) × (status ≢ Memory) → IsUpgradeOn p q commands old mid status
   upgrade_unopened mid status lawful opens files of store output = record {
     images = opens_either mid files;
-    from_settled = λ told settled. from_settled old mid (λ files said. StandsInEither p q commands files) lawful told settled (start_either opens) (opens_either mid files told);
+    from_settled = λ told settled. from_settled old mid At lawful told settled (start_either opens) (opens_either mid files told);
     stands = λ disk memory. absurd (opening_failed status of store output disk memory);
     done = λ is. absurd (subst IsOfUnopened is of);
-    quiet = λ is. absurd (subst IsOfUnopened is of);
+    quiet = λ is. files.quiet;
+    said = inl files.quiet;
     larger = λ is. absurd (subst IsOfUnopened is of);
     smaller = λ is. absurd (subst IsOfUnopened is of);
     already = λ is. absurd (subst IsOfUnopened is of);
     second = λ is. unopened_second status of store;
-    unopened = λ told is. still_stands p commands files told;
+    unopened = λ told is. (start_refused p commands files told).still;
     idle = λ is. absurd (⊎_elim (λ (e : status ≡ AlreadyTwo). subst IsOfUnopened e of) (λ (e : status ≡ Smaller). subst IsOfUnopened e of) is);
     store = store.0;
   }
 
-  pub upgrade_images : {budget : Budget} (mid new : Disk) → OpensFiles budget p commands old mid → Passes old mid → (mid.tells_moments → LeavesOnly mid new (λ files said. StandsInEither p q commands files)) → old.tells_moments
-      → LeavesOnly old new (OrAtStart old (λ files said. StandsInEither p q commands files))
-  upgrade_images mid new files time growing told =
-      runs_on old mid new (OrAtStart old (λ files said. StandsInEither p q commands files)) (opens_either mid files told)
-      (weaker mid new (λ files said. StandsInEither p q commands files) (OrAtStart old (λ files said. StandsInEither p q commands files)) (growing (time.moments_told.0 told)) (λ f s here. inr here))
+  pub upgrade_images : {budget : Budget} (mid new : Disk) → OpensFiles budget p commands old mid → Passes old mid → KeepsLayout (old.reads Objects) (mid.reads Objects) → (mid.tells_moments → LeavesOnly mid new (UpgradeMoment p q commands mid.reads mid.said)) → old.tells_moments → LeavesOnly old new (OrAtStart old At)
+  upgrade_images mid new files time keeps growing told =
+      runs_on old mid new (OrAtStart old At) (opens_either mid files told)
+      (weaker mid new (UpgradeMoment p q commands mid.reads mid.said) (OrAtStart old At) (growing (time.moments_told.0 told)) (λ f s here. inr (here.0, says_before old.reads mid.reads keeps files.quiet here.1)))
 
-  pub upgrade_settled : (new : Disk) → IsDisk old → Opens p old commands → (old.tells_moments → LeavesOnly old new (OrAtStart old (λ files said. StandsInEither p q commands files))) → old.tells_moments → IsSettled old
-      → LeavesOnly old new (λ files said. StandsInEither p q commands files)
-  upgrade_settled new lawful opens images told settled =
-      from_settled old new (λ files said. StandsInEither p q commands files) lawful told settled (start_either opens) (images told)
+  pub upgrade_settled : (new : Disk) → IsDisk old → Opens p old commands → (old.tells_moments → LeavesOnly old new (OrAtStart old At)) → old.tells_moments → IsSettled old → LeavesOnly old new At
+  upgrade_settled new lawful opens images told settled = from_settled old new At lawful told settled (start_either opens) (images told)
 
 -- an engine that is on its files, whose objects file is cut
 pub cut_store : (d : Disk) (engine : EngineView) → d.tells_files → IsAttached d engine → (IsUncut d engine → ⊥) → IsCutStore d.reads

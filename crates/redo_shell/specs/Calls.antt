@@ -10,27 +10,25 @@ use Rattle.command_words.specs.Words.{Asks}
 use Rattle.command_words.specs.declared.asked.Asked.{Asked}
 use Rattle.command_words.specs.declared.asked.Asked.TheVariants.{Init, Run, Dump, Demo, Upgrade, Ship, Follow}
 use Rattle.store_engine.specs.Engine.{InEachImage}
-use Rattle.store_engine.specs.Upgrading.{IsSecond}
-use Rattle.stable_objects.specs.Larger.{IsLarger}
 use Rattle.restart.specs.Starts.{OrAtStart}
 use Rattle.redo_shell.specs.declared.budget.Budget.{Budget}
-use Rattle.redo_shell.specs.Store.{Command, meaning_in, Stands, StandsInEither, Opens, IsNew, IsNewStore, IsUpgraded}
-use Rattle.redo_shell.specs.Again.{StandsStill}
+use Rattle.redo_shell.specs.Store.{Command, meaning_in, Stands, Opens, IsNew, IsNewStore}
+use Rattle.redo_shell.specs.Again.{IsStartRefused}
 use Rattle.redo_shell.specs.Answers.{Moment, SaysTruly}
-use Rattle.redo_shell.specs.Causes.{JudgesFiles, JudgesUpgrade, ReadsNoStore, ReadsStore, SaysStore}
+use Rattle.redo_shell.specs.Causes.{JudgesFiles, ReadsNoStore, ReadsStore, SaysStore}
 use Rattle.redo_shell.specs.Demo.{IsDemo}
 use Rattle.redo_shell.specs.Dump.{dump_of, DumpMoment}
 use Rattle.redo_shell.specs.Keeps.{KeepsFiles}
-use Rattle.redo_shell.specs.Notices as notices
 use Rattle.redo_shell.specs.Run.{IsComplete, MomentSoFar}
 use Rattle.redo_shell.specs.Stages.{Stage, IsFirst}
 use Rattle.redo_shell.specs.Courses.{RunMoment, TableMoment}
 use Rattle.redo_shell.specs.Sessions.{Ran, Sizing, by_init, by_upgrade, by_follow, Follows, Sessions}
 use Rattle.redo_shell.specs.Shipping.{IsShipCall}
 use Rattle.redo_shell.specs.Following.{IsFollowCall}
-use Rattle.redo_shell.specs.Status.{IsCut, IsOfRun, IsOfSecond, IsOfDump, IsOfInit, IsOfUpgrade}
+use Rattle.redo_shell.specs.Upgrading.{IsUpgradeCall}
+use Rattle.redo_shell.specs.Status.{IsCut, IsOfRun, IsOfDump, IsOfInit}
 use Rattle.redo_shell.specs.declared.status.Status.{Status}
-use Rattle.redo_shell.specs.declared.status.Status.TheVariants.{Done, DoneWithRefusals, NotAStore, AlreadyStore, Damaged, DiskFault, RestartMemory, AlreadyTwo, Smaller}
+use Rattle.redo_shell.specs.declared.status.Status.TheVariants.{Done, DoneWithRefusals, NotAStore, AlreadyStore, Damaged, DiskFault, RestartMemory}
 
 -- A run of a script of these lines, on files that stand for commands as they are read, whatever a process before this one
 -- left unsynced.
@@ -60,7 +58,7 @@ pub record IsRunOn (budget : Budget) (p : Params) (commands : List Command) (scr
   -- with status 0 or 1 the whole script is answered, and the files stand for all of it
   pub complete : (first : Stage) → IsFirst budget p commands old first → (status ≡ Done) ⊎ (status ≡ DoneWithRefusals) → IsComplete p first old new commands script status
   -- where the restart was refused memory, the files stand for these commands still
-  pub unopened : old.tells_moments → status ≡ RestartMemory → StandsStill p commands old new
+  pub unopened : old.tells_moments → status ≡ RestartMemory → IsStartRefused budget p commands old new
   -- such files are never taken for no store or for damaged
   pub store : (status ≢ NotAStore) × (status ≢ Damaged)
 
@@ -90,7 +88,7 @@ pub record IsDumpOn (budget : Budget) (p : Params) (commands : List Command) (ol
   pub settled : status ≢ DiskFault → status ≢ RestartMemory → IsSettled new
   pub stands : status ≢ DiskFault → status ≢ RestartMemory → InEachImage new (λ files. Stands p files commands)
   -- where the restart was refused memory, the files stand for these commands still
-  pub unopened : old.tells_moments → status ≡ RestartMemory → StandsStill p commands old new
+  pub unopened : old.tells_moments → status ≡ RestartMemory → IsStartRefused budget p commands old new
   -- the restart takes its course, and nothing else is done: a crash at any moment leaves what one at the start could leave,
   -- or the world after some first steps of it, and with status 0 the files show the world after all of it
   pub steps : old.tells_moments → (first : Stage) → (is : IsFirst budget p commands old first) → LeavesOnly old new (OrAtStart old (TableMoment budget p commands old first is))
@@ -121,36 +119,6 @@ pub record IsMaking (p : Params) (old new : Disk) (status : Status) : Type 0 whe
   pub fresh : old.tells_files → status ≡ Done → BeginsStore (old.reads Objects) → ⊥
   pub already : old.tells_files → status ≡ AlreadyStore → SaysStore old new
   pub read : status ≡ AlreadyStore → ReadsStore new
-
--- A store is made larger, with the numbers q, of files that stand for commands.
-pub record IsUpgradeOn (p q : Params) (commands : List Command) (old new : Disk) (status : Status) : Type 0 where
-  -- what a crash at any moment leaves is what one at the start could leave, or it stands for these commands, in the store that
-  -- was there or in the larger one
-  pub images : old.tells_moments → LeavesOnly old new (OrAtStart old (λ files said. StandsInEither p q commands files))
-  pub from_settled : old.tells_moments → IsSettled old → LeavesOnly old new (λ files said. StandsInEither p q commands files)
-  -- but where the disk may have failed, or memory the opening, that is so of the files then
-  pub stands : status ≢ DiskFault → status ≢ RestartMemory → InEachImage new (StandsInEither p q commands)
-  -- with status 0 they are those of the larger store, and nothing is said
-  pub done : status ≡ Done → InEachImage new (IsUpgraded q commands)
-  pub quiet : status ≡ Done → new.said ≡ old.said
-  -- a store of version 2 is not made larger, and that is said
-  pub second : IsSecond old.reads → IsOfSecond status
-  pub already : status ≡ AlreadyTwo → IsSecond old.reads × (new.said ≡ old.said ++ notices.already_version_two)
-  -- no number of the store is greater than it was to get; where one is, that is said
-  pub larger : status ≡ Done → IsLarger p q
-  pub smaller : status ≡ Smaller → (IsLarger p q → ⊥) × (new.said ≡ old.said ++ notices.smaller p.objects p.cap)
-  -- where the restart was refused memory, the files stand for these commands still
-  pub unopened : old.tells_moments → status ≡ RestartMemory → StandsStill p commands old new
-  -- with each of these two it is left as it was
-  pub idle : (status ≡ AlreadyTwo) ⊎ (status ≡ Smaller) → InEachImage new (λ files. Stands p files commands)
-  pub store : status ≢ NotAStore
-
--- An upgrade of any files.
-pub record IsUpgradeCall (q : Params) (old new : Disk) (status : Status) : Type 0 where
-  pub stands : (p : Params) (commands : List Command) → Opens p old commands → IsUpgradeOn p q commands old new status
-  pub ends : IsOfUpgrade status
-  pub judged : old.tells_files → JudgesUpgrade old new status
-  pub read : status ≡ NotAStore → ReadsNoStore new
 
 -- what a call makes of the files and says, by what it was asked and the budget of its restart
 abbrev pub IsCallFor : Budget → Asked → Type 0 → List ℕ → List ℕ → Disk → Disk → Status → Type 0

@@ -21,6 +21,7 @@ pub mod Dump
 pub mod Keeps
 pub mod Shipping
 pub mod Following
+pub mod Upgrading
 pub mod Sessions
 pub mod Demo
 pub mod Calls

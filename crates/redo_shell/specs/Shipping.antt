@@ -14,7 +14,7 @@ use Rattle.log_records.specs.BlockReader.{payloads_from}
 use Rattle.restart.specs.Starts.{OrAtStart}
 use Rattle.store_engine.specs.Engine.{InEachImage}
 use Rattle.redo_shell.specs.declared.budget.Budget.{Budget}
-use Rattle.redo_shell.specs.Again.{StandsStill}
+use Rattle.redo_shell.specs.Again.{IsStartRefused}
 use Rattle.redo_shell.specs.Causes.{JudgesFiles, ReadsNoStore}
 use Rattle.redo_shell.specs.Courses.{TableMoment}
 use Rattle.redo_shell.specs.Notices as notices
@@ -89,7 +89,7 @@ pub record IsShipOn (budget : Budget) (from : ℕ) (p : Params) (commands : List
   pub settled : status ≢ DiskFault → status ≢ RestartMemory → IsSettled new
   pub stands : status ≢ DiskFault → status ≢ RestartMemory → InEachImage new (λ files. Stands p files commands)
   -- where the restart was refused memory, the files stand for these commands still
-  pub unopened : old.tells_moments → status ≡ RestartMemory → StandsStill p commands old new
+  pub unopened : old.tells_moments → status ≡ RestartMemory → IsStartRefused budget p commands old new
   -- the restart takes its course, and nothing else is done: a crash at any moment leaves what one at the start could leave, or
   -- the world after some first steps of it
   pub steps : old.tells_moments → (first : Stage) → (is : IsFirst budget p commands old first) → LeavesOnly old new (OrAtStart old (TableMoment budget p commands old first is))

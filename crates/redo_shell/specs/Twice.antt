@@ -1,46 +1,65 @@
 -- A call whose restart was refused memory, and the same call again with the least budget, as one call.
 use Rattle.std.specs.Prelude.{◌≡◌, ◌≢◌, ◌⊎◌, ◌++◌, ℕ, List}
-use Rattle.disk_model.specs.Disk.{Disk, LeavesOnly, IsSettled}
+use Rattle.disk_model.specs.Disk.{Files, Disk, LeavesOnly, IsSettled}
 use Rattle.formats.specs.declared.params.Params.{Params}
 use Rattle.restart.specs.Starts.{OrAtStart}
 use Rattle.script_lines.specs.Grammar.{lines_of}
 use Rattle.command_words.specs.declared.asked.Asked.{Asked}
 use Rattle.command_words.specs.declared.asked.Asked.TheVariants.{Init, Run, Dump, Demo, Upgrade, Ship, Follow}
 use Rattle.store_engine.specs.Engine.{InEachImage}
+use Rattle.redo_shell.specs.Again.{StandsStill}
 use Rattle.redo_shell.specs.Answers.{Moment, SaysTruly}
+use Rattle.redo_shell.specs.Courses.{OpeningMoment, RunMoment, TableMoment}
 use Rattle.redo_shell.specs.Dump.{dump_of, DumpMoment}
 use Rattle.redo_shell.specs.Following.{StandbyMoment}
 use Rattle.redo_shell.specs.Run.{IsComplete, MomentSoFar}
 use Rattle.redo_shell.specs.Shipping.{ShipMoment}
 use Rattle.redo_shell.specs.Stages.{Stage, IsFirst}
 use Rattle.redo_shell.specs.Status.{IsCut}
-use Rattle.redo_shell.specs.Store.{Command, StandsInEither}
-use Rattle.redo_shell.specs.declared.budget.Budget.TheVariants.{Least}
+use Rattle.redo_shell.specs.Store.{Command}
+use Rattle.redo_shell.specs.Upgrading.{UpgradeMoment}
+use Rattle.redo_shell.specs.declared.budget.Budget.TheVariants.{Least, Usual}
 use Rattle.redo_shell.specs.declared.status.Status.{Status}
 use Rattle.redo_shell.specs.declared.status.Status.TheVariants.{Done, DoneWithRefusals, NotAStore, Damaged, DiskFault, RestartMemory}
 
--- A run of a script of these lines, begun on `old`. Its restart was refused memory, which left `mid`; begun again it ends with
--- this status.
-pub record IsRunTwice (p : Params) (commands : List Command) (script : List (List ℕ)) (old mid new : Disk) (status : Status) : Type 0 where
-  -- what a crash at any moment of either leaves is what a crash at the start could leave, or it stands for these commands and a
-  -- beginning of those that the script has added, and what was said is the answers to the script's lines
-  pub images : LeavesOnly old new (OrAtStart old (Moment p commands script old.said))
-  pub from_settled : IsSettled old → LeavesOnly old new (Moment p commands script old.said)
-  pub opened : status ≢ DiskFault → status ≢ RestartMemory → InEachImage new (λ files. Moment p commands script old.said files new.said)
-  pub unclosed : IsCut status → LeavesOnly old new (OrAtStart old (MomentSoFar p commands script old.said))
-  -- what was said is the answers to the script's lines, from each stage that the second restart may make of the files
-  pub first : (first : Stage) × IsFirst Least p commands mid first
-  pub answers : (first : Stage) → IsFirst Least p commands mid first → SaysTruly p first commands script old new
-  pub complete : (first : Stage) → IsFirst Least p commands mid first → (status ≡ Done) ⊎ (status ≡ DoneWithRefusals) → IsComplete p first old new commands script status
-  pub store : (status ≢ NotAStore) × (status ≢ Damaged)
+module _ (p : Params) (commands : List Command) (old mid new : Disk) where
+  -- By the courses of both, from each stage that the first restart may make of the files and each that the second one may make of
+  -- what the first has left: a crash leaves what one at the start could leave, or the world after some first steps of the first
+  -- restart, or what is then said of the second call.
+  abbrev pub StepsTwice : ((again : Stage) → IsFirst Least p commands mid again → Files → List ℕ → Type 0) → Type 0
+  StepsTwice Then = (first : Stage) → (is : IsFirst Usual p commands old first) → (again : Stage) → (here : IsFirst Least p commands mid again)
+      → LeavesOnly old new (OrAtStart old (λ files said. OpeningMoment Usual p commands old first is files said ⊎ Then again here files said))
+
+  -- A run of a script of these lines, begun on `old`. Its restart was refused memory, which left `mid`; begun again it ends with
+  -- this status.
+  pub record IsRunTwice (script : List (List ℕ)) (status : Status) : Type 0 where
+    -- what a crash at any moment of either leaves is what a crash at the start could leave, or it stands for these commands and a
+    -- beginning of those that the script has added, and what was said is the answers to the script's lines
+    pub images : LeavesOnly old new (OrAtStart old (Moment p commands script old.said))
+    pub from_settled : IsSettled old → LeavesOnly old new (Moment p commands script old.said)
+    pub opened : status ≢ DiskFault → status ≢ RestartMemory → InEachImage new (λ files. Moment p commands script old.said files new.said)
+    pub unclosed : IsCut status → LeavesOnly old new (OrAtStart old (MomentSoFar p commands script old.said))
+    pub unclosed_from_settled : IsSettled old → IsCut status → LeavesOnly old new (MomentSoFar p commands script old.said)
+    pub unclosed_now : IsCut status → status ≢ RestartMemory → InEachImage new (λ files. MomentSoFar p commands script old.said files new.said)
+    -- what was said is the answers to the script's lines, from each stage that the second restart may make of the files
+    pub first : (first : Stage) × IsFirst Least p commands mid first
+    pub answers : (first : Stage) → IsFirst Least p commands mid first → SaysTruly p first commands script old new
+    pub steps : StepsTwice (λ again here. RunMoment Least p commands mid again here script)
+    pub complete : (first : Stage) → IsFirst Least p commands mid first → (status ≡ Done) ⊎ (status ≡ DoneWithRefusals) → IsComplete p first old new commands script status
+    -- where the second restart was refused memory too, the files stand for these commands still
+    pub unopened : status ≡ RestartMemory → StandsStill p commands old new
+    pub store : (status ≢ NotAStore) × (status ≢ Damaged)
 
 -- What the two make of files that stand for commands, by what was asked: what a crash at any moment of either leaves is what a
--- crash at the start could leave, or what one call leaves. The input had `left` at the start, where its source reports that.
+-- crash at the start could leave, or what one call leaves. The input had `left` at the start, where its source reports that; of one
+-- that does not the same holds of some script.
 abbrev pub IsCallTwice : Asked → Params → List Command → Type 0 → List ℕ → Disk → Disk → Disk → Status → Type 0
-IsCallTwice Run p commands told left old mid new status = told → IsRunTwice p commands (lines_of left) old mid new status
+IsCallTwice Run p commands told left old mid new status = (told → IsRunTwice p commands old mid new (lines_of left) status) × ((script : List (List ℕ)) × IsRunTwice p commands old mid new script status)
 IsCallTwice Dump p commands told left old mid new status = LeavesOnly old new (OrAtStart old (DumpMoment p commands old.said)) × (status ≡ Done → new.said ≡ old.said ++ dump_of p commands)
-IsCallTwice (Upgrade q) p commands told left old mid new status = LeavesOnly old new (OrAtStart old (λ files said. StandsInEither p q commands files))
+    × StepsTwice p commands old mid new (λ again here. TableMoment Least p commands mid again here)
+IsCallTwice (Upgrade q) p commands told left old mid new status = LeavesOnly old new (OrAtStart old (UpgradeMoment p q commands mid.reads old.said))
 IsCallTwice (Ship from) p commands told left old mid new status = LeavesOnly old new (OrAtStart old (ShipMoment p commands from old.said))
+    × StepsTwice p commands old mid new (λ again here. TableMoment Least p commands mid again here)
 IsCallTwice Follow p commands told left old mid new status = (bytes : List ℕ) × (rest : List ℕ) × (told → left ≡ bytes ++ rest)
     × ((first : Stage) → IsFirst Least p commands mid first → LeavesOnly old new (OrAtStart old (StandbyMoment p commands first.world.history bytes old new)))
 -- these open no store that is there

@@ -1,6 +1,6 @@
 // Files that break their format.
 ghost use Rattle.std.specs.Prelude.{◌≡◌, ◌⊎◌, ◌++◌, IfOk};
-ghost use Rattle.disk_model.specs.Disk.{Rises, Passes};
+ghost use Rattle.disk_model.specs.Disk.{Rises, Passes, Runs, Same, SaysFront};
 ghost use Rattle.redo_shell.specs.Keeps.{KeepsFiles, SaysOnly};
 ghost use Rattle.redo_shell.specs.Notices.{damaged, name_of_file};
 
@@ -40,6 +40,7 @@ fn damage_line(alloc: Global, file: FileNo, place: u64) -> Result<Vec<u8>, Memor
 pub fn end_damaged<M: Machine>(alloc: Global, machine: &mut M, file: FileNo, place: u64) -> Status
     ensures time { Passes (M.disk machine.old) (M.disk machine.new) }
     ensures keeps { KeepsFiles (M.disk machine.old) (M.disk machine.new) }
+    ensures runs { Runs Same (SaysFront (damaged file place)) (M.disk machine.old) (M.disk machine.new) }
     ensures says { SaysOnly (M.disk machine.old) (M.disk machine.new) }
     ensures all { (M.disk machine.old).tells_files → result ≡ Status.Damaged → (M.disk machine.new).said ≡ (M.disk machine.old).said ++ damaged file place }
     ensures status { (result ≡ Status.Damaged) ⊎ ((result ≡ Status.Memory) ⊎ (result ≡ Status.SayFault)) }

@@ -1,18 +1,17 @@
 // A store is made larger, where it stands.
 ghost use Rattle.std.specs.Prelude.{◌≡◌, ◌≢◌, ◌⊎◌, ◌++◌, List, length, IfOk};
-ghost use Rattle.disk_model.specs.Disk.{LeavesOnly, Passes, Rises};
+ghost use Rattle.disk_model.specs.Disk.{Passes, Rises, Runs, Same, SaysFront};
 ghost use Rattle.disk_model.specs.declared.machine.FileNo.TheVariants.{Objects};
 ghost use Rattle.formats.specs.Objects.{IsInRange};
 ghost use Rattle.formats.specs.declared.params.Params.{Params as Numbers};
 ghost use Rattle.stable_objects.specs.Larger.{IsLarger};
 ghost use Rattle.store_engine.specs.Engine.{InEachImage, forced_in};
 ghost use Rattle.store_engine.specs.Upgrading.{IsSecond, IsUncut};
-ghost use Rattle.redo_shell.specs.Calls.{IsUpgradeCall};
 ghost use Rattle.redo_shell.specs.Causes.{CountsFaults, last_length};
-ghost use Rattle.redo_shell.specs.Keeps.{KeepsFiles};
 ghost use Rattle.redo_shell.specs.Notices.{already_version_two, damaged, smaller};
 ghost use Rattle.redo_shell.specs.Status.{IsOfOpened, IsOfSecond, IsOfUpgrade};
-ghost use Rattle.redo_shell.specs.Store.{Command, Holds, IsAttached, IsUpgraded, Stands, StandsInEither};
+ghost use Rattle.redo_shell.specs.Store.{Command, Holds, IsAttached, IsUpgraded, Stands};
+ghost use Rattle.redo_shell.specs.Upgrading.{IsSilentUpgrade, IsUpgradeCall, LeavesEither};
 
 use crate::budget::Budget;
 use crate::damage::end_damaged;
@@ -44,11 +43,11 @@ fn smaller_line(alloc: Global, objects: u32, cap: u32) -> Result<Vec<u8>, Memory
 /// Says the numbers of a store that may not become smaller, and ends with that status, or out of memory for the line with
 /// that, or where the output fails with that.
 fn end_smaller<M: Machine>(alloc: Global, machine: &mut M, objects: u32, cap: u32) -> Status
-    ensures time { Passes (M.disk machine.old) (M.disk machine.new) }
-    ensures keeps { KeepsFiles (M.disk machine.old) (M.disk machine.new) }
+    ensures runs { Runs Same (SaysFront (smaller objects cap)) (M.disk machine.old) (M.disk machine.new) }
     ensures all { (M.disk machine.old).tells_files → result ≡ Status.Smaller → (M.disk machine.new).said ≡ (M.disk machine.old).said ++ smaller objects cap }
     ensures status { (result ≡ Status.Smaller) ⊎ ((result ≡ Status.Memory) ⊎ (result ≡ Status.SayFault)) }
     ensures cause { result ≡ Status.SayFault → Rises (M.disk machine.old).say_faults (M.disk machine.new).say_faults }
+    ensures silent { result ≡ Status.Memory → machine.new ≡ machine.old }
 {
     match smaller_line(alloc, objects, cap) {
         Ok(line) => end_with(machine, line.as_slice(), Status::Smaller),
@@ -65,12 +64,10 @@ fn upgrade_open<M: Machine>(
 ) -> Status
     requires { IsInRange params }
     ensures time { Passes (M.disk machine.old) (M.disk machine.new) }
-    ensures images { (p : Numbers) (commands : List Command) → Holds p (M.disk machine.old) engine commands → forced_in engine ≡ length commands → (M.disk machine.old).tells_moments →
-        LeavesOnly (M.disk machine.old) (M.disk machine.new) (λ files said. StandsInEither p params commands files) }
-    ensures stands { (p : Numbers) (commands : List Command) → Holds p (M.disk machine.old) engine commands → forced_in engine ≡ length commands →
-        InEachImage (M.disk machine.new) (StandsInEither p params commands) }
+    ensures leaves { (p : Numbers) (commands : List Command) → Holds p (M.disk machine.old) engine commands → forced_in engine ≡ length commands →
+        LeavesEither p params commands (M.disk machine.old) (M.disk machine.new) }
     ensures done { (p : Numbers) (commands : List Command) → Holds p (M.disk machine.old) engine commands → forced_in engine ≡ length commands → result ≡ Status.Done →
-        InEachImage (M.disk machine.new) (IsUpgraded params commands) × IsLarger p params × ((M.disk machine.new).said ≡ (M.disk machine.old).said) }
+        InEachImage (M.disk machine.new) (IsUpgraded params commands) × IsLarger p params }
     ensures idle { (p : Numbers) (commands : List Command) → Holds p (M.disk machine.old) engine commands → forced_in engine ≡ length commands →
         (result ≡ Status.AlreadyTwo) ⊎ (result ≡ Status.Smaller) → InEachImage (M.disk machine.new) (λ files. Stands p files commands) }
     ensures second { (M.disk machine.old).tells_files → IsAttached (M.disk machine.old) engine → IsSecond (M.disk machine.old).reads → IsOfSecond result }
@@ -80,6 +77,8 @@ fn upgrade_open<M: Machine>(
         IsSecond (M.disk machine.old).reads × ((M.disk machine.new).said ≡ (M.disk machine.old).said ++ already_version_two) }
     ensures damaged { (M.disk machine.old).tells_files → IsAttached (M.disk machine.old) engine → result ≡ Status.Damaged →
         (IsUncut (M.disk machine.old) engine → ⊥) × ((M.disk machine.new).said ≡ (M.disk machine.old).said ++ damaged Objects (last_length ((M.disk machine.old).reads Objects))) }
+    // A fault of the disk and out of memory are reported by the status alone.
+    ensures quiet { (M.disk machine.old).tells_files → IsSilentUpgrade result → (M.disk machine.new).said ≡ (M.disk machine.old).said }
     ensures status { IsOfUpgrade result × IsOfOpened result }
     ensures faults { CountsFaults (M.disk machine.old) (M.disk machine.new) result }
 {

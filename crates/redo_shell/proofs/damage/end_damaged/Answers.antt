@@ -1,5 +1,8 @@
+use Rattle.std.proofs.Common.{◌∙◌, List, ℕ, subst}
+use Rattle.disk_model.specs.Disk.{Runs, Same, SaysFront}
 use Rattle.disk_model.specs.Moments.{stays_here}
-use Rattle.redo_shell.proofs.KeepLemmas.{keeps_once, keeps_none, says_once}
+use Rattle.redo_shell.specs.Notices.{damaged}
+use Rattle.redo_shell.proofs.KeepLemmas.{keeps_once, keeps_none, says_more, says_once, stays_silent}
 use Rattle.redo_shell.proofs.damage.end_damaged.Goals as goal
 
 pub returns-in-Ok-clause-keeps : goal.returns-in-Ok-clause-keeps
@@ -13,3 +16,9 @@ returns-in-Ok-clause-says g c = says_once (g.M.Machine.disk c.args.machine.now) 
 
 pub returns-in-Err-clause-says : goal.returns-in-Err-clause-says
 returns-in-Err-clause-says g c = says_once (g.M.Machine.disk c.args.machine.now) (g.M.Machine.disk c.args.machine.now) (stays_here (g.M.Machine.disk c.args.machine.now) (g.met.M.Machine.lawful c.args.machine.now))
+
+pub returns-in-Ok-clause-runs : goal.returns-in-Ok-clause-runs
+returns-in-Ok-clause-runs g c = subst (λ (l : List ℕ). Runs Same (SaysFront l) (g.M.Machine.disk c.args.machine.now) (g.M.Machine.disk c.end_with.new.machine)) (c.as_slice.ensures.value ∙ c.in-Ok.ensures) c.end_with.ensures.runs
+
+pub returns-in-Err-clause-runs : goal.returns-in-Err-clause-runs
+returns-in-Err-clause-runs g c = says_more (damaged c.args.file c.args.place) (stays_silent (stays_here (g.M.Machine.disk c.args.machine.now) (g.met.M.Machine.lawful c.args.machine.now)))

@@ -6,7 +6,7 @@ use Rattle.redo_shell.specs.Status.{IsOfOpened}
 use Rattle.redo_shell.specs.Causes.{IsCutStore}
 use Rattle.redo_shell.specs.Notices.{already_version_two, damaged, smaller}
 use Rattle.redo_shell.proofs.HoldLemmas.{rises_within}
-use Rattle.redo_shell.proofs.UpgradeLemmas.{cut_store, in_between, judged_whole, unopened_upgrade, upgrade_images, upgrade_settled, upgrade_unopened}
+use Rattle.redo_shell.proofs.UpgradeLemmas.{cut_store, in_between, judged_whole, says_before, unopened_upgrade, upgrade_images, upgrade_settled, upgrade_unopened}
 use Rattle.redo_shell.proofs.upgrade.upgrade.Goals as goal
 
 pub returns-in-Ok-clause-time : goal.returns-in-Ok-clause-time
@@ -27,21 +27,24 @@ returns-in-Ok-clause-call g c =
           let files = c.open_store.ensures.opens p commands opens in
           let holds = (opened.shows files.first.0 files.first.1).0 in
           let told_mid = first.files_told.0 opens.told in
-          let images = upgrade_images p c.args.params commands old mid new files first (c.upgrade_open.ensures.images p commands holds opened.all) in
+          let layout = c.in-Ok.ensures.layout opens.told in
+          let leaves = c.upgrade_open.ensures.leaves p commands holds opened.all in
+          let images = upgrade_images p c.args.params commands old mid new files first layout leaves.images in
           record {
             images = images;
             from_settled = upgrade_settled p c.args.params commands old new (g.met.M.Machine.lawful c.args.machine.now) opens images;
-            stands = λ disk memory. c.upgrade_open.ensures.stands p commands holds opened.all;
+            stands = λ disk memory. leaves.stands;
             done = λ is. (c.upgrade_open.ensures.done p commands holds opened.all is).0;
-            quiet = λ is. (c.upgrade_open.ensures.done p commands holds opened.all is).2 ∙ files.quiet;
+            quiet = λ is. c.upgrade_open.ensures.quiet told_mid is ∙ files.quiet;
+            said = says_before old.reads mid.reads layout files.quiet leaves.said;
             larger = λ is. (c.upgrade_open.ensures.done p commands holds opened.all is).1;
             smaller = λ is.
                 let said = c.upgrade_open.ensures.smaller p commands holds is in
                 (said.0, said.1 ∙ ap (λ (l : List ℕ). l ++ smaller p.objects p.cap) files.quiet);
             already = λ is.
                 let said = c.upgrade_open.ensures.already told_mid attached is in
-                (sym (c.in-Ok.ensures.layout opens.told).version ∙ said.0, said.1 ∙ ap (λ (l : List ℕ). l ++ already_version_two) files.quiet);
-            second = λ is. c.upgrade_open.ensures.second told_mid attached ((c.in-Ok.ensures.layout opens.told).version ∙ is);
+                (sym layout.version ∙ said.0, said.1 ∙ ap (λ (l : List ℕ). l ++ already_version_two) files.quiet);
+            second = λ is. c.upgrade_open.ensures.second told_mid attached (layout.version ∙ is);
             idle = λ is. c.upgrade_open.ensures.idle p commands holds opened.all is;
             unopened = λ told is. absurd (subst IsOfOpened is c.upgrade_open.ensures.status.1);
             store = λ is. subst IsOfOpened is c.upgrade_open.ensures.status.1;

@@ -1,49 +1,69 @@
-use Rattle.std.proofs.Common.{◌+◌, ◌++◌, ◌∙◌, ⊎_elim, List, ℕ, ap, subst, arith, take, Result, Err}
-use Rattle.disk_model.specs.Disk.{Rises}
+use Rattle.std.proofs.Common.{◌≡◌, ◌+◌, ◌++◌, ◌∙◌, inl, inr, ⊎_elim, List, ℕ, ap, refl, subst, arith, Err}
+use Rattle.disk_model.specs.Disk.{Disk, Rises}
 use Rattle.disk_model.specs.Moments.{passes_twice}
 use Rattle.disk_model.specs.declared.machine.FileNo.TheVariants.{Objects}
 use Rattle.formats.specs.Objects.{last_slot}
 use Rattle.stable_objects.specs.SlotLaws.{layout_of_file}
-use Rattle.store_engine.specs.Engine.{InEachImage, forced_in}
-use Rattle.store_engine.specs.Upgrading.{HasUpgradeCause, WhereIdle}
+use Rattle.store_engine.specs.Upgrading.{HasUpgradeCause}
 use Rattle.store_engine.specs.declared.upgrade_err.UpgradeErr.{UpgradeErr}
+use Rattle.redo_shell.specs.Causes.{last_length}
 use Rattle.redo_shell.specs.Notices.{already_version_two, damaged, smaller}
-use Rattle.redo_shell.specs.Store.{Stands, StandsInEither}
-use Rattle.redo_shell.proofs.HoldLemmas.{in_engine, rises_within, told_by}
-use Rattle.redo_shell.proofs.KeepLemmas.{keeps_once}
-use Rattle.redo_shell.proofs.UpgradeLemmas.{IsOfDamage, IsOfSmaller, IsOfTwo, all_each, all_images, all_still, all_upgraded, damage_ends, damage_upgrade, images_behind, kept_each, larger_in, larger_of, silent_images, smaller_ends, smaller_upgrade, two_ends, two_second, two_upgrade}
+use Rattle.redo_shell.proofs.HoldLemmas.{attached_of, in_engine, rises_within, told_by}
+use Rattle.redo_shell.proofs.UpgradeLemmas.{IsOfDamage, IsOfSmaller, IsOfTwo, all_upgraded, damage_ends, damage_silent, damage_upgrade, larger_in, larger_of, leaves_saying, leaves_silent, smaller_ends, smaller_silent, smaller_upgrade, stays_idle, two_ends, two_loud, two_second, two_upgrade}
 use Rattle.redo_shell.proofs.upgrade.upgrade_open.Goals as goal
 
-pub returns-in-Ok-clause-images : goal.returns-in-Ok-clause-images
-returns-in-Ok-clause-images g c = λ p commands holds all telling.
-    all_images (forced_in c.args.engine) commands all p c.args.params (g.M.Machine.disk c.args.machine.now) (g.M.Machine.disk c.upgrade.new.machine)
-    (silent_images (StandsInEither p c.args.params (take (forced_in c.args.engine) commands)) (g.M.Machine.disk c.args.machine.now) (g.M.Machine.disk c.upgrade.new.machine) (c.upgrade.ensures.images telling p commands (in_engine holds)))
+pub returns-in-Ok-clause-leaves : goal.returns-in-Ok-clause-leaves
+returns-in-Ok-clause-leaves g c = λ p commands holds all. leaves_silent c.upgrade.ensures holds all
 
-pub returns-in-Ok-clause-stands : goal.returns-in-Ok-clause-stands
-returns-in-Ok-clause-stands g c = λ p commands holds all. all_each (forced_in c.args.engine) commands all p c.args.params (g.M.Machine.disk c.upgrade.new.machine) (c.upgrade.ensures.stands p commands (in_engine holds))
+pub returns-in-Err-DiskFault-clause-leaves : goal.returns-in-Err-DiskFault-clause-leaves
+returns-in-Err-DiskFault-clause-leaves g c = λ p commands holds all. leaves_silent c.upgrade.ensures holds all
 
-pub returns-in-Err-DiskFault-clause-images : goal.returns-in-Err-DiskFault-clause-images
-returns-in-Err-DiskFault-clause-images g c = λ p commands holds all telling.
-    all_images (forced_in c.args.engine) commands all p c.args.params (g.M.Machine.disk c.args.machine.now) (g.M.Machine.disk c.upgrade.new.machine)
-    (silent_images (StandsInEither p c.args.params (take (forced_in c.args.engine) commands)) (g.M.Machine.disk c.args.machine.now) (g.M.Machine.disk c.upgrade.new.machine) (c.upgrade.ensures.images telling p commands (in_engine holds)))
+pub returns-in-Err-Memory-clause-leaves : goal.returns-in-Err-Memory-clause-leaves
+returns-in-Err-Memory-clause-leaves g c = λ p commands holds all. leaves_silent c.upgrade.ensures holds all
 
-pub returns-in-Err-DiskFault-clause-stands : goal.returns-in-Err-DiskFault-clause-stands
-returns-in-Err-DiskFault-clause-stands g c = λ p commands holds all. all_each (forced_in c.args.engine) commands all p c.args.params (g.M.Machine.disk c.upgrade.new.machine) (c.upgrade.ensures.stands p commands (in_engine holds))
+pub returns-in-Err-AlreadyTwo-clause-leaves : goal.returns-in-Err-AlreadyTwo-clause-leaves
+returns-in-Err-AlreadyTwo-clause-leaves g c = λ p commands holds all.
+    let second = (c.upgrade.ensures.version (told_by holds) (attached_of holds)).0 (cc (c.in-Err-AlreadyTwo.is, c.in-Err-AlreadyTwo.field-0-is)) in
+    leaves_saying c.upgrade.ensures holds all {line = already_version_two} c.end_with.ensures.runs (inl (second, refl))
 
-pub returns-in-Err-Memory-clause-images : goal.returns-in-Err-Memory-clause-images
-returns-in-Err-Memory-clause-images g c = λ p commands holds all telling.
-    all_images (forced_in c.args.engine) commands all p c.args.params (g.M.Machine.disk c.args.machine.now) (g.M.Machine.disk c.upgrade.new.machine)
-    (silent_images (StandsInEither p c.args.params (take (forced_in c.args.engine) commands)) (g.M.Machine.disk c.args.machine.now) (g.M.Machine.disk c.upgrade.new.machine) (c.upgrade.ensures.images telling p commands (in_engine holds)))
+pub returns-in-Err-Smaller-clause-leaves : goal.returns-in-Err-Smaller-clause-leaves
+returns-in-Err-Smaller-clause-leaves g c = λ p commands holds all.
+    let cause = subst (λ (e : UpgradeErr). HasUpgradeCause c.args.engine c.args.params (Rises (g.M.Machine.disk c.args.machine.now).disk_faults (g.M.Machine.disk c.upgrade.new.machine).disk_faults) (Err e)) c.in-Err-Smaller.field-0-is c.in-Err-Smaller.ensures.cause in
+    let numbers = holds.shows.shows.store.params in
+    let line : smaller c.in-Err-Smaller.objects c.in-Err-Smaller.cap ≡ smaller p.objects p.cap = λ i. smaller ((cause.objects_are ∙ ap (λ q. q.objects) numbers) i) ((cause.cap_is ∙ ap (λ q. q.cap) numbers) i) in
+    leaves_saying c.upgrade.ensures holds all c.end_smaller.ensures.runs (inr (inl (λ larger. cause.smaller (larger_of holds larger), line)))
 
-pub returns-in-Err-Memory-clause-stands : goal.returns-in-Err-Memory-clause-stands
-returns-in-Err-Memory-clause-stands g c = λ p commands holds all. all_each (forced_in c.args.engine) commands all p c.args.params (g.M.Machine.disk c.upgrade.new.machine) (c.upgrade.ensures.stands p commands (in_engine holds))
+pub returns-in-Err-Damaged-clause-leaves : goal.returns-in-Err-Damaged-clause-leaves
+returns-in-Err-Damaged-clause-leaves g c = λ p commands holds all.
+    let told = told_by holds in
+    let attached = attached_of holds in
+    let at = c.upgrade.ensures.damaged told attached c.in-Err-Damaged.file c.in-Err-Damaged.place (cc (c.in-Err-Damaged.is, c.in-Err-Damaged.field-0-is)) in
+    let layout = layout_of_file c.args.engine.parts.volatile.objects.slots ((g.M.Machine.disk c.args.machine.now).reads Objects) (attached told).0.slots in
+    let line : damaged c.in-Err-Damaged.file c.in-Err-Damaged.place ≡ damaged Objects (last_length ((g.M.Machine.disk c.args.machine.now).reads Objects)) = λ i. damaged (at.file_is i) ((at.place_is ∙ ap (λ l. last_slot l + 9) layout) i) in
+    leaves_saying c.upgrade.ensures holds all c.end_damaged.ensures.runs (inr (inr line))
+
+pub returns-in-Err-AlreadyTwo-clause-quiet : goal.returns-in-Err-AlreadyTwo-clause-quiet
+returns-in-Err-AlreadyTwo-clause-quiet g c = λ told is. absurd (two_loud c.end_with.result (two_ends c.end_with.result c.end_with.ensures.status) is)
+
+pub returns-in-Err-Smaller-clause-quiet : goal.returns-in-Err-Smaller-clause-quiet
+returns-in-Err-Smaller-clause-quiet g c = λ told is.
+    ap (λ (d : Disk). d.said) (ap g.M.Machine.disk (c.end_smaller.ensures.silent (smaller_silent c.end_smaller.result (smaller_ends c.end_smaller.result c.end_smaller.ensures.status) is))) ∙ c.upgrade.ensures.quiet told
+
+pub returns-in-Err-Damaged-clause-quiet : goal.returns-in-Err-Damaged-clause-quiet
+returns-in-Err-Damaged-clause-quiet g c = λ told is.
+    ap (λ (d : Disk). d.said) (ap g.M.Machine.disk (c.end_damaged.ensures.silent (damage_silent c.end_damaged.result (damage_ends c.end_damaged.result c.end_damaged.ensures.status) is))) ∙ c.upgrade.ensures.quiet told
+
+pub returns-in-Ok-clause-quiet : goal.returns-in-Ok-clause-quiet
+returns-in-Ok-clause-quiet g c = λ told is. c.upgrade.ensures.quiet told
+
+pub returns-in-Err-DiskFault-clause-quiet : goal.returns-in-Err-DiskFault-clause-quiet
+returns-in-Err-DiskFault-clause-quiet g c = λ told is. c.upgrade.ensures.quiet told
+
+pub returns-in-Err-Memory-clause-quiet : goal.returns-in-Err-Memory-clause-quiet
+returns-in-Err-Memory-clause-quiet g c = λ told is. c.upgrade.ensures.quiet told
 
 pub returns-in-Ok-clause-done : goal.returns-in-Ok-clause-done
-returns-in-Ok-clause-done g c = λ p commands holds all is. (
-  all_upgraded (forced_in c.args.engine) commands all c.args.params (g.M.Machine.disk c.upgrade.new.machine) (c.in-Ok.ensures.upgraded p commands (in_engine holds)),
-  larger_in holds c.in-Ok.ensures.cause.larger,
-  c.upgrade.ensures.quiet (told_by holds),
-)
+returns-in-Ok-clause-done g c = λ p commands holds all is. (all_upgraded c.upgrade.ensures holds all (c.in-Ok.ensures.upgraded p commands (in_engine holds)), larger_in holds c.in-Ok.ensures.cause.larger)
 
 pub returns-in-Err-DiskFault-clause-faults : goal.returns-in-Err-DiskFault-clause-faults
 returns-in-Err-DiskFault-clause-faults g c =
@@ -52,16 +72,6 @@ returns-in-Err-DiskFault-clause-faults g c =
 
 pub returns-in-Err-AlreadyTwo-clause-time : goal.returns-in-Err-AlreadyTwo-clause-time
 returns-in-Err-AlreadyTwo-clause-time g c = passes_twice (g.M.Machine.disk c.args.machine.now) (g.M.Machine.disk c.upgrade.new.machine) (g.M.Machine.disk c.end_with.new.machine) (g.met.M.Machine.lawful c.end_with.new.machine) c.upgrade.ensures.time c.end_with.ensures.runs.time
-
-pub returns-in-Err-AlreadyTwo-clause-images : goal.returns-in-Err-AlreadyTwo-clause-images
-returns-in-Err-AlreadyTwo-clause-images g c = λ p commands holds all telling.
-    all_images (forced_in c.args.engine) commands all p c.args.params (g.M.Machine.disk c.args.machine.now) (g.M.Machine.disk c.end_with.new.machine)
-    (images_behind (StandsInEither p c.args.params (take (forced_in c.args.engine) commands)) (g.M.Machine.disk c.args.machine.now) (g.M.Machine.disk c.upgrade.new.machine) (g.M.Machine.disk c.end_with.new.machine) c.upgrade.ensures.time telling (c.upgrade.ensures.images telling p commands (in_engine holds)) (c.upgrade.ensures.stands p commands (in_engine holds)) (keeps_once (g.M.Machine.disk c.upgrade.new.machine) (g.M.Machine.disk c.end_with.new.machine) c.end_with.ensures.runs))
-
-pub returns-in-Err-AlreadyTwo-clause-stands : goal.returns-in-Err-AlreadyTwo-clause-stands
-returns-in-Err-AlreadyTwo-clause-stands g c = λ p commands holds all.
-    all_each (forced_in c.args.engine) commands all p c.args.params (g.M.Machine.disk c.end_with.new.machine)
-    (kept_each (StandsInEither p c.args.params (take (forced_in c.args.engine) commands)) (g.M.Machine.disk c.upgrade.new.machine) (g.M.Machine.disk c.end_with.new.machine) (g.met.M.Machine.lawful c.end_with.new.machine) c.end_with.ensures.runs.time (keeps_once (g.M.Machine.disk c.upgrade.new.machine) (g.M.Machine.disk c.end_with.new.machine) c.end_with.ensures.runs) (c.upgrade.ensures.time.files_told.0 (told_by holds)) (c.upgrade.ensures.stands p commands (in_engine holds)))
 
 pub returns-in-Err-AlreadyTwo-clause-done : goal.returns-in-Err-AlreadyTwo-clause-done
 returns-in-Err-AlreadyTwo-clause-done g c = λ p commands holds all is. absurd (subst IsOfTwo is (two_ends c.end_with.result c.end_with.ensures.status))
@@ -88,17 +98,7 @@ pub returns-in-Err-AlreadyTwo-clause-damaged : goal.returns-in-Err-AlreadyTwo-cl
 returns-in-Err-AlreadyTwo-clause-damaged g c = λ told attached is. absurd (subst IsOfTwo is (two_ends c.end_with.result c.end_with.ensures.status))
 
 pub returns-in-Err-Smaller-clause-time : goal.returns-in-Err-Smaller-clause-time
-returns-in-Err-Smaller-clause-time g c = passes_twice (g.M.Machine.disk c.args.machine.now) (g.M.Machine.disk c.upgrade.new.machine) (g.M.Machine.disk c.end_smaller.new.machine) (g.met.M.Machine.lawful c.end_smaller.new.machine) c.upgrade.ensures.time c.end_smaller.ensures.time
-
-pub returns-in-Err-Smaller-clause-images : goal.returns-in-Err-Smaller-clause-images
-returns-in-Err-Smaller-clause-images g c = λ p commands holds all telling.
-    all_images (forced_in c.args.engine) commands all p c.args.params (g.M.Machine.disk c.args.machine.now) (g.M.Machine.disk c.end_smaller.new.machine)
-    (images_behind (StandsInEither p c.args.params (take (forced_in c.args.engine) commands)) (g.M.Machine.disk c.args.machine.now) (g.M.Machine.disk c.upgrade.new.machine) (g.M.Machine.disk c.end_smaller.new.machine) c.upgrade.ensures.time telling (c.upgrade.ensures.images telling p commands (in_engine holds)) (c.upgrade.ensures.stands p commands (in_engine holds)) c.end_smaller.ensures.keeps)
-
-pub returns-in-Err-Smaller-clause-stands : goal.returns-in-Err-Smaller-clause-stands
-returns-in-Err-Smaller-clause-stands g c = λ p commands holds all.
-    all_each (forced_in c.args.engine) commands all p c.args.params (g.M.Machine.disk c.end_smaller.new.machine)
-    (kept_each (StandsInEither p c.args.params (take (forced_in c.args.engine) commands)) (g.M.Machine.disk c.upgrade.new.machine) (g.M.Machine.disk c.end_smaller.new.machine) (g.met.M.Machine.lawful c.end_smaller.new.machine) c.end_smaller.ensures.time c.end_smaller.ensures.keeps (c.upgrade.ensures.time.files_told.0 (told_by holds)) (c.upgrade.ensures.stands p commands (in_engine holds)))
+returns-in-Err-Smaller-clause-time g c = passes_twice (g.M.Machine.disk c.args.machine.now) (g.M.Machine.disk c.upgrade.new.machine) (g.M.Machine.disk c.end_smaller.new.machine) (g.met.M.Machine.lawful c.end_smaller.new.machine) c.upgrade.ensures.time c.end_smaller.ensures.runs.time
 
 pub returns-in-Err-Smaller-clause-done : goal.returns-in-Err-Smaller-clause-done
 returns-in-Err-Smaller-clause-done g c = λ p commands holds all is. absurd (subst IsOfSmaller is (smaller_ends c.end_smaller.result c.end_smaller.ensures.status))
@@ -130,16 +130,6 @@ returns-in-Err-Smaller-clause-damaged g c = λ told attached is. absurd (subst I
 
 pub returns-in-Err-Damaged-clause-time : goal.returns-in-Err-Damaged-clause-time
 returns-in-Err-Damaged-clause-time g c = passes_twice (g.M.Machine.disk c.args.machine.now) (g.M.Machine.disk c.upgrade.new.machine) (g.M.Machine.disk c.end_damaged.new.machine) (g.met.M.Machine.lawful c.end_damaged.new.machine) c.upgrade.ensures.time c.end_damaged.ensures.time
-
-pub returns-in-Err-Damaged-clause-images : goal.returns-in-Err-Damaged-clause-images
-returns-in-Err-Damaged-clause-images g c = λ p commands holds all telling.
-    all_images (forced_in c.args.engine) commands all p c.args.params (g.M.Machine.disk c.args.machine.now) (g.M.Machine.disk c.end_damaged.new.machine)
-    (images_behind (StandsInEither p c.args.params (take (forced_in c.args.engine) commands)) (g.M.Machine.disk c.args.machine.now) (g.M.Machine.disk c.upgrade.new.machine) (g.M.Machine.disk c.end_damaged.new.machine) c.upgrade.ensures.time telling (c.upgrade.ensures.images telling p commands (in_engine holds)) (c.upgrade.ensures.stands p commands (in_engine holds)) c.end_damaged.ensures.keeps)
-
-pub returns-in-Err-Damaged-clause-stands : goal.returns-in-Err-Damaged-clause-stands
-returns-in-Err-Damaged-clause-stands g c = λ p commands holds all.
-    all_each (forced_in c.args.engine) commands all p c.args.params (g.M.Machine.disk c.end_damaged.new.machine)
-    (kept_each (StandsInEither p c.args.params (take (forced_in c.args.engine) commands)) (g.M.Machine.disk c.upgrade.new.machine) (g.M.Machine.disk c.end_damaged.new.machine) (g.met.M.Machine.lawful c.end_damaged.new.machine) c.end_damaged.ensures.time c.end_damaged.ensures.keeps (c.upgrade.ensures.time.files_told.0 (told_by holds)) (c.upgrade.ensures.stands p commands (in_engine holds)))
 
 pub returns-in-Err-Damaged-clause-done : goal.returns-in-Err-Damaged-clause-done
 returns-in-Err-Damaged-clause-done g c = λ p commands holds all is. absurd (subst IsOfDamage is (damage_ends c.end_damaged.result c.end_damaged.ensures.status))
@@ -179,20 +169,10 @@ pub returns-in-Err-Memory-clause-idle : goal.returns-in-Err-Memory-clause-idle
 returns-in-Err-Memory-clause-idle g c = λ p commands holds all is. absurd (⊎_elim (λ e. cc e) (λ e. cc e) is)
 
 pub returns-in-Err-AlreadyTwo-clause-idle : goal.returns-in-Err-AlreadyTwo-clause-idle
-returns-in-Err-AlreadyTwo-clause-idle g c = λ p commands holds all is.
-    let mid = (g.M.Machine.disk c.upgrade.new.machine) in
-    let there = InEachImage mid (λ files. Stands p files (take (forced_in c.args.engine) commands)) in
-    let left = subst (λ (r : Result (Unit {0}) UpgradeErr). WhereIdle there r) (c.in-Err-AlreadyTwo.is ∙ ap Err c.in-Err-AlreadyTwo.field-0-is) (c.upgrade.ensures.left p commands (in_engine holds)) in
-    all_still (forced_in c.args.engine) commands all p (g.M.Machine.disk c.end_with.new.machine)
-    (kept_each (λ files. Stands p files (take (forced_in c.args.engine) commands)) mid (g.M.Machine.disk c.end_with.new.machine) (g.met.M.Machine.lawful c.end_with.new.machine) c.end_with.ensures.runs.time (keeps_once (g.M.Machine.disk c.upgrade.new.machine) (g.M.Machine.disk c.end_with.new.machine) c.end_with.ensures.runs) (c.upgrade.ensures.time.files_told.0 (told_by holds)) left)
+returns-in-Err-AlreadyTwo-clause-idle g c = λ p commands holds all is. stays_idle c.upgrade.ensures holds all c.end_with.ensures.runs (c.in-Err-AlreadyTwo.is ∙ ap Err c.in-Err-AlreadyTwo.field-0-is) (λ there. there)
 
 pub returns-in-Err-Smaller-clause-idle : goal.returns-in-Err-Smaller-clause-idle
-returns-in-Err-Smaller-clause-idle g c = λ p commands holds all is.
-    let mid = (g.M.Machine.disk c.upgrade.new.machine) in
-    let there = InEachImage mid (λ files. Stands p files (take (forced_in c.args.engine) commands)) in
-    let left = subst (λ (r : Result (Unit {0}) UpgradeErr). WhereIdle there r) (c.in-Err-Smaller.is ∙ ap Err c.in-Err-Smaller.field-0-is) (c.upgrade.ensures.left p commands (in_engine holds)) in
-    all_still (forced_in c.args.engine) commands all p (g.M.Machine.disk c.end_smaller.new.machine)
-    (kept_each (λ files. Stands p files (take (forced_in c.args.engine) commands)) mid (g.M.Machine.disk c.end_smaller.new.machine) (g.met.M.Machine.lawful c.end_smaller.new.machine) c.end_smaller.ensures.time c.end_smaller.ensures.keeps (c.upgrade.ensures.time.files_told.0 (told_by holds)) left)
+returns-in-Err-Smaller-clause-idle g c = λ p commands holds all is. stays_idle c.upgrade.ensures holds all c.end_smaller.ensures.runs (c.in-Err-Smaller.is ∙ ap Err c.in-Err-Smaller.field-0-is) (λ there. there)
 
 pub returns-in-Err-Damaged-clause-idle : goal.returns-in-Err-Damaged-clause-idle
 returns-in-Err-Damaged-clause-idle g c = λ p commands holds all is.
