@@ -703,7 +703,7 @@ class Hash(_Map):
                 at = end + 1 + bucket[end]
         except IndexError:
             at = 0
-        if at != len(bucket) or bucket[0] != 4:
+        if at != len(bucket) or bucket[:1] != b"\x04":
             raise _error(BadHash.code, (x, 0, 0))
         return keys
 
