@@ -33,12 +33,17 @@ install:
 	install -m 644 capi/redo.h $(include)/redo.h
 	sed 's|@PREFIX@|$(PREFIX)|; s|@VERSION@|$(version)|' capi/redo.pc.in >$(lib)/pkgconfig/redo.pc
 	chmod 644 $(lib)/pkgconfig/redo.pc
+	install -d $(libexec)/python/shell
+	install -m 644 capi/redo.py capi/redo_shell.py $(libexec)/python
+	install -m 644 capi/shell/*.py $(libexec)/python/shell
+	ln -sf ../../../lib/libredo.so.1 $(libexec)/python/libredo.so.1
 
 uninstall:
 	rm -f $(bin)/redo $(bin)/redo_log $(bin)/redo_check $(man)/redo.1 $(completions)/redo
 	rm -f $(libexec)/redo $(libexec)/redo_log $(libexec)/redo_check
 	rm -f $(lib)/libredo.so $(lib)/libredo.so.1 $(lib)/pkgconfig/redo.pc $(include)/redo.h
 	rm -f $(doc)/LICENSE-MIT $(doc)/LICENSE-APACHE $(doc)/THIRD-PARTY
+	rm -rf $(libexec)/python
 	-rmdir $(libexec) $(doc)
 
 # what runs and reads without the sources: unpack it and `make install`
@@ -46,4 +51,4 @@ dist:
 	tar -czf redo-$(version)-x86_64-linux.tar.gz --transform 's|^|redo-$(version)/|' \
 	  README.md CHANGELOG.md LICENSE-MIT LICENSE-APACHE THIRD-PARTY Makefile docs release/redo-x86_64-linux release/redo_log-x86_64-linux \
 	  release/redo_check-x86_64-linux release/start release/look release/completion.bash release/libredo-x86_64-linux.so \
-	  capi/redo.h capi/redo.pc.in capi/redo.py capi/pyproject.toml capi/build_wheel.py
+	  capi/redo.h capi/redo.pc.in capi/redo.py capi/redo_shell.py capi/shell capi/pyproject.toml capi/build_wheel.py

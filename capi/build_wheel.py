@@ -1,4 +1,4 @@
-"""Packs the module and the built library into a wheel, for pip (pyproject.toml)."""
+"""Packs the module, its shell and the built library into a wheel, for pip (pyproject.toml)."""
 from __future__ import annotations
 
 import base64
@@ -30,11 +30,15 @@ def _files(version: str) -> dict[str, bytes]:
     if library is None:
         raise FileNotFoundError("release/ has no library, and capi/make has made none")
     info = f"{NAME}-{version}.dist-info"
+    shell = sorted(name for name in os.listdir(os.path.join(HERE, "shell")) if name.endswith(".py"))
     files = {
         "redo/__init__.py": _read(os.path.join(HERE, "redo.py")).replace(b'__version__ = "0"', f'__version__ = "{version}"'.encode()),
+        "redo/__main__.py": b'"""`python3 -m redo DIR`"""\nfrom redo.shell.main import main\n\nraise SystemExit(main())\n',
+        **{f"redo/shell/{name}": _read(os.path.join(HERE, "shell", name)) for name in shell},
         "redo/py.typed": b"",
         "redo/libredo.so.1": _read(library),
         f"{info}/METADATA": f"Metadata-Version: 2.1\nName: redo-store\nVersion: {version}\nRequires-Python: >=3.9\n".encode(),
+        f"{info}/entry_points.txt": b"[console_scripts]\nredo-shell = redo.shell.main:main\n",
         f"{info}/WHEEL": f"Wheel-Version: 1.0\nGenerator: redo\nRoot-Is-Purelib: false\nTag: {TAG}\n".encode(),
     }
     record = "".join(

@@ -1,5 +1,5 @@
 # The forms of words, lines and statuses are the same in docs/SCRIPT.md, on the manual page, in `redo run --help`, in the usage line,
-# and where the command completes them.
+# in the table of the shell, and where the command completes them.
 top=$(dirname "$(readlink -f "$(command -v redo)")")
 script=$top/docs/SCRIPT.md page=$top/docs/redo.1
 
@@ -16,17 +16,19 @@ section LINES | sed -n '/^\.TP/{n;s/^\.BI* //;s/  */ /g;p}' >lines.page
 redo run --help | sed -n '/^Lines:/,/^$/s/^  //p' | tr ',' '\n' | sed 's/^ *//; /^#/d; /^$/d' >lines.help
 alike "lines of the manual page" SCRIPT lines redo.1 lines.page
 alike "lines of the help" SCRIPT lines --help lines.help
+sed -n 's/^    Form("\([a-z][^"]*\)".*/\1/p' "$top/capi/shell/forms.py" >lines.shell
+alike "lines of the shell" SCRIPT lines shell/forms.py lines.shell
 cut -d ' ' -f 1 lines >first
 sed -n '/^words_of_lines=/,/"$/p' "$top/release/start" | sed 's/.*="//; s/"$//' | tr -s ' ' '\n' | sed '/^help$/d; /^exit$/d; /^$/d' >first.start
 alike "lines that are completed" SCRIPT first release/start first.start
 
-# (`-C` stands before the other words, and `backup` is a word of the command alone)
+# (`-C` stands before the other words, and `backup` and `shell` are words of the command alone)
 cells Words | sed -n '/ -C /d; s/^redo //p' >words
 redo 2>/dev/null | sed 's/^usage: redo //; s/ | /\n/g' >words.usage
-section SYNOPSIS | sed '/^\.SH/d; /^\.br/d; /-C/d; /DIR/d; /FOLDER/d; s/^\.[A-Z]* *//' | tr '\n' ' ' | sed 's/redo/\n/g' | sed 's/^ *//; s/ *$//; s/  */ /g; /^$/d; /^backup/d' >words.page
+section SYNOPSIS | sed '/^\.SH/d; /^\.br/d; /-C/d; /DIR/d; /FOLDER/d; s/^\.[A-Z]* *//' | tr '\n' ' ' | sed 's/redo/\n/g' | sed 's/^ *//; s/ *$//; s/  */ /g; /^$/d; /^backup/d; /^shell/d' >words.page
 alike "words of the usage line" SCRIPT words usage words.usage
 alike "words of the manual page" SCRIPT words redo.1 words.page
-cut -d ' ' -f 1 words | sed '$a backup' >first
+cut -d ' ' -f 1 words | sed '$a backup\nshell' >first
 sed -n 's/.*compgen -W "\([^-]*\) help .*/\1/p' "$top/release/completion.bash" | tr ' ' '\n' >first.completion
 alike "words that are completed" SCRIPT first completion first.completion
 

@@ -2,10 +2,10 @@
 _redo() {
   local word=${COMP_WORDS[COMP_CWORD]} at=1
   [ "${COMP_WORDS[1]}" != -C ] || at=3
-  if [ "$COMP_CWORD" = 2 ] && [ "$at" = 3 ] || [ "$COMP_CWORD" = $((at + 1)) ] && [ "${COMP_WORDS[at]}" = backup ]; then
+  if [ "$COMP_CWORD" = 2 ] && [ "$at" = 3 ] || [ "$COMP_CWORD" = $((at + 1)) ] && [[ ${COMP_WORDS[at]} = @(backup|shell) ]]; then
     mapfile -t COMPREPLY < <(compgen -d -- "$word")
   elif [ "$COMP_CWORD" = "$at" ]; then
-    mapfile -t COMPREPLY < <(compgen -W "init run dump demo upgrade ship follow backup help --version --help -C" -- "$word")
+    mapfile -t COMPREPLY < <(compgen -W "init run dump demo upgrade ship follow backup shell help --version --help -C" -- "$word")
   elif [ "${COMP_WORDS[at]}" = demo ]; then
     mapfile -t COMPREPLY < <(compgen -W "--seed --steps --help" -- "$word")
   fi
