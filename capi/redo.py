@@ -782,3 +782,9 @@ def create(path: str | os.PathLike[str], objects: int, cap: int, limit: int) -> 
     a log of at most `limit` bytes (2 cap + 4,096 to 536,870,912). Raises BadParams at other numbers, AlreadyStore, OldLog, NoFolder
     and Locked."""
     return _opened(_create, _path(path), *(_whole(n, BadParams) for n in (objects, cap, limit)))
+
+
+if __name__ == "__main__":      # python3 -m redo DIR: the shell, docs/SHELL.md
+    from shell.main import main
+
+    sys.exit(main())

@@ -6,7 +6,7 @@ top=$(dirname "$(readlink -f "$(command -v redo)")")
 try() { usr/bin/redo "$@" 2>/dev/null; echo "status $?"; }
 room=$PWD
 make -s -C "$top" install PREFIX="$room/usr"
-(cd usr && find . -type f | LC_ALL=C sort)
+(cd usr && find . -type f | sed 's|\(/shell/\).*|\1..|' | LC_ALL=C sort -u)
 try --version
 try init --help | tail -n 1
 mkdir store

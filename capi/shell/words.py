@@ -3,7 +3,7 @@ from __future__ import annotations
 
 import time
 from collections.abc import Callable
-from typing import Any, Optional, Union
+from typing import Optional, Union
 
 import redo
 
@@ -53,8 +53,7 @@ def _tree(s: Session, low: int, high: int) -> Answer:
 
 
 def _hash(s: Session, low: int, high: int) -> Answer:
-    found: Any = s.opened().hash(low, high)
-    return answers.pairs(sorted(found.items()))
+    return answers.pairs(sorted(s.opened().hash(low, high).items()))
 
 
 def _stat(s: Session) -> Answer:

@@ -1,5 +1,6 @@
 """The shell, over the library that LIBREDO names: test_shell.py FOLDER [TEST ..], an empty one. Lines come by a pipe, or typed."""
 import json
+import locale  # noqa: F401      (argparse imports it late, when a child of this test can no longer read it)
 import os
 import pty
 import random
@@ -364,8 +365,7 @@ def words(folder):
     said, told = ask(path, ['put 0 "a"', ".watch 0", 'put 0 "b"', "put 1 00", ".watch off", 'put 0 "c"', ".watch stat 900", "put 2 -"])
     assert [line for line in told.split("\n") if line.startswith("watch 0")] == ['watch 0: "a"', 'watch 0: "b"'], told
     assert len([line for line in told.split("\n") if line.startswith("watch stat")]) == 2, told
-    if getattr(redo.Hash, "__iter__", None):
-        assert answers(path, 'hset 36 63 "k" "v"', ".hash 36 63")[1:] == ["key  value", "---  -----", '"k"  "v"']
+    assert answers(path, 'hset 36 63 "k" "v"', ".hash 36 63")[1:] == ["key  value", "---  -----", '"k"  "v"']
     said, told = ask(path, [".help"])
     assert all(f"  {form.form}" in said for form in forms.FORMS.values())
     said, told = ask(path, [f".help {word}" for word in forms.FORMS])
@@ -440,7 +440,11 @@ def read_only(_):
             os.dup2(into, 1), os.dup2(into, 2), os.dup2(os.open(os.devnull, os.O_RDONLY), 0)
             if os.getuid() == 0:
                 os.setgid(65534), os.setuid(65534)
-            os._exit(shell_main.main([path]))
+            status = 99
+            try:
+                status = shell_main.main([path])
+            finally:
+                os._exit(status)
         os.close(into)
         with os.fdopen(out) as file:
             said = file.read()
