@@ -1,12 +1,12 @@
 /* The files of a store. The proved library (redo_core_*) keeps a store in memory and touches no file: this page reads the files
- * when a store is opened, and then makes on them what the library asks for before an answer is given. It is the one page of the
- * library that is trusted and not proved. It is right if
+ * when a store is opened, and then makes on them what the library asks for before an answer is given. It is trusted and
+ * not proved, and it is right if
  *   - once `open_files` has answered REDO_OK, no other process has the folder, and the bytes that it read are those of the files
  *     on the disk: each file was synced before it was read, and their names by a sync of the folder;
  *   - `make_calls` makes the calls in the order of redo_core_next, each of them whole before the next one;
- *   - where a call fails no later one is made, the answer is REDO_DISK_FAULT, and the handle answers nothing else any more.
- * redo_backup.c does the same with the files of a backup; redo_calls.c hands the other calls of redo.h on, each through
- * `redo_report`. */
+ *   - where a call fails that is no write of zeros ahead, no later one is made, and the handle answers REDO_DISK_FAULT alone.
+ * redo_handle.c says who may call; redo_backup.c does the same with the files of a backup; redo_calls.c hands the other calls of
+ * redo.h on, each through `redo_report`. */
 #define _GNU_SOURCE
 #include "redo_files.h"
 #include <errno.h>
