@@ -21,10 +21,10 @@ use Rattle.log_records.specs.BlockReader.{blocks_from, payloads_from}
 use Rattle.log_records.specs.Codec.{StartsWithRecord}
 use Rattle.explain_core.specs.History.{IsHistory, IsMember, Member, commands_of}
 use Rattle.explain_core.specs.Stable.{IsStableOf, Stable, stable_of}
+use Rattle.explain_core.specs.StableLaws.{commands_of-append}
 use Rattle.explain_core.specs.World.{World}
 use Rattle.execution.specs.Judged.{first_refused, follows, is_refused, judge_behind, may_follow}
 use Rattle.standing.specs.Members.{members_of}
-use Rattle.store_engine.specs.Counts.{commands-split}
 use Rattle.store_engine.specs.Store.{Stands, meaning_in}
 use Rattle.standby_node.specs.Feeding.{BeginsNoRecord, ComeNext, HasRefused, IsAtFrameEnd, IsOfStream}
 use Rattle.standby_node.specs.OnePrimary.{IsFront, IsGap, IsShipped, stable_in}
@@ -97,15 +97,19 @@ module _ {O : Type 0} (meaning : Bounds → Meaning O) (q : Params) (h : List (M
       ap (λ (gs : List (List (Record O))). records_of gs) at.are ∙ flat_map-append (λ g. g) at.front at.later ∙ ap (λ (gs : List (List (Record O))). records_of gs ++ records_of at.later) same in
       all_front (IsRecordOf h) (records_of groups) (records_of at.later) (subst (λ (l : List (Record O)). AllByRecursion (IsRecordOf h) l) records all.records)
 
-  -- so a frame's end stands for commands that those of the history begin with
-  pub end_front : MayFollow m h → (first : List (Member O)) → IsFront first h → (old : Disk) (least : ℕ) (files : Files) (said : List ℕ) → IsAtFrameEnd meaning q old least first bytes files said
-      → (commands : List O) × Stands meaning q files commands × IsFront commands (commands_of h)
-  end_front may first front old least files said at =
-      let it = leads_within m h may first front (records_of at.groups) (front_records at.payloads at.groups at.rest at.whole at.frames_are at.split) in (
-        commands_of (follows m first (records_of at.groups)),
-        at.stands,
-        subst (λ (l : List (Member O)). IsFront (commands_of l) (commands_of h)) (sym it.2) (commands_of (drop it.0 h), commands-split it.0 h),
-      )
+  module _ (may : MayFollow m h) (first : List (Member O)) (front : IsFront first h) where
+    -- so they lead to a front of it
+    pub front_follows : (payloads : List (List ℕ)) (groups : List (List (Record O))) (rest : List ℕ) → AllByRecursion IsPayload payloads → AreFramesOf m payloads groups → bytes ≡ frames payloads ++ rest → IsFront (follows m first (records_of groups)) h
+    front_follows payloads groups rest whole frames_are split =
+        let it = leads_within m h may first front (records_of groups) (front_records payloads groups rest whole frames_are split) in
+        subst (λ (l : List (Member O)). IsFront l h) (sym it.2) (take_front it.0 h)
+
+    -- and a frame's end stands for commands that those of it begin with
+    pub end_front : (old : Disk) (least : ℕ) (files : Files) (said : List ℕ) → IsAtFrameEnd meaning q old least first bytes files said → (commands : List O) × Stands meaning q files commands × IsFront commands (commands_of h)
+    end_front old least files said at =
+        let past = follows m first (records_of at.groups) in
+        let is = front_follows at.payloads at.groups at.rest at.whole at.frames_are at.split in
+        (commands_of past, at.stands, (commands_of is.0, ap (λ (l : List (Member O)). commands_of l) is.1 ∙ commands_of-append past is.0))
 
   module _ (first : List (Member O)) (d : Disk) (s : StandbyView) (b : IsFollowing meaning q first bytes d s) where
     abbrev its : List (Record O)

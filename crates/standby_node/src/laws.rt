@@ -1,9 +1,11 @@
 ghost use Rattle.std.specs.Prelude.{◌≡◌, ◌≤◌, ◌+◌, ◌-◌, ◌++◌, ℕ, List, None, max, length, take, drop};
+ghost use Rattle.std.specs.List.{AllByRecursion};
 ghost use Rattle.disk_model.specs.Disk.{Files};
 ghost use Rattle.disk_model.specs.declared.machine.FileNo.{FileNo};
 ghost use Rattle.oper_core.specs.Meaning.{AreWithin, IsSmall};
 ghost use Rattle.oper_core.specs.declared.bounds.Bounds.{Bounds};
-ghost use Rattle.formats.specs.Log.{Header};
+ghost use Rattle.formats.specs.Log.{Header, IsPayload};
+ghost use Rattle.formats.specs.Objects.{bounds_of};
 ghost use Rattle.formats.specs.Records.{AreRecords, HoldsRecordLog, records_of};
 ghost use Rattle.frame_stream.specs.Frames.{HasBadLength, Splits, frames};
 ghost use Rattle.log_records.specs.BlockReader.{blocks_from, payloads_from};
@@ -125,6 +127,10 @@ pub fn one_primary_is_followed<O: Oper, M: Machine>()
     ensures images { (p q : Params) (w : World O) (first : List (Member O)) (bytes : List ℕ) → IsFedBy O.meaning p q w first bytes
         → (old : M) (least : ℕ) (files : Files) (said : List ℕ) → IsAtFrameEnd O.meaning q (M.disk old) least first bytes files said
         → (commands : List O) × Stands O.meaning q files commands × IsFront commands (commands_of (stable_in w)) }
+    // What whole frames that came make of its first history is a front of the primary's.
+    ensures frames { (p q : Params) (w : World O) (first : List (Member O)) (bytes : List ℕ) → IsFedBy O.meaning p q w first bytes → IsSmall (bounds_of q)
+        → (payloads : List (List ℕ)) (groups : List (List (Record O))) (rest : List ℕ) → AllByRecursion IsPayload payloads → AreFramesOf (meaning_in O.meaning q) payloads groups → bytes ≡ frames payloads ++ rest
+        → IsFront (follows (meaning_in O.meaning q) first (records_of groups)) (stable_in w) }
 {
     explain_core::stable_parts_stand::<O>();
     explain_core::wider_bounds_keep_stable_parts::<O>();

@@ -9,7 +9,7 @@ use Rattle.standing.specs.OneStable.{small_store}
 use Rattle.store_engine.specs.Store.{meaning_in}
 use Rattle.standby_node.specs.OnePrimary.{IsFedBy, stable_in}
 use Rattle.standby_node.proofs.Decoded.{AreOf, pieces_of}
-use Rattle.standby_node.proofs.OnePrimary.{MayFollow, end_front, gap_alone, its_front, stable_follow}
+use Rattle.standby_node.proofs.OnePrimary.{MayFollow, end_front, front_follows, gap_alone, its_front, stable_follow}
 use Rattle.standby_node.proofs.OneWay.{small_followed}
 use Rattle.standby_node.proofs.laws.one_primary_is_followed.Given.{Over}
 use Rattle.standby_node.proofs.laws.one_primary_is_followed.Goals.{After-records_are_judged}
@@ -49,3 +49,8 @@ returns-clause-images g c = λ p q w first bytes fed old least files said end.
     let at = (goal.at.returns-clause-images g c).After-records_are_judged in
     let small = small_store q (files Objects) end.stands.holds.objects in
     end_front g.O.Oper.meaning q (stable_in w) bytes fed.came.0 (all g at p q w first bytes fed) (λ code r s. c.one_record.ensures (bounds_of q) code r s small) (follow g at p q w first bytes fed small) first fed.begins (g.M.Machine.disk old) least files said end
+
+pub returns-clause-frames : goal.returns-clause-frames
+returns-clause-frames g c = λ p q w first bytes fed small payloads groups rest whole are split.
+    let at = (goal.at.returns-clause-frames g c).After-records_are_judged in
+    front_follows g.O.Oper.meaning q (stable_in w) bytes fed.came.0 (all g at p q w first bytes fed) (λ code r s. c.one_record.ensures (bounds_of q) code r s small) (follow g at p q w first bytes fed small) first fed.begins payloads groups rest whole are split
