@@ -11,40 +11,51 @@ from typing import Optional
 
 import redo
 
-from . import answers, explain, terminal
-from .session import Leave, NoOutput, Session
+from . import answers, explain
+from .session import Leave, NoInput, NoOutput, Session
 from .words import WORDS
 
 _MOST = 1 << 23         # bytes of a line
-_NO_OUTPUT = 7
+_NO_INPUT, _NO_OUTPUT = 6, 7
 
 _STATUSES = """\
 Status: 0 all was done (at a terminal also where a line was not); 1 a line of the input was bad, refused, or answered `full` or
-`end`; 2 the words are wrong; 3 the folder has no store; 4 a file of it is damaged; 5 the disk failed; 7 the output failed; 8 out
-of memory; 71 another program has the store; 72 the folder is not there, or cannot be locked. At the end of the input, and with
-.quit, what was accepted is forced; with 5 and 7, or a signal, it may be lost as by a kill. docs/SHELL.md tells the rest."""
+`end`; 2 the words are wrong; 3 the folder has no store; 4 a file of it is damaged; 5, 6, 7 the disk, the input or the output
+failed; 8 out of memory; 71 another program has the store; 72 the folder is not there, or cannot be locked. At the end of the
+input, and with .quit, what was accepted is forced; with 5 to 8, or a signal, it may be lost as by a kill. docs/SHELL.md tells the
+rest."""
 
 
 def main(words: Optional[Sequence[str]] = None) -> int:
     """Answers lines from a terminal, or from a pipe, and gives the status."""
     asked = _parser().parse_args(words)
+    signal.signal(signal.SIGINT, signal.SIG_DFL)        # (a kill, until a person is answered)
     if sys.stdout is None:
         return _NO_OUTPUT
     _be_utf8()
-    is_typed = sys.stdin is not None and sys.stdin.isatty() and sys.stdout.isatty()
     s = Session(sys.stdout, sys.stderr or open(os.devnull, "w"), WORDS)
     s.mode = asked.mode
     try:
-        _open(s, asked.folder, is_typed)
-        return _talk(s) if is_typed else _answer(s, asked.stop)
-    except redo.Error as error:
+        return _run(s, asked.folder, asked.stop)
+    finally:
         s.close()
+        _write_no_more()
+
+
+def _run(s: Session, folder: Optional[str], stop: bool) -> int:
+    """Opens the store and answers all lines; what fails for good gets its status, and nothing is forced."""
+    is_typed = sys.stdin is not None and sys.stdin.isatty() and sys.stdout.isatty()
+    try:
+        _open(s, folder, is_typed)
+        return _talk(s) if is_typed else _answer(s, stop)
+    except redo.Error as error:
         s.tell(f"redo: {explain.refusal(error, redo.Params(0, 0, 0))}")
         return error.code
+    except NoInput as error:
+        s.tell(f"redo: the input cannot be read: {error}")
+        return _NO_INPUT
     except NoOutput as error:
-        s.close()
         s.tell(f"redo: the output cannot be written: {error}")
-        _write_no_more()
         return _NO_OUTPUT
 
 
@@ -58,7 +69,7 @@ def _be_utf8() -> None:
 def _parser() -> argparse.ArgumentParser:
     parser = argparse.ArgumentParser(
         prog=os.environ.get("REDO_SHELL_NAME", "redo-shell"),
-        description="Answers lines, typed or from a pipe: those of `redo run`, with values as people write them, and more (`.help`).",
+        description="Answers lines, typed or from a pipe: those of `redo run`, with values as text, and more: see `.help`.",
         epilog=_STATUSES, formatter_class=argparse.RawDescriptionHelpFormatter)
     parser.add_argument("folder", metavar="DIR", nargs="?", help="the folder of the store; the current one where none is named")
     parser.add_argument("--mode", choices=answers.MODES, default="table", help="how answers are written")
@@ -79,12 +90,19 @@ def _open(s: Session, folder: Optional[str], is_typed: bool) -> None:
 
 
 def _write_no_more() -> None:
-    """What waits to be written is not, as this process ends."""
-    os.dup2(os.open(os.devnull, os.O_WRONLY), sys.stdout.fileno())
+    """What could not be written is not tried once more as this process ends."""
+    for stream in (sys.stdout, sys.stderr):
+        try:
+            if stream is not None:
+                stream.flush()
+        except OSError:
+            os.dup2(os.open(os.devnull, os.O_WRONLY), stream.fileno())
 
 
 def _talk(s: Session) -> int:
     """Answers a person."""
+    from . import terminal      # (a start from a pipe reads no readline)
+
     pause = terminal.Pause()
     s.stopped, s.width = pause.stopped, terminal.width
     if terminal.has_colours():
@@ -99,22 +117,29 @@ def _talk(s: Session) -> int:
 
 
 def _answer(s: Session, stop: bool) -> int:
-    """Answers the lines of a pipe or a file; Ctrl-C is a kill."""
-    signal.signal(signal.SIGINT, signal.SIG_DFL)
+    """Answers the lines of a pipe or a file."""
     _take_all(s, _piped(), stop)
     return 1 if s.failed else 0
 
 
 def _piped() -> Iterator[tuple[str, str]]:
+    """The lines of standard input, and the place of each. Raises NoInput."""
     number = 0
-    while sys.stdin and (line := sys.stdin.buffer.readline(_MOST)):
+    while line := _read():
         number += 1
         if len(line) == _MOST and not line.endswith(b"\n"):
-            while (rest := sys.stdin.buffer.readline(_MOST)) and not rest.endswith(b"\n"):
+            while (rest := _read()) and not rest.endswith(b"\n"):
                 pass
             yield f"a line of more than {_MOST} bytes", f"line {number}: "
         else:
             yield line.decode("utf-8", "surrogateescape").rstrip("\n"), f"line {number}: "
+
+
+def _read() -> bytes:
+    try:
+        return sys.stdin.buffer.readline(_MOST) if sys.stdin is not None else b""
+    except OSError as error:
+        raise NoInput(error.strerror) from None
 
 
 def _take_all(s: Session, lines: Iterator[tuple[str, str]], stop: bool) -> None:

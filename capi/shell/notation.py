@@ -5,6 +5,7 @@ from typing import Optional
 
 _ESCAPES = {"n": "\n", "t": "\t", "r": "\r", "0": "\0", "\\": "\\", '"': '"'}
 _SHOWN = {"\n": "\\n", "\t": "\\t", "\r": "\\r", "\\": "\\\\", '"': '\\"'}
+_ENDS = dict.fromkeys(map(ord, "\n\t\r"))
 _DIGITS = frozenset("0123456789abcdefABCDEF")
 _LENGTHS = {"x": 2, "u": 4, "U": 8}
 
@@ -23,7 +24,7 @@ def text_of(value: bytes) -> Optional[str]:
         text = value.decode()
     except UnicodeDecodeError:
         return None
-    return text if all(c.isprintable() or c in "\n\t\r" for c in text) else None
+    return text if text.translate(_ENDS).isprintable() else None
 
 
 def shown(value: bytes) -> str:
@@ -110,8 +111,8 @@ def _of_escape(text: str, place: int) -> tuple[bytes, int]:
 
 
 def _of_hex(digits: str, before: int) -> bytes:
-    wrong = next((i for i, c in enumerate(digits) if c not in _DIGITS), None)
-    if wrong is not None:
+    if not _DIGITS.issuperset(digits):
+        wrong = next(i for i, c in enumerate(digits) if c not in _DIGITS)
         raise BadNotation(before + wrong, f"{quoted(digits[wrong])} is no hexadecimal digit")
     if not digits:
         raise BadNotation(before, "expected hexadecimal digits, two for each byte; no bytes are -")

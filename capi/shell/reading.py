@@ -1,9 +1,10 @@
 """The fields of a line, and what each has to be."""
 from __future__ import annotations
 
+import errno
 import os
 import re
-from typing import NamedTuple, Optional, Union
+from typing import BinaryIO, NamedTuple, Optional, Union
 
 from . import forms, notation
 
@@ -182,13 +183,21 @@ def _bytes(name: str, field: Field) -> bytes:
 def _of_file(field: Field) -> bytes:
     path = path_of(Field(field.text[1:], field.column + 1))
     try:
-        with open(path, "rb") as file:
+        with opened(path) as file:
             value = file.read(_MOST + 1)
     except OSError as error:
         raise BadLine(field.column, f"cannot read {path}: {error.strerror}") from None
     if len(value) > _MOST:
         raise BadLine(field.column, f"{path} has more than {_MOST} bytes, which no object takes")
     return value
+
+
+def opened(path: str) -> BinaryIO:
+    """A file to be read, and nothing that a reader would wait for. Raises OSError."""
+    if not os.path.isfile(path):
+        os.stat(path)
+        raise OSError(errno.EINVAL, "it is no file")
+    return open(path, "rb")
 
 
 def path_of(field: Field) -> str:

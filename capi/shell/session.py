@@ -28,6 +28,10 @@ class Stopped(Exception):
     """Ctrl-C came between two commands of a line."""
 
 
+class NoInput(Exception):
+    """A line could not be read."""
+
+
 class NoOutput(Exception):
     """An answer could not be written."""
 
@@ -72,9 +76,9 @@ class Session:
             self.say(self._done(line))
         except BadLine as error:
             self._say_bad(text, error, place)
-        except redo.DiskFault:
-            raise
         except redo.Error as error:
+            if self._is_broken():
+                raise
             self.say(lines.failed(error))
             self.tell(f"{place}{explain.refusal(error, self._params(), line.form.form if line else '')}")
         except MemoryError:
@@ -120,8 +124,15 @@ class Session:
             raise redo.NotOpen("no store is open")
         return self.store
 
+    def _is_broken(self) -> bool:
+        """Whether the disk of the store has failed, and not that of another one that a line was about."""
+        try:
+            return self.store is not None and not self.store.stat()
+        except redo.DiskFault:
+            return True
+
     def _params(self) -> redo.Params:
-        return self.store.params() if self.store else redo.Params(0, 0, 0)
+        return self.store.params() if self.store is not None else redo.Params(0, 0, 0)
 
     def say(self, answer: Optional[Answer]) -> None:
         """Writes what a line is answered."""
@@ -170,7 +181,7 @@ class Session:
     def open(self, folder: str) -> None:
         """Opens the store in this folder, and then leaves the one before: that is open still where redo.Error is raised, unless
         it is in the same folder, and is left first."""
-        if self.store and os.path.realpath(folder) == os.path.realpath(self.folder):
+        if self.store is not None and os.path.realpath(folder) == os.path.realpath(self.folder):
             self.leave()
         self._take_over(redo.open(folder), folder)
 

@@ -12,7 +12,7 @@ from types import FrameType
 from typing import Optional
 
 from . import forms
-from .session import Session, Stopped
+from .session import NoInput, Session, Stopped
 
 try:
     import readline
@@ -60,10 +60,13 @@ class Pause:
             raise Stopped
 
     def typed(self, prompt: str) -> str:
-        """A line that is typed. Raises EOFError at its end, KeyboardInterrupt where it is given up."""
+        """A line that is typed. Raises EOFError at the end, KeyboardInterrupt where the line is given up, NoInput where the
+        terminal is gone."""
         try:
             self._typing = True
             return input(prompt)
+        except OSError as error:
+            raise NoInput(error.strerror) from None
         finally:
             self._typing = False
             self._asked = False

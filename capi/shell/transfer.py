@@ -2,17 +2,18 @@
 from __future__ import annotations
 
 import csv
+import io
 import json
 import os
 from collections.abc import Callable, Iterator, Sequence
 from contextlib import suppress
-from typing import NamedTuple
+from typing import NamedTuple, TextIO
 
 import redo
 
 from . import answers, forms, notation
 from .answers import Answer, Cell
-from .reading import BadLine, Line, read
+from .reading import BadLine, Line, opened, read
 from .session import Session
 
 _PIECE = 19_900         # bytes of a value in one line of `redo run`
@@ -43,7 +44,7 @@ def objects(s: Session, store: redo.Store) -> Iterator[tuple[int, bytes]]:
 
 def _rows(s: Session, store: redo.Store, of: Sequence[int]) -> Iterator[tuple[Cell, ...]]:
     if of:
-        yield from store.tree(of[0], of[1]).items()
+        yield from store.tree(of[0], of[1]).range()
     else:
         yield from objects(s, store)
 
@@ -61,6 +62,7 @@ def exported(s: Session, path: str, of: Sequence[int]) -> Answer:
             try:
                 for line in kind.write(s, store, of):
                     file.write(line + "\n")
+                file.flush()
             except BaseException:
                 with suppress(OSError):
                     os.unlink(path)
@@ -115,6 +117,11 @@ def _kind(path: str) -> Kind:
     return kind
 
 
+def _text(path: str, newline: str = "\n") -> TextIO:
+    """A file of text, perhaps with the mark of a spreadsheet at its begin; bytes that are no text are kept. Raises OSError."""
+    return io.TextIOWrapper(opened(path), encoding="utf-8-sig", errors="surrogateescape", newline=newline)
+
+
 # CSV
 
 def _write_csv(s: Session, store: redo.Store, of: Sequence[int]) -> Iterator[str]:
@@ -124,7 +131,7 @@ def _write_csv(s: Session, store: redo.Store, of: Sequence[int]) -> Iterator[str
 
 def _read_csv(path: str, into: Sequence[int]) -> Iterator[tuple[int, Line]]:
     csv.field_size_limit(1 << 23)
-    with open(path, encoding="utf-8", errors="surrogateescape", newline="") as file:
+    with _text(path, newline="") as file:
         rows = csv.reader(file, strict=True)
         while True:
             try:
@@ -167,12 +174,12 @@ def _write_json(s: Session, store: redo.Store, of: Sequence[int]) -> Iterator[st
 
 
 def _read_json(path: str, into: Sequence[int]) -> Iterator[tuple[int, Line]]:
-    with open(path, encoding="utf-8", errors="surrogateescape") as file:
+    with _text(path) as file:
         for number, text in enumerate(file, 1):
             try:
                 if text.strip():
                     yield number, _line_of_json(json.loads(text), into)
-            except (ValueError, BadRow, notation.BadNotation) as error:
+            except (ValueError, RecursionError, BadRow, notation.BadNotation) as error:
                 raise BadLine(_FILE, f"{path}, line {number}: {error}") from None
 
 
@@ -205,7 +212,7 @@ def _of_json(row: dict[object, object], name: str) -> bytes:
 def _read_script(path: str, into: Sequence[int]) -> Iterator[tuple[int, Line]]:
     if into:
         raise BadLine(_FILE, "expected a file of .csv or .jsonl: the lines of a script say themselves where they put something")
-    with open(path, encoding="utf-8", errors="surrogateescape", newline="\n") as file:
+    with _text(path) as file:
         for number, text in enumerate(file, 1):
             try:
                 line = read(text.rstrip("\n"))
@@ -232,7 +239,7 @@ def _write_script(s: Session, store: redo.Store, of: Sequence[int]) -> Iterator[
 
 
 def _pair_lines(store: redo.Store, of: Sequence[int]) -> Iterator[tuple[str, int]]:
-    for key, value in store.tree(of[0], of[1]).items():
+    for key, value in store.tree(of[0], of[1]).range():
         yield f"tinsert {of[0]} {of[1]} {key.hex()} {value.hex()}", _TREE
 
 

@@ -49,7 +49,7 @@ def _dump(s: Session) -> Answer:
 
 
 def _tree(s: Session, low: int, high: int) -> Answer:
-    return answers.pairs(list(s.opened().tree(low, high).items()))
+    return answers.pairs(list(s.opened().tree(low, high).range()))
 
 
 def _hash(s: Session, low: int, high: int) -> Answer:

@@ -1,4 +1,4 @@
-"""The shell, over the library that LIBREDO names: test_shell.py FOLDER [TEST ..], an empty one. Lines come by a pipe, or typed."""
+"""The shell, over the library that LIBREDO names: test_shell.py FOLDER [TEST ..]. Lines come by a pipe, or are typed."""
 import json
 import locale  # noqa: F401      (argparse imports it late, when a child of this test can no longer read it)
 import os
@@ -6,6 +6,8 @@ import pty
 import random
 import re
 import select
+import shlex
+import shutil
 import signal
 import subprocess
 import sys
@@ -16,7 +18,8 @@ sys.dont_write_bytecode = True
 CAPI = os.path.join(os.path.dirname(os.path.abspath(__file__)), os.pardir)
 sys.path.insert(0, CAPI)
 import redo  # noqa: E402
-from shell import forms, lines, main as shell_main, notation, reading, terminal  # noqa: E402
+from shell import forms, lines, notation, reading, terminal  # noqa: E402
+from shell import main as shell_main  # noqa: E402
 
 COMMAND = [sys.executable, "-B", os.path.join(CAPI, "redo_shell.py")]
 PROGRAM = os.path.join(CAPI, os.pardir, "release", "redo-x86_64-linux")
@@ -100,7 +103,8 @@ def notations(folder):
     with open(os.path.join(folder, "a file"), "wb") as file:
         file.write(b"\0of a file")
     given = {
-        '"hello"': b"hello", '""': b"", "-": b"", "68656C6c6f": b"hello", "0x00fF": b"\0\xff", '"\\n\\t\\r\\0\\\\\\""': b'\n\t\r\0\\"',
+        '"hello"': b"hello", '""': b"", "-": b"", "68656C6c6f": b"hello", "0x00fF": b"\0\xff",
+        '"\\n\\t\\r\\0\\\\\\""': b'\n\t\r\0\\"',
         '"\\x00\\xff"': b"\0\xff", '"\\u00e9\\U0001F600"': "é😀".encode(), '"é # 1  2"': "é # 1  2".encode(),
         f'@"{folder}/a file"': b"\0of a file",
     }
@@ -112,7 +116,8 @@ def notations(folder):
         "ok", '"1"', "-", "key    value", "-----  -----", '"ann"  "1"']
     chance = random.Random(5)
     for _ in range(3000):
-        value = chance.choice([chance.randbytes, lambda n: bytes(chance.choices(b'ab"\\0x\n\r\t -@#,', k=n))])(chance.randrange(9))
+        length = chance.randrange(9)
+        value = chance.choice([chance.randbytes(length), bytes(chance.choices(b'ab"\\0x\n\r\t -@#,', k=length))])
         assert notation.of_notation(notation.shown(value)) == value
         assert notation.of_cell(notation.cell(value)) == value
 
@@ -142,6 +147,7 @@ WRONG = [                           # lines, the column of what is wrong, and wh
     ('put 1 "\\x1"', 7, "expected 2 hexadecimal digits after \\x"),
     ('put 1 "\\ud800"', 7, "no character has this number"),
     ("put 1 @/nowhere", 6, "cannot read /nowhere: No such file or directory"),
+    ("put 1 @/dev/zero", 6, "cannot read /dev/zero: it is no file"),
     ("put 1", 6, "expected HEX: put X HEX"),
     ("put", 4, "expected X: put X HEX"),
     ("get 1 2", 6, "expected the end of the line: get X"),
@@ -181,11 +187,12 @@ def refusals(folder):
     path = fresh(folder, "refusals", objects=4, cap=64, limit=4224)
     wrong = [
         ("get 4", "refused NoObject", "the store has the objects 0 to 3"),
-        ("tget 2 1 aa", "refused NoObject", "the store has the objects 0 to 3, and LO is not above HI (of a hash file: below it)"),
+        ("tget 2 1 aa", "refused NoObject",
+         "the store has the objects 0 to 3, and LO is not above HI (of a hash file: below it)"),
         ("swap 1 1", "refused Same", "the two objects have to differ"),
         ("cut 1 2 9", "refused BadPlace", "K is more than the length of the value of X"),
-        (f"put 1 {'ab' * 65}", "refused TooLarge", "an object of this store has at most 64 bytes; a map needs a store whose CAP is "
-                                                   "1024 or more"),
+        (f"put 1 {'ab' * 65}", "refused TooLarge",
+         "an object of this store has at most 64 bytes; a map needs a store whose CAP is 1024 or more"),
         ("end", "refused NoGroup", "no group is open: `begin` begins one"),
         (".abort", "refused NoGroup", "no group is open: `begin` begins one"),
         ("tdelete 1 2 aa", "refused NoKey", "the key is not there"),
@@ -202,7 +209,7 @@ def as_the_program(folder):
     if not os.path.exists(PROGRAM):
         return
     chance = random.Random(11)
-    for seed in range(6):
+    for seed in range(4):
         cap, limit = chance.choice([(64, 8192), (1024, 1 << 16)])
         script = [random_line(chance) for _ in range(400)] + ["end"]
         ours, theirs = (fresh(folder, f"{name}{seed}", 8, cap, limit) for name in ("ours", "theirs"))
@@ -210,7 +217,8 @@ def as_the_program(folder):
                                  capture_output=True)
         said, told = ask(ours, script, "--mode", "plain", status=program.returncode)
         same = [a == b for a, b in zip(said.splitlines(), program.stdout.decode().splitlines())]
-        assert all(same) and len(said.splitlines()) == program.stdout.count(b"\n"), (script[same.index(False)] if False in same else "")
+        assert all(same), script[same.index(False)]
+        assert len(said.splitlines()) == program.stdout.count(b"\n")
         assert values_of(ours) == values_of(theirs)
         dumped = subprocess.run([PROGRAM, "-C", theirs, "dump"], capture_output=True).stdout.decode()
         assert ask(ours, [".dump"], "--mode", "plain")[0] == dumped
@@ -224,7 +232,8 @@ def random_line(chance):
     words = {"LO": str(low), "HI": str(chance.choice([low + 3, low + 3, 9])), "N": str(chance.randrange(4)),
              "K": str(chance.randrange(4)), "W": str(chance.randrange(3)), "FROM": "00", "TO": "ff",
              "HEX": chance.choice(["-", "00", chance.randbytes(chance.randrange(1, 70)).hex(), "x", "0"])}
-    given = [words.get(name) or (chance.randbytes(1).hex() if name in ("KEY", "VAL") else str(chance.randrange(9))) for name in form.fields]
+    words.update({name: chance.randbytes(1).hex() for name in ("KEY", "VAL")})
+    given = [words.get(name) or str(chance.randrange(9)) for name in form.fields]
     return " ".join([form.word, *given, *(["1"] if chance.random() < 0.03 else [])])
 
 
@@ -252,7 +261,8 @@ nodes  dirty  uninstalled  forced  accepted  used  identities
                         [{"object": 0, "value": 'a,"b"'}, {"object": 1, "value_hex": "00"}], {"refused": "NoObject"}]
     assert said[8]["accepted"] == 4
     said = ask(path, script, "--mode", "csv", status=1)[0]
-    assert said.startswith('ok\nok\n"a,""b"""\n"0x00"\n""\nforced 6\nobject,value\n0,"a,""b"""\n1,"0x00"\nrefused NoObject\nnodes,'), said
+    assert said.startswith('ok\nok\n"a,""b"""\n"0x00"\n""\nforced 6\nobject,value\n0,"a,""b"""\n1,"0x00"\n'
+                           "refused NoObject\nnodes,"), said
     said = ask(path, script, "--mode", "plain", status=1)[0]
     assert said.startswith("ok\nok\n612c226222\n00\n-\nforced 8\n0 612c226222\n1 00\ncommands 8\nrefused NoObject\nstat "), said
     state = json.loads(ask(path, [".mode json", ".stat"])[0])
@@ -269,7 +279,7 @@ def random_value(chance, cap):
     if kind == 2:
         return "".join(chance.choices('aé😀"\\,\n\r\t 0x@#-', k=chance.randrange(1, 20))).encode()
     if kind == 3:
-        return chance.choice([b"0x", b"0xff", b"-", b'"', b"\r", b"\n", b"\r\n", b"@f", b"0", b" ", "\ufeff".encode(), "\u2028".encode()])
+        return chance.choice(["0x", "0xff", "-", '"', "\r", "\n", "\r\n", "@f", "0", " ", "\ufeff", "\u2028"]).encode()
     if kind == 4:
         return chance.randbytes(chance.randrange(cap + 1))
     return b"x" * chance.randrange(40)
@@ -287,14 +297,14 @@ def transfers(folder):
                 s.put(x, random_value(chance, cap) if objects > 3 else chance.randbytes(cap))
             s.force()
             before = list(s)
-        for kind in ("csv", "jsonl", "redo"):
-            file, to = os.path.join(folder, f"all{seed}.{kind}"), fresh(folder, f"to{seed}{kind}", objects, cap, limit)
-            count = sum(map(bool, before))
-            assert answers(path, f".export {file}") == [f"exported {count}"]
+        files = [os.path.join(folder, f"all{seed}.{kind}") for kind in ("csv", "jsonl", "redo")]
+        said, told = ask(path, [f".export {file}" for file in files + files], status=1)
+        assert said == f"exported {sum(map(bool, before))}\n" * 3 + "bad\n" * 3
+        assert all(f"{file} is there already, and is not written over" in told for file in files)
+        for file in files:
+            to = fresh(folder, f"to_{os.path.basename(file)}", objects, cap, limit)
             assert answers(to, f".import {file}")[0].startswith("imported ")
-            assert values_of(to) == before, (seed, kind)
-            said, told = ask(path, [f".export {file}"], status=1)
-            assert f"{file} is there already" in told
+            assert values_of(to) == before, file
         if objects > 3 and os.path.exists(PROGRAM):
             to = fresh(folder, f"by_run{seed}", objects, cap, limit)
             with open(os.path.join(folder, f"all{seed}.redo"), "rb") as script:
@@ -323,15 +333,21 @@ def pairs_of_a_tree(folder, chance):
 
 def wrong_files(folder):
     path = fresh(folder, "wrong_files", objects=4)
+    with open(os.path.join(folder, "spreadsheet.csv"), "wb") as out:
+        out.write(b"\xef\xbb\xbfobject,value\r\n0,a\r\n1,\"b\r\n\"\r\n\r\n")
+    assert answers(path, f".import {folder}/spreadsheet.csv", ".mode json", ".dump", "put 0 -", "put 1 -")[1] == json.dumps(
+        [{"object": 0, "value": "a"}, {"object": 1, "value": "b\r\n"}])
     wrong = [
         ("a.csv", "object,value\n1,a\nx,b\n", "line 3: expected the number of an object in the first field"),
         ("b.csv", '1,"a\n', "line 1: unexpected end of data"),
         ("c.csv", "1,0xf\n", "line 1: expected one digit more: there are two for each byte"),
         ("d.csv", "1,a,b\n", "line 1: expected two fields, object and value, and here are 3"),
-        ("a.jsonl", '{"object": 1, "value": "a"}\n{"object": "1", "value": "a"}\n', 'line 2: expected "object", and a whole number'),
+        ("a.jsonl", '{"object": 1, "value": "a"}\n{"object": "1", "value": "a"}\n',
+         'line 2: expected "object", and a whole number'),
         ("b.jsonl", '{"object": 1, "value": 7}\n', 'line 1: expected "value" and a text, or "value_hex" and hexadecimal digits'),
         ("c.jsonl", "[1]\n", 'line 1: expected an object, such as {"object": 1, "value": "hello"}'),
         ("d.jsonl", "{\n", "line 1: Expecting property name"),
+        ("e.jsonl", "[" * 100000, "line 1: "),
         ("a.redo", "put 1 aa\nput 1 hello\n", "line 2, column 7: expected HEX"),
         ("b.redo", ".quit\n", "line 1: a line with a dot is none of a script"),
     ]
@@ -353,16 +369,18 @@ def wrong_files(folder):
 def words(folder):
     path = fresh(folder, "words", objects=64, limit=65536)
     other = os.path.join(folder, "other")
-    assert answers(path, 'tinsert 4 35 "ann" "100"', 'tinsert 4 35 "bob" 00', ".tree 4 35", ".timer on", "get 0", ".timer off") == [
+    script = ['tinsert 4 35 "ann" "100"', 'tinsert 4 35 "bob" 00', ".tree 4 35", ".timer on", "get 0", ".timer off"]
+    assert answers(path, *script) == [
         "ok", "ok", "key    value", "-----  -----", '"ann"  "100"', '"bob"  0x00', "-"]
-    said, told = ask(path, [f".backup {folder}/copy", ".drain", ".trim", f".create {other} 8 64 65536", 'put 0 "x"', f".open {path}",
-                            f".open {folder}/nowhere", "get 0", f".backup {folder}/copy"], status=1)
-    assert said.split("\n") == ["saved 2", "ok", "ok", "ok", "ok", "ok", "refused NoFolder", "-", "refused AlreadyStore", ""], said
+    said, told = ask(path, [f".backup {folder}/copy", ".drain", ".trim", f".create {other} 8 64 65536", 'put 0 "x"',
+                            f".open {path}", f".open {folder}/nowhere", "get 0", f".backup {folder}/copy"], status=1)
+    assert said == "saved 2\nok\nok\nok\nok\nok\nrefused NoFolder\n-\nrefused AlreadyStore\n", said
     assert "2 nodes with 2 records" not in told and re.search(r"the log had \d+ bytes, and has \d+ of 65536", told), told
     assert "forced 1: 1 of them were not on the disk before" in told
     assert values_of(f"{folder}/copy") == values_of(path) and values_of(other)[0] == b"x"
     assert not os.path.exists(f"{folder}/nowhere")
-    said, told = ask(path, ['put 0 "a"', ".watch 0", 'put 0 "b"', "put 1 00", ".watch off", 'put 0 "c"', ".watch stat 900", "put 2 -"])
+    said, told = ask(path, ['put 0 "a"', ".watch 0", 'put 0 "b"', "put 1 00", ".watch off", 'put 0 "c"', ".watch stat 900",
+                            "put 2 -"])
     assert [line for line in told.split("\n") if line.startswith("watch 0")] == ['watch 0: "a"', 'watch 0: "b"'], told
     assert len([line for line in told.split("\n") if line.startswith("watch stat")]) == 2, told
     assert answers(path, 'hset 36 63 "k" "v"', ".hash 36 63")[1:] == ["key  value", "---  -----", '"k"  "v"']
@@ -422,34 +440,49 @@ def statuses(folder):
     run.stdin.write(b"put 0 aa\n" * 9)
     run.stdin.close()
     assert run.wait() == 7 and run.stderr.read() == b"redo: the output cannot be written: Broken pipe\n"
+    into = os.open(os.devnull, os.O_WRONLY)
+    done = subprocess.run([*COMMAND, path], stdin=into, stdout=subprocess.PIPE, stderr=os.open(os.devnull, os.O_RDONLY), env=ENV)
+    assert done.returncode == 6 and done.stdout == b""
     with open(f"{path}/objects.rdo", "r+b") as file:
         file.write(b"\0" * 16)
     assert ask(path, ["get 0"], status=3)[0] == ""
 
 
 def read_only(_):
-    """A store that may be read and not written: by a child without rights, where this process has all."""
+    """A store that may be read and not written: by a child without rights, where this process has all. Where a line opens it the
+    store that was open before stays."""
     with tempfile.TemporaryDirectory(dir="/tmp") as folder:
-        path = fresh(folder, "read_only")
+        path, own = fresh(folder, "read_only"), fresh(folder, "own")
         os.chmod(folder, 0o755)
-        for name in os.listdir(path):
-            os.chmod(os.path.join(path, name), 0o444)
-        os.chmod(path, 0o555)
-        out, into = os.pipe()
-        if (child := os.fork()) == 0:
-            os.dup2(into, 1), os.dup2(into, 2), os.dup2(os.open(os.devnull, os.O_RDONLY), 0)
+        for store, rights in ((path, 0o444), (own, 0o666)):
+            for name in os.listdir(store):
+                os.chmod(os.path.join(store, name), rights)
+            os.chmod(store, rights | 0o111)
+        status, said = by_nobody(path, b"get 0\n")
+        assert status == 5 and "Permission denied" in said, said
+        status, said = by_nobody(own, f"put 0 aa\n.open {path}\nget 0\n".encode())
+        assert status == 1 and "ok\nrefused DiskFault\n" in said and "\n0xaa\nforced 1" in said, said
+        os.chmod(path, 0o755)
+
+
+def by_nobody(path, script):
+    (script_out, script_in), (out, into) = os.pipe(), os.pipe()
+    os.write(script_in, script)
+    os.close(script_in)
+    if (child := os.fork()) == 0:
+        status = 99
+        try:
+            os.dup2(script_out, 0), os.dup2(into, 1), os.dup2(into, 2)
             if os.getuid() == 0:
                 os.setgid(65534), os.setuid(65534)
-            status = 99
-            try:
-                status = shell_main.main([path])
-            finally:
-                os._exit(status)
-        os.close(into)
-        with os.fdopen(out) as file:
-            said = file.read()
-        assert os.waitstatus_to_exitcode(os.waitpid(child, 0)[1]) == 5 and "Permission denied" in said, said
-        os.chmod(path, 0o755)
+            status = shell_main.main([path])
+        finally:
+            os._exit(status)
+    os.close(into)
+    os.close(script_out)
+    with os.fdopen(out) as file:
+        said = file.read()
+    return os.waitstatus_to_exitcode(os.waitpid(child, 0)[1]), said
 
 
 def typed(folder):
@@ -510,7 +543,7 @@ def cwd_without_a_store(folder):
 def stopped(folder, path):
     """Ctrl-C in the middle of an import stops it between two lines."""
     with open(os.path.join(folder, "slow.redo"), "w") as file:
-        file.write("put 0 aa\nforce\n" * 100000)
+        file.write("put 0 aa\nforce\n" * 20000)
     t = Typed(path)
     t.until("redo> ")
     t.type(f".watch stat 0.1\n.import {folder}/slow.redo\n")
@@ -525,10 +558,47 @@ def stopped(folder, path):
     assert t.ends()[0] == 0
 
 
+def in_tmux(folder):
+    """What a person sees in a real terminal, where tmux is installed: a session, and its end."""
+    if not shutil.which("tmux"):
+        return
+    path, socket = fresh(folder, "in_tmux"), os.path.join(folder, "socket")
+
+    def tmux(*words):
+        return subprocess.run(["tmux", "-S", socket, "-f", os.devnull, *words], check=True, capture_output=True, text=True).stdout
+
+    def seen(text):
+        end = time.monotonic() + 60
+        while text not in (screen := tmux("capture-pane", "-p")):
+            assert time.monotonic() < end, screen
+            time.sleep(0.05)
+        return screen
+
+    tmux("new-session", "-d", "-x", "80", "-y", "24", shlex.join(["env", f"HOME={folder}", *COMMAND, path]) + "; sleep 60")
+    try:
+        seen("redo>")
+        tmux("send-keys", 'put 1 "hello, 世界"', "Enter", "co", "Tab", "1 2", "Enter", "get 2", "Enter", "put 1 hello", "Enter")
+        seen('Is "hello" meant?\nredo>')
+        tmux("send-keys", "put 1 00")
+        seen("redo> put 1 00")
+        tmux("send-keys", "C-c")
+        seen("redo> put 1 00\nredo>")
+        tmux("send-keys", "get 1", "Enter", "C-d")
+        screen = seen("forced 2: 2 of them were not on the disk before")
+        assert "redo> copy 1 2\nok\nredo> get 2\n\"hello, 世界\"\n" in screen and "\n  put 1 hello\n        ^\n" in screen, screen
+        assert screen.count('"hello, 世界"\n') == 3, screen
+    finally:
+        tmux("kill-server")
+
+
+TESTS = [notations, table, bad_lines, refusals, as_the_program, modes, transfers, words, groups, kills, statuses, read_only, typed,
+         in_tmux]
+
+
 def main():
     folder = sys.argv[1] if len(sys.argv) > 1 else tempfile.mkdtemp()
     wanted = sys.argv[2:]
-    for test in (notations, table, bad_lines, refusals, as_the_program, modes, transfers, words, groups, kills, statuses, read_only, typed):
+    for test in TESTS:
         if wanted and test.__name__ not in wanted:
             continue
         room = os.path.join(folder, test.__name__)
