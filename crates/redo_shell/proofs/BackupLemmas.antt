@@ -1,7 +1,8 @@
 -- The backup over the lines of a script, and what a run says of it.
-use Rattle.std.proofs.Common.{◌≡◌, ◌∙◌, sym, subst, refl, inl, inr, ⊎_elim, ◌⊎◌, ◌++◌, ◌||◌, ℕ, List, [], ◌∷◌, length, arith, Option, None, Result, Ok, Err, IfOk, OnErr, Bool, false}
+use Rattle.std.proofs.Common.{◌≡◌, ◌∙◌, ap, sym, subst, refl, inl, inr, ⊎_elim, ◌⊎◌, ◌++◌, ◌||◌, ℕ, List, [], ◌∷◌, append_assoc, length, take, arith, Option, None, Result, Ok, Err, IfOk, OnErr, Bool, false}
 use Rattle.std.specs.Prelude.{IfSome}
-use Rattle.std.proofs.lemmas.List.{append-nil}
+use Rattle.std.proofs.lemmas.List.{append-nil, append_cancel_left}
+use Rattle.std.proofs.lemmas.List.Elements.{Contains-append_left}
 use Rattle.disk_model.specs.Disk.{Disk, IsDisk, LeavesOnly, Passes}
 use Rattle.disk_model.specs.Moments.{passes_none, started}
 use Rattle.formats.specs.declared.params.Params.{Params}
@@ -13,12 +14,13 @@ use Rattle.store_engine.specs.Engine.{EngineView, forced_in}
 use Rattle.backup_copy.specs.Copies.{Copies}
 use Rattle.redo_shell.specs.Answers.{with_begun}
 use Rattle.redo_shell.specs.Run.{Answering, Going, IsAnswered, IsPartly}
-use Rattle.redo_shell.specs.Saving.{AnsweringBeside, AsksBackup, BackupGoesOn, BackupGoing, BackupIsSaid, BackupStays, IsBackedUp, IsNoneOrFirst, PassesBy, SaysOfBackup, WasThere}
+use Rattle.redo_shell.specs.Saving.{AnsweringBeside, AsksBackup, AsksFinish, BackupGoesOn, BackupGoing, BackupIsSaid, BackupStays, IsBackedUp, MayBeLeft, PassesBy, SaysOfBackup}
 use Rattle.redo_shell.specs.Stages.{Stage, stage_of}
 use Rattle.redo_shell.specs.Store.{Between, Command, Holds}
 use Rattle.redo_shell.specs.declared.stop.Stop.{Stop}
 use Rattle.redo_shell.proofs.GroupLemmas.{AsksOnce}
 use Rattle.redo_shell.proofs.RunLemmas.{AreFew, IsTold, gone_on, opened, told_begun, told_finish, told_here, told_quiet, with_next}
+use Rattle.redo_shell.proofs.SavingLemmas.{keeps_none, says_next}
 
 -- an answer beside a backup is an answer
 pub answering_of : {p : Params} {start old new : Disk} {before after : EngineView} {w : World Command} {commands : List Command} {line : List ℕ} {backup backed : Disk} (result : Result Bool Stop)
@@ -60,34 +62,46 @@ pub record GoingBeside {T : Type 0} (disk : T → Disk) (before mid : T) (p : Pa
   pub backup : (disk before).tells_files → BackupGoing p (disk before) going.lines going.replies going.account.commands now engine going.holds.world (disk mid)
 
 -- at the start nothing is said
-pub says_none : (p : Params) (commands : List Command) (start : Disk) → SaysOfBackup p start [] [] commands start
-says_none p commands start = record {
+pub says_none : (p : Params) (next : List (List ℕ)) (commands : List Command) (start : Disk) → SaysOfBackup p start [] [] next commands start
+says_none p next commands start = record {
   time = passes_none start;
   saves = λ n has. absurd (omega (arith, has.1));
   finds = tt;
-  kept = λ begins. (refl, λ told. started start (WasThere start) (λ files said left. left));
-  images = λ told. started start (OrAtStart start (λ files said. IsNoneOrFirst p commands files)) (λ files said left. inl left);
+  kept = λ begins. keeps_none start;
+  images = λ told. started start (OrAtStart start (λ files said. MayBeLeft p [] [] next commands files)) (λ files said left. inl left);
 }
 
 none_made : {p : Params} {d : Disk} {engine : EngineView} {w : World Command} (commands : List Command) (start : Disk) → engine.copied ≡ None → BackupGoing p start [] [] commands d engine w start
 none_made {p} {d} {engine} {w} commands start none = record {
-  says = says_none p commands start;
+  says = says_none p [] commands start;
   store = (λ is. is, λ is. is);
   copying = subst (λ (o : Option ℕ). IfSome o (λ n. Copies all_meaning p d engine w start)) (sym none) tt;
 }
 
+-- the line that it came to next
+next_of : {p : Params} {first : Stage} {start new : Disk} {commands : List Command} {script lines : List (List ℕ)} {replies : List Reply} {every : List Command} {next : List (List ℕ)} (told : IsTold p first commands script start new lines replies every next)
+    → take 1 told.truly.says.story.todo ≡ next ++ told.rest
+next_of {lines = lines} {next = next} told =
+    let rest = take 1 told.truly.says.story.todo in
+    append_cancel_left lines rest (next ++ told.rest) (ap (λ (l : List (List ℕ)). l ++ rest) (sym told.lines_are) ∙ told.taken_are ∙ append_assoc lines next told.rest)
+
+finish_among : (next rest : List (List ℕ)) → AsksFinish next → AsksFinish (next ++ rest)
+finish_among next rest (line, has, asks) = (line, Contains-append_left next rest line has, asks)
+
 -- what a run says of the backup
 backed_up : {T : Type 0} (disk : T → Disk) {before later : T} {p : Params} {first : Stage} {start new : Disk} {commands : List Command} {script lines : List (List ℕ)} {replies : List Reply} {every : List Command} {next : List (List ℕ)}
-    → IsTold p first commands script start new lines replies every next → PassesBy (lines ++ next) before later → ((disk before).tells_files → SaysOfBackup p (disk before) lines replies every (disk later))
+    → IsTold p first commands script start new lines replies every next → PassesBy (lines ++ next) before later → ((disk before).tells_files → SaysOfBackup p (disk before) lines replies next every (disk later))
     → IsBackedUp disk p first commands script start new before later
 backed_up disk {before} {later} {p} {lines = lines} {replies} {every} {next} told passes says = record {
   truly = told.truly;
   passes = passes_as before later (sym told.taken_are) (passes_more (lines ++ next) told.rest before later passes);
   says = λ tells.
       let story = told.truly.says.story in
-      subst (λ (l : List (List ℕ)). SaysOfBackup p (disk before) l (with_begun story.replies story.work) (story.account.commands ++ story.added) (disk later)) (sym told.lines_are)
-      (subst (λ (r : List Reply). SaysOfBackup p (disk before) lines r (story.account.commands ++ story.added) (disk later)) (sym told.replies_are)
-      (subst (λ (c : List Command). SaysOfBackup p (disk before) lines replies c (disk later)) (sym told.all) (says tells)));
+      let due = take 1 story.todo in
+      subst (λ (l : List (List ℕ)). SaysOfBackup p (disk before) l (with_begun story.replies story.work) due (story.account.commands ++ story.added) (disk later)) (sym told.lines_are)
+      (subst (λ (r : List Reply). SaysOfBackup p (disk before) lines r due (story.account.commands ++ story.added) (disk later)) (sym told.replies_are)
+      (subst (λ (c : List Command). SaysOfBackup p (disk before) lines replies due c (disk later)) (sym told.all)
+      (subst (λ (n : List (List ℕ)). SaysOfBackup p (disk before) lines replies n every (disk later)) (sym (next_of told)) (says_next next (next ++ told.rest) (finish_among next told.rest) (says tells)))));
 }
 
 -- a store is open, of which no backup is made yet

@@ -34,6 +34,7 @@ use Rattle.redo_shell.proofs.ExactLemmas.{calm_run, calm_told, calm_dump, calm_s
 use Rattle.redo_shell.proofs.OpenLemmas.{none_backed}
 use Rattle.redo_shell.proofs.RunLemmas.{AreFew}
 use Rattle.redo_shell.proofs.SavedLemmas.{printed_backed}
+use Rattle.redo_shell.proofs.SavingLemmas.{keeps_none}
 use Rattle.redo_shell.proofs.RestartLemmas.{image_begins}
 
 module _ (budget : Budget) (told : Type 0) (left rest : List ℕ) (old new : Disk) (status : Status) where
@@ -316,6 +317,7 @@ backup_unread few disk old backup = record {
   run = λ asks. record {
     opened = λ p commands opens tells first is. printed_backed few disk (none_backed disk first (passes_none old) refl);
     untold = ([], λ p commands opens first is. printed_backed few disk (none_backed disk first (passes_none old) refl));
+    kept = λ p commands opens tells begins. keeps_none (disk backup);
     unopened = λ tells broken. refl;
   };
   other = λ none. refl;

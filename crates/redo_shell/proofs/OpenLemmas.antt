@@ -309,5 +309,5 @@ pub none_backed : {T : Type 0} (disk : T → Disk) {backup : T} {p : Params} (fi
 none_backed disk {backup} {p} first {commands} {script} time quiet = record {
   truly = says_nothing {first = first} script time quiet;
   passes = same_passes _ backup;
-  says = λ tells. says_none p (commands ++ []) (disk backup);
+  says = λ tells. says_none p _ (commands ++ []) (disk backup);
 }

@@ -5,6 +5,7 @@ use Rattle.std.specs.Option.{is_some}
 use Rattle.std.specs.Result.{IsErrOf}
 use Rattle.std.proofs.lemmas.Bool.{cases_eq}
 use Rattle.std.proofs.lemmas.List.{append-nil, take_all}
+use Rattle.std.proofs.lemmas.List.Elements.{Contains-push}
 use Rattle.disk_model.specs.Disk.{Files, Disk, In, IsDisk, LeavesOnly, Passes, Runs, Same, Stays}
 use Rattle.disk_model.specs.Moments.{first_call, passes_twice, runs_on, weaker}
 use Rattle.disk_model.specs.declared.machine.FileNo.{FileNo}
@@ -40,7 +41,7 @@ use Rattle.backup_copy.specs.declared.backup_err.BackupErr.TheVariants as errors
 use Rattle.redo_shell.specs.Found.{IsDone, IsOfEngine}
 use Rattle.redo_shell.specs.Groups.{Regroups, open_in}
 use Rattle.redo_shell.specs.Replies.{IsBarred, IsDenied, Replies}
-use Rattle.redo_shell.specs.Saving.{BackupGoesOn, BackupGoing, BackupStays, FindsStore, IsNoneOrFirst, IsSavingDone, KeepsAll, SaysOfBackup, WasThere, answer_of_backup_error, store_after, store_behind}
+use Rattle.redo_shell.specs.Saving.{BackupGoesOn, BackupGoing, BackupStays, FindsStore, IsSavingDone, KeepsAll, MayBeLeft, SaysOfBackup, WasThere, answer_of_backup_error, store_after, store_behind}
 use Rattle.redo_shell.specs.Stages.{GoesBy, IsDeniedAt, forced_stage, stage_of, with_copied}
 use Rattle.redo_shell.specs.Store.{Command, Holds, ShowsIn, Stands, meaning_in}
 use Rattle.redo_shell.specs.declared.stop.Stop.{Stop as Early}
@@ -51,7 +52,7 @@ use Rattle.redo_shell.proofs.GroupLemmas.{none_open}
 use Rattle.redo_shell.proofs.HoldLemmas.{each_stays, in_engine}
 use Rattle.redo_shell.proofs.OpenGroups.{some_open}
 use Rattle.redo_shell.proofs.SavingCalls.{CopyJudged, FinishJudged, StartJudged, answer_of_call, copy_barred, copy_denied, copy_allowed, copy_judged, finish_barred, finish_denied, finish_early, finish_allowed, finish_judged, refused_along, start_barred, start_denied, start_allowed, start_judged}
-use Rattle.redo_shell.proofs.SavingLemmas.{says_more, says_on, store_more}
+use Rattle.redo_shell.proofs.SavingLemmas.{full_last, says_come, says_more, says_on, store_more}
 
 -- whether a store begins there
 list_cases : (xs ys : List ℕ) → (xs ≡ ys) ⊎ (xs ≡ ys → ⊥)
@@ -94,9 +95,9 @@ copying_of {p} {d} {engine} {w} {t} copies = subst (λ (o : Option ℕ). IfSome 
 no_copying : (p : Params) (d : Disk) (engine : EngineView) (w : World Command) (t : Disk) → engine.copied ≡ None → IfSome engine.copied (λ n. Copies all_meaning p d engine w t)
 no_copying p d engine w t none = subst (λ (o : Option ℕ). IfSome o (λ n. Copies all_meaning p d engine w t)) (sym none) tt
 
--- What a call on the backup's machine leaves of what was said.
-abbrev Q : Params → List Command → Files → List ℕ → Type 0
-Q p commands files said = IsNoneOrFirst p commands files
+-- what a call on the backup's machine may leave, whatever was said
+abbrev Q : Params → List (List ℕ) → List Reply → List (List ℕ) → List Command → Files → List ℕ → Type 0
+Q p lines replies next commands files said = MayBeLeft p lines replies next commands files
 
 -- where nothing is written it is all kept
 moved_kept : (start t u : Disk) → IsDisk t → Passes start t → Stays t u → t.tells_files → KeepsAll start t → KeepsAll start u
@@ -112,19 +113,19 @@ moved_kept start t u lawful so_far stays told (same, images) = (
 )
 
 module _ {p : Params} {start t u : Disk} (lawful : IsDisk t) (ends : IsDisk u) (time : Passes t u) where
-  moved : {lines : List (List ℕ)} {replies : List Reply} {commands : List Command} → SaysOfBackup p start lines replies commands t → (BeginsStore (start.reads Objects) → KeepsAll start t → KeepsAll start u)
-      → ((n : ℕ) → Contains replies (saved n) → InEachImage u (λ files. Stands p files (take n commands))) → (t.tells_moments → LeavesOnly t u (OrAtStart t (Q p commands))) → SaysOfBackup p start lines replies commands u
-  moved {commands = commands} says kept saves images = record {
+  moved : {lines : List (List ℕ)} {replies : List Reply} {commands : List Command} (next : List (List ℕ)) → SaysOfBackup p start lines replies [] commands t → (BeginsStore (start.reads Objects) → KeepsAll start t → KeepsAll start u)
+      → ((n : ℕ) → Contains replies (saved n) → InEachImage u (λ files. Stands p files (take n commands))) → (t.tells_moments → LeavesOnly t u (OrAtStart t (Q p lines replies next commands))) → SaysOfBackup p start lines replies next commands u
+  moved {lines} {replies} {commands} next says kept saves images = record {
     time = passes_twice start t u ends says.time time;
     saves = λ n has. ((says.saves n has).0, saves n has);
     finds = says.finds;
     kept = λ begins. kept begins (says.kept begins);
     images = λ told.
-        let before = says.images told in
-        runs_on start t u (OrAtStart start (Q p commands)) before
-        (weaker t u (OrAtStart t (Q p commands)) (OrAtStart start (Q p commands)) (images (says.time.moments_told.0 told)) (λ files said here. ⊎_elim
+        let before = (says_come next says).images told in
+        runs_on start t u (OrAtStart start (Q p lines replies next commands)) before
+        (weaker t u (OrAtStart t (Q p lines replies next commands)) (OrAtStart start (Q p lines replies next commands)) (images (says.time.moments_told.0 told)) (λ files said here. ⊎_elim
         (λ was. before.each files said (lawful.among start.clock t.clock files said before.later (omega arith) was))
-        (λ first. inr first)
+        (λ left. inr left)
         here));
   }
 
@@ -139,33 +140,33 @@ module _ {p : Params} {start t u : Disk} (lawful : IsDisk t) (ends : IsDisk u) (
   none_kept {replies = replies} g none begins kept = absurd (none (g.store.1 (store_stays (BeginsStore (start.reads Objects)) replies begins)))
 
   -- the machine was only read
-  moved_still : {lines : List (List ℕ)} {replies : List Reply} {commands : List Command} → Stays t u → t.tells_files → SaysOfBackup p start lines replies commands t → SaysOfBackup p start lines replies commands u
-  moved_still {commands = commands} stays told says =
-      moved says (λ begins kept. moved_kept start t u lawful says.time stays told kept) (λ n has. each_stays {P = λ (files : Files). Stands p files (take n commands)} stays told (says.saves n has).1) (λ telling. at_start t u (Q p commands) stays telling)
+  moved_still : {lines : List (List ℕ)} {replies : List Reply} {commands : List Command} (next : List (List ℕ)) → Stays t u → t.tells_files → SaysOfBackup p start lines replies [] commands t → SaysOfBackup p start lines replies next commands u
+  moved_still {lines} {replies} {commands} next stays told says =
+      moved next says (λ begins kept. moved_kept start t u lawful says.time stays told kept) (λ n has. each_stays {P = λ (files : Files). Stands p files (take n commands)} stays told (says.saves n has).1) (λ telling. at_start t u (Q p lines replies next commands) stays telling)
 
   -- no store was there, and none is meanwhile
-  moved_none : {lines : List (List ℕ)} {replies : List Reply} {commands : List Command} {d : Disk} {engine : EngineView} {w : World Command} → BackupGoing p start lines replies commands d engine w t → (BeginsStore (t.reads Objects) → ⊥)
-      → (t.tells_moments → LeavesOnly t u (OrAtStart t (NoneIn t))) → SaysOfBackup p start lines replies commands u
-  moved_none {commands = commands} g none images =
-      moved g.says (none_kept g none) (λ n has. absurd (none_saved g none n has)) (λ telling. weaker t u (OrAtStart t (NoneIn t)) (OrAtStart t (Q p commands)) (images telling) (λ files said here. ⊎_elim (λ was. inl was) (λ gone. inr (inl gone.0)) here))
+  moved_none : {lines : List (List ℕ)} {replies : List Reply} {commands : List Command} {d : Disk} {engine : EngineView} {w : World Command} (next : List (List ℕ)) → BackupGoing p start lines replies commands d engine w t → (BeginsStore (t.reads Objects) → ⊥)
+      → (t.tells_moments → LeavesOnly t u (OrAtStart t (NoneIn t))) → SaysOfBackup p start lines replies next commands u
+  moved_none {lines} {replies} {commands} next g none images =
+      moved next g.says (none_kept g none) (λ n has. absurd (none_saved g none n has)) (λ telling. weaker t u (OrAtStart t (NoneIn t)) (OrAtStart t (Q p lines replies next commands)) (images telling) (λ files said here. ⊎_elim (λ was. inl was) (λ gone. inr (inl (inl gone.0))) here))
 
   -- the gate was closed, and stayed so
-  moved_shut : {lines : List (List ℕ)} {replies : List Reply} {commands : List Command} {d : Disk} {engine : EngineView} {w : World Command} → BackupGoing p start lines replies commands d engine w t → t.tells_files → Copies all_meaning p d engine w t
-      → Runs (In Objects KeepsGate) Same t u → SaysOfBackup p start lines replies commands u
-  moved_shut {commands = commands} g told copies runs =
-      moved g.says (none_kept g (copies_closed copies told)) (λ n has. absurd (none_saved g (copies_closed copies told) n has))
-      (λ telling. first_call t u (OrAtStart t (Q p commands)) telling runs.time (λ files said left.
+  moved_shut : {lines : List (List ℕ)} {replies : List Reply} {commands : List Command} {d : Disk} {engine : EngineView} {w : World Command} (next : List (List ℕ)) → BackupGoing p start lines replies commands d engine w t → t.tells_files → Copies all_meaning p d engine w t
+      → Runs (In Objects KeepsGate) Same t u → SaysOfBackup p start lines replies next commands u
+  moved_shut {lines} {replies} {commands} next g told copies runs =
+      moved next g.says (none_kept g (copies_closed copies told)) (λ n has. absurd (none_saved g (copies_closed copies told) n has))
+      (λ telling. first_call t u (OrAtStart t (Q p lines replies next commands)) telling runs.time (λ files said left.
       let from = runs.crash telling files said left in
-      inr (inl (shut_none files (kept_closed (from.0.0 Objects) (files Objects) from.0.2.changed ((copies.target told).shut telling from.0.0 t.said from.0.1))))))
+      inr (inl (inl (shut_none files (kept_closed (from.0.0 Objects) (files Objects) from.0.2.changed ((copies.target told).shut telling from.0.0 t.said from.0.1)))))))
 
-  -- it was closed, until the store was whole
-  moved_whole : {lines : List (List ℕ)} {replies : List Reply} {commands others : List Command} {d : Disk} {engine : EngineView} {w : World Command} → BackupGoing p start lines replies commands d engine w t → t.tells_files → Copies all_meaning p d engine w t
-      → others ≡ commands → (t.tells_moments → LeavesOnly t u (IsShutOrWhole all_meaning p others t)) → SaysOfBackup p start lines replies commands u
-  moved_whole {commands = commands} {others} g told copies same images =
-      moved g.says (none_kept g (copies_closed copies told)) (λ n has. absurd (none_saved g (copies_closed copies told) n has))
-      (λ telling. weaker t u (IsShutOrWhole all_meaning p others t) (OrAtStart t (Q p commands)) (images telling) (λ files said here. ⊎_elim
-      (λ (shut : AreShut files). inr (inl (shut_none files shut)))
-      (λ (stands : Stands p files others). inr (inr (length commands, omega arith, subst (λ (l : List Command). Stands p files l) (same ∙ sym (take_all (length commands) commands (omega arith))) stands)))
+  -- it was closed, until the store was whole, as the line asks
+  moved_whole : {lines : List (List ℕ)} {replies : List Reply} {commands others : List Command} {d : Disk} {engine : EngineView} {w : World Command} {line : List ℕ} → AsksFor line bfinish → BackupGoing p start lines replies commands d engine w t → t.tells_files → Copies all_meaning p d engine w t
+      → others ≡ commands → (t.tells_moments → LeavesOnly t u (IsShutOrWhole all_meaning p others t)) → SaysOfBackup p start lines replies (line ∷ []) commands u
+  moved_whole {lines} {replies} {commands} {others} {line = line} asks g told copies same images =
+      moved (line ∷ []) g.says (none_kept g (copies_closed copies told)) (λ n has. absurd (none_saved g (copies_closed copies told) n has))
+      (λ telling. weaker t u (IsShutOrWhole all_meaning p others t) (OrAtStart t (Q p lines replies (line ∷ []) commands)) (images telling) (λ files said here. ⊎_elim
+      (λ (shut : AreShut files). inr (inl (inl (shut_none files shut))))
+      (λ (stands : Stands p files others). inr (inr ((line, (0, omega arith, refl), asks), subst (λ (l : List Command). Stands p files l) same stands)))
       here.0))
 
 -- How the backup goes on by each answer.
@@ -174,11 +175,11 @@ module _ (p : Params) (start old new t u : Disk) (before after : EngineView) (w 
   GoesOn reply x = BackupGoesOn p start old new before after w commands line t u reply [] x
 
   -- an answer after which no store is there, and the backup is still made
-  shut_goes : (reply : Reply) → ((n : ℕ) → reply ≡ saved n → ⊥) → ((there : Type 0) → store_after there reply ≡ there) → {lines : List (List ℕ)} {replies : List Reply} → BackupGoing p start lines replies commands old before w t
-      → (BeginsStore (t.reads Objects) → ⊥) → FindsStore (store_behind (BeginsStore (start.reads Objects)) replies) line reply → SaysOfBackup p start lines replies commands u → t.tells_files → Copies all_meaning p new after v u
+  shut_goes : (reply : Reply) → ((there : Type 0) → store_after there reply ≡ there) → {lines : List (List ℕ)} {replies : List Reply} → BackupGoing p start lines replies commands old before w t
+      → (BeginsStore (t.reads Objects) → ⊥) → SaysOfBackup p start (lines ++ line ∷ []) (replies ++ reply ∷ []) [] (commands ++ []) u → t.tells_files → Copies all_meaning p new after v u
       → BackupGoing p start (lines ++ line ∷ []) (replies ++ reply ∷ []) (commands ++ []) new after v u
-  shut_goes reply fresh same {lines} {replies} g none finds says told copies = record {
-    says = says_more line reply [] says fresh finds;
+  shut_goes reply same {lines} {replies} g none says told copies = record {
+    says = says;
     store = (
       λ is. absurd (copies_closed copies (time.files_told.0 told) is),
       λ is. absurd (none (g.store.1 (subst (λ (A : Type 0). A) (store_more (BeginsStore (start.reads Objects)) replies reply ∙ same (store_behind (BeginsStore (start.reads Objects)) replies)) is))),
@@ -188,34 +189,45 @@ module _ (p : Params) (start old new t u : Disk) (before after : EngineView) (w 
 
   pub started_goes : Copies all_meaning p new after v u → (t.tells_files → BeginsNone t.reads) → (t.tells_moments → BeginsNone t.reads → LeavesOnly t u (OrAtStart t (NoneIn t))) → GoesOn ok v
   started_goes copies none images told lines replies g =
-      shut_goes ok (λ n e. cc e) (λ there. refl) g (none told) (λ asks is. none told (g.store.1 is)) (moved_none lawful ends time g (none told) (λ telling. images telling (none told))) told copies
+      shut_goes ok (λ there. refl) g (none told) (says_more line ok [] (moved_none lawful ends time [] g (none told) (λ telling. images telling (none told))) (λ n e. cc e) (λ asks is. none told (g.store.1 is))) told copies
 
   pub copied_goes : (n k : ℕ) → before.copied ≡ Some k → (Copies all_meaning p old before w t → Copies all_meaning p new after v u) → Runs (In Objects KeepsGate) Same t u → GoesOn (copied n) v
   copied_goes n k is on runs told lines replies g =
       let copies = subst (λ (o : Option ℕ). IfSome o (λ n. Copies all_meaning p old before w t)) is g.copying in
-      shut_goes (copied n) (λ n e. cc e) (λ there. refl) g (copies_closed copies told) tt (moved_shut lawful ends time g told copies runs) told (on copies)
+      shut_goes (copied n) (λ there. refl) g (copies_closed copies told) (says_more line (copied n) [] (moved_shut lawful ends time [] g told copies runs) (λ n e. cc e) tt) told (on copies)
 
-  pub full_goes : (used need limit k : ℕ) → before.copied ≡ Some k → commands_of w.history ≡ commands → (Copies all_meaning p old before w t → Copies all_meaning p new after v u)
+  -- all of the commands stand for themselves
+  all_first : (n : ℕ) → n ≡ length commands → take n (commands ++ []) ≡ commands
+  all_first n is = ap (λ (l : List Command). take n l) (append-nil commands) ∙ take_all n commands (omega (arith, is))
+
+  pub full_goes : AsksFor line bfinish → (used need limit k : ℕ) → before.copied ≡ Some k → commands_of w.history ≡ commands → (Copies all_meaning p old before w t → Copies all_meaning p new after v u)
       → (t.tells_moments → Copies all_meaning p old before w t → LeavesOnly t u (IsShutOrWhole all_meaning p (commands_of w.history) t)) → GoesOn (full used need limit) v
-  full_goes used need limit k is are on images told lines replies g =
+  full_goes asks used need limit k is are on images told lines replies g =
       let copies = subst (λ (o : Option ℕ). IfSome o (λ n. Copies all_meaning p old before w t)) is g.copying in
-      shut_goes (full used need limit) (λ n e. cc e) (λ there. refl) g (copies_closed copies told) tt (moved_whole lawful ends time g told copies are (λ telling. images telling copies)) told (on copies)
+      shut_goes (full used need limit) (λ there. refl) g (copies_closed copies told)
+      (says_on line (full used need limit) [] (moved_whole lawful ends time asks g told copies are (λ telling. images telling copies)) (λ n e. absurd (cc e))
+      (λ files last stands. inr (inr (
+        full_last (BeginsStore (start.reads Objects)) lines replies line used need limit g.says.finds asks,
+        length commands,
+        omega (arith, length-append commands []),
+        subst (λ (l : List Command). Stands p files l) (sym (all_first (length commands) refl)) stands,
+      ))) tt) told (on copies)
 
-  pub saved_goes : (n k : ℕ) → before.copied ≡ Some k → after.copied ≡ None → n ≡ length commands → commands_of w.history ≡ commands
+  pub saved_goes : AsksFor line bfinish → (n k : ℕ) → before.copied ≡ Some k → after.copied ≡ None → n ≡ length commands → commands_of w.history ≡ commands
       → (Copies all_meaning p old before w t → t.tells_files → InEachImage u (λ files. Stands p files (commands_of w.history)))
       → (t.tells_moments → Copies all_meaning p old before w t → LeavesOnly t u (IsShutOrWhole all_meaning p (commands_of w.history) t)) → GoesOn (saved n) v
-  saved_goes n k is none count are stands images told lines replies g =
+  saved_goes asks n k is none count are stands images told lines replies g =
       let copies = subst (λ (o : Option ℕ). IfSome o (λ n. Copies all_meaning p old before w t)) is g.copying in
       let each = stands copies told in
       let all : (m : ℕ) → saved n ≡ saved m → (m ≤ length (commands ++ [])) × InEachImage u (λ files. Stands p files (take m (commands ++ [])))
       = λ m same.
-      let here : m ≡ length commands = cc (same, count) in
-      let whole : take m (commands ++ []) ≡ commands = ap (λ (l : List Command). take m l) (append-nil commands) ∙ take_all m commands (omega (arith, here)) in (
+      let here : m ≡ length commands = cc (same, count) in (
         omega (arith, here, length-append commands []),
-        subst (λ (l : List Command). InEachImage u (λ files. Stands p files l)) (are ∙ sym whole) each,
+        subst (λ (l : List Command). InEachImage u (λ files. Stands p files l)) (are ∙ sym (all_first m here)) each,
       ) in
       record {
-        says = says_on line (saved n) [] (moved_whole lawful ends time g told copies are (λ telling. images telling copies)) all tt;
+        says = says_on line (saved n) [] (moved_whole lawful ends time asks g told copies are (λ telling. images telling copies)) all
+            (λ files last stands. inr (inl (n, Contains-push replies (saved n), subst (λ (l : List Command). Stands p files l) (sym (all_first n count)) stands))) tt;
         store = (λ begins. subst (λ (A : Type 0). A) (sym (store_more (BeginsStore (start.reads Objects)) replies (saved n))) tt, λ there. begins_store p (u.reads Objects) each.0.holds.objects);
         copying = no_copying p new after v u none;
       }
@@ -226,7 +238,7 @@ module _ (p : Params) (start old new t u : Disk) (before after : EngineView) (w 
       let run = stays told (begins told) in
       let there = g.store.0 (begins told) in
       record {
-        says = says_more line (backup_denied denials.AlreadyStore) [] (moved_still lawful ends time run told g.says) (λ n e. cc e) there;
+        says = says_more line (backup_denied denials.AlreadyStore) [] (moved_still lawful ends time [] run told g.says) (λ n e. cc e) there;
         store = (
           λ is. subst (λ (A : Type 0). A) (sym (store_more (BeginsStore (start.reads Objects)) replies (backup_denied denials.AlreadyStore))) there,
           λ is. subst (λ (files : Files). BeginsStore (files Objects)) (sym (run.reads told)) (begins told),
@@ -237,19 +249,19 @@ module _ (p : Params) (start old new t u : Disk) (before after : EngineView) (w 
   -- Where a call fails, what the answers say stays true.
   pub start_stays : (t.tells_files → BeginsStore (t.reads Objects) → Stays t u) → (t.tells_moments → BeginsNone t.reads → LeavesOnly t u (OrAtStart t (NoneIn t))) → BackupStays p start old new before after w commands line t u
   start_stays stays images told lines replies g = ⊎_elim
-      (λ (begins : BeginsStore (t.reads Objects)). moved_still lawful ends time (stays told begins) told g.says)
-      (λ (none : BeginsStore (t.reads Objects) → ⊥). moved_none lawful ends time g none (λ telling. images telling none))
+      (λ (begins : BeginsStore (t.reads Objects)). moved_still lawful ends time (line ∷ []) (stays told begins) told g.says)
+      (λ (none : BeginsStore (t.reads Objects) → ⊥). moved_none lawful ends time (line ∷ []) g none (λ telling. images telling none))
       (begins_cases (t.reads Objects))
 
   pub copy_stays : (k : ℕ) → before.copied ≡ Some k → Runs (In Objects KeepsGate) Same t u → BackupStays p start old new before after w commands line t u
   copy_stays k is runs told lines replies g =
-      moved_shut lawful ends time g told (subst (λ (o : Option ℕ). IfSome o (λ n. Copies all_meaning p old before w t)) is g.copying) runs
+      moved_shut lawful ends time (line ∷ []) g told (subst (λ (o : Option ℕ). IfSome o (λ n. Copies all_meaning p old before w t)) is g.copying) runs
 
-  pub finish_stays : (k : ℕ) → before.copied ≡ Some k → commands_of w.history ≡ commands → (t.tells_moments → Copies all_meaning p old before w t → LeavesOnly t u (IsShutOrWhole all_meaning p (commands_of w.history) t))
+  pub finish_stays : AsksFor line bfinish → (k : ℕ) → before.copied ≡ Some k → commands_of w.history ≡ commands → (t.tells_moments → Copies all_meaning p old before w t → LeavesOnly t u (IsShutOrWhole all_meaning p (commands_of w.history) t))
       → BackupStays p start old new before after w commands line t u
-  finish_stays k is are images told lines replies g =
+  finish_stays asks k is are images told lines replies g =
       let copies = subst (λ (o : Option ℕ). IfSome o (λ n. Copies all_meaning p old before w t)) is g.copying in
-      moved_whole lawful ends time g told copies are (λ telling. images telling copies)
+      moved_whole lawful ends time asks g told copies are (λ telling. images telling copies)
 
 -- Nothing was done, and that is answered.
 still_goes : (p : Params) (start d t : Disk) (engine : EngineView) (w : World Command) (commands : List Command) (line : List ℕ) (reply : Reply) → ((n : ℕ) → reply ≡ saved n → ⊥) → ((there : Type 0) → store_after there reply ≡ there)
@@ -490,7 +502,7 @@ module _ {M T : Type 0} (disk : M → Disk) (other : T → Disk) (old new : M) (
   module _ (asks : AsksFor line bfinish) (within : IfSome before.copied (λ n. n ≤ (params_of before).objects))
       (moments : (other t).tells_moments → (p : Params) (w : World Command) → Copies all_meaning p (disk old) before w (other t) → LeavesOnly (other t) (other u) (IsShutOrWhole all_meaning p (commands_of w.history) (other t))) where
     finish_fails : (k : ℕ) → before.copied ≡ Some k → (stop : Early) → Answers (Err stop)
-    finish_fails k is stop = failed_done stop (finish_stays p start (disk old) (disk new) (other t) (other u) before after holds.world holds.world commands line lawful ends time k is holds.commands_are (λ telling copies. moments telling p holds.world copies))
+    finish_fails k is stop = failed_done stop (finish_stays p start (disk old) (disk new) (other t) (other u) before after holds.world holds.world commands line lawful ends time asks k is holds.commands_are (λ telling copies. moments telling p holds.world copies))
 
     -- all objects are copied
     all_copied : (k : ℕ) → before.copied ≡ Some k → (params_of before).objects ≤ k → before.copied ≡ Some p.objects
@@ -518,7 +530,7 @@ module _ {M T : Type 0} (disk : M → Disk) (other : T → Disk) (old new : M) (
         record {
           whole = (
             forced_done (forced.call.quiet holds.shows.shows.told) (saved n) holds f (asks, none_open holds.shows alone, count, refl) f.group (all_copied k is high, long, forced_stage_is None f copies) tt,
-            saved_goes p start (disk old) (disk new) (other t) (other u) before after holds.world (run (meaning_in p) holds.world (force_steps (meaning_in p) holds.world)) commands line lawful ends time n k is copies count holds.commands_are (λ c told. (stands p holds.world c).1 told) (λ telling c. moments telling p holds.world c),
+            saved_goes p start (disk old) (disk new) (other t) (other u) before after holds.world (run (meaning_in p) holds.world (force_steps (meaning_in p) holds.world)) commands line lawful ends time asks n k is copies count holds.commands_are (λ c told. (stands p holds.world c).1 told) (λ telling c. moments telling p holds.world c),
           );
           stopped = tt;
         }
@@ -528,7 +540,7 @@ module _ {M T : Type 0} (disk : M → Disk) (other : T → Disk) (old new : M) (
           whole = (
             forced_done (forced.1.call.quiet holds.shows.shows.told) (full used need limit) holds f (inr (bfinish, tt, asks, none_open holds.shows alone, cause.1, cause.2, refl)) f.group
                 (inr (asks, all_copied k is high, cause.0 ∙ f.used, long, forced_stage_is before.copied f copies)) (inr (record { none_waits = f.none_waits; alone = f.alone; used_is = cause.0 })),
-            full_goes p start (disk old) (disk new) (other t) (other u) before after holds.world (run (meaning_in p) holds.world (force_steps (meaning_in p) holds.world)) commands line lawful ends time used need limit k is holds.commands_are (λ c. ⊎_elim (λ failed. absurd (full_no_fault (Err (errors.LogFull used need limit)) used need limit refl failed)) (λ c. c) (again p holds.world c)) (λ telling c. moments telling p holds.world c),
+            full_goes p start (disk old) (disk new) (other t) (other u) before after holds.world (run (meaning_in p) holds.world (force_steps (meaning_in p) holds.world)) commands line lawful ends time asks used need limit k is holds.commands_are (λ c. ⊎_elim (λ failed. absurd (full_no_fault (Err (errors.LogFull used need limit)) used need limit refl failed)) (λ c. c) (again p holds.world c)) (λ telling c. moments telling p holds.world c),
           );
           stopped = tt;
         }

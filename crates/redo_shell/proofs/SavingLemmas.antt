@@ -3,7 +3,9 @@ use Rattle.std.proofs.Common.{◌≡◌, ◌∙◌, sym, subst, refl, ◌⊎◌,
 use Rattle.std.specs.Prelude.{IfSome, IsTrue}
 use Rattle.std.specs.Option.{is_some}
 use Rattle.std.proofs.lemmas.List.{take-append-le}
+use Rattle.std.proofs.lemmas.List.Elements.{Contains-append_left}
 use Rattle.disk_model.specs.Disk.{Files, Disk}
+use Rattle.disk_model.specs.Moments.{started}
 use Rattle.disk_model.specs.declared.machine.FileNo.TheVariants.{Objects}
 use Rattle.formats.specs.Objects.{BeginsStore, IsObjectsFile, bounds_of}
 use Rattle.formats.specs.declared.params.Params.{Params}
@@ -33,7 +35,7 @@ use Rattle.redo_shell.specs.Groups.{begun_after, open_in}
 use Rattle.redo_shell.specs.Made.{Made, AsksMade}
 use Rattle.redo_shell.specs.Replies.{IsDenied, IsGranted, IsOfBackup, Replies}
 use Rattle.redo_shell.specs.Run.{Answering, IsPartly}
-use Rattle.redo_shell.specs.Saving.{AllFindStore, AnsweringBeside, AsksBackup, BackupGoesOn, FindsStore, IsNoneOrFirst, SaysOfBackup, store_after, store_behind}
+use Rattle.redo_shell.specs.Saving.{AllFindStore, AnsweringBeside, AsksBackup, AsksFinish, BackupGoesOn, FindsStore, FinishIsFull, IsNoneOrSaved, KeepsAll, MayBeLeft, SaysOfBackup, WasThere, store_after, store_behind}
 use Rattle.redo_shell.specs.Stages.{Stage, Ends, GoesBy, HasCourse, IsBackupFull, IsBesideBackup, IsQuestion, StartsBackup, forced_stage, stage_after, stage_of, upkeep_course}
 use Rattle.redo_shell.specs.Store.{Command, ShowsIn, Stands, meaning_in}
 use Rattle.redo_shell.specs.declared.stop.Stop.{Stop as Early}
@@ -174,6 +176,10 @@ module _ {old new backup : Disk} (laws : BesideLaws old new backup) {p : Params}
     goes_on line (command_count k) commands added now other replies goes = still now goes
     goes_on line (summary totals) commands added now other replies goes = still now goes
 
+-- nothing was done with the backup
+pub keeps_none : (start : Disk) → KeepsAll start start
+keeps_none start = (refl, λ told. started start (WasThere start) (λ files said left. left))
+
 -- What the answers say of a backup goes on with each answer.
 
 pub store_more : (there : Type 0) (replies : List Reply) (reply : Reply) → store_behind there (replies ++ reply ∷ []) ≡ store_after (store_behind there replies) reply
@@ -205,18 +211,66 @@ module _ (p : Params) (group : Option ℕ) (commands : List Command) (line : Lis
   other_finds there ok replies = λ asks is. other (bstart, tt, asks)
   other_finds there reply replies = tt
 
--- some first commands are some first of more
-first_longer : {p : Params} {commands : List Command} (added : List Command) (files : Files) → IsNoneOrFirst p commands files → IsNoneOrFirst p (commands ++ added) files
-first_longer added files (inl none) = inl none
-first_longer {p} {commands} added files (inr (n, le, stands)) =
-    inr (n, omega (arith, le, length-append commands added), subst (λ (l : List Command). Stands p files l) (sym (take-append-le n commands added le)) stands)
+-- no line is none that ends a backup
+no_finish : AsksFinish [] → ⊥
+no_finish (line, has, asks) = omega (arith, has.1)
+
+-- one line more, with its answer
+full_later : (line : List ℕ) (reply : Reply) (lines : List (List ℕ)) (replies : List Reply) → FinishIsFull lines replies → FinishIsFull (line ∷ lines) (reply ∷ replies)
+full_later line (full used need limit) lines replies later = inr later
+full_later line reply lines replies later = later
+
+full_more : (lines : List (List ℕ)) (replies : List Reply) (line : List ℕ) (reply : Reply) → FinishIsFull lines replies → FinishIsFull (lines ++ line ∷ []) (replies ++ reply ∷ [])
+full_more [] replies line reply is = absurd is
+full_more (l ∷ lines) [] line reply is = absurd is
+full_more (l ∷ lines) (full used need limit ∷ replies) line reply is = ⊎_elim (λ (asks : AsksFor l bfinish). inl asks) (λ (later : FinishIsFull lines replies). inr (full_more lines replies line reply later)) is
+full_more (l ∷ lines) (r ∷ replies) line reply is = full_more lines replies line reply is
+
+-- the last one got `full`
+pub full_last : (there : Type 0) (lines : List (List ℕ)) (replies : List Reply) (line : List ℕ) (used need limit : ℕ) → AllFindStore there lines replies → AsksFor line bfinish → FinishIsFull (lines ++ line ∷ []) (replies ++ full used need limit ∷ [])
+full_last there [] [] line used need limit all asks = inl asks
+full_last there (l ∷ lines) (r ∷ replies) line used need limit all asks = full_later l r (lines ++ line ∷ []) (replies ++ full used need limit ∷ []) (full_last (store_after there r) lines replies line used need limit all.1 asks)
+full_last there [] (r ∷ replies) line used need limit all asks = absurd all
+full_last there (l ∷ lines) [] line used need limit all asks = absurd all
+
+module _ {p : Params} where
+  -- what is left, where another next line may end the backup too
+  left_next : (lines : List (List ℕ)) (replies : List Reply) (next other : List (List ℕ)) (commands : List Command) (files : Files) → (AsksFinish next → AsksFinish other) → MayBeLeft p lines replies next commands files → MayBeLeft p lines replies other commands files
+  left_next lines replies next other commands files so (inl here) = inl here
+  left_next lines replies next other commands files so (inr (asks, stands)) = inr (so asks, stands)
+
+  -- and with one answer more, where the last line ends no backup or this is known of it
+  left_more : (lines : List (List ℕ)) (replies : List Reply) (next : List (List ℕ)) (commands : List Command) (line : List ℕ) (reply : Reply) (added : List Command) (files : Files) → ((n : ℕ) → Contains replies (saved n) → n ≤ length commands)
+      → (AsksFinish next → Stands p files commands → IsNoneOrSaved p (lines ++ line ∷ []) (replies ++ reply ∷ []) (commands ++ added) files)
+      → MayBeLeft p lines replies next commands files → MayBeLeft p (lines ++ line ∷ []) (replies ++ reply ∷ []) [] (commands ++ added) files
+  left_more lines replies next commands line reply added files few last (inl (inl none)) = inl (inl none)
+  left_more lines replies next commands line reply added files few last (inl (inr (inl (n, has, stands)))) =
+      inl (inr (inl (n, Contains-append_left replies (reply ∷ []) (saved n) has, subst (λ (l : List Command). Stands p files l) (sym (take-append-le n commands added (few n has))) stands)))
+  left_more lines replies next commands line reply added files few last (inl (inr (inr (is_full, n, le, stands)))) =
+      inl (inr (inr (full_more lines replies line reply is_full, n, omega (arith, le, length-append commands added), subst (λ (l : List Command). Stands p files l) (sym (take-append-le n commands added le)) stands)))
+  left_more lines replies next commands line reply added files few last (inr (asks, stands)) = inl (last asks stands)
 
 module _ {p : Params} {start : Disk} where
+  -- what is said, where another next line may end the backup too
+  pub says_next : {lines : List (List ℕ)} {replies : List Reply} {commands : List Command} {now : Disk} (next other : List (List ℕ)) → (AsksFinish next → AsksFinish other) → SaysOfBackup p start lines replies next commands now → SaysOfBackup p start lines replies other commands now
+  says_next {lines} {replies} {commands} {now} next other so says = record {
+    time = says.time;
+    saves = says.saves;
+    finds = says.finds;
+    kept = says.kept;
+    images = λ told. or_weaker start now (λ files said. MayBeLeft p lines replies next commands files) (λ files said. MayBeLeft p lines replies other commands files) (says.images told) (λ files said. left_next lines replies next other commands files so);
+  }
+
+  -- a line more got no answer
+  pub says_come : {lines : List (List ℕ)} {replies : List Reply} {commands : List Command} {now : Disk} (next : List (List ℕ)) → SaysOfBackup p start lines replies [] commands now → SaysOfBackup p start lines replies next commands now
+  says_come next says = says_next [] next (λ (none : AsksFinish []). absurd (no_finish none)) says
+
   -- what is said with one answer more
-  pub says_on : {lines : List (List ℕ)} {replies : List Reply} {commands : List Command} {now : Disk} (line : List ℕ) (reply : Reply) (added : List Command) → SaysOfBackup p start lines replies commands now
+  pub says_on : {lines : List (List ℕ)} {replies : List Reply} {next : List (List ℕ)} {commands : List Command} {now : Disk} (line : List ℕ) (reply : Reply) (added : List Command) → SaysOfBackup p start lines replies next commands now
       → ((n : ℕ) → reply ≡ saved n → (n ≤ length (commands ++ added)) × InEachImage now (λ files. Stands p files (take n (commands ++ added))))
-      → FindsStore (store_behind (BeginsStore (start.reads Objects)) replies) line reply → SaysOfBackup p start (lines ++ line ∷ []) (replies ++ reply ∷ []) (commands ++ added) now
-  says_on {lines} {replies} {commands} {now} line reply added says saves finds = record {
+      → ((files : Files) → AsksFinish next → Stands p files commands → IsNoneOrSaved p (lines ++ line ∷ []) (replies ++ reply ∷ []) (commands ++ added) files)
+      → FindsStore (store_behind (BeginsStore (start.reads Objects)) replies) line reply → SaysOfBackup p start (lines ++ line ∷ []) (replies ++ reply ∷ []) [] (commands ++ added) now
+  says_on {lines} {replies} {next} {commands} {now} line reply added says saves last finds = record {
     time = says.time;
     saves = λ n has. ⊎_elim
         (λ (was : Contains replies (saved n)). let (le, each) = says.saves n was in (
@@ -227,13 +281,14 @@ module _ {p : Params} {start : Disk} where
         (answer_cases replies reply (saved n) has);
     finds = finds_more (BeginsStore (start.reads Objects)) lines replies line reply says.finds finds;
     kept = says.kept;
-    images = λ told. or_weaker start now (λ files said. IsNoneOrFirst p commands files) (λ files said. IsNoneOrFirst p (commands ++ added) files) (says.images told) (λ files said. first_longer added files);
+    images = λ told. or_weaker start now (λ files said. MayBeLeft p lines replies next commands files) (λ files said. MayBeLeft p (lines ++ line ∷ []) (replies ++ reply ∷ []) [] (commands ++ added) files) (says.images told)
+        (λ files said. left_more lines replies next commands line reply added files (λ n has. (says.saves n has).0) (last files));
   }
 
   -- one that saves no store
-  pub says_more : {lines : List (List ℕ)} {replies : List Reply} {commands : List Command} {now : Disk} (line : List ℕ) (reply : Reply) (added : List Command) → SaysOfBackup p start lines replies commands now → ((n : ℕ) → reply ≡ saved n → ⊥)
-      → FindsStore (store_behind (BeginsStore (start.reads Objects)) replies) line reply → SaysOfBackup p start (lines ++ line ∷ []) (replies ++ reply ∷ []) (commands ++ added) now
-  says_more line reply added says none finds = says_on line reply added says (λ n is. absurd (none n is)) finds
+  pub says_more : {lines : List (List ℕ)} {replies : List Reply} {commands : List Command} {now : Disk} (line : List ℕ) (reply : Reply) (added : List Command) → SaysOfBackup p start lines replies [] commands now → ((n : ℕ) → reply ≡ saved n → ⊥)
+      → FindsStore (store_behind (BeginsStore (start.reads Objects)) replies) line reply → SaysOfBackup p start (lines ++ line ∷ []) (replies ++ reply ∷ []) [] (commands ++ added) now
+  says_more line reply added says none finds = says_on line reply added says (λ n is. absurd (none n is)) (λ files asks stands. absurd (no_finish asks)) finds
 
   -- a line of no backup leaves it as it was
   module _ {old new backup : Disk} (laws : BesideLaws old new backup) {before after : EngineView} {w : World Command} {commands : List Command} {line : List ℕ} (other : AsksBackup line → ⊥) (shows : ShowsIn p old before w) where
@@ -263,7 +318,7 @@ module _ {p : Params} {start : Disk} where
     beside_other (Err stop) a = record {
       whole = tt;
       partly = ⊎_elim
-          (λ (quiet : new.said ≡ old.said). inl (quiet, λ told lines replies g. g.says))
+          (λ (quiet : new.said ≡ old.said). inl (quiet, λ told lines replies g. says_come (line ∷ []) g.says))
           (λ (part : IsPartly p old new (stage_of before w) commands line). inr (
             part,
             λ told lines replies g. says_more line part.reply part.added g.says (other_saves p (open_in w) commands line part.added other part.reply part.replies)
@@ -278,4 +333,4 @@ module _ {p : Params} {start : Disk} where
   pub beside_quiet : {old new : Disk} {before after : EngineView} {w : World Command} {commands : List Command} {line : List ℕ} (backup : Disk) (result : Result Bool Early) → IsErr result → new.said ≡ old.said
       → Answering p old new before after w commands line result → AnsweringBeside p start old new before after w commands line backup backup result
   beside_quiet backup (Ok refusing) is quiet a = absurd (cc is)
-  beside_quiet backup (Err stop) is quiet a = record { whole = tt; partly = inl (quiet, λ told lines replies g. g.says); images = a.images; steps = a.steps }
+  beside_quiet {line = line} backup (Err stop) is quiet a = record { whole = tt; partly = inl (quiet, λ told lines replies g. says_come (line ∷ []) g.says); images = a.images; steps = a.steps }

@@ -8,8 +8,8 @@ use Rattle.explain_core.specs.World.{World}
 use Rattle.restart.specs.Starts.{OrAtStart}
 use Rattle.op_codec.specs.AllOps.{all_meaning}
 use Rattle.script_lines.specs.Grammar.{Request, AsksFor}
-use Rattle.script_lines.specs.declared.line.Line.TheVariants.{BackupStart as bstart, BackupCopy as bcopy}
-use Rattle.script_lines.specs.Replies.{Reply, ok, saved, backup_denied, reply_of}
+use Rattle.script_lines.specs.declared.line.Line.TheVariants.{BackupStart as bstart, BackupCopy as bcopy, BackupFinish as bfinish}
+use Rattle.script_lines.specs.Replies.{Reply, ok, full, saved, backup_denied, reply_of}
 use Rattle.script_lines.specs.declared.answer.Answer.{Answer}
 use Rattle.script_lines.specs.declared.answer.Answer.TheVariants as answers
 use Rattle.script_lines.specs.declared.backup_denial.BackupDenial.TheVariants as denials
@@ -32,6 +32,7 @@ use Rattle.redo_shell.specs.Answers.{SaysTruly, with_begun, with_line}
 use Rattle.redo_shell.specs.Stages.{Stage, IsFirst, stage_of}
 use Rattle.redo_shell.specs.Found.{IsDone}
 use Rattle.redo_shell.specs.Printed.{SaysSaved}
+use Rattle.redo_shell.specs.Sessions.{Follows}
 use Rattle.redo_shell.specs.Run.{IsAnswered, IsCausedBeside, IsUndamaged, IsPartly, LineMoment, LineStage}
 use Rattle.redo_shell.specs.declared.status.Status.{Status}
 use Rattle.redo_shell.specs.declared.status.Status.TheVariants.{BackupFault as BackupFailed}
@@ -77,9 +78,25 @@ AllFindStore there [] [] = ⊤
 AllFindStore there (line ∷ lines) (reply ∷ replies) = FindsStore there line reply × AllFindStore (store_after there reply) lines replies
 AllFindStore there lines replies = ⊥
 
--- these files are no store, or they stand for some first of the commands
-abbrev pub IsNoneOrFirst : Params → List Command → Files → Type 0
-IsNoneOrFirst p commands files = (BeginsStore (files Objects) → ⊥) ⊎ ((n : ℕ) × (n ≤ length commands) × Stands p files (take n commands))
+-- one of these lines is to end a backup
+abbrev pub AsksFinish : List (List ℕ) → Type 0
+AsksFinish lines = (line : List ℕ) × Contains lines line × AsksFor line bfinish
+
+-- one of these lines was to end a backup, and was answered by `full`
+abbrev pub FinishIsFull : List (List ℕ) → List Reply → Type 0
+FinishIsFull (line ∷ lines) (full used need limit ∷ replies) = AsksFor line bfinish ⊎ FinishIsFull lines replies
+FinishIsFull (line ∷ lines) (reply ∷ replies) = FinishIsFull lines replies
+FinishIsFull lines replies = ⊥
+
+-- These files are no store, or the one that one of these answers to these lines says is saved; where a line that was to end the
+-- backup got `full`, they may stand for some other first of the commands.
+abbrev pub IsNoneOrSaved : Params → List (List ℕ) → List Reply → List Command → Files → Type 0
+IsNoneOrSaved p lines replies commands files = (BeginsStore (files Objects) → ⊥) ⊎ ((n : ℕ) × Contains replies (saved n) × Stands p files (take n commands))
+    ⊎ (FinishIsFull lines replies × (n : ℕ) × (n ≤ length commands) × Stands p files (take n commands))
+
+-- or where the next line is to end it, and got no answer, for all of them
+abbrev pub MayBeLeft : Params → List (List ℕ) → List Reply → List (List ℕ) → List Command → Files → Type 0
+MayBeLeft p lines replies next commands files = IsNoneOrSaved p lines replies commands files ⊎ (AsksFinish next × Stands p files commands)
 
 -- files that a crash at this state's moment would have left
 abbrev pub WasThere : Disk → Files → List ℕ → Type 0
@@ -91,20 +108,20 @@ KeepsAll start now = (now.reads ≡ start.reads) × (start.tells_moments → Lea
 
 -- The backup's machine was in the first of these states as the run began.
 module _ (p : Params) (start : Disk) where
-  -- What these answers to these lines, which have added commands so that there are these, say of the backup's files. Where
-  -- one is `saved n`, each image stands for the first n of the commands, which are those that were accepted up to that line;
-  -- and each says truly whether a store was there. One that was there as the run began is left as it is. At each moment of the
-  -- run a crash leaves of them what one at the start could leave, no store, or one of some first commands.
-  pub record SaysOfBackup (lines : List (List ℕ)) (replies : List Reply) (commands : List Command) (now : Disk) : Type 0 where
+  -- What these answers to these lines, behind which this next one was come to, say of the backup's files, where there are these
+  -- commands now. Where one is `saved n`, each image stands for the first n of the commands, which are those that were accepted
+  -- up to that line; and each says truly whether a store was there. One that was there as the run began is left as it is. At
+  -- each moment of the run a crash leaves of them what one at the start could leave, no store, or the one that is saved.
+  pub record SaysOfBackup (lines : List (List ℕ)) (replies : List Reply) (next : List (List ℕ)) (commands : List Command) (now : Disk) : Type 0 where
     pub time : Passes start now
     pub saves : (n : ℕ) → Contains replies (saved n) → (n ≤ length commands) × InEachImage now (λ files. Stands p files (take n commands))
     pub finds : AllFindStore (BeginsStore (start.reads Objects)) lines replies
     pub kept : BeginsStore (start.reads Objects) → KeepsAll start now
-    pub images : start.tells_moments → LeavesOnly start now (OrAtStart start (λ files said. IsNoneOrFirst p commands files))
+    pub images : start.tells_moments → LeavesOnly start now (OrAtStart start (λ files said. MayBeLeft p lines replies next commands files))
 
   -- the backup so far, between two lines, where engine and files show the world
   pub record BackupGoing (lines : List (List ℕ)) (replies : List Reply) (commands : List Command) (d : Disk) (engine : EngineView) (w : World Command) (now : Disk) : Type 0 where
-    pub says : SaysOfBackup lines replies commands now
+    pub says : SaysOfBackup lines replies [] commands now
     pub store : BeginsStore (now.reads Objects) ↔ store_behind (BeginsStore (start.reads Objects)) replies
     pub copying : IfSome engine.copied (λ n. Copies all_meaning p d engine w now)
 
@@ -116,12 +133,12 @@ module _ (p : Params) (start : Disk) where
 
     -- what the answers say stays true where the line gets none
     abbrev pub BackupStays : Type 0
-    BackupStays = backup.tells_files → (lines : List (List ℕ)) (replies : List Reply) → BackupGoing lines replies commands old before w backup → SaysOfBackup lines replies commands backed
+    BackupStays = backup.tells_files → (lines : List (List ℕ)) (replies : List Reply) → BackupGoing lines replies commands old before w backup → SaysOfBackup lines replies (line ∷ []) commands backed
 
     -- and where a beginning of its answer was said, with that
     abbrev pub BackupIsSaid : Reply → List Command → Type 0
     BackupIsSaid reply added = backup.tells_files → (lines : List (List ℕ)) (replies : List Reply) → BackupGoing lines replies commands old before w backup
-        → SaysOfBackup (lines ++ line ∷ []) (replies ++ reply ∷ []) (commands ++ added) backed
+        → SaysOfBackup (lines ++ line ∷ []) (replies ++ reply ∷ []) [] (commands ++ added) backed
 
     -- what the line asks for is done, and nothing is said of it yet; or the call ended without an answer
     pub record IsSavingDone (result : Result Answer Stop) : Type 0 where
@@ -163,12 +180,14 @@ pub record IsBackedUp {T : Type 0} (disk : T → Disk) (p : Params) (first : Sta
   -- of the lines that were answered, and the next one, only those of a backup do anything with its files
   pub passes : PassesBy (with_line truly.says.story.lines truly.says.story.work ++ take 1 truly.says.story.todo) before after
   pub says : (disk before).tells_files → SaysOfBackup p (disk before) (with_line truly.says.story.lines truly.says.story.work) (with_begun truly.says.story.replies truly.says.story.work)
-      (truly.says.story.account.commands ++ truly.says.story.added) (disk after)
+      (take 1 truly.says.story.todo) (truly.says.story.account.commands ++ truly.says.story.added) (disk after)
 
--- So it is of what was printed: where a whole line says that n commands are saved, each image stands for the first n.
+-- So it is of what was printed: where a whole line says that n commands are saved, one of the answers does, and each image
+-- stands for the first n.
 pub record IsSavedAsSaid {T : Type 0} (disk : T → Disk) (p : Params) (first : Stage) (commands : List Command) (script : List (List ℕ)) (old new : Disk) (before after : T) : Type 0 where
   pub backed : IsBackedUp disk p first commands script old new before after
-  pub printed : (disk before).tells_files → (n : ℕ) → SaysSaved backed.truly.says.bytes n → (n ≤ length (backed.truly.says.story.account.commands ++ backed.truly.says.story.added))
+  pub printed : (disk before).tells_files → (n : ℕ) → SaysSaved backed.truly.says.bytes n → Contains (with_begun backed.truly.says.story.replies backed.truly.says.story.work) (saved n)
+      × (n ≤ length (backed.truly.says.story.account.commands ++ backed.truly.says.story.added))
       × InEachImage (disk after) (λ files. Stands p files (take n (backed.truly.says.story.account.commands ++ backed.truly.says.story.added)))
 
 -- What a run makes of the backup, where the source reports that it has this script.
@@ -176,6 +195,8 @@ pub record IsBackupOfRun {T : Type 0} (budget : Budget) (disk : T → Disk) (tol
   pub opened : (p : Params) (commands : List Command) → Opens p old commands → told → (first : Stage) → IsFirst budget p commands old first → IsSavedAsSaid disk p first commands script old new before after
   -- of a source that reports nothing the same holds with some script
   pub untold : (some : List (List ℕ)) × ((p : Params) (commands : List Command) → Opens p old commands → (first : Stage) → IsFirst budget p commands old first → IsSavedAsSaid disk p first commands some old new before after)
+  -- on files that stand for commands a store that was there as the run began is left as it is, whatever the source
+  pub kept : (p : Params) (commands : List Command) → Opens p old commands → (disk before).tells_files → BeginsStore ((disk before).reads Objects) → KeepsAll (disk before) (disk after)
   -- no store is opened in files that break their format, and then nothing is done with the backup
   pub unopened : old.tells_files → (IsWellFormed old.reads → ⊥) → after ≡ before
 
@@ -189,6 +210,12 @@ pub record IsBackupCall {T : Type 0} (budget : Budget) (disk : T → Disk) (word
   pub time : Passes (disk before) (disk after)
   pub run : Asks words Run → IsBackupOfRun budget disk told script old new before after
   pub other : (Asks words Run → ⊥) → after ≡ before
+
+-- Calls of the program with one machine for its backups, from the first state of it to the last. Each leaves a store that is
+-- there as it is, as `kept` has it of a run and `other` of any other word, and is followed by nothing, a kill or a crash.
+pub data BackupCalls {T : Type 0} (disk : T → Disk) (first : T) : T → Type 0 where
+  none_yet : BackupCalls disk first first
+  one_more : (old new next : T) (said : List ℕ) → BackupCalls disk first old → (BeginsStore ((disk old).reads Objects) → KeepsAll (disk old) (disk new)) → Follows (disk old) (disk new) (disk next) said → BackupCalls disk first next
 
 -- What holds of the backup's machine on every call of the program: time passes, and the status says that its disk failed only
 -- where that was counted.

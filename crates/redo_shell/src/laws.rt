@@ -33,7 +33,7 @@ ghost use Rattle.redo_shell.specs.Sessions.{Ran, Sizing, Follows, Survives, Aris
 ghost use Rattle.redo_shell.specs.Replies.{AsksCommand, Replies, IsBarred, IsDenied, IsFull};
 ghost use Rattle.redo_shell.specs.Stages.{Stage, GoesBy, IsDeniedAt, Leads, backup_bytes, forced_stage, with_copied};
 ghost use Rattle.redo_shell.specs.Groups.{open_in};
-ghost use Rattle.redo_shell.specs.Saving.{FindsStore, store_behind};
+ghost use Rattle.redo_shell.specs.Saving.{BackupCalls, FindsStore, store_behind};
 
 use disk_model::{Machine, Source};
 use op_codec::AllOps;
@@ -129,11 +129,19 @@ pub fn a_call_is_followed<M: Machine>()
 {}
 
 /// A fuse may be the machine of a call in a list of calls on the machine that it passes its own to: a process that is
-/// killed after some calls is one on a fuse.
+/// killed after some calls is one on a fuse. What the files of a fuse stand for, those of its machine stand for.
 pub fn a_fuse_is_its_machine<M: Machine>()
     ensures inside { (first last : Fuse M) (sizes : List Sizing) (runs : List Ran) → Sessions (disk_through M.disk) first sizes runs last → Sessions M.disk first.inner sizes runs last.inner }
     ensures around { (first last : M) (end : Fuse M) (sizes : List Sizing) (runs : List Ran) → end.inner ≡ last → Sessions M.disk first sizes runs last →
         (begin : Fuse M) × (begin.inner ≡ first) × Sessions (disk_through M.disk) begin sizes runs end }
+    ensures stands { (p : Params) (commands : List Command) (fuse : Fuse M) → InEachImage (disk_through M.disk fuse) (λ files. Stands p files commands) → InEachImage (M.disk fuse.inner) (λ files. Stands p files commands) }
+{}
+
+/// What is saved lasts: a backup that stands for commands in each image, as a call leaves it that has printed `saved`, stands for
+/// them after any calls, each ended in any way and followed by nothing, a kill or a crash.
+pub fn a_saved_backup_lasts<T: Machine>()
+    ensures { (p : Params) (commands : List Command) (first last : T) → (T.disk first).tells_moments → InEachImage (T.disk first) (λ files. Stands p files commands) → BackupCalls T.disk first last →
+        InEachImage (T.disk last) (λ files. Stands p files commands) }
 {}
 
 /// A call whose restart was refused memory may be made again with the least budget: the files stand for the commands that they

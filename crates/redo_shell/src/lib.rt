@@ -11,9 +11,9 @@
 //! answers a generated script on a store in memory, and says what the plain map's answers to it count to.
 //!
 //! A run may make a backup on a second machine, beside its lines: it stands for the first commands that the answer `saved`
-//! counts. Until that answer a crash leaves no store there or a whole one, only the lines of a backup do anything with the
-//! second machine, and a store that was there as the run began stays as it is. What is said of the first machine holds
-//! whatever the second one does.
+//! counts. Before a line that ends the backup a crash leaves no store there, and then none or the one that is saved; only the
+//! lines of a backup do anything with the second machine, and a store that was there as the run began stays as it is, over any
+//! calls ([`a_saved_backup_lasts`]). What is said of the first machine holds whatever the second one does.
 //!
 //! A call says with which [`Budget`] its restart is made. Where the restart is refused memory the call ends with a status of
 //! its own: nothing was said, nothing of the input was taken, and the files stand for the commands that they stood for. So it may
@@ -59,8 +59,8 @@ pub use bad_line::{BadCause, BadLine};
 pub use budget::Budget;
 pub use laws::{
     a_backup_line_gets_the_answer_of_its_cause, a_call_is_followed, a_fuse_is_its_machine,
-    a_line_gets_the_answer_of_its_cause, a_second_start_goes_on, sessions_keep_what_was_forced,
-    the_lines_said_are_the_answers,
+    a_line_gets_the_answer_of_its_cause, a_saved_backup_lasts, a_second_start_goes_on,
+    sessions_keep_what_was_forced, the_lines_said_are_the_answers,
 };
 pub use notes::Notes;
 pub use program::top;

@@ -101,7 +101,8 @@ pub fn top<M: Machine, T: Machine, S: Source>(
     ensures call { (asked : AskedFor) → Asks (map string_bytes words.now) asked →
         OrUnread (IsCallFor budget asked (S.tells input.old) (S.left input.old) (S.left input.new) (M.disk machine.old) (M.disk machine.new) result) (M.disk machine.old) (M.disk machine.new) result }
     // What the answers of a run say of the backup is true of its files: where a line `saved n` was said, they stand for the n
-    // commands that were accepted up to it. No other call does anything with them, nor does a run without such lines.
+    // commands that were accepted up to it; before a line that ends a backup they are no store at any moment. No other call does
+    // anything with them, nor does a run without such lines.
     ensures backup { IsBackupCall budget T.disk (map string_bytes words.now) (S.tells input.old) (lines_of (S.left input.old)) (M.disk machine.old) (M.disk machine.new) backup.old backup.new }
     // What a run notes of its script is of some first lines, and with status 0 or 1 of all: how many they are, and which of them
     // is the first that is bad, if one is. No other call notes anything.

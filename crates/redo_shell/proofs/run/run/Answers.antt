@@ -8,6 +8,7 @@ use Rattle.redo_shell.proofs.CallLemmas.{beside_none}
 use Rattle.redo_shell.proofs.NotedLemmas.{notes_begin}
 use Rattle.redo_shell.proofs.OpenLemmas.{backed_each, backed_from, none_backed, run_on, run_unopened, runs_from_each, judged_open, not_done}
 use Rattle.redo_shell.proofs.SavedLemmas.{printed_backed}
+use Rattle.redo_shell.proofs.SavingLemmas.{keeps_none}
 use Rattle.redo_shell.proofs.run.run.Goals as goal
 
 pub run_open-status-requires : goal.run_open-status-requires
@@ -64,6 +65,12 @@ returns-in-Ok-clause-backup g c = record {
             (backed_from g.T.Machine.disk (g.met.M.Machine.lawful c.args.machine.now) (c.open_store.ensures.opens p commands opens) c.open_store.ensures.time
             (backed_each g.T.Machine.disk opened (λ holds. backed p commands holds opened.all opened.alone opened.uncopied) first is)),
       );
+  kept = λ p commands opens tells begins.
+      let opened = c.in-Ok.ensures.ok p commands opens in
+      let files = c.open_store.ensures.opens p commands opens in
+      let (script, each, backed) = c.run_open-status.ensures.some in
+      let its = backed_each g.T.Machine.disk opened (λ holds. backed p commands holds opened.all opened.alone opened.uncopied) files.first.0 files.first.1 in
+      (its.says tells).kept begins;
   unopened = λ tells broken. absurd (broken (c.in-Ok.ensures.read tells));
 }
 
@@ -100,6 +107,7 @@ pub returns-in-Err-clause-backup : goal.returns-in-Err-clause-backup
 returns-in-Err-clause-backup g c = record {
   opened = λ p commands opens told first is. printed_backed c.standing_files_meet_their_format.ensures.few g.T.Machine.disk (none_backed g.T.Machine.disk first c.open_store.ensures.time (c.open_store.ensures.opens p commands opens).quiet);
   untold = ([], λ p commands opens first is. printed_backed c.standing_files_meet_their_format.ensures.few g.T.Machine.disk (none_backed g.T.Machine.disk first c.open_store.ensures.time (c.open_store.ensures.opens p commands opens).quiet));
+  kept = λ p commands opens tells begins. keeps_none (g.T.Machine.disk c.args.backup.now);
   unopened = λ tells broken. refl;
 }
 
