@@ -4,13 +4,14 @@ use Rattle.std.specs.Prelude.{⊤}
 use Rattle.std.proofs.lemmas.List.{append-nil}
 use Rattle.disk_model.specs.Disk.{Files, SaysFront}
 use Rattle.disk_model.specs.declared.machine.FileNo.{FileNo}
-use Rattle.redo_check.specs.Checking.{Ends, IsLastLine, IsRestart, IsStopped, SaysLines, SaysNoMore, damaged, not_a_store, restart_line, stop_line}
+use Rattle.redo_check.specs.Checking.{Ends, IsLastLine, IsRestart, IsStopped, SaysLines, SaysNoMore, restart_line}
+use Rattle.tool_output.specs.Lines.{damaged, not_a_store, stop_line}
 use Rattle.redo_check.specs.Checking.IsLastLine.{broken, no_store, none_said}
 use Rattle.redo_check.specs.declared.restart.Restart.{Restart}
-use Rattle.redo_check.specs.declared.status.Status.{Status}
-use Rattle.redo_check.specs.declared.status.Status.TheVariants as statuses
-use Rattle.redo_check.specs.declared.stop.Stop.{Stop}
-use Rattle.redo_check.specs.declared.stop.Stop.TheVariants as stops
+use Rattle.tool_output.specs.declared.status.Status.{Status}
+use Rattle.tool_output.specs.declared.status.Status.TheVariants as statuses
+use Rattle.tool_output.specs.declared.stop.Stop.{Stop}
+use Rattle.tool_output.specs.declared.stop.Stop.TheVariants as stops
 
 -- how it ends where all checks hold
 abbrev IsOfWhole : Status → Type 0

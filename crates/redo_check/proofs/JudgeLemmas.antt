@@ -39,10 +39,10 @@ use Rattle.redo_check.specs.Checking.{EndsLog, HasRecords, HasStore, IsLogStoppe
 use Rattle.redo_check.specs.Files.{IsLogLine}
 use Rattle.redo_check.specs.Files.IsLogLine.{ends as log_ends}
 use Rattle.redo_check.specs.Lines.{line}
-use Rattle.redo_check.specs.Stops.{stop_from_open, stop_from_read}
+use Rattle.tool_output.specs.Stops.{stop_from_open, stop_from_read}
 use Rattle.redo_check.specs.declared.records.Records.{Records}
-use Rattle.redo_check.specs.declared.stop.Stop.{Stop}
-use Rattle.redo_check.specs.declared.stop.Stop.TheVariants as stops
+use Rattle.tool_output.specs.declared.stop.Stop.{Stop}
+use Rattle.tool_output.specs.declared.stop.Stop.TheVariants as stops
 
 -- why no slots were loaded
 pub unopened : (files : Files) (closed rises : Type 0) (fault : FileNo → ℕ → Type 0) (e : OpenErr) → (closed → IsClosedAt 0 (files Objects)) → ((file : FileNo) (place : ℕ) → fault file place → IsDamaged all_meaning files file place)

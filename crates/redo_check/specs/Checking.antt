@@ -18,13 +18,14 @@ use Rattle.oper_core.specs.Meaning.{Meaning}
 use Rattle.oper_core.specs.declared.bounds.Bounds.{Bounds}
 use Rattle.script_lines.specs.Replies.{spaced}
 use Rattle.redo_check.specs.Files.{IsLogLine, bounds_said, files_lines}
-use Rattle.redo_check.specs.Lines.{line, name_of_file, number_line}
+use Rattle.redo_check.specs.Lines.{line, number_line}
+use Rattle.tool_output.specs.Lines.{damaged, not_a_store}
 use Rattle.redo_check.specs.declared.records.Records.{Records}
 use Rattle.redo_check.specs.declared.restart.Restart.{Restart}
-use Rattle.redo_check.specs.declared.status.Status.{Status}
-use Rattle.redo_check.specs.declared.status.Status.TheVariants as statuses
-use Rattle.redo_check.specs.declared.stop.Stop.{Stop}
-use Rattle.redo_check.specs.declared.stop.Stop.TheVariants as stops
+use Rattle.tool_output.specs.declared.status.Status.{Status}
+use Rattle.tool_output.specs.declared.status.Status.TheVariants as statuses
+use Rattle.tool_output.specs.declared.stop.Stop.{Stop}
+use Rattle.tool_output.specs.declared.stop.Stop.TheVariants as stops
 
 -- the objects file by itself has no fault, and these are the bounds of its store
 abbrev pub HasStore : Files → Bounds → Type 0
@@ -75,12 +76,6 @@ memory it = min (min ((it.records.next - it.records.start) * 240) (2 ^ 64 - 1) +
 abbrev pub restart_line : Restart → List ℕ
 restart_line it =
     codes "restart from" ++ spaced it.records.start ++ codes " records" ++ spaced (it.records.next - it.records.start) ++ codes " bytes" ++ spaced it.records.end ++ codes " memory" ++ spaced (memory it) ++ codes "\n"
-
-abbrev pub not_a_store : List ℕ
-not_a_store = codes "not a store\n"
-
-abbrev pub damaged : FileNo → ℕ → List ℕ
-damaged file place = codes "damaged " ++ name_of_file file ++ spaced place ++ codes "\n"
 
 -- what the files are where no restart may be made: no store, or damaged at that place
 abbrev pub IsStopped : Files → Stop → Type 0
@@ -140,9 +135,3 @@ pub record SaysPart (files : Files) (before after : List ℕ) : Type 0 where
 -- nothing else was said
 abbrev pub SaysNoMore : Files → List ℕ → List ℕ → Type 0
 SaysNoMore files before after = (after ≡ before) ⊎ SaysPart files before after
-
--- the line that a stop means, where it means one
-abbrev pub stop_line : Stop → List ℕ
-stop_line stops.NotAStore = not_a_store
-stop_line (stops.Damaged file place) = damaged file place
-stop_line stop = []

@@ -2,17 +2,13 @@
 use Rattle.std.specs.Prelude.{ℕ, ◌+◌, ◌*◌, ◌^◌, ◌++◌, ◌&&◌, Bool, true, nat_eq, nat_lt, nat_le, if◌then◌else◌, List, [], ◌∷◌, codes, take, drop}
 use Rattle.std.specs.Str.{bytes_eq}
 use Rattle.disk_model.specs.declared.machine.FileNo.{FileNo}
-use Rattle.disk_model.specs.declared.machine.FileNo.TheVariants.{Objects, LogA, LogB}
+use Rattle.disk_model.specs.declared.machine.FileNo.TheVariants.{Objects}
 use Rattle.formats.specs.Bytes.{byte_at, number_at}
 use Rattle.formats.specs.Objects.{form_in, is_second}
 use Rattle.formats.specs.declared.form.Form.{Form}
 use Rattle.formats.specs.declared.params.Params.{Params}
 use Rattle.script_lines.specs.Replies.{spaced}
-
-abbrev pub name_of_file : FileNo → List ℕ
-name_of_file Objects = codes "objects"
-name_of_file LogA = codes "log_a"
-name_of_file LogB = codes "log_b"
+use Rattle.tool_output.specs.Lines.{name_of_file}
 
 abbrev pub verdict : Bool → List ℕ
 verdict good = if good then codes " ok\n" else codes " bad\n"

@@ -1,20 +1,17 @@
 // Checks a store.
-ghost use Rattle.std.specs.Prelude.{◌≡◌, ◌≢◌, ◌⊎◌, ◌-◌, ◌++◌, List, ℕ, IfOk};
-ghost use Rattle.disk_model.specs.Disk.{Runs, Same, SaysFront};
-ghost use Rattle.disk_model.specs.declared.machine.FileNo.{FileNo as File};
-ghost use Rattle.redo_check.specs.Checking.{Checks, Ends, HasVerdict, IsLastLine, SaysNoMore, damaged, memory, not_a_store, restart_line, stop_line};
-ghost use Rattle.redo_check.specs.Faults.{CountsFaults, EndsBy, HandsOn};
-ghost use Rattle.redo_check.specs.Saying.{OnlySays};
+ghost use Rattle.std.specs.Prelude.{◌≡◌, ◌⊎◌, ◌-◌, ◌++◌, List, ℕ, IfOk};
+ghost use Rattle.disk_model.specs.Disk.{SaysFront};
+ghost use Rattle.redo_check.specs.Checking.{Checks, Ends, HasVerdict, IsLastLine, SaysNoMore, memory, restart_line};
+ghost use Rattle.tool_output.specs.Faults.{CountsFaults, EndsBy};
+ghost use Rattle.tool_output.specs.Saying.{OnlySays};
 
 use crate::judging::judge;
 use crate::restart::Restart;
 use crate::saying::say_files;
-use crate::status::Status;
-use crate::stop::Stop;
-use crate::text::{file_name, push_spaced};
-use disk_model::{FileNo, Machine};
+use disk_model::Machine;
 use oper_core::Memory;
 use std::alloc::Global;
+use tool_output::{Status, Stop, end_stopped, end_with, push_spaced};
 
 /// About how many bytes of memory the restart of a record takes.
 const RECORD_MEMORY: u64 = 240;
@@ -55,65 +52,6 @@ fn restart_text(alloc: Global, it: Restart) -> Result<Vec<u8>, Memory>
     push_spaced(alloc, &mut text, memory_of(it))?;
     text.push(b'\n')?;
     Ok(text)
-}
-
-/// The line that reports a fault in a file at a place.
-fn damage_text(alloc: Global, file: FileNo, place: u64) -> Result<Vec<u8>, Memory>
-    ensures { IfOk result (λ made. made.items ≡ damaged file place) }
-{
-    let mut text = Vec::new(alloc);
-    text.extend_from_slice(b"damaged ")?;
-    text.extend_from_slice(file_name(file))?;
-    push_spaced(alloc, &mut text, place)?;
-    text.push(b'\n')?;
-    Ok(text)
-}
-
-/// Says a line, and ends with this status, or where the output fails with that.
-fn end_with<M: Machine>(machine: &mut M, line: &[u8], status: Status) -> Status
-    ensures runs { Runs Same (SaysFront line.now) (M.disk machine.old) (M.disk machine.new) }
-    ensures all { (M.disk machine.old).tells_files → result ≢ Status.SayFault → (M.disk machine.new).said ≡ (M.disk machine.old).said ++ line.now }
-    ensures status { (result ≡ status) ⊎ (result ≡ Status.SayFault) }
-    ensures faults { EndsBy (M.disk machine.old) (M.disk machine.new) status → EndsBy (M.disk machine.old) (M.disk machine.new) result }
-{
-    match machine.say(line) {
-        Ok(()) => status,
-        Err(_) => Status::SayFault,
-    }
-}
-
-/// Says where a file breaks its format, and ends with that status, or out of memory for the line with that, or where the output
-/// fails with that.
-fn end_damaged<M: Machine>(alloc: Global, machine: &mut M, file: FileNo, place: u64) -> Status
-    ensures runs { OnlySays (M.disk machine.old) (M.disk machine.new) }
-    ensures all { (M.disk machine.old).tells_files → result ≡ Status.Damaged → (M.disk machine.new).said ≡ (M.disk machine.old).said ++ damaged file place }
-    ensures front { (M.disk machine.old).tells_files → SaysFront (damaged file place) (M.disk machine.old).said (M.disk machine.new).said }
-    ensures status { (result ≡ Status.Damaged) ⊎ ((result ≡ Status.Memory) ⊎ (result ≡ Status.SayFault)) }
-    ensures faults { EndsBy (M.disk machine.old) (M.disk machine.new) result }
-{
-    match damage_text(alloc, file, place) {
-        Ok(line) => end_with(machine, line.as_slice(), Status::Damaged),
-        Err(Memory) => Status::Memory,
-    }
-}
-
-/// Ends with the status of why no restart may be made, and says it where it is about the files.
-fn end_stopped<M: Machine>(alloc: Global, machine: &mut M, stop: Stop) -> Status
-    ensures runs { OnlySays (M.disk machine.old) (M.disk machine.new) }
-    ensures no_store { (M.disk machine.old).tells_files → result ≡ Status.NotAStore → (stop ≡ Stop.NotAStore) × ((M.disk machine.new).said ≡ (M.disk machine.old).said ++ not_a_store) }
-    ensures damaged { (M.disk machine.old).tells_files → result ≡ Status.Damaged → (file : File) × (place : ℕ) × (stop ≡ Stop.Damaged file place)
-        × ((M.disk machine.new).said ≡ (M.disk machine.old).said ++ damaged file place) }
-    ensures front { (M.disk machine.old).tells_files → SaysFront (stop_line stop) (M.disk machine.old).said (M.disk machine.new).said }
-    ensures undone { result ≢ Status.Done }
-    ensures faults { HandsOn (M.disk machine.old) (M.disk machine.new) stop result }
-{
-    match stop {
-        Stop::NotAStore => end_with(machine, b"not a store\n", Status::NotAStore),
-        Stop::Damaged { file, place } => end_damaged(alloc, machine, file, place),
-        Stop::DiskFault => Status::DiskFault,
-        Stop::SayFault => Status::SayFault,
-        Stop::Memory => Status::Memory,
-    }
 }
 
 /// Says what a restart does, and ends with the status of a store without a fault.

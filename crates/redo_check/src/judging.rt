@@ -9,11 +9,10 @@ ghost use Rattle.op_codec.specs.AllOps.{all_meaning};
 ghost use Rattle.oper_core.specs.Meaning.{IsSmall};
 ghost use Rattle.stable_objects.specs.SlotsView.{AreOf};
 ghost use Rattle.redo_check.specs.Checking.{EndsLog, HasRecords, IsLogStopped, IsRestart, IsStopped};
-ghost use Rattle.redo_check.specs.Faults.{CountsStop};
+ghost use Rattle.tool_output.specs.Faults.{CountsStop};
 
 use crate::records::Records;
 use crate::restart::Restart;
-use crate::stop::Stop;
 use analysis_pass::analyse;
 use disk_model::{FileNo, Machine};
 use formats::ReadErr;
@@ -23,6 +22,7 @@ use op_codec::AllOps;
 use oper_core::{Bounds, Oper};
 use stable_objects::Slots;
 use std::alloc::Global;
+use tool_output::Stop;
 
 /// The file of the log in force, and the place of the closed gate that ends it.
 pub fn log_end<M: Machine>(alloc: Global, machine: &mut M) -> Result<(FileNo, u64), ReadErr>

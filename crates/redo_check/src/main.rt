@@ -4,9 +4,9 @@
 //! The one contract is that of `check_store`: no call of it changes a file; it says first the lines of the three files, each by
 //! itself, and goes on where a check fails; and it ends with what a restart is of files without a fault, or with the first fault
 //! in the order of the format, or that there is no store. Where the disk, the output or memory fails it has said a front of that.
-//! The lines of the files are a definition, in specs/Files.antt, over their bytes alone. It depends on stable_objects, log_records and analysis_pass, whose calls judge the files as a restart does,
-//! on op_codec for the operations, on script_lines for the words of a number, and on formats, oper_core and the machine of
-//! disk_model.
+//! The lines of the files are a definition, in specs/Files.antt, over their bytes alone. It depends on tool_output, which says text
+//! and the last line, on stable_objects, log_records and analysis_pass, whose calls judge the files as a restart does, on op_codec
+//! for the operations, on script_lines for the words of a number, and on formats, oper_core and the machine of disk_model.
 #![tactic(auto)]
 
 mod checking;
@@ -19,15 +19,13 @@ mod restart;
 mod saying;
 mod slot;
 mod slots;
-mod status;
-mod stop;
 mod text;
 
 use checking::check_store;
 use disk_model::FileMachine;
-use status::Status;
 use std::fs::{File, TryLockError};
 use std::process::ExitCode;
+use tool_output::Status;
 
 // Says on standard error which call on a file failed, and the system's reason.
 fn tell_fault(rt: HostRuntime, machine: &FileMachine<HostRuntime>) {

@@ -1,34 +1,22 @@
 // Says lines.
 ghost use Rattle.std.specs.Prelude.{◌≡◌, ◌⊎◌, ◌++◌, ℕ, IfErr, IfOk, List, OnOk};
-ghost use Rattle.disk_model.specs.Disk.{Files, Rises, Runs, Same, SaysFront, Stays};
+ghost use Rattle.disk_model.specs.Disk.{Files, Rises, SaysFront, Stays};
 ghost use Rattle.formats.specs.Reading.{FailsBy};
 ghost use Rattle.oper_core.specs.Meaning.{IsSmall};
 ghost use Rattle.redo_check.specs.Checking.{IsRecordsLine, IsRecordsOf, SaysLines};
-ghost use Rattle.redo_check.specs.Faults.{StopsBy};
+ghost use Rattle.tool_output.specs.Faults.{StopsBy};
 ghost use Rattle.redo_check.specs.Files.{IsLogLine, files_lines};
-ghost use Rattle.redo_check.specs.Saying.{OnlySays};
+ghost use Rattle.tool_output.specs.Saying.{OnlySays};
 
 use crate::judging::{log_end, store_records};
 use crate::logs::push_log;
 use crate::objects::{push_objects, read_bounds};
-use crate::stop::Stop;
 use crate::text::{found_line, line_of};
 use disk_model::{FileNo, Machine};
 use formats::ReadErr;
 use oper_core::Bounds;
 use std::alloc::Global;
-
-/// Says text.
-pub fn say_text<M: Machine>(machine: &mut M, text: &[u8]) -> Result<(), Stop>
-    ensures runs { Runs Same (SaysFront text.now) (M.disk machine.old) (M.disk machine.new) }
-    ensures all { (M.disk machine.old).tells_files → OnOk result ((M.disk machine.new).said ≡ (M.disk machine.old).said ++ text.now) }
-    ensures cause { IfErr result (StopsBy (M.disk machine.old) (M.disk machine.new)) }
-{
-    match machine.say(text) {
-        Ok(()) => Ok(()),
-        Err(_) => Err(Stop::SayFault),
-    }
-}
+use tool_output::{Stop, say_text};
 
 /// The lines of the three files, each by itself.
 fn files_text<M: Machine>(alloc: Global, machine: &mut M) -> Result<Vec<u8>, ReadErr>
@@ -107,7 +95,7 @@ pub fn say_files<M: Machine>(alloc: Global, machine: &mut M) -> Result<(), Stop>
     ensures said { (M.disk machine.old).tells_files → OnOk result ((text : List ℕ) × SaysLines (M.disk machine.old).reads text × ((M.disk machine.new).said ≡ (M.disk machine.old).said ++ text)) }
     ensures front { (M.disk machine.old).tells_files → ((M.disk machine.new).said ≡ (M.disk machine.old).said)
         ⊎ ((text : List ℕ) × SaysLines (M.disk machine.old).reads text × SaysFront text (M.disk machine.old).said (M.disk machine.new).said) }
-    ensures cause { IfErr result (StopsBy (M.disk machine.old) (M.disk machine.new)) }
+    ensures cause { IfErr result (StopsBy (M.disk machine.old) (M.disk machine.new) (λ file place. ⊥)) }
 {
     let text = all_text(alloc, machine)?;
     say_text(machine, text.as_slice())?;

@@ -10,11 +10,12 @@ ghost use Rattle.redo_check.specs.Slots.{has_own_id as id_fits, has_value as val
 
 use crate::numbers::{is_gate, long_number, short_number};
 use crate::slot::{Found, Slot};
-use crate::text::{push_found, push_spaced};
+use crate::text::push_found;
 use disk_model::{FileNo, Machine, read_padded};
 use formats::{Layout, NUMBERS_END, ReadErr};
 use oper_core::Memory;
 use std::alloc::Global;
+use tool_output::push_spaced;
 
 /// A slot's gate, its identifier and its length.
 const HEAD: u64 = 13;

@@ -1,46 +1,17 @@
 // Lines as text.
 ghost use Rattle.std.specs.Prelude.{◌≡◌, ◌++◌, IfOk, OnOk};
-ghost use Rattle.std.specs.Fmt.{decimal};
 ghost use Rattle.script_lines.specs.Replies.{spaced};
-ghost use Rattle.redo_check.specs.Lines.{line, name_of_file, number_line, verdict as verdict_text};
+ghost use Rattle.redo_check.specs.Lines.{line, number_line, verdict as verdict_text};
 
 use disk_model::FileNo;
 use oper_core::Memory;
 use std::alloc::Global;
-
-/// The name of a file.
-pub fn file_name(file: FileNo) -> &'static [u8]
-    ensures { result.now ≡ name_of_file file }
-{
-    match file {
-        FileNo::Objects => b"objects",
-        FileNo::LogA => b"log_a",
-        FileNo::LogB => b"log_b",
-    }
-}
+use tool_output::{file_name, push_spaced};
 
 fn verdict(good: bool) -> &'static [u8]
     ensures { result.now ≡ verdict_text good }
 {
     if good { b" ok\n" } else { b" bad\n" }
-}
-
-/// Adds a number in digits.
-pub fn push_number(alloc: Global, text: &mut Vec<u8>, number: u64) -> Result<(), Memory>
-    ensures { OnOk result (text.new.items ≡ text.old.items ++ decimal number) }
-{
-    let digits = number.to_string(alloc)?;
-    text.extend_from_slice(digits.as_bytes())?;
-    Ok(())
-}
-
-/// Adds a number in digits, after a space.
-pub fn push_spaced(alloc: Global, text: &mut Vec<u8>, number: u64) -> Result<(), Memory>
-    ensures { OnOk result (text.new.items ≡ text.old.items ++ spaced number) }
-{
-    text.push(b' ')?;
-    push_number(alloc, text, number)?;
-    Ok(())
 }
 
 /// Words, and a number after a space.

@@ -12,13 +12,14 @@ use Rattle.log_frames.specs.Forcing.{with_block}
 use Rattle.log_frames.specs.Payloads.{HasNext, IsInLog, IsNoLog, PayloadReaderView, remaining, untaken}
 use Rattle.op_codec.specs.AllOps.{AllOps}
 use Rattle.oper_core.specs.Meaning.{Meaning}
-use Rattle.redo_log.specs.Faults.{AreUnreadable, CountsStop, FindsNone, IsBroken, StopsBy}
+use Rattle.redo_log.specs.Faults.{AreUnreadable, FindsNone, IsBroken}
+use Rattle.tool_output.specs.Faults.{CountsStop, StopsBy}
 use Rattle.redo_log.specs.Fronts.{AreLinesToNone, SaysBlockToNone, SaysNone}
 use Rattle.redo_log.specs.Lines.{begun_lines, blocks_lines, header_words, line, record_lines}
-use Rattle.redo_log.specs.Saying.{OnlySays, says_nothing, says_then, still_agrees}
-use Rattle.redo_log.specs.declared.stop.Stop.{Stop}
-use Rattle.redo_log.specs.declared.stop.Stop.TheVariants as stops
-use Rattle.redo_log.proofs.FaultLemmas.{counted_since, counted_until, stops_counted}
+use Rattle.tool_output.specs.Saying.{OnlySays, says_nothing, says_then, still_agrees}
+use Rattle.tool_output.specs.declared.stop.Stop.{Stop}
+use Rattle.tool_output.specs.declared.stop.Stop.TheVariants as stops
+use Rattle.tool_output.specs.FaultLaws.{counted_since, counted_until, stops_counted}
 use Rattle.redo_log.proofs.ReadLemmas.{IsSayingBlock, IsSayingBlocks}
 use Rattle.redo_log.proofs.Steps.{found_next}
 

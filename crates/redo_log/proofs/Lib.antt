@@ -1,5 +1,3 @@
-pub mod FaultLemmas
-pub mod FrontLemmas
 pub mod LineLemmas
 pub mod ReadLemmas
 pub mod Steps

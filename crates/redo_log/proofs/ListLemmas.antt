@@ -31,8 +31,9 @@ use Rattle.stable_objects.specs.Reading.{IsDamagedAt, OpensNot}
 use Rattle.stable_objects.specs.SlotsView.{AreOf, SlotsView}
 use Rattle.stable_objects.specs.declared.open_err.OpenErr.{OpenErr}
 use Rattle.stable_objects.specs.declared.open_err.OpenErr.TheVariants as opens
-use Rattle.redo_log.specs.Faults.{StopsBy}
-use Rattle.redo_log.specs.Fronts.{AreFirstLines, AreLinesBefore, AreLinesToNone, AreLogLines, IsDamage, SaysLogPart, SaysNoMore, SaysOfLog, damaged, not_a_store, stop_line}
+use Rattle.tool_output.specs.Faults.{StopsBy}
+use Rattle.redo_log.specs.Fronts.{AreFirstLines, AreLinesBefore, AreLinesToNone, AreLogLines, IsDamage, SaysLogPart, SaysNoMore, SaysOfLog}
+use Rattle.tool_output.specs.Lines.{damaged, not_a_store, stop_line}
 use Rattle.redo_log.specs.Fronts.AreFirstLines.{to_block}
 use Rattle.redo_log.specs.Fronts.AreLinesBefore.{of_logs, of_objects, of_places, of_records}
 use Rattle.redo_log.specs.Fronts.AreLogLines.{all_lines, first_lines}
@@ -40,11 +41,11 @@ use Rattle.redo_log.specs.Fronts.IsReport.{no_store, of_damage, of_log}
 use Rattle.redo_log.specs.Lines.{blocks_lines, header_words, line, log_lines, used}
 use Rattle.redo_log.specs.Listing.{ArePlaced, HasStore, IsListed, IsLogStopped, IsStopped, SaysLog}
 use Rattle.redo_log.specs.Reading.{SaysBlocks}
-use Rattle.redo_log.specs.Saying.{OnlySays}
-use Rattle.redo_log.specs.Stops.{stop_from_open, stop_from_read}
-use Rattle.redo_log.specs.declared.stop.Stop.{Stop}
-use Rattle.redo_log.specs.declared.stop.Stop.TheVariants as stops
-use Rattle.redo_log.proofs.FrontLemmas.{all_said, front_at, front_behind, said_none}
+use Rattle.tool_output.specs.Saying.{OnlySays}
+use Rattle.tool_output.specs.Stops.{stop_from_open, stop_from_read}
+use Rattle.tool_output.specs.declared.stop.Stop.{Stop}
+use Rattle.tool_output.specs.declared.stop.Stop.TheVariants as stops
+use Rattle.tool_output.specs.FrontLaws.{all_said, front_at, front_behind, said_none}
 
 -- why no bounds were read
 pub unopened : (files : Files) (closed rises : Type 0) (fault : FileNo → ℕ → Type 0) (e : OpenErr) → (closed → IsClosedAt 0 (files Objects)) → ((file : FileNo) (place : ℕ) → fault file place → IsDamaged all_meaning files file place)

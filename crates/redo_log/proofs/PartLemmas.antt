@@ -18,7 +18,7 @@ use Rattle.log_records.specs.Codec.{StartsWithRecord}
 use Rattle.redo_log.specs.Fronts.{AreFirstLines, SaysSomeOfBlock, SaysSomeRecords}
 use Rattle.redo_log.specs.Fronts.AreFirstLines.{to_block, to_record}
 use Rattle.redo_log.specs.Lines.{begun_lines, blocks_lines, line, record_lines, record_words}
-use Rattle.redo_log.proofs.FrontLemmas.{all_said, front_at, front_behind, nothing_said}
+use Rattle.tool_output.specs.FrontLaws.{all_said, front_at, front_behind, nothing_said}
 use Rattle.redo_log.proofs.LineLemmas.{records_append}
 use Rattle.redo_log.proofs.ReadLemmas.{AreBlocksSaid, ArePartSaid, IsSayingBlock, IsSayingBlocks, nothing_left, place_is, untaken_long}
 use Rattle.redo_log.proofs.Steps.{found_next}

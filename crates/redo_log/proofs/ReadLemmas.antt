@@ -19,7 +19,7 @@ use Rattle.log_frames.specs.Payloads.{PayloadReaderView, IsInLog, ahead, remaini
 use Rattle.log_records.specs.Codec.{StartsWithRecord}
 use Rattle.redo_log.specs.Lines.{block_lines, blocks_lines, line, record_lines, record_words}
 use Rattle.redo_log.specs.Reading.{SaysBlock, SaysRecord}
-use Rattle.redo_log.specs.Saying.{OnlySays}
+use Rattle.tool_output.specs.Saying.{OnlySays}
 use Rattle.redo_log.proofs.LineLemmas.{blocks_more, records_more}
 
 -- how many bytes were not taken

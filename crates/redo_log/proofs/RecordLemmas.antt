@@ -13,7 +13,6 @@ use Rattle.formats.specs.Log.{Header}
 use Rattle.formats.specs.Records.{AreRecords, HoldsRecordLog, IsRecord, next_behind, payload_of, record_code, records_of}
 use Rattle.formats.specs.declared.record.Record.{Record}
 use Rattle.formats.specs.declared.record.Record.TheVariants.{Command, Identity, Check}
-use Rattle.log_frames.specs.Forcing.{with_block}
 use Rattle.log_frames.specs.Laws.{one_in_force, with_block-some}
 use Rattle.log_records.specs.Codec.{StartsWithRecord}
 use Rattle.log_records.specs.CodecLaws.{HasCodes, same_record}

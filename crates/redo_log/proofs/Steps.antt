@@ -16,7 +16,7 @@ use Rattle.log_frames.specs.Payloads.{PayloadReaderView, HasNext, IsInLog, ahead
 use Rattle.log_records.specs.Codec.{StartsWithRecord}
 use Rattle.redo_log.specs.Lines.{line, record_words}
 use Rattle.redo_log.specs.Reading.{SaysBlock, SaysBlocks, SaysRecord}
-use Rattle.redo_log.specs.Saying.{OnlySays, says_nothing, says_then, still_agrees}
+use Rattle.tool_output.specs.Saying.{OnlySays, says_nothing, says_then, still_agrees}
 use Rattle.redo_log.proofs.ReadLemmas.{AreBlocksSaid, IsSayingBlock, IsSayingBlocks, block_more, part_more, place_is, record_said}
 
 -- a record was found, said and taken

@@ -1,5 +1,5 @@
 -- What is said of a log, of all of it or of a part.
-use Rattle.std.specs.Prelude.{◌≡◌, ◌⊎◌, ⊤, ◌+◌, ℕ, All, List, [], ◌∷◌, ◌++◌, codes, drop, length, map}
+use Rattle.std.specs.Prelude.{◌≡◌, ◌⊎◌, ⊤, ◌+◌, ℕ, All, List, [], ◌∷◌, ◌++◌, drop, length, map}
 use Rattle.disk_model.specs.Disk.{Files, SaysFront}
 use Rattle.disk_model.specs.declared.machine.FileNo.{FileNo}
 use Rattle.disk_model.specs.declared.machine.FileNo.TheVariants.{Objects}
@@ -12,11 +12,11 @@ use Rattle.formats.specs.Log.{Header, end_of}
 use Rattle.formats.specs.Records.{IsRecord, payload_of, records_of}
 use Rattle.formats.specs.declared.record.Record.{Record}
 use Rattle.log_frames.specs.Forcing.{with_block}
-use Rattle.script_lines.specs.Replies.{spaced}
 use Rattle.redo_log.specs.Faults.{HasNoRecord, IsUnreadable}
-use Rattle.redo_log.specs.Lines.{begun_lines, blocks_lines, header_words, line, log_lines, name_of_file, record_lines, used}
-use Rattle.redo_log.specs.declared.stop.Stop.{Stop}
-use Rattle.redo_log.specs.declared.stop.Stop.TheVariants as stops
+use Rattle.redo_log.specs.Lines.{begun_lines, blocks_lines, header_words, line, log_lines, record_lines, used}
+use Rattle.tool_output.specs.Lines.{damaged, not_a_store}
+use Rattle.tool_output.specs.declared.stop.Stop.{Stop}
+use Rattle.tool_output.specs.declared.stop.Stop.TheVariants as stops
 
 -- of a payload that goes on with so many bytes some records stand next, and a front of their lines was said
 pub record SaysSomeRecords (m : Meaning AllOps) (file : FileNo) (count : ℕ) (all passed : List (List ℕ)) (taken : List ℕ) (later : List (List ℕ)) (before after : List ℕ) : Type 0 where
@@ -93,20 +93,6 @@ pub data AreLinesBefore (m : Meaning AllOps) (files : Files) (text : List ℕ) :
       → text ≡ log_lines m active header groups (used (drop (end_of (map (payload_of m) groups)) (files active))) → AreLinesBefore m files text
   of_records : (active : FileNo) (header : Header) (payloads : List (List ℕ)) (lines : List ℕ) → HoldsLog active header payloads files → AreLinesToNone m active payloads lines
       → text ≡ line active 0 33 (header_words header) ++ lines → AreLinesBefore m files text
-
--- The last line.
-
-abbrev pub not_a_store : List ℕ
-not_a_store = codes "not a store\n"
-
-abbrev pub damaged : FileNo → ℕ → List ℕ
-damaged file place = codes "damaged " ++ name_of_file file ++ spaced place ++ codes "\n"
-
--- the line that a stop means, where it means one
-abbrev pub stop_line : Stop → List ℕ
-stop_line stops.NotAStore = not_a_store
-stop_line (stops.Damaged file place) = damaged file place
-stop_line stop = []
 
 -- it reports damage
 abbrev pub IsDamage : Stop → Type 0

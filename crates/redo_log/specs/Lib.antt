@@ -1,7 +1,5 @@
-pub mod Stops
 pub mod Words
 pub mod Lines
-pub mod Saying
 pub mod Reading
 pub mod Faults
 pub mod Fronts

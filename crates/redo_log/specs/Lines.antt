@@ -3,7 +3,6 @@ use Rattle.std.specs.Prelude.{ℕ, ◌+◌, ◌++◌, suc, nat_eq, if◌then◌e
 use Rattle.std.specs.Fmt.{decimal}
 use Rattle.std.specs.List.{flat_map}
 use Rattle.disk_model.specs.declared.machine.FileNo.{FileNo}
-use Rattle.disk_model.specs.declared.machine.FileNo.TheVariants.{Objects, LogA, LogB}
 use Rattle.oper_core.specs.Meaning.{Meaning}
 use Rattle.op_codec.specs.AllOps.{AllOps}
 use Rattle.formats.specs.Log.{Header, end_of}
@@ -11,12 +10,8 @@ use Rattle.formats.specs.Records.{payload_of, record_code}
 use Rattle.formats.specs.declared.record.Record.{Record}
 use Rattle.formats.specs.declared.record.Record.TheVariants.{Command, Identity, Check}
 use Rattle.script_lines.specs.Replies.{spaced}
+use Rattle.tool_output.specs.Lines.{name_of_file}
 use Rattle.redo_log.specs.Words.{op_words}
-
-abbrev pub name_of_file : FileNo → List ℕ
-name_of_file Objects = codes "objects"
-name_of_file LogA = codes "log_a"
-name_of_file LogB = codes "log_b"
 
 -- a line
 abbrev pub line : FileNo → ℕ → ℕ → List ℕ → List ℕ

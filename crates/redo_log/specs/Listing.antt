@@ -13,8 +13,8 @@ use Rattle.formats.specs.Log.{Header, end_of}
 use Rattle.formats.specs.Objects.{bounds_of, params_in}
 use Rattle.formats.specs.Records.{HoldsRecordLog, IsRecord, payload_of, records_of}
 use Rattle.formats.specs.declared.record.Record.{Record}
-use Rattle.redo_log.specs.declared.stop.Stop.{Stop}
-use Rattle.redo_log.specs.declared.stop.Stop.TheVariants as stops
+use Rattle.tool_output.specs.declared.stop.Stop.{Stop}
+use Rattle.tool_output.specs.declared.stop.Stop.TheVariants as stops
 use Rattle.redo_log.specs.Lines.{log_lines, used}
 
 -- what operations mean in the store of these files

@@ -6,9 +6,9 @@ ghost use Rattle.formats.specs.Records.{record_code};
 ghost use Rattle.log_frames.specs.Payloads.{IsInLog, ahead, remaining};
 ghost use Rattle.log_records.specs.Codec.{StartsWithRecord};
 ghost use Rattle.op_codec.specs.AllOps.{all_meaning};
-ghost use Rattle.redo_log.specs.Faults.{FindsNone, StartsWithNone, StopsBy};
+ghost use Rattle.redo_log.specs.Faults.{FindsNone, StartsWithNone};
+ghost use Rattle.tool_output.specs.Faults.{StopsBy};
 
-use crate::stop::Stop;
 use disk_model::Machine;
 use formats::{ReadErr, Record};
 use log_frames::PayloadReader;
@@ -16,6 +16,7 @@ use log_records::decode;
 use op_codec::AllOps;
 use oper_core::{Bounds, Memory};
 use std::alloc::Global;
+use tool_output::Stop;
 
 /// The record whose code the bytes begin with, and the code's length.
 fn decoded(

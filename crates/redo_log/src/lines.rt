@@ -2,29 +2,18 @@
 ghost use Rattle.std.specs.Prelude.{◌≡◌, ◌++◌, OnOk, IfOk};
 ghost use Rattle.std.specs.List.{flat_map};
 ghost use Rattle.script_lines.specs.Replies.{spaced};
-ghost use Rattle.redo_log.specs.Lines.{line, name_of_file, header_words, record_words, start_words};
-ghost use Rattle.redo_log.specs.Fronts.{damaged};
+ghost use Rattle.redo_log.specs.Lines.{line, header_words, record_words, start_words};
 
-use crate::words::{push_number, push_op, push_spaced};
+use crate::words::push_op;
 use disk_model::FileNo;
 use formats::Record;
 use op_codec::AllOps;
 use oper_core::Memory;
 use std::alloc::Global;
+use tool_output::{file_name, push_number, push_spaced};
 
 /// How many bytes stand in a log's header.
 const HEADER: u64 = 33;
-
-/// The name of a file.
-fn file_name(file: FileNo) -> &'static [u8]
-    ensures { result.now ≡ name_of_file file }
-{
-    match file {
-        FileNo::Objects => b"objects",
-        FileNo::LogA => b"log_a",
-        FileNo::LogB => b"log_b",
-    }
-}
 
 /// Adds a word, and a number after a space.
 fn push_counted(alloc: Global, text: &mut Vec<u8>, word: &[u8], number: u64) -> Result<(), Memory>
@@ -129,16 +118,4 @@ pub fn record_line(
     let mut words = Vec::new(alloc);
     push_record(alloc, &mut words, it)?;
     line_of(alloc, file, place, count, words.as_slice())
-}
-
-/// The line that reports a fault in a file at a place.
-pub fn damage_line(alloc: Global, file: FileNo, place: u64) -> Result<Vec<u8>, Memory>
-    ensures { IfOk result (λ made. made.items ≡ damaged file place) }
-{
-    let mut text = Vec::new(alloc);
-    text.extend_from_slice(b"damaged ")?;
-    text.extend_from_slice(file_name(file))?;
-    push_spaced(alloc, &mut text, place)?;
-    text.push(b'\n')?;
-    Ok(text)
 }

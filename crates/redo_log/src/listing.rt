@@ -1,6 +1,6 @@
 // Lists the log of a store.
 ghost use Rattle.std.specs.Prelude.{◌≡◌, ◌≢◌, ◌⊎◌, ⊤, ◌++◌, [], List, ℕ, Err as Error, IfErr, IfOk, IsOk, OnErr, OnOk, codes, drop};
-ghost use Rattle.disk_model.specs.Disk.{Rises, Runs, Same, SaysFront, Stays};
+ghost use Rattle.disk_model.specs.Disk.{Rises, SaysFront, Stays};
 ghost use Rattle.disk_model.specs.declared.machine.FileNo.{FileNo as File};
 ghost use Rattle.disk_model.specs.declared.machine.FileNo.TheVariants.{Objects};
 ghost use Rattle.formats.specs.Bytes.{IsClosedAt};
@@ -11,17 +11,17 @@ ghost use Rattle.formats.specs.Reading.{FailsBy};
 ghost use Rattle.log_records.specs.Loading.{IsLoadFault};
 ghost use Rattle.op_codec.specs.AllOps.{all_meaning};
 ghost use Rattle.oper_core.specs.Meaning.{IsSmall};
-ghost use Rattle.redo_log.specs.Faults.{AreReadable, CountsFaults, CountsStop, EndsBy, HandsOn, IsBroken, StopsBy};
-ghost use Rattle.redo_log.specs.Fronts.{AreLinesBefore, AreLinesToNone, AreLogLines, IsDamage, IsDamageSaid, SaysNoMore, SaysOfLog, damaged, not_a_store, stop_line};
+ghost use Rattle.redo_log.specs.Faults.{AreReadable, IsBroken};
+ghost use Rattle.tool_output.specs.Faults.{CountsFaults, CountsStop, StopsBy};
+ghost use Rattle.redo_log.specs.Fronts.{AreLinesBefore, AreLinesToNone, AreLogLines, IsDamage, IsDamageSaid, SaysNoMore, SaysOfLog};
+ghost use Rattle.tool_output.specs.Lines.{damaged, not_a_store};
 ghost use Rattle.redo_log.specs.Lines.{header_words, line, used};
 ghost use Rattle.redo_log.specs.Listing.{ArePlaced, HasStore, IsListed, IsLogStopped, IsStopped, SaysLog, meaning_of};
-ghost use Rattle.redo_log.specs.Saying.{OnlySays};
+ghost use Rattle.tool_output.specs.Saying.{OnlySays};
 
 use crate::left::left_behind;
-use crate::lines::{damage_line, header_line, line_of};
-use crate::saying::{say_blocks, say_line};
-use crate::status::Status;
-use crate::stop::Stop;
+use crate::lines::{header_line, line_of};
+use crate::saying::say_blocks;
 use disk_model::{FileNo, Machine};
 use formats::ReadErr;
 use log_frames::LogFile;
@@ -30,53 +30,7 @@ use op_codec::AllOps;
 use oper_core::{Bounds, Memory, Oper};
 use stable_objects::Slots;
 use std::alloc::Global;
-
-/// Says a line, and ends with this status, or where the output fails with that.
-fn end_with<M: Machine>(machine: &mut M, line: &[u8], status: Status) -> Status
-    ensures runs { Runs Same (SaysFront line.now) (M.disk machine.old) (M.disk machine.new) }
-    ensures all { (M.disk machine.old).tells_files → result ≢ Status.SayFault → (M.disk machine.new).said ≡ (M.disk machine.old).said ++ line.now }
-    ensures status { (result ≡ status) ⊎ (result ≡ Status.SayFault) }
-    ensures faults { EndsBy (M.disk machine.old) (M.disk machine.new) status → EndsBy (M.disk machine.old) (M.disk machine.new) result }
-{
-    match machine.say(line) {
-        Ok(()) => status,
-        Err(_) => Status::SayFault,
-    }
-}
-
-/// Says where a file breaks its format, and ends with that status, or out of memory for the line with that, or where the output
-/// fails with that.
-fn end_damaged<M: Machine>(alloc: Global, machine: &mut M, file: FileNo, place: u64) -> Status
-    ensures runs { OnlySays (M.disk machine.old) (M.disk machine.new) }
-    ensures all { (M.disk machine.old).tells_files → result ≡ Status.Damaged → (M.disk machine.new).said ≡ (M.disk machine.old).said ++ damaged file place }
-    ensures front { (M.disk machine.old).tells_files → SaysFront (damaged file place) (M.disk machine.old).said (M.disk machine.new).said }
-    ensures status { (result ≡ Status.Damaged) ⊎ ((result ≡ Status.Memory) ⊎ (result ≡ Status.SayFault)) }
-    ensures faults { EndsBy (M.disk machine.old) (M.disk machine.new) result }
-{
-    match damage_line(alloc, file, place) {
-        Ok(line) => end_with(machine, line.as_slice(), Status::Damaged),
-        Err(Memory) => Status::Memory,
-    }
-}
-
-/// Ends with the status of what ended the lines early, and says it where it is about the files.
-fn end_stopped<M: Machine>(alloc: Global, machine: &mut M, stop: Stop) -> Status
-    ensures runs { OnlySays (M.disk machine.old) (M.disk machine.new) }
-    ensures no_store { (M.disk machine.old).tells_files → result ≡ Status.NotAStore → (stop ≡ Stop.NotAStore) × ((M.disk machine.new).said ≡ (M.disk machine.old).said ++ not_a_store) }
-    ensures damaged { (M.disk machine.old).tells_files → result ≡ Status.Damaged → (file : File) × (place : ℕ) × (stop ≡ Stop.Damaged file place)
-        × ((M.disk machine.new).said ≡ (M.disk machine.old).said ++ damaged file place) }
-    ensures front { (M.disk machine.old).tells_files → SaysFront (stop_line stop) (M.disk machine.old).said (M.disk machine.new).said }
-    ensures undone { result ≢ Status.Done }
-    ensures faults { HandsOn (M.disk machine.old) (M.disk machine.new) stop result }
-{
-    match stop {
-        Stop::NotAStore => end_with(machine, b"not a store\n", Status::NotAStore),
-        Stop::Damaged { file, place } => end_damaged(alloc, machine, file, place),
-        Stop::DiskFault => Status::DiskFault,
-        Stop::SayFault => Status::SayFault,
-        Stop::Memory => Status::Memory,
-    }
-}
+use tool_output::{Status, Stop, end_stopped, say_text};
 
 /// How many objects the store has, and how long they may be.
 fn read_bounds<M: Machine>(alloc: Global, machine: &mut M) -> Result<Bounds, Stop>
@@ -101,7 +55,7 @@ fn say_end<M: Machine>(alloc: Global, machine: &mut M, file: FileNo, end: u64) -
 {
     let left = left_behind(alloc, machine, file, end)?;
     let line = line_of(alloc, file, end, left, b"end")?;
-    say_line(machine, line.as_slice())?;
+    say_text(machine, line.as_slice())?;
     Ok(())
 }
 
@@ -114,7 +68,7 @@ fn say_header<M: Machine>(alloc: Global, machine: &mut M, log: &LogFile) -> Resu
     ensures cause { IfErr result (StopsBy (M.disk machine.old) (M.disk machine.new) (λ file place. ⊥)) }
 {
     let line = header_line(alloc, log.active(), log.epoch(), log.base(), log.commands())?;
-    say_line(machine, line.as_slice())?;
+    say_text(machine, line.as_slice())?;
     Ok(())
 }
 

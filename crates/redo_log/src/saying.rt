@@ -1,35 +1,23 @@
 // Says what a log holds, record by record.
 ghost use Rattle.std.specs.Prelude.{◌≡◌, ◌<◌, ◌≤◌, ◌++◌, [], List, ℕ, IfErr, OnErr, OnOk, codes};
-ghost use Rattle.disk_model.specs.Disk.{Runs, Same, SaysFront};
+ghost use Rattle.disk_model.specs.Disk.{SaysFront};
 ghost use Rattle.log_frames.specs.Payloads.{IsInLog, ahead, remaining};
 ghost use Rattle.formats.specs.Log.{end_of};
 ghost use Rattle.op_codec.specs.AllOps.{all_meaning};
-ghost use Rattle.redo_log.specs.Faults.{StopsBy};
+ghost use Rattle.tool_output.specs.Faults.{StopsBy};
 ghost use Rattle.redo_log.specs.Fronts.{AreFirstLines, AreLinesToNone, SaysBlockToNone, SaysNone, SaysSomeOfBlock, SaysSomeRecords};
 ghost use Rattle.redo_log.specs.Lines.{line};
-ghost use Rattle.redo_log.specs.Saying.{OnlySays};
+ghost use Rattle.tool_output.specs.Saying.{OnlySays};
 ghost use Rattle.redo_log.specs.Reading.{SaysRecord, SaysBlock, SaysBlocks};
 
 use crate::finding::find_record;
 use crate::lines::{line_of, record_line};
-use crate::stop::Stop;
 use disk_model::Machine;
 use formats::BLOCK_HEAD;
 use log_frames::PayloadReader;
 use oper_core::Bounds;
 use std::alloc::Global;
-
-/// Says a line.
-pub fn say_line<M: Machine>(machine: &mut M, line: &[u8]) -> Result<(), Stop>
-    ensures runs { Runs Same (SaysFront line.now) (M.disk machine.old) (M.disk machine.new) }
-    ensures all { (M.disk machine.old).tells_files → OnOk result ((M.disk machine.new).said ≡ (M.disk machine.old).said ++ line.now) }
-    ensures cause { IfErr result (StopsBy (M.disk machine.old) (M.disk machine.new) (λ file place. ⊥)) }
-{
-    match machine.say(line) {
-        Ok(()) => Ok(()),
-        Err(_) => Err(Stop::SayFault),
-    }
-}
+use tool_output::{Stop, say_text};
 
 /// Says the next record of the payload in hand, and takes it.
 fn say_record<M: Machine>(
@@ -53,7 +41,7 @@ fn say_record<M: Machine>(
 {
     let (it, length) = find_record(alloc, machine, b, payloads)?;
     let line = record_line(alloc, payloads.file(), payloads.place(), length as u64, &it)?;
-    say_line(machine, line.as_slice())?;
+    say_text(machine, line.as_slice())?;
     payloads.take(length);
     Ok(())
 }
@@ -80,7 +68,7 @@ fn say_head<M: Machine>(
         payloads.remaining(),
         b"block",
     )?;
-    say_line(machine, line.as_slice())?;
+    say_text(machine, line.as_slice())?;
     Ok(())
 }
 

@@ -1,6 +1,5 @@
 // Operations in words.
 ghost use Rattle.std.specs.Prelude.{◌≡◌, ◌++◌, OnOk, IfOk};
-ghost use Rattle.std.specs.Fmt.{decimal};
 ghost use Rattle.script_lines.specs.Replies.{hex_text, spaced};
 ghost use Rattle.redo_log.specs.Words.{numbers, spaced_hex, plain_words, node_words, program_words, hash_words, op_words};
 
@@ -12,24 +11,7 @@ use op_meaning::PlainOp;
 use oper_core::Memory;
 use script_lines::{Answer, answer_text};
 use std::alloc::Global;
-
-/// Adds a number in digits.
-pub fn push_number(alloc: Global, text: &mut Vec<u8>, number: u64) -> Result<(), Memory>
-    ensures { OnOk result (text.new.items ≡ text.old.items ++ decimal number) }
-{
-    let digits = number.to_string(alloc)?;
-    text.extend_from_slice(digits.as_bytes())?;
-    Ok(())
-}
-
-/// Adds a number in digits, after a space.
-pub fn push_spaced(alloc: Global, text: &mut Vec<u8>, number: u64) -> Result<(), Memory>
-    ensures { OnOk result (text.new.items ≡ text.old.items ++ spaced number) }
-{
-    text.push(b' ')?;
-    push_number(alloc, text, number)?;
-    Ok(())
-}
+use tool_output::push_spaced;
 
 /// Bytes in hexadecimal, or `-` for none.
 fn hex(alloc: Global, bytes: &[u8]) -> Result<Vec<u8>, Memory>

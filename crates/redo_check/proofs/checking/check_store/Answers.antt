@@ -1,11 +1,11 @@
 use Rattle.std.proofs.Common.{List, ℕ, inr, subst}
 use Rattle.disk_model.specs.Disk.{Files}
 use Rattle.redo_check.specs.Checking.{Ends, IsLastLine}
-use Rattle.redo_check.specs.Saying.{says_then}
-use Rattle.redo_check.specs.Faults.{StopsBy}
+use Rattle.tool_output.specs.Saying.{says_then}
+use Rattle.tool_output.specs.Faults.{StopsBy}
 use Rattle.redo_check.proofs.EndLemmas.{no_last}
-use Rattle.redo_check.proofs.FaultLemmas.{faults_later}
-use Rattle.redo_check.proofs.FrontLemmas.{front_behind}
+use Rattle.tool_output.specs.FaultLaws.{faults_later}
+use Rattle.tool_output.specs.FrontLaws.{front_behind}
 use Rattle.redo_check.proofs.checking.check_store.Goals as goal
 
 pub returns-in-Ok-clause-keeps : goal.returns-in-Ok-clause-keeps
@@ -28,16 +28,16 @@ pub returns-in-Ok-clause-faults : goal.returns-in-Ok-clause-faults
 returns-in-Ok-clause-faults g c = faults_later (g.M.Machine.disk c.args.machine.now) (g.M.Machine.disk c.say_files.new.machine) (g.M.Machine.disk c.end_checked.new.machine) c.end_checked.result c.say_files.ensures.runs.time c.end_checked.ensures.faults
 
 pub returns-in-Err-DiskFault-clause-faults : goal.returns-in-Err-DiskFault-clause-faults
-returns-in-Err-DiskFault-clause-faults g c = subst (StopsBy (g.M.Machine.disk c.args.machine.now) (g.M.Machine.disk c.say_files.new.machine)) c.in-Err-DiskFault.field-0-is c.in-Err-DiskFault.ensures.cause
+returns-in-Err-DiskFault-clause-faults g c = subst (StopsBy (g.M.Machine.disk c.args.machine.now) (g.M.Machine.disk c.say_files.new.machine) (λ file place. ⊥)) c.in-Err-DiskFault.field-0-is c.in-Err-DiskFault.ensures.cause
 
 pub returns-in-Err-SayFault-clause-faults : goal.returns-in-Err-SayFault-clause-faults
-returns-in-Err-SayFault-clause-faults g c = subst (StopsBy (g.M.Machine.disk c.args.machine.now) (g.M.Machine.disk c.say_files.new.machine)) c.in-Err-SayFault.field-0-is c.in-Err-SayFault.ensures.cause
+returns-in-Err-SayFault-clause-faults g c = subst (StopsBy (g.M.Machine.disk c.args.machine.now) (g.M.Machine.disk c.say_files.new.machine) (λ file place. ⊥)) c.in-Err-SayFault.field-0-is c.in-Err-SayFault.ensures.cause
 
 pub returns-in-Err-NotAStore-clause-checks : goal.returns-in-Err-NotAStore-clause-checks
-returns-in-Err-NotAStore-clause-checks g c told verdict = absurd (subst (StopsBy (g.M.Machine.disk c.args.machine.now) (g.M.Machine.disk c.say_files.new.machine)) c.in-Err-NotAStore.field-0-is c.in-Err-NotAStore.ensures.cause)
+returns-in-Err-NotAStore-clause-checks g c told verdict = absurd (subst (StopsBy (g.M.Machine.disk c.args.machine.now) (g.M.Machine.disk c.say_files.new.machine) (λ file place. ⊥)) c.in-Err-NotAStore.field-0-is c.in-Err-NotAStore.ensures.cause)
 
 pub returns-in-Err-Damaged-clause-checks : goal.returns-in-Err-Damaged-clause-checks
-returns-in-Err-Damaged-clause-checks g c told verdict = absurd (subst (StopsBy (g.M.Machine.disk c.args.machine.now) (g.M.Machine.disk c.say_files.new.machine)) c.in-Err-Damaged.field-0-is c.in-Err-Damaged.ensures.cause)
+returns-in-Err-Damaged-clause-checks g c told verdict = absurd (subst (StopsBy (g.M.Machine.disk c.args.machine.now) (g.M.Machine.disk c.say_files.new.machine) (λ file place. ⊥)) c.in-Err-Damaged.field-0-is c.in-Err-Damaged.ensures.cause)
 
 pub returns-in-Err-Memory-clause-faults : goal.returns-in-Err-Memory-clause-faults
 returns-in-Err-Memory-clause-faults g c = tt

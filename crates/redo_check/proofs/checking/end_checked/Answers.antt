@@ -1,10 +1,11 @@
 use Rattle.std.proofs.Common.{List, ℕ, refl, subst}
-use Rattle.redo_check.specs.Checking.{Ends, restart_line, stop_line}
+use Rattle.redo_check.specs.Checking.{Ends, restart_line}
+use Rattle.tool_output.specs.Lines.{stop_line}
 use Rattle.redo_check.specs.Checking.IsLastLine.{restarts}
-use Rattle.redo_check.specs.Saying.{says_nothing, says_then}
-use Rattle.redo_check.proofs.FaultLemmas.{ends_counted, stopped_counted}
+use Rattle.tool_output.specs.Saying.{says_nothing, says_then}
+use Rattle.tool_output.specs.FaultLaws.{ends_counted, stopped_counted}
 use Rattle.redo_check.proofs.EndLemmas.{ends_stopped, ends_whole, last_of_stop}
-use Rattle.redo_check.proofs.FrontLemmas.{front_at}
+use Rattle.tool_output.specs.FrontLaws.{front_at}
 use Rattle.redo_check.proofs.checking.end_checked.Goals as goal
 
 pub returns-in-Ok-clause-runs : goal.returns-in-Ok-clause-runs

@@ -1,7 +1,7 @@
 use Rattle.std.proofs.Common.{◌∙◌, refl}
 use Rattle.disk_model.specs.Moments.{stays_here}
-use Rattle.redo_check.specs.Saying.{says_front, says_nothing}
-use Rattle.redo_check.proofs.FrontLemmas.{front_at, nothing_said}
+use Rattle.tool_output.specs.Saying.{says_front, says_nothing}
+use Rattle.tool_output.specs.FrontLaws.{front_at, nothing_said}
 use Rattle.redo_check.proofs.checking.end_whole.Goals as goal
 
 pub returns-in-Ok-clause-runs : goal.returns-in-Ok-clause-runs

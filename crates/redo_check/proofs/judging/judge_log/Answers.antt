@@ -2,8 +2,8 @@ use Rattle.std.specs.Prelude.{⊤}
 use Rattle.log_records.specs.Loading.{IsLoadFault}
 use Rattle.op_codec.specs.AllOps.{all_meaning}
 use Rattle.redo_check.specs.Checking.{IsLogStopped}
-use Rattle.redo_check.specs.Stops.{stop_from_read}
-use Rattle.redo_check.proofs.FaultLemmas.{read_counted}
+use Rattle.tool_output.specs.Stops.{stop_from_read}
+use Rattle.tool_output.specs.FaultLaws.{read_counted}
 use Rattle.redo_check.proofs.JudgeLemmas.{has_store, is_restart, is_small, late_damaged, load_damaged, log_stopped, stopped_by}
 use Rattle.redo_check.proofs.judging.judge_log.Goals as goal
 

@@ -1,4 +1,4 @@
-use Rattle.redo_check.proofs.FaultLemmas.{only_counted}
+use Rattle.tool_output.specs.FaultLaws.{only_counted}
 use Rattle.redo_check.proofs.JudgeLemmas.{ends_log, stopped_by}
 use Rattle.redo_check.proofs.judging.log_end.Goals as goal
 

@@ -1,7 +1,7 @@
 use Rattle.std.proofs.Common.{rules}
 use Rattle.disk_model.specs.Moments.{agreed_before, stays_twice}
 use Rattle.disk_model.specs.declared.machine.FileNo.TheVariants.{Objects}
-use Rattle.redo_check.proofs.FaultLemmas.{fails_later}
+use Rattle.tool_output.specs.FaultLaws.{fails_later}
 use Rattle.redo_check.proofs.FormLemmas.{behind_none, behind_some}
 use Rattle.redo_check.proofs.objects.push_behind.Goals as goal
 

@@ -1,6 +1,6 @@
 use Rattle.disk_model.specs.Moments.{agreed_before, stays_twice}
 use Rattle.disk_model.specs.declared.machine.FileNo.TheVariants.{Objects}
-use Rattle.redo_check.proofs.FaultLemmas.{fails_later}
+use Rattle.tool_output.specs.FaultLaws.{fails_later}
 use Rattle.redo_check.proofs.FormLemmas.{head_alone, head_and_more}
 use Rattle.redo_check.proofs.objects.push_objects.Goals as goal
 

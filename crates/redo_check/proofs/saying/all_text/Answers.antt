@@ -2,7 +2,7 @@ use Rattle.std.proofs.Common.{◌++◌, ◌∙◌, subst}
 use Rattle.disk_model.specs.Disk.{Files}
 use Rattle.disk_model.specs.Moments.{stays_twice, told_agrees}
 use Rattle.redo_check.specs.Checking.{IsRecordsLine}
-use Rattle.redo_check.proofs.FaultLemmas.{fails_later}
+use Rattle.tool_output.specs.FaultLaws.{fails_later}
 use Rattle.redo_check.proofs.saying.all_text.Goals as goal
 
 pub returns-in_err-blocks-clause-kept : goal.returns-in_err-blocks-clause-kept

@@ -1,5 +1,5 @@
 use Rattle.disk_model.specs.Moments.{agreed_before, stays_twice}
-use Rattle.redo_check.proofs.FaultLemmas.{fails_later}
+use Rattle.tool_output.specs.FaultLaws.{fails_later}
 use Rattle.redo_check.proofs.FileLemmas.{all_files}
 use Rattle.redo_check.proofs.saying.files_text.Goals as goal
 

@@ -6,7 +6,7 @@ use Rattle.oper_core.specs.Meaning.{IsSmall}
 use Rattle.oper_core.specs.declared.bounds.Bounds.{Bounds}
 use Rattle.redo_check.specs.Checking.{IsRecordsOf}
 use Rattle.redo_check.specs.Checking.IsRecordsLine.{by_bounds}
-use Rattle.redo_check.proofs.FaultLemmas.{fails_later}
+use Rattle.tool_output.specs.FaultLaws.{fails_later}
 use Rattle.redo_check.proofs.saying.records_text.Goals as goal
 
 pub returns-in_err-line-clause-kept : goal.returns-in_err-line-clause-kept

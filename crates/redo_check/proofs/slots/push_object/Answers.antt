@@ -3,7 +3,7 @@ use Rattle.disk_model.specs.Moments.{agreed_before, stays_twice}
 use Rattle.disk_model.specs.Padded.{padded}
 use Rattle.disk_model.specs.declared.machine.FileNo.TheVariants.{Objects}
 use Rattle.redo_check.specs.Slots.{pair_lines, slot_of}
-use Rattle.redo_check.proofs.FaultLemmas.{fails_later}
+use Rattle.tool_output.specs.FaultLaws.{fails_later}
 use Rattle.redo_check.proofs.slots.push_object.Goals as goal
 
 pub returns-in_err-second-clause-kept : goal.returns-in_err-second-clause-kept

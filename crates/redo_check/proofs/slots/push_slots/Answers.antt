@@ -4,7 +4,7 @@ use Rattle.disk_model.specs.Moments.{agreed_before, stays_twice}
 use Rattle.disk_model.specs.declared.machine.FileNo.TheVariants.{Objects}
 use Rattle.formats.specs.Objects.{last_slot}
 use Rattle.redo_check.specs.Lines.{number_line}
-use Rattle.redo_check.proofs.FaultLemmas.{fails_later}
+use Rattle.tool_output.specs.FaultLaws.{fails_later}
 use Rattle.redo_check.proofs.SlotLemmas.{pairs_begun, pairs_done, pairs_more}
 use Rattle.redo_check.proofs.slots.push_slots.Goals as goal
 

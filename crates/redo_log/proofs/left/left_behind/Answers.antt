@@ -1,6 +1,6 @@
 use Rattle.std.proofs.Common.{arith, refl}
 use Rattle.disk_model.specs.Moments.{agreed_before, stays_twice}
-use Rattle.redo_log.proofs.FaultLemmas.{fails_later}
+use Rattle.tool_output.specs.FaultLaws.{fails_later}
 use Rattle.redo_log.proofs.UsedLemmas.{left_more, left_whole}
 use Rattle.redo_log.proofs.left.left_behind.Goals as goal
 

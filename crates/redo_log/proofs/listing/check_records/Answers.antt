@@ -1,7 +1,7 @@
 use Rattle.disk_model.specs.Moments.{told_agrees}
 use Rattle.log_frames.specs.Reading.{fails_on}
 use Rattle.log_records.specs.CodecLaws.{has_codes}
-use Rattle.redo_log.proofs.FaultLemmas.{only_counted}
+use Rattle.tool_output.specs.FaultLaws.{only_counted}
 use Rattle.redo_log.proofs.RecordLemmas.{all_readable, same_log}
 use Rattle.redo_log.proofs.listing.check_records.Goals as goal
 

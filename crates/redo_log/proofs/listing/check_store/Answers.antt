@@ -1,6 +1,6 @@
 use Rattle.redo_log.specs.Listing.{IsLogStopped}
-use Rattle.redo_log.specs.Stops.{stop_from_read}
-use Rattle.redo_log.proofs.FaultLemmas.{read_counted}
+use Rattle.tool_output.specs.Stops.{stop_from_read}
+use Rattle.tool_output.specs.FaultLaws.{read_counted}
 use Rattle.redo_log.proofs.ListLemmas.{is_small, load_damaged, log_stopped, stopped_by}
 use Rattle.redo_log.proofs.listing.check_store.Goals as goal
 

@@ -3,8 +3,8 @@ use Rattle.std.specs.Prelude.{Err, IfErr, Result}
 use Rattle.op_codec.specs.AllOps.{all_meaning}
 use Rattle.redo_log.specs.Faults.{IsBroken}
 use Rattle.redo_log.specs.Fronts.{IsDamage}
-use Rattle.redo_log.specs.declared.stop.Stop.{Stop}
-use Rattle.redo_log.specs.declared.stop.Stop.TheVariants as stops
+use Rattle.tool_output.specs.declared.stop.Stop.{Stop}
+use Rattle.tool_output.specs.declared.stop.Stop.TheVariants as stops
 use Rattle.redo_log.proofs.ListLemmas.{stopped_by}
 use Rattle.redo_log.proofs.BrokenLemmas.{if_ok, on_err}
 use Rattle.redo_log.proofs.listing.end_listing.Goals as goal

@@ -4,13 +4,13 @@ use Rattle.disk_model.specs.Disk.{Files}
 use Rattle.disk_model.specs.Moments.{told_agrees}
 use Rattle.log_records.specs.Loading.IsLoadFault.{in_blocks}
 use Rattle.redo_log.specs.Listing.{HasStore, IsLogStopped}
-use Rattle.redo_log.specs.Saying.{says_nothing, says_then}
-use Rattle.redo_log.specs.Stops.{stop_from_read}
+use Rattle.tool_output.specs.Saying.{says_nothing, says_then}
+use Rattle.tool_output.specs.Stops.{stop_from_read}
 use Rattle.op_codec.specs.AllOps.{all_meaning}
 use Rattle.formats.specs.InForce.{HoldsLog}
 use Rattle.formats.specs.Records.{payload_of}
 use Rattle.redo_log.proofs.BrokenLemmas.{end_counted, said_broken}
-use Rattle.redo_log.proofs.FaultLemmas.{read_counted}
+use Rattle.tool_output.specs.FaultLaws.{read_counted}
 use Rattle.redo_log.proofs.ListLemmas.{listed, load_damaged, log_damage, log_part, log_stopped, logs_fault, on_ok, stopped_by}
 use Rattle.redo_log.proofs.listing.list_log.Goals as goal
 

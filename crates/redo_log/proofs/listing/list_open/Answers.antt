@@ -1,9 +1,10 @@
 use Rattle.std.proofs.Common.{◌++◌, ◌∙◌, List, ℕ, ap, subst, sym}
 use Rattle.op_codec.specs.AllOps.{all_meaning}
-use Rattle.redo_log.specs.Fronts.{IsDamage, damaged}
+use Rattle.redo_log.specs.Fronts.{IsDamage}
+use Rattle.tool_output.specs.Lines.{damaged}
 use Rattle.redo_log.specs.Listing.{IsLogStopped}
-use Rattle.redo_log.specs.Saying.{says_then}
-use Rattle.redo_log.proofs.FaultLemmas.{stopped_counted}
+use Rattle.tool_output.specs.Saying.{says_then}
+use Rattle.tool_output.specs.FaultLaws.{stopped_counted}
 use Rattle.redo_log.proofs.ListLemmas.{no_last, stopped_part}
 use Rattle.redo_log.proofs.listing.list_open.Goals as goal
 

@@ -3,11 +3,12 @@ use Rattle.std.proofs.lemmas.List.{append-nil}
 use Rattle.disk_model.specs.Disk.{Files}
 use Rattle.oper_core.specs.declared.bounds.Bounds.{Bounds}
 use Rattle.op_codec.specs.AllOps.{all_meaning}
-use Rattle.redo_log.specs.Fronts.{IsDamage, IsDamageSaid, SaysNoMore, damaged, not_a_store}
+use Rattle.redo_log.specs.Fronts.{IsDamage, IsDamageSaid, SaysNoMore}
+use Rattle.tool_output.specs.Lines.{damaged, not_a_store}
 use Rattle.redo_log.specs.Fronts.AreLinesBefore.{of_objects}
 use Rattle.redo_log.specs.Listing.{HasStore, IsListed, IsStopped, meaning_of}
-use Rattle.redo_log.specs.Saying.{says_nothing, says_then}
-use Rattle.redo_log.proofs.FaultLemmas.{faults_later, stopped_counted}
+use Rattle.tool_output.specs.Saying.{says_nothing, says_then}
+use Rattle.tool_output.specs.FaultLaws.{faults_later, stopped_counted}
 use Rattle.redo_log.proofs.ListLemmas.{unopened_part}
 use Rattle.redo_log.proofs.listing.list_store.Goals as goal
 

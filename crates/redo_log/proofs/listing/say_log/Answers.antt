@@ -1,11 +1,11 @@
 use Rattle.std.proofs.Common.{◌∙◌}
 use Rattle.op_codec.specs.AllOps.{all_meaning}
 use Rattle.redo_log.specs.Lines.{header_words, line}
-use Rattle.redo_log.specs.Saying.{says_nothing, says_then, still_agrees}
-use Rattle.redo_log.specs.Stops.{stop_from_read}
+use Rattle.tool_output.specs.Saying.{says_nothing, says_then, still_agrees}
+use Rattle.tool_output.specs.Stops.{stop_from_read}
 use Rattle.redo_log.proofs.BrokenLemmas.{log_broken}
-use Rattle.redo_log.proofs.FaultLemmas.{read_stops, stops_first, stops_later}
-use Rattle.redo_log.proofs.FrontLemmas.{all_said, on_any}
+use Rattle.tool_output.specs.FaultLaws.{read_stops, stops_first, stops_later}
+use Rattle.tool_output.specs.FrontLaws.{all_said, on_any}
 use Rattle.redo_log.proofs.ListLemmas.{end_used, log_blocks, log_end_part, log_goes_on, log_head}
 use Rattle.redo_log.proofs.listing.say_log.Goals as goal
 

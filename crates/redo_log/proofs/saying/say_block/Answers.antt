@@ -1,10 +1,10 @@
 use Rattle.std.proofs.Common.{◌∙◌, arith}
 use Rattle.log_frames.specs.Payloads.{remaining}
 use Rattle.op_codec.specs.AllOps.{all_meaning}
-use Rattle.redo_log.specs.Saying.{says_then}
+use Rattle.tool_output.specs.Saying.{says_then}
 use Rattle.redo_log.proofs.BrokenLemmas.{block_broken}
-use Rattle.redo_log.proofs.FaultLemmas.{stops_first, stops_later}
-use Rattle.redo_log.proofs.FrontLemmas.{on_any}
+use Rattle.tool_output.specs.FaultLaws.{stops_first, stops_later}
+use Rattle.tool_output.specs.FrontLaws.{on_any}
 use Rattle.redo_log.proofs.PartLemmas.{block_stops, head_in_part}
 use Rattle.redo_log.proofs.ReadLemmas.{block_said}
 use Rattle.redo_log.proofs.Steps.{block_begun, block_goes_on, some_left}

@@ -2,11 +2,11 @@ use Rattle.std.proofs.Common.{Bool, subst}
 use Rattle.log_frames.specs.Forcing.{with_block}
 use Rattle.log_frames.specs.Payloads.{HasNext}
 use Rattle.op_codec.specs.AllOps.{all_meaning}
-use Rattle.redo_log.specs.Saying.{says_nothing, says_then}
-use Rattle.redo_log.specs.Stops.{stop_from_read}
+use Rattle.tool_output.specs.Saying.{says_nothing, says_then}
+use Rattle.tool_output.specs.Stops.{stop_from_read}
 use Rattle.redo_log.proofs.BrokenLemmas.{blocks_broken, no_block_fault}
-use Rattle.redo_log.proofs.FaultLemmas.{read_stops, stops_later}
-use Rattle.redo_log.proofs.FrontLemmas.{on_any}
+use Rattle.tool_output.specs.FaultLaws.{read_stops, stops_later}
+use Rattle.tool_output.specs.FrontLaws.{on_any}
 use Rattle.redo_log.proofs.PartLemmas.{blocks_between, blocks_stop}
 use Rattle.redo_log.proofs.Steps.{blocks_done, blocks_go_on, no_block}
 use Rattle.redo_log.proofs.saying.say_blocks.Goals as goal

@@ -2,18 +2,18 @@
 use Rattle.std.specs.Prelude.{◌≡◌, ◌⊎◌, ⊤, ℕ}
 use Rattle.disk_model.specs.Disk.{Disk, Rises}
 use Rattle.disk_model.specs.declared.machine.FileNo.{FileNo}
-use Rattle.redo_check.specs.declared.status.Status.{Status}
-use Rattle.redo_check.specs.declared.status.Status.TheVariants.{DiskFault, SayFault}
-use Rattle.redo_check.specs.declared.stop.Stop.{Stop}
-use Rattle.redo_check.specs.declared.stop.Stop.TheVariants as stops
+use Rattle.tool_output.specs.declared.status.Status.{Status}
+use Rattle.tool_output.specs.declared.status.Status.TheVariants.{DiskFault, SayFault}
+use Rattle.tool_output.specs.declared.stop.Stop.{Stop}
+use Rattle.tool_output.specs.declared.stop.Stop.TheVariants as stops
 
--- by a fault of the disk or of the output, which then counts it, or out of memory
-abbrev pub StopsBy : Disk → Disk → Stop → Type 0
-StopsBy old new stops.NotAStore = ⊥
-StopsBy old new (stops.Damaged file place) = ⊥
-StopsBy old new stops.DiskFault = Rises old.disk_faults new.disk_faults
-StopsBy old new stops.SayFault = Rises old.say_faults new.say_faults
-StopsBy old new stops.Memory = ⊤
+-- by a fault of the disk or of the output, which then counts it, by what is found in a file, or out of memory
+abbrev pub StopsBy : Disk → Disk → (FileNo → ℕ → Type 0) → Stop → Type 0
+StopsBy old new found stops.NotAStore = ⊥
+StopsBy old new found (stops.Damaged file place) = found file place
+StopsBy old new found stops.DiskFault = Rises old.disk_faults new.disk_faults
+StopsBy old new found stops.SayFault = Rises old.say_faults new.say_faults
+StopsBy old new found stops.Memory = ⊤
 
 -- a fault of the disk or of the output is reported only where that was counted
 abbrev pub CountsStop : Disk → Disk → Stop → Type 0

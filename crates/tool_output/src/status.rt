@@ -1,7 +1,7 @@
 /// How the program ends. The numbers are those of `redo`.
 #[derive(Clone, Copy, Debug, PartialEq, Eq)]
 pub enum Status {
-    /// All checks hold.
+    /// All was said.
     Done,
     /// The files are no store.
     NotAStore,

@@ -1,10 +1,10 @@
--- Why the lines end early, from why a call failed.
+-- Why a tool stops, from why a call failed.
 use Rattle.formats.specs.declared.read_err.ReadErr.{ReadErr}
 use Rattle.formats.specs.declared.read_err.ReadErr.TheVariants as reads
 use Rattle.stable_objects.specs.declared.open_err.OpenErr.{OpenErr}
 use Rattle.stable_objects.specs.declared.open_err.OpenErr.TheVariants as opens
-use Rattle.redo_check.specs.declared.stop.Stop.{Stop}
-use Rattle.redo_check.specs.declared.stop.Stop.TheVariants.{NotAStore, Damaged, DiskFault, Memory}
+use Rattle.tool_output.specs.declared.stop.Stop.{Stop}
+use Rattle.tool_output.specs.declared.stop.Stop.TheVariants.{NotAStore, Damaged, DiskFault, Memory}
 
 abbrev pub stop_from_open : OpenErr → Stop
 stop_from_open opens.NotAStore = NotAStore

@@ -1,6 +1,6 @@
 ghost use Rattle.std.specs.Prelude.{◌≡◌};
-ghost use Rattle.redo_check.specs.Stops.{stop_from_open, stop_from_read};
-ghost use Rattle.redo_check.specs.declared.stop.Stop.TheVariants.{Memory as OutOfMemory};
+ghost use Rattle.tool_output.specs.Stops.{stop_from_open, stop_from_read};
+ghost use Rattle.tool_output.specs.declared.stop.Stop.TheVariants.{Memory as OutOfMemory};
 
 use disk_model::FileNo;
 use formats::ReadErr;
@@ -8,7 +8,7 @@ use oper_core::Memory;
 use stable_objects::OpenErr;
 use thiserror::Error;
 
-/// Why the lines end before the log does.
+/// Why a tool stops before it has said all.
 #[derive(Clone, Copy, Debug, PartialEq, Eq, Error)]
 pub enum Stop {
     /// The objects gate is not open.

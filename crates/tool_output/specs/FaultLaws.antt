@@ -9,12 +9,12 @@ use Rattle.formats.specs.declared.read_err.ReadErr.TheVariants as reads
 use Rattle.stable_objects.specs.Reading.{OpensNot}
 use Rattle.stable_objects.specs.declared.open_err.OpenErr.{OpenErr}
 use Rattle.stable_objects.specs.declared.open_err.OpenErr.TheVariants as opens
-use Rattle.redo_log.specs.Faults.{CountsFaults, CountsStop, EndsBy, HandsOn, StopsBy}
-use Rattle.redo_log.specs.Stops.{stop_from_open, stop_from_read}
-use Rattle.redo_log.specs.declared.status.Status.{Status}
-use Rattle.redo_log.specs.declared.status.Status.TheVariants as statuses
-use Rattle.redo_log.specs.declared.stop.Stop.{Stop}
-use Rattle.redo_log.specs.declared.stop.Stop.TheVariants as stops
+use Rattle.tool_output.specs.Faults.{CountsFaults, CountsStop, EndsBy, HandsOn, StopsBy}
+use Rattle.tool_output.specs.Stops.{stop_from_open, stop_from_read}
+use Rattle.tool_output.specs.declared.status.Status.{Status}
+use Rattle.tool_output.specs.declared.status.Status.TheVariants as statuses
+use Rattle.tool_output.specs.declared.stop.Stop.{Stop}
+use Rattle.tool_output.specs.declared.stop.Stop.TheVariants as stops
 
 -- a count that rose since a later moment rose since an earlier one, and stays risen
 pub rises_since : (old mid new : ℕ) → old ≤ mid → Rises mid new → Rises old new

@@ -1,9 +1,9 @@
 use Rattle.std.proofs.Common.{◌∙◌, refl}
 use Rattle.disk_model.specs.Moments.{stays_here}
-use Rattle.redo_log.specs.Fronts.{damaged}
-use Rattle.redo_log.specs.Saying.{says_front, says_nothing}
-use Rattle.redo_log.proofs.FrontLemmas.{front_at, nothing_said}
-use Rattle.redo_log.proofs.listing.end_damaged.Goals as goal
+use Rattle.tool_output.specs.Lines.{damaged}
+use Rattle.tool_output.specs.Saying.{says_front, says_nothing}
+use Rattle.tool_output.specs.FrontLaws.{front_at, nothing_said}
+use Rattle.tool_output.proofs.ending.end_damaged.Goals as goal
 
 pub returns-in-Ok-clause-runs : goal.returns-in-Ok-clause-runs
 returns-in-Ok-clause-runs g c = says_front _ c.end_with.ensures.runs

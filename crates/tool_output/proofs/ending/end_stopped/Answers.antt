@@ -1,13 +1,13 @@
 use Rattle.std.proofs.Common.{◌≡◌, refl, rules, subst, sym}
 use Rattle.disk_model.specs.Disk.{SaysFront}
 use Rattle.disk_model.specs.Moments.{stays_here}
-use Rattle.redo_log.specs.Fronts.{stop_line}
-use Rattle.redo_log.specs.Saying.{says_front, says_nothing}
-use Rattle.redo_log.specs.declared.stop.Stop.{Stop}
-use Rattle.redo_log.specs.declared.stop.Stop.TheVariants as stops
-use Rattle.redo_log.proofs.FaultLemmas.{hands_on}
-use Rattle.redo_log.proofs.FrontLemmas.{nothing_said}
-use Rattle.redo_log.proofs.listing.end_stopped.Goals as goal
+use Rattle.tool_output.specs.Lines.{stop_line}
+use Rattle.tool_output.specs.Saying.{says_front, says_nothing}
+use Rattle.tool_output.specs.declared.stop.Stop.{Stop}
+use Rattle.tool_output.specs.declared.stop.Stop.TheVariants as stops
+use Rattle.tool_output.specs.FaultLaws.{hands_on}
+use Rattle.tool_output.specs.FrontLaws.{nothing_said}
+use Rattle.tool_output.proofs.ending.end_stopped.Goals as goal
 
 pub returns-in-NotAStore-clause-runs : goal.returns-in-NotAStore-clause-runs
 returns-in-NotAStore-clause-runs g c = says_front _ c.end_with.ensures.runs

@@ -1,0 +1,6 @@
+pub mod Stops
+pub mod Lines
+pub mod Saying
+pub mod Faults
+pub mod FaultLaws
+pub mod FrontLaws

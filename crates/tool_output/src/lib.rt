@@ -1,0 +1,20 @@
+//! What the tools that look at a store have in common, `redo_log` and `redo_check`: they say text and write no file, they stop for
+//! the same causes, and they end with the same last lines and statuses.
+//!
+//! The contracts are those of `say_text`, of which no more than a front is said; of `end_with`, `end_damaged` and `end_stopped`,
+//! which say the last line; and the laws on faults that were counted (specs/FaultLaws.antt) and on fronts (specs/FrontLaws.antt). It
+//! depends on stable_objects and formats, whose errors a `Stop` is made of, on script_lines for the words of a number, and on
+//! oper_core and the machine of disk_model.
+#![tactic(auto)]
+
+mod ending;
+mod saying;
+mod status;
+mod stop;
+mod text;
+
+pub use ending::{end_damaged, end_stopped, end_with};
+pub use saying::say_text;
+pub use status::Status;
+pub use stop::Stop;
+pub use text::{damage_line, file_name, push_number, push_spaced};
