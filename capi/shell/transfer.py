@@ -249,12 +249,13 @@ def _object_lines(s: Session, store: redo.Store) -> Iterator[tuple[str, int]]:
     long: list[int] = []
     for x, value in objects(s, store):
         (long if len(value) > _PIECE else filled).append(x)
-    spare = next((x for x in range(store.params().objects) if not store.get(x)), None)
-    for x in [*long, *filled]:
+    order = long + filled
+    empty = next((x for x in range(store.params().objects) if not store.get(x)), None)
+    for x in order:
         s.stopped()
-        yield from _lines_of(x, store.get(x), spare if spare is not None else [*long, *filled][-1])
-    if spare is not None and long:
-        yield f"put {spare} -", 18
+        yield from _lines_of(x, store.get(x), order[-1] if empty is None else empty)
+    if empty is not None and long:
+        yield f"put {empty} -", 18
 
 
 def _lines_of(x: int, value: bytes, spare: int) -> Iterator[tuple[str, int]]:

@@ -294,7 +294,7 @@ def transfers(folder):
             for x in range(objects):
                 s.drain()
                 s.trim()
-                s.put(x, random_value(chance, cap) if objects > 3 else chance.randbytes(cap))
+                s.put(x, chance.randbytes(cap) if objects <= 3 or x % 3 == 0 else random_value(chance, cap))
             s.force()
             before = list(s)
         files = [os.path.join(folder, f"all{seed}.{kind}") for kind in ("csv", "jsonl", "redo")]
@@ -312,6 +312,7 @@ def transfers(folder):
             assert values_of(to) == before
     pairs_of_a_tree(folder, chance)
     wrong_files(folder)
+    runs_are_not_repeated(folder)
 
 
 def pairs_of_a_tree(folder, chance):
@@ -329,6 +330,15 @@ def pairs_of_a_tree(folder, chance):
         assert answers(to, *([f"put {x} -" for x in range(2, 64)]), f".import {file}{into}")[-1].startswith("imported ")
         with redo.open(to) as s:
             assert dict(s.tree(2, 63)) == before, kind
+
+
+def runs_are_not_repeated(folder):
+    """A line that is several commands, some of which are done as the log is full, is not given once more."""
+    path, file = fresh(folder, "runs", objects=4, cap=64, limit=4224), os.path.join(folder, "runs.redo")
+    with open(file, "w") as out:
+        out.write("\n".join([f"put 0 {'00' * 40}", "aread 1 0", *[f"put 2 {'ab' * 64}"] * 48, "arun 1 30", ""]))
+    said, told = ask(path, [f".import {file}"], status=1)
+    assert said.startswith("full ") and "line 51: stopped here; 50 before it are done" in told, (said, told)
 
 
 def wrong_files(folder):
@@ -380,7 +390,7 @@ def words(folder):
     assert values_of(f"{folder}/copy") == values_of(path) and values_of(other)[0] == b"x"
     assert not os.path.exists(f"{folder}/nowhere")
     said, told = ask(path, ['put 0 "a"', ".watch 0", 'put 0 "b"', "put 1 00", ".watch off", 'put 0 "c"', ".watch stat 900",
-                            "put 2 -"])
+                            "put 2 -", "put 3 -"])
     assert [line for line in told.split("\n") if line.startswith("watch 0")] == ['watch 0: "a"', 'watch 0: "b"'], told
     assert len([line for line in told.split("\n") if line.startswith("watch stat")]) == 2, told
     assert answers(path, 'hset 36 63 "k" "v"', ".hash 36 63")[1:] == ["key  value", "---  -----", '"k"  "v"']
