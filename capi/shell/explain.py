@@ -26,7 +26,7 @@ _WHY = {
     "LogFull": "the log has {first} bytes, and this needs {second} more, but LIMIT is {third}: `drain` and `trim` make room",
     "NotOpen": "no store is open: .open DIR opens one, .create DIR N CAP LIMIT makes one",
     "AlreadyStore": "a store is in this folder already: .open DIR opens it",
-    "NotAStore": "no store is in this folder: .create DIR N CAP LIMIT makes one",
+    "NotAStore": "no store is in this folder: .open DIR opens one elsewhere, .create DIR N CAP LIMIT makes one",
     "Locked": "another program has the store: one at a time may use it",
     "BadParams": "N is 1 to 65535, CAP 16 to 1048576, LIMIT 2 x CAP + 4096 to 536870912",
 }

@@ -85,6 +85,8 @@ def _open(s: Session, folder: Optional[str], is_typed: bool) -> None:
     except redo.NotAStore:
         if folder is not None:
             raise
+        if is_typed:
+            s.tell(explain.refusal(redo.NotAStore(), redo.Params(0, 0, 0)))
     if is_typed and s.store is not None:
         s.greet()
 

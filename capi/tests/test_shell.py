@@ -1,4 +1,5 @@
 """The shell, over the library that LIBREDO names: test_shell.py FOLDER [TEST ..]. Lines come by a pipe, or are typed."""
+import fcntl
 import json
 import locale  # noqa: F401      (argparse imports it late, when a child of this test can no longer read it)
 import os
@@ -12,6 +13,7 @@ import signal
 import subprocess
 import sys
 import tempfile
+import termios
 import time
 
 sys.dont_write_bytecode = True
@@ -53,12 +55,12 @@ def values_of(path):
 class Typed:
     """A shell at a terminal of its own."""
 
-    def __init__(self, *words, rows=24, columns=100, **env):
+    def __init__(self, *words, cwd=None, **env):
         here, there = pty.openpty()
-        subprocess.run(["stty", "rows", str(rows), "cols", str(columns)], stdin=there, check=True)
+        subprocess.run(["stty", "rows", "24", "cols", "100"], stdin=there, check=True)
         self.run = subprocess.Popen([*COMMAND, *words], stdin=there, stdout=there, stderr=there, start_new_session=True,
-                                    preexec_fn=lambda: __import__("fcntl").ioctl(0, __import__("termios").TIOCSCTTY, 0),
-                                    env={**ENV, **env})
+                                    preexec_fn=lambda: fcntl.ioctl(0, termios.TIOCSCTTY, 0),
+                                    cwd=cwd, env={**ENV, **env})
         os.close(there)
         self.pty, self.said = here, ""
 
@@ -533,8 +535,19 @@ def history_and_colours(folder, path):
     with open(history) as file:
         assert "get 9\n" in file.read()
     assert os.stat(history).st_mode & 0o777 == 0o600
-    t = Typed(cwd_without_a_store(folder))
-    assert t.ends()[0] == 3
+    empty = os.path.join(folder, "empty")
+    os.mkdir(empty)
+    t = Typed(empty)
+    status, said = t.ends()
+    assert status == 3 and "no store is in this folder" in said
+    t = Typed(cwd=empty)
+    assert "no store is in this folder" in t.until("redo, no store> ")
+    t.type(".create new 8 64 65536\nput 0 aa\n")
+    t.until("ok\r\nredo> ")
+    t.until("ok\r\nredo> ")
+    t.type("\x04")
+    status, said = t.ends()
+    assert status == 0 and "forced 1" in said and values_of(f"{empty}/new")[0] == b"\xaa"
     t = Typed(path, "--mode", "json")
     t.until("redo> ")
     t.type(f".import {folder}/slow.redo\n")
@@ -542,12 +555,6 @@ def history_and_colours(folder, path):
     t.type(".quit\n")
     assert t.ends()[0] == 0
     stopped(folder, path)
-
-
-def cwd_without_a_store(folder):
-    path = os.path.join(folder, "empty")
-    os.mkdir(path)
-    return path
 
 
 def stopped(folder, path):
@@ -595,7 +602,8 @@ def in_tmux(folder):
         seen("redo> put 1 00\nredo>")
         tmux("send-keys", "get 1", "Enter", "C-d")
         screen = seen("forced 2: 2 of them were not on the disk before")
-        assert "redo> copy 1 2\nok\nredo> get 2\n\"hello, 世界\"\n" in screen and "\n  put 1 hello\n        ^\n" in screen, screen
+        assert "redo> copy 1 2\nok\nredo> get 2\n\"hello, 世界\"\n" in screen, screen
+        assert "\n  put 1 hello\n        ^\n" in screen, screen
         assert screen.count('"hello, 世界"\n') == 3, screen
     finally:
         tmux("kill-server")
