@@ -43,6 +43,9 @@ def refusal(error: redo.Error, params: redo.Params, form: str = "") -> str:
     return why.format(last=params.objects - 1, cap=params.cap, first=first, second=second, third=third)
 
 
+OTHERS = frozenset(("bstart", "bcopy", "bfinish"))
+
+
 def no_call(line: Line) -> str:
     """Why a line of a script is none here."""
     return f"`{line.word}` is answered by `redo run` alone: .backup DIR saves the store here"

@@ -100,7 +100,7 @@ class Session:
             return self._begin()
         if line.word == "end":
             return self._end()
-        if line.word not in lines.CALLS:
+        if line.word in explain.OTHERS:
             raise BadLine(0, explain.no_call(line))
         return lines.done(self.opened(), line)
 

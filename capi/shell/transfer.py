@@ -11,7 +11,7 @@ from typing import NamedTuple, TextIO
 
 import redo
 
-from . import answers, forms, notation
+from . import answers, explain, forms, notation
 from .answers import Answer, Cell
 from .reading import BadLine, Line, opened, read
 from .session import Session
@@ -218,10 +218,13 @@ def _read_script(path: str, into: Sequence[int]) -> Iterator[tuple[int, Line]]:
                 line = read(text.rstrip("\n"))
             except BadLine as error:
                 raise BadLine(_FILE, f"{path}, line {number}, column {error.column + 1}: {error}") from None
-            if line is not None and line.word.startswith("."):
+            if line is None:
+                continue
+            if line.word.startswith("."):
                 raise BadLine(_FILE, f"{path}, line {number}: a line with a dot is none of a script")
-            if line is not None:
-                yield number, line
+            if line.word in explain.OTHERS:
+                raise BadLine(_FILE, f"{path}, line {number}: {explain.no_call(line)}")
+            yield number, line
 
 
 def _write_script(s: Session, store: redo.Store, of: Sequence[int]) -> Iterator[str]:

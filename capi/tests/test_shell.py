@@ -361,6 +361,7 @@ def wrong_files(folder):
         ("e.jsonl", "[" * 100000, "line 1: "),
         ("a.redo", "put 1 aa\nput 1 hello\n", "line 2, column 7: expected HEX"),
         ("b.redo", ".quit\n", "line 1: a line with a dot is none of a script"),
+        ("c.redo", "put 1 aa\nbcopy 1\n", "line 2: `bcopy` is answered by `redo run` alone"),
     ]
     for name, text, _ in wrong:
         with open(os.path.join(folder, name), "w") as out:
