@@ -15,14 +15,14 @@ use Rattle.redo_shell.specs.Answers.{Moment}
 use Rattle.redo_shell.specs.Calls.{IsCallFor, IsRunOn}
 use Rattle.redo_shell.specs.Courses.{OpeningMoment, RunMoment, TableMoment}
 use Rattle.redo_shell.specs.Dump.{dump_of, DumpMoment}
-use Rattle.redo_shell.specs.Following.{FollowMoment, StandbyMoment}
+use Rattle.redo_shell.specs.Following.{FollowMoment, FollowingMoment, StandbyMoment}
 use Rattle.redo_shell.specs.Run.{MomentSoFar}
 use Rattle.redo_shell.specs.Stages.{Stage, IsFirst}
 use Rattle.redo_shell.specs.Status.{IsCut}
 use Rattle.redo_shell.specs.Shipping.{ShipMoment}
 use Rattle.redo_shell.specs.Store.{Command, Opens, Stands}
 use Rattle.redo_shell.specs.Twice.{IsCallTwice, IsRunTwice, StepsTwice}
-use Rattle.redo_shell.specs.Upgrading.{UpgradeMoment}
+use Rattle.redo_shell.specs.Upgrading.{GrowthMoment, UpgradeMoment}
 use Rattle.redo_shell.specs.declared.budget.Budget.{Budget}
 use Rattle.redo_shell.specs.declared.budget.Budget.TheVariants.{Usual, Least}
 use Rattle.redo_shell.specs.declared.status.Status.{Status}
@@ -37,9 +37,9 @@ refused_still budget Run told left rest p commands old mid tells opens call = ((
 refused_still budget Dump told left rest p commands old mid tells opens call = ((call.table p commands opens).unopened tells refl).still
 refused_still budget (Init q) told left rest p commands old mid tells opens call = absurd call.ends
 refused_still budget (Demo seed steps) told left rest p commands old mid tells opens call = absurd call.ends
-refused_still budget (Upgrade q) told left rest p commands old mid tells opens call = (call.stands p commands opens).unopened tells refl
+refused_still budget (Upgrade q) told left rest p commands old mid tells opens call = ((call.stands p commands opens).unopened tells refl).still
 refused_still budget (Ship from) told left rest p commands old mid tells opens call = ((call.log p commands opens).unopened tells refl).still
-refused_still budget Follow told left rest p commands old mid tells opens call = (call.stream p commands opens).unopened tells refl
+refused_still budget Follow told left rest p commands old mid tells opens call = ((call.stream p commands opens).unopened tells refl).still
 
 module _ {p : Params} {commands : List Command} {old mid : Disk} (lawful : IsDisk old) (lawful_mid : IsDisk mid) (tells : old.tells_moments) (opens : Opens p old commands) (time : Passes old mid) (still : StandsStill p commands old mid) (new : Disk) where
   -- what a crash leaves of the second call may be what the first one left
@@ -123,8 +123,11 @@ module _ {p : Params} {commands : List Command} {old mid : Disk} (lawful : IsDis
   call_twice few (Init q) told left rest status first second = absurd first.ends
   call_twice few (Demo seed steps) told left rest status first second = absurd first.ends
   call_twice few (Upgrade q) told left rest status first second =
-      images_twice (UpgradeMoment p q commands mid.reads old.said) (λ files stands. (inl stands, inl refl))
-      (subst (λ (l : List ℕ). LeavesOnly mid new (OrAtStart mid (UpgradeMoment p q commands mid.reads l))) still.quiet ((second.stands p commands still.opens).images (time.moments_told.0 tells)))
+      let on = second.stands p commands still.opens in (
+        images_twice (UpgradeMoment p q commands mid.reads old.said) (λ files stands. (inl stands, inl refl))
+            (subst (λ (l : List ℕ). LeavesOnly mid new (OrAtStart mid (UpgradeMoment p q commands mid.reads l))) still.quiet (on.images (time.moments_told.0 tells))),
+        steps_twice (λ again here. GrowthMoment Least p q commands mid again here) ((first.stands p commands opens).unopened tells refl) (on.steps (time.moments_told.0 tells)),
+      )
   call_twice few (Ship from) told left rest status first second =
       let on = second.log p commands still.opens in (
         images_twice (ShipMoment p commands from old.said) (λ files stands. (stands, inl refl))
@@ -136,4 +139,5 @@ module _ {p : Params} {commands : List Command} {old mid : Disk} (lawful : IsDis
     rest,
     second.taken,
     λ stage is. follow_twice stage.world.history second.bytes ((second.stream p commands still.opens).images (time.moments_told.0 tells) stage is),
+    steps_twice (λ again here. FollowingMoment Least p commands mid again here second.bytes new) ((first.stream p commands opens).unopened tells refl) ((second.stream p commands still.opens).steps (time.moments_told.0 tells)),
   )

@@ -249,13 +249,13 @@ call_adds_nothing disk budget told left rest old new (Init p) lawful call is = a
 call_adds_nothing disk budget told left rest old new (Demo seed steps) lawful call is = absurd (subst IsOfDemo is call.ends)
 call_adds_nothing disk budget told left rest old new (Upgrade q) lawful call is = λ first next sizes runs said before follows.
     reads old new next said before (λ none telling. keeps_judged (call.judged (lawful.telling telling)) (λ image. none (image_begins image)))
-    (λ p commands opens telling. alone p commands ((call.stands p commands opens).unopened telling is)) follows
+    (λ p commands opens telling. alone p commands ((call.stands p commands opens).unopened telling is).still) follows
 call_adds_nothing disk budget told left rest old new (Ship from) lawful call is = λ first next sizes runs said before follows.
     reads old new next said before (λ none telling. (call.judged (lawful.telling telling)).keeps (λ image. none (image_begins image)))
     (λ p commands opens telling. or_weaker (disk old) (disk new) (ShipMoment p commands from (disk old).said) (λ files bytes. Stands p files commands) ((call.log p commands opens).images telling) (λ files bytes moment. moment.0)) follows
 call_adds_nothing disk budget told left rest old new Follow lawful call is = λ first next sizes runs said before follows.
     reads old new next said before (λ none telling. (call.judged (lawful.telling telling)).keeps (λ image. none (image_begins image)))
-    (λ p commands opens telling. alone p commands ((call.stream p commands opens).unopened telling is)) follows
+    (λ p commands opens telling. alone p commands ((call.stream p commands opens).unopened telling is).still) follows
 
 -- where there was no memory to read the words, it goes on them too
 pub unread_goes_on : {T : Type 0} (disk : T → Disk) {words : List (List ℕ)} {told : Type 0} {left : List ℕ} {status : Status} (old new : T) → IsUnread (disk old) (disk new) status

@@ -21,32 +21,34 @@ use Rattle.execution.specs.Judged.{first_refused, follows}
 use Rattle.op_codec.specs.AllOps.{all_meaning}
 use Rattle.restart.specs.Starts.{OrAtStart, from_settled, or_weaker}
 use Rattle.standby_node.specs.Attaching.{BeginsOn}
-use Rattle.standby_node.specs.Feeding.{FollowsPiece, HasRefused, IsAtFrameEnd, IsFed}
+use Rattle.standby_node.specs.Feeding.{FeedsTo, FollowsPiece, HasRefused, IsAtFrameEnd, IsFed, IsLedTo, feeds_on}
 use Rattle.standby_node.specs.Standby.{AreFramesOf, IsFollowing, StandbyView}
 use Rattle.standby_node.specs.declared.follow_err.FollowErr.{FollowErr}
 use Rattle.standby_node.specs.declared.follow_err.FollowErr.TheVariants as errors
-use Rattle.store_engine.specs.Engine.{InEachImage, forced_in}
+use Rattle.store_engine.specs.Engine.{EngineView, InEachImage, forced_in}
 use Rattle.store_engine.specs.Engine as of_engine
 use Rattle.store_engine.specs.Grouping.{ungrouped}
 use Rattle.running_store.specs.Forced.{files_shown}
 use Rattle.standing.specs.Standing.{FilesShow}
 use Rattle.disk_model.specs.declared.machine.FileNo.{FileNo}
-use Rattle.redo_shell.specs.Following.{Begins, FollowMoment, FollowsFrames, HasEnded, IsOfMachine, IsFollowOn, IsFollowOpen, IsInputFollowed, IsOfStream, IsSilentEnd, IsUnsaid, SaysRefusal, SaysShort, ShowsFollowed, StandbyMoment, StreamMoment, at_end, notice_of, status_of_refusal}
+use Rattle.redo_shell.specs.Courses.{OpeningMoment}
+use Rattle.redo_shell.specs.Following.{Begins, FollowMoment, FollowingMoment, FollowsFrames, HasEnded, IsFollowedThrough, IsOfMachine, IsFollowOn, IsFollowOpen, IsInputFollowed, IsOfStream, IsSilentEnd, IsUnsaid, SaysRefusal, SaysShort, ShowLed, ShowsFollowed, StandbyMoment, StreamMoment, at_end, notice_of, status_of_refusal}
+use Rattle.redo_shell.specs.Open.{OpensFiles}
 use Rattle.redo_shell.specs.Stages.{Stage, IsFirst}
 use Rattle.redo_shell.specs.Keeps.{SaysOnly}
 use Rattle.redo_shell.specs.Notices as notices
 use Rattle.redo_shell.specs.Status.{IsOfFollow, IsOfUnopened, status_of, stop_of_input, IsOfOpened}
 use Rattle.redo_shell.specs.declared.budget.Budget.{Budget}
 use Rattle.redo_shell.specs.declared.status.Status.{Status}
-use Rattle.redo_shell.specs.declared.status.Status.TheVariants.{Done, NotAStore, Damaged as FilesDamaged, DiskFault as DiskFailed, SayFault, Memory as OutOfMemory, RestartMemory, BadStream, StandbyFull}
-use Rattle.redo_shell.specs.Store.{Between, Command, IsAttached, Opens, Says, Stands, meaning_in}
+use Rattle.redo_shell.specs.declared.status.Status.TheVariants.{Done, NotAStore, Damaged as FilesDamaged, DiskFault as DiskFailed, ReadFault as InputFailed, SayFault, Memory as OutOfMemory, RestartMemory, TooLong, BadStream, StandbyFull}
+use Rattle.redo_shell.specs.Store.{Between, Command, IsAttached, Opens, Says, ShowsIn, Stands, meaning_in}
 use Rattle.redo_shell.specs.declared.cut.Cut.{Cut}
 use Rattle.redo_shell.specs.declared.cut.Cut.TheVariants as cuts
 use Rattle.script_lines.specs.declared.read_error.ReadError.{ReadError}
 use Rattle.script_lines.specs.declared.read_error.ReadError.TheVariants as of_input
 use Rattle.redo_shell.proofs.FetchLemmas.{not_a_fault}
 use Rattle.redo_shell.proofs.HoldLemmas.{each_stays, shows_stays, still_settled}
-use Rattle.redo_shell.proofs.OpenLemmas.{opening_failed, stands_still}
+use Rattle.redo_shell.proofs.OpenLemmas.{opening_failed, start_refused}
 use Rattle.redo_shell.proofs.RestartLemmas.{restarted}
 
 -- records without bytes are none
@@ -187,6 +189,7 @@ pub record IsTakingIn (told : Type 0) (left_first left : List ℕ) (start now : 
   pub few : length bytes ≤ 2 ^ 40
   pub following : (p : Params) (first : List (Member Command)) → Begins p first start before → IsFollowing all_meaning p first bytes now here
   pub images : start.tells_moments → (p : Params) (first : List (Member Command)) → Begins p first start before → LeavesOnly start now (IsSilent (StreamMoment p first bytes) start.said)
+  pub leads : (p : Params) (w : World Command) → ShowsIn p start before.engine w → IsLedTo all_meaning p now here.engine w
 
 pub starts_taking : {told : Type 0} (left : List ℕ) (d : Disk) (s : StandbyView) → IsDisk d → s.engine.broken ≡ false → s.stopped ≡ None → taken_by s.frames ≡ 0
     → ((p : Params) (commands : List Command) → of_engine.Holds all_meaning p d s.engine commands → Says p d s.engine commands) → IsTakingIn told left left d d s s
@@ -205,6 +208,7 @@ starts_taking left d s lawful unbroken fine fresh says = record {
     silent = lawful.said_now telling files said left;
     holds = record { rest = []; commands = commands_of first; follows_to = no_frames p first []; stands = (begins_standing begins (says p)).1 telling files said left };
   });
+  leads = λ p w shows. (w, shows, FeedsTo.Nothing);
 }
 
 -- no byte is kept where there is no place of one, and some where there is
@@ -230,6 +234,7 @@ module _ {told : Type 0} {left_first left : List ℕ} {start now : Disk} {before
     few = so_far.few;
     follows_it = λ p first begins. tt;
     images = so_far.images;
+    leads = so_far.leads;
   })
 
   -- a piece more was taken
@@ -262,6 +267,7 @@ module _ {told : Type 0} {left_first left : List ℕ} {start now : Disk} {before
     few = few_more piece few;
     follows_it = λ p first begins. refusal_of p first so_far.bytes piece new after cause (fed.follows_it p first so_far.bytes (so_far.following p first begins));
     images = images_more fed;
+    leads = λ p w shows. tt;
   })
 
   -- it was followed
@@ -283,6 +289,10 @@ module _ {told : Type 0} {left_first left : List ℕ} {start now : Disk} {before
       few = few_more piece few;
       following = λ p first begins. (fed.follows_it p first so_far.bytes (so_far.following p first begins)).following;
       images = images_more fed;
+      leads = λ p w shows.
+          let was = so_far.leads p w shows in
+          let on = fed.leads p was.0 was.1 in
+          (on.0, on.1, feeds_on (meaning_in p) w was.0 on.0 was.2 on.2);
     }
 
     module _ (ended : told → later ≡ []) (short : taken_by here.frames + length piece < 2 ^ 40) (says : (p : Params) (commands : List Command) → of_engine.Holds all_meaning p new after.engine commands → Says p new after.engine commands) where
@@ -309,6 +319,7 @@ module _ {told : Type 0} {left_first left : List ℕ} {start now : Disk} {before
             let whole = subst (λ (rest : List ℕ). (all : ShowsFollowed p first (so_far.bytes ++ piece) rest new) × (n ≡ length all.commands)) kept (shows_followed its.following its.between.none_done (says p) its.between.none_waits, its.count) in
             (has_ended, whole.0, whole.1);
         images = images_more fed;
+        leads = takes_more.leads;
       }
 
       -- or within one
@@ -331,6 +342,7 @@ module _ {told : Type 0} {left_first left : List ℕ} {start now : Disk} {before
               omega (arith, long, passed, kept.1),
             );
         images = images_more fed;
+        leads = takes_more.leads;
       }
 
       pub ends_so : (result : Result ℕ Cut) → result ≡ at_end (first_kept after.frames.passed after.frames.kept) n → IsInputFollowed told left_first later start new before after result
@@ -388,6 +400,19 @@ still_followed {p} says told all = (
   },
   refl,
 )
+
+-- an engine that was led to a world shows it in its files
+shown_led : {p : Params} {w : World Command} {d : Disk} {engine : EngineView} → IsLedTo all_meaning p d engine w → ShowLed p w d.reads
+shown_led {p} {d = d} {engine = engine} led = (led.0, files_shown (meaning_in p) p d engine.parts (ungrouped led.0) led.1.shows, led.2)
+
+-- and so do files that are the same behind something said
+still_led : {p : Params} {w : World Command} {d new : Disk} {engine : EngineView} → SaysOnly d new → IsLedTo all_meaning p d engine w → ShowLed p w new.reads
+still_led {p} {w} says led = subst (λ (f : Files). ShowLed p w f) (sym (says.reads led.1.shows.told)) (shown_led led)
+
+-- a stream that was refused was not followed through
+not_through : (cause : FollowErr) → IsFollowedThrough (status_of_refusal cause) → ⊥
+not_through errors.DiskFault through = through
+not_through cause through = through
 
 stream_cause : (cause : FollowErr) → status_of_refusal cause ≡ BadStream → IsOfStream cause
 stream_cause (errors.BadFrame place) is = tt
@@ -490,6 +515,7 @@ module _ {told : Type 0} {left rest : List ℕ} {old mid new : Disk} {before aft
           quiet = λ is. silent (said_end ends (λ none. none) is) ∙ quiet tells;
         };
     images = λ telling p first begins. said_images lawful time says p first input.bytes (input.images telling p first begins) (input.follows_it p first begins).1.settled telling;
+    leads = λ p w shows. record { through = λ is. still_led says (input.leads p w shows); stream = λ is. absurd (is_not (λ e. cc e) (λ e. cc e) (λ e. cc e) ends is) };
   }
 
   pub open_short : (place : ℕ) → IsInputFollowed told left rest old mid before after (Err (cuts.Short place)) → (status ≡ BadStream) ⊎ ((status ≡ OutOfMemory) ⊎ (status ≡ SayFault))
@@ -521,6 +547,7 @@ module _ {told : Type 0} {left rest : List ℕ} {old mid new : Disk} {before aft
           quiet = λ is. silent (said_end ends (λ none. none) is) ∙ quiet tells;
         };
     images = λ telling p first begins. said_images lawful time says p first input.bytes (input.images telling p first begins) (input.follows_it p first begins).2.settled telling;
+    leads = λ p w shows. record { through = λ is. still_led says (input.leads p w shows); stream = λ is. inl (still_led says (input.leads p w shows)) };
   }
 
   pub open_refused : (cause : FollowErr) → IsInputFollowed told left rest old mid before after (Err (cuts.Refused cause)) → IsUnsaid status ⊎ (status ≡ status_of_refusal cause)
@@ -562,6 +589,14 @@ module _ {told : Type 0} {left rest : List ℕ} {old mid new : Disk} {before aft
           quiet = λ is. silent is ∙ quiet tells;
         };
     images = λ telling p first begins. refused_images lawful time says p first input.bytes cause (input.images telling p first begins) (input.follows_it p first begins) failed telling;
+    leads = λ p w shows. record {
+      through = λ is. absurd (⊎_elim (λ unsaid. ⊎_elim (λ e. subst IsFollowedThrough e is) (λ e. subst IsFollowedThrough e is) unsaid) (λ e. not_through cause (subst IsFollowedThrough e is)) ends);
+      stream = λ is. inr (
+        cause,
+        stream_cause cause (refusal_is cause (λ e. cc e) (λ e. cc e) ends is),
+        said (time.files_told.0 shows.shows.told) (inl is) ∙ ap (λ (l : List ℕ). l ++ notice_of cause) (quiet shows.shows.told),
+      );
+    };
   }
 
 -- the input was not read to its end
@@ -583,72 +618,97 @@ open_unread {old = old} {mid = mid} quiet error input is = record {
     quiet = λ silent. quiet begins.following.shows.shows.told;
   };
   images = λ telling p first begins. weaker old mid (IsSilent (StreamMoment p first input.bytes) old.said) (FollowMoment p first input.bytes old mid) (input.images telling p first begins) (λ files said it. (it.holds, inl it.silent));
+  leads = λ p w shows.
+      let led : ShowLed p w mid.reads = shown_led (input.leads p w shows) in
+      record { through = λ through. led; stream = λ e. inl led };
 }
+
+-- where no store was opened no stream was followed
+not_followed : (status : Status) → IsOfUnopened status → IsFollowedThrough status → ⊥
+not_followed Done of through = of
+not_followed InputFailed of through = of
+not_followed TooLong of through = of
+not_followed status of through = through
 
 -- ---- from before the store was opened
 
-module _ {p : Params} {commands : List Command} {old mid : Disk} (lawful : IsDisk old) (opens : Opens p old commands)
-    (opening : old.tells_moments → LeavesOnly old mid (OrAtStart old (Between p old None (length commands) (length commands) commands))) where
+module _ {budget : Budget} {p : Params} {commands : List Command} {old mid : Disk} (lawful : IsDisk old) (opens : Opens p old commands) (files : OpensFiles budget p commands old mid) where
   -- while it is opened the files stand for the commands
   opening_moments : (first : List (Member Command)) (bytes : List ℕ) (new : Disk) → old.tells_moments → LeavesOnly old mid (OrAtStart old (StandbyMoment p commands first bytes old new))
   opening_moments first bytes new told =
-      or_weaker old mid (Between p old None (length commands) (length commands) commands) (StandbyMoment p commands first bytes old new) (opening told)
-      (λ files said b. let enough = b.enough in inl (subst (λ (l : List Command). Stands p files l) (take_all b.kept commands enough) b.stands, b.quiet))
+      or_weaker old mid (Between p old None (length commands) (length commands) commands) (StandbyMoment p commands first bytes old new) (files.images told)
+      (λ image said b. let enough = b.enough in inl (subst (λ (l : List Command). Stands p image l) (take_all b.kept commands enough) b.stands, b.quiet))
 
-  pub follow_unopened : {budget : Budget} {ended : Type 0} {status : Status} → (first : Stage) × IsFirst budget p commands old first × (commands_of first.world.history ≡ commands) → mid.said ≡ old.said → (old.tells_moments → Opens p mid commands) → IsOfUnopened status → (status ≢ NotAStore) × (status ≢ FilesDamaged) → (status ≢ SayFault) × (status ≢ OutOfMemory)
+  pub follow_unopened : {ended : Type 0} {status : Status} → (first : Stage) × IsFirst budget p commands old first × (commands_of first.world.history ≡ commands) → IsOfUnopened status → (status ≢ NotAStore) × (status ≢ FilesDamaged) → (status ≢ SayFault) × (status ≢ OutOfMemory)
       → IsFollowOn budget ended [] p commands old mid status
-  follow_unopened {status = status} first quiet again of store output = record {
+  follow_unopened {status = status} first of store output = record {
     first = first;
     follows_it = λ stage is. record {
       done = λ e. absurd (subst IsOfUnopened e of);
       stream = λ e. absurd (subst IsOfUnopened e of);
       full = λ e. absurd (subst IsOfUnopened e of);
-      quiet = λ silent. quiet;
+      quiet = λ silent. files.quiet;
     };
     images = λ told stage is. opening_moments stage.world.history [] mid told;
     from_settled = λ told settled stage is. from_settled old mid (StandbyMoment p commands stage.world.history [] old mid) lawful told settled (inl (opens.stands, refl)) (opening_moments stage.world.history [] mid told);
     opened = λ told disk memory. absurd (opening_failed status of store output disk memory);
-    unopened = λ told is. stands_still p commands opening quiet (again told) told;
+    unopened = λ told is. start_refused p commands files told;
     store = store;
+    steps = λ told stage is. or_weaker old mid (OpeningMoment budget p commands old stage is) (FollowingMoment budget p commands old stage is [] mid) (files.steps told stage is) (λ image said here. inl here);
+    leads = λ stage is. record { through = λ through. absurd (not_followed status of through); stream = λ e. absurd (subst IsOfUnopened e of) };
   }
 
-  pub follow_on : {budget : Budget} {told : Type 0} {left rest : List ℕ} {new : Disk} {standby : StandbyView} {status : Status} → IsDisk new → Passes old mid → Passes mid new → mid.said ≡ old.said
-      → (first : Stage) × IsFirst budget p commands old first × (commands_of first.world.history ≡ commands) → ((first : Stage) → IsFirst budget p commands old first → Begins p first.world.history mid standby)
+  pub follow_on : {told : Type 0} {left rest : List ℕ} {new : Disk} {standby : StandbyView} {status : Status} → IsDisk new → Passes old mid → Passes mid new
+      → (first : Stage) × IsFirst budget p commands old first × (commands_of first.world.history ≡ commands) → ((first : Stage) → IsFirst budget p commands old first → Begins p first.world.history mid standby × ShowsIn p mid standby.engine first.world)
       → (it : IsFollowOpen told left rest mid new standby status) → (status ≢ NotAStore) × (status ≢ FilesDamaged) → IsOfOpened status → IsFollowOn budget (HasEnded told left rest) it.bytes p commands old new status
-  follow_on {budget} {told} {left} {rest} {new} {standby} {status} lawful_new before time quiet first begins it store fine =
+  follow_on {told} {left} {rest} {new} {standby} {status} lawful_new before time first begins it store fine =
       let images : old.tells_moments → (stage : Stage) → IsFirst budget p commands old stage → LeavesOnly old new (OrAtStart old (StandbyMoment p commands stage.world.history it.bytes old new))
       = λ tells stage is. runs_on old mid new (OrAtStart old (StandbyMoment p commands stage.world.history it.bytes old new)) (opening_moments stage.world.history it.bytes new tells)
-      (weaker mid new (FollowMoment p stage.world.history it.bytes mid new) (OrAtStart old (StandbyMoment p commands stage.world.history it.bytes old new)) (it.images (before.moments_told.0 tells) p stage.world.history (begins stage is))
-      (λ files said m. inr (inr (m.0, ⊎_elim (λ (none : said ≡ mid.said). inl (none ∙ quiet)) (λ there. inr there) m.1)))) in
+      (weaker mid new (FollowMoment p stage.world.history it.bytes old new) (OrAtStart old (StandbyMoment p commands stage.world.history it.bytes old new)) (goes_on tells stage is) (λ image said m. inr (inr m))) in
       record {
         first = first;
         follows_it = λ stage is.
-            let from = it.follows_it p stage.world.history (begins stage is) in
+            let from = it.follows_it p stage.world.history (begins stage is).0 in
             record {
-              done = λ e. let done = from.done e in (done.0, record { all = done.1.all; said = done.1.said ∙ ap (λ (l : List ℕ). l ++ notices.followed (length done.1.all.commands)) quiet });
+              done = λ e. let done = from.done e in (done.0, record { all = done.1.all; said = done.1.said ∙ ap (λ (l : List ℕ). l ++ notices.followed (length done.1.all.commands)) files.quiet });
               stream = λ e. ⊎_elim
                   (λ (ends : HasEnded told left rest × SaysShort p stage.world.history it.bytes mid new). inl (ends.0, short_from ends.1))
                   (λ (refused : (cause : FollowErr) × IsOfStream cause × SaysRefusal p stage.world.history it.bytes mid new cause). inr (refused.0, refused.1, refusal_from refused.2))
                   (from.stream e);
               full = λ e. let full = from.full e in (full.0, full.1, full.2, refusal_from full.3);
-              quiet = λ silent. from.quiet silent ∙ quiet;
+              quiet = λ silent. from.quiet silent ∙ files.quiet;
             };
         images = images;
         from_settled = λ tells settled stage is. from_settled old new (StandbyMoment p commands stage.world.history it.bytes old new) lawful tells settled (inl (opens.stands, refl)) (images tells stage is);
         opened = λ tells disk memory stage is.
             let told_mid = before.moments_told.0 tells in
-            let each : (files : Files) (said : List ℕ) → new.left_since new.clock files said → StreamMoment p stage.world.history it.bytes files
-            = λ files said left. ((it.images told_mid p stage.world.history (begins stage is)).each files said (lawful_new.among mid.clock new.clock files said time.later (omega arith) left)).0 in
+            let each : (image : Files) (said : List ℕ) → new.left_since new.clock image said → StreamMoment p stage.world.history it.bytes image
+            = λ image said left. ((it.images told_mid p stage.world.history (begins stage is).0).each image said (lawful_new.among mid.clock new.clock image said time.later (omega arith) left)).0 in
             (each new.reads new.said (lawful_new.as_read (time.moments_told.0 told_mid)), λ told_new. each);
         unopened = λ told is. absurd (subst IsOfOpened is fine);
         store = store;
+        steps = λ tells stage is. runs_on old mid new (OrAtStart old (FollowingMoment budget p commands old stage is it.bytes new))
+            (or_weaker old mid (OpeningMoment budget p commands old stage is) (FollowingMoment budget p commands old stage is it.bytes new) (files.steps tells stage is) (λ image said here. inl here))
+            (weaker mid new (FollowMoment p stage.world.history it.bytes old new) (OrAtStart old (FollowingMoment budget p commands old stage is it.bytes new)) (goes_on tells stage is) (λ image said m. inr (inr m)));
+        leads = λ stage is.
+            let on = it.leads p stage.world (begins stage is).1 in
+            record {
+              through = on.through;
+              stream = λ e. ⊎_elim (λ led. inl led) (λ (refused : (cause : FollowErr) × IsOfStream cause × (new.said ≡ mid.said ++ notice_of cause)). inr (refused.0, refused.1, refused.2 ∙ ap (λ (l : List ℕ). l ++ notice_of refused.0) files.quiet)) (on.stream e);
+            };
       }
     where
+      -- after the opening
+      goes_on : old.tells_moments → (stage : Stage) → IsFirst budget p commands old stage → LeavesOnly mid new (FollowMoment p stage.world.history it.bytes old new)
+      goes_on tells stage is =
+          weaker mid new (FollowMoment p stage.world.history it.bytes mid new) (FollowMoment p stage.world.history it.bytes old new) (it.images (before.moments_told.0 tells) p stage.world.history (begins stage is).0)
+          (λ image said m. (m.0, ⊎_elim (λ (none : said ≡ mid.said). inl (none ∙ files.quiet)) (λ there. inr there) m.1))
+
       short_from : {h : List (Member Command)} → SaysShort p h it.bytes mid new → SaysShort p h it.bytes old new
-      short_from is = record { rest = is.rest; all = is.all; some = is.some; unfinished = is.unfinished; fine = is.fine; place = is.place; place_is = is.place_is; said = is.said ∙ ap (λ (l : List ℕ). l ++ notices.short is.place) quiet }
+      short_from is = record { rest = is.rest; all = is.all; some = is.some; unfinished = is.unfinished; fine = is.fine; place = is.place; place_is = is.place_is; said = is.said ∙ ap (λ (l : List ℕ). l ++ notices.short is.place) files.quiet }
 
       refusal_from : {h : List (Member Command)} {cause : FollowErr} → SaysRefusal p h it.bytes mid new cause → SaysRefusal p h it.bytes old new cause
-      refusal_from {cause = cause} is = record { standby = is.standby; following = is.following; refused = is.refused; said = is.said ∙ ap (λ (l : List ℕ). l ++ notice_of cause) quiet }
+      refusal_from {cause = cause} is = record { standby = is.standby; following = is.following; refused = is.refused; said = is.said ∙ ap (λ (l : List ℕ). l ++ notice_of cause) files.quiet }
 
 -- a moment of it is one of the stream, where the history has the commands
 pub standby_moment : {p : Params} {commands : List Command} {first : List (Member Command)} {bytes : List ℕ} (old new : Disk) {files : Files} {said : List ℕ} → commands_of first ≡ commands → StandbyMoment p commands first bytes old new files said → StreamMoment p first bytes files

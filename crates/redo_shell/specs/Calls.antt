@@ -125,7 +125,7 @@ abbrev pub IsCallFor : Budget → Asked → Type 0 → List ℕ → List ℕ →
 IsCallFor budget Run told left rest old new status = IsRunCall budget told left rest old new status
 IsCallFor budget Dump told left rest old new status = IsDumpCall budget old new status
 IsCallFor budget (Init p) told left rest old new status = IsMaking p old new status
-IsCallFor budget (Upgrade q) told left rest old new status = IsUpgradeCall q old new status
+IsCallFor budget (Upgrade q) told left rest old new status = IsUpgradeCall budget q old new status
 IsCallFor budget (Demo seed steps) told left rest old new status = IsDemo seed steps old new status
 IsCallFor budget (Ship from) told left rest old new status = IsShipCall budget from old new status
 IsCallFor budget Follow told left rest old new status = IsFollowCall budget told left rest old new status

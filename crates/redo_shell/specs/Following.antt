@@ -12,18 +12,19 @@ use Rattle.disk_model.specs.Silent.{IsSilent}
 use Rattle.op_codec.specs.AllOps.{all_meaning}
 use Rattle.restart.specs.Starts.{OrAtStart}
 use Rattle.standing.specs.Standing.{FilesShow}
-use Rattle.standby_node.specs.Feeding.{HasRefused}
+use Rattle.standby_node.specs.Feeding.{FeedsTo, HasRefused, IsLedTo}
 use Rattle.standby_node.specs.Standby.{AreFramesOf, IsFollowing, StandbyView}
 use Rattle.standby_node.specs.declared.follow_err.FollowErr.{FollowErr}
 use Rattle.standby_node.specs.declared.follow_err.FollowErr.TheVariants as errors
 use Rattle.store_engine.specs.Engine.{InEachImage, forced_in}
 use Rattle.redo_shell.specs.declared.budget.Budget.{Budget}
-use Rattle.redo_shell.specs.Again.{StandsStill}
+use Rattle.redo_shell.specs.Again.{IsStartRefused}
 use Rattle.redo_shell.specs.Causes.{JudgesFiles, ReadsNoStore}
+use Rattle.redo_shell.specs.Courses.{OpeningMoment}
 use Rattle.redo_shell.specs.Notices as notices
 use Rattle.redo_shell.specs.Stages.{Stage, IsFirst}
 use Rattle.redo_shell.specs.Status.{IsOfFollow}
-use Rattle.redo_shell.specs.Store.{Command, Opens, Stands, meaning_in}
+use Rattle.redo_shell.specs.Store.{Command, Opens, ShowsIn, Stands, meaning_in}
 use Rattle.redo_shell.specs.declared.status.Status.{Status}
 use Rattle.redo_shell.specs.declared.status.Status.TheVariants.{Done, NotAStore, Damaged as FilesDamaged, DiskFault as DiskFailed, ReadFault as InputFailed, SayFault, Memory as OutOfMemory, RestartMemory, TooLong, BadStream, StandbyFull}
 use Rattle.script_lines.specs.declared.read_error.ReadError.{ReadError}
@@ -128,6 +129,18 @@ pub record SaysRefusal (p : Params) (first : List (Member Command)) (bytes : Lis
   pub refused : HasRefused (meaning_in p) following.world.history standby cause
   pub said : new.said ≡ old.said ++ notice_of cause
 
+-- the files show a world to which this one leads by what a standby does with a stream: records are followed, what waits is forced,
+-- and thin nodes are installed; no check is logged, and no log is trimmed
+abbrev pub ShowLed : Params → World Command → Files → Type 0
+ShowLed p w files = (v : World Command) × FilesShow (meaning_in p) p files v × FeedsTo (meaning_in p) w v
+
+-- so it holds where the input was followed as far as it came: to its end, or until it could not be read
+abbrev pub WhereFollowed : Result ℕ Cut → Type 0 → Type 0
+WhereFollowed (Ok n) P = P
+WhereFollowed (Err (cuts.Short place)) P = P
+WhereFollowed (Err (cuts.Refused cause)) P = ⊤
+WhereFollowed (Err (cuts.Unread error)) P = P
+
 -- what is answered at the end of the input, by the place of a frame that is not whole
 abbrev pub at_end : Option ℕ → ℕ → Result ℕ Cut
 at_end None commands = Ok commands
@@ -153,6 +166,7 @@ pub record IsInputFollowed (told : Type 0) (left rest : List ℕ) (old new : Dis
   pub few : length bytes ≤ 2 ^ 40
   pub follows_it : (p : Params) (first : List (Member Command)) → Begins p first old before → FollowsInput p first bytes (HasEnded told left rest) new after result
   pub images : old.tells_moments → (p : Params) (first : List (Member Command)) → Begins p first old before → LeavesOnly old new (IsSilent (StreamMoment p first bytes) old.said)
+  pub leads : (p : Params) (w : World Command) → ShowsIn p old before.engine w → WhereFollowed result (IsLedTo all_meaning p new after.engine w)
 
 -- a moment of it and of what is said behind it: once something is said, the files are those that are there at the end
 abbrev pub FollowMoment : Params → List (Member Command) → List ℕ → Disk → Disk → Files → List ℕ → Type 0
@@ -166,6 +180,19 @@ IsSilentEnd OutOfMemory = ⊤
 IsSilentEnd RestartMemory = ⊤
 IsSilentEnd TooLong = ⊤
 IsSilentEnd status = ⊥
+
+-- the stream was followed as far as it came, and it did not end within a frame
+abbrev pub IsFollowedThrough : Status → Type 0
+IsFollowedThrough Done = ⊤
+IsFollowedThrough InputFailed = ⊤
+IsFollowedThrough TooLong = ⊤
+IsFollowedThrough status = ⊥
+
+-- What is done of a store that showed this world, where a stream is followed as far as it came: with status 13 so too, unless it was
+-- refused, which was then said.
+pub record LeadsOn (p : Params) (w : World Command) (old new : Disk) (status : Status) : Type 0 where
+  pub through : IsFollowedThrough status → ShowLed p w new.reads
+  pub stream : status ≡ BadStream → ShowLed p w new.reads ⊎ ((cause : FollowErr) × IsOfStream cause × (new.said ≡ old.said ++ notice_of cause))
 
 -- What the following of a stream, of which these bytes were taken, to the end of the input or not (`ended`), makes of a store with this
 -- history, by its status.
@@ -184,10 +211,16 @@ pub record IsFollowOpen (told : Type 0) (left rest : List ℕ) (old new : Disk) 
   pub few : length bytes ≤ 2 ^ 40
   pub follows_it : (p : Params) (first : List (Member Command)) → Begins p first old before → FollowsFrom (HasEnded told left rest) bytes p first old new status
   pub images : old.tells_moments → (p : Params) (first : List (Member Command)) → Begins p first old before → LeavesOnly old new (FollowMoment p first bytes old new)
+  pub leads : (p : Params) (w : World Command) → ShowsIn p old before.engine w → LeadsOn p w old new status
 
 -- a moment from before the store was opened: while it is opened nothing is said, and the files stand for its commands
 abbrev pub StandbyMoment : Params → List Command → List (Member Command) → List ℕ → Disk → Disk → Files → List ℕ → Type 0
 StandbyMoment p commands first bytes old new files said = (Stands p files commands × (said ≡ old.said)) ⊎ FollowMoment p first bytes old new files said
+
+-- or while it is opened the world is shown after some first steps of the restart's course
+module _ (budget : Budget) (p : Params) (commands : List Command) (old : Disk) (first : Stage) (is : IsFirst budget p commands old first) where
+  abbrev pub FollowingMoment : List ℕ → Disk → Files → List ℕ → Type 0
+  FollowingMoment bytes new files said = OpeningMoment budget p commands old first is files said ⊎ FollowMoment p first.world.history bytes old new files said
 
 -- Files that stand for commands follow a stream.
 pub record IsFollowOn (budget : Budget) (ended : Type 0) (bytes : List ℕ) (p : Params) (commands : List Command) (old new : Disk) (status : Status) : Type 0 where
@@ -201,8 +234,11 @@ pub record IsFollowOn (budget : Budget) (ended : Type 0) (bytes : List ℕ) (p :
   -- but where the disk may have failed, or memory the opening, it stands for what some first whole frames make of them
   pub opened : old.tells_moments → status ≢ DiskFailed → status ≢ RestartMemory → (first : Stage) → IsFirst budget p commands old first → InEachImage new (StreamMoment p first.world.history bytes)
   -- where the restart was refused memory, the files stand for these commands still
-  pub unopened : old.tells_moments → status ≡ RestartMemory → StandsStill p commands old new
+  pub unopened : old.tells_moments → status ≡ RestartMemory → IsStartRefused budget p commands old new
   pub store : (status ≢ NotAStore) × (status ≢ FilesDamaged)
+  -- the restart takes its course, and from the world that it has made nothing is done but what a stream asks for
+  pub steps : old.tells_moments → (first : Stage) → (is : IsFirst budget p commands old first) → LeavesOnly old new (OrAtStart old (FollowingMoment budget p commands old first is bytes new))
+  pub leads : (first : Stage) → IsFirst budget p commands old first → LeadsOn p first.world old new status
 
 -- A stream is followed by any files. The input had `left` at its start and has `rest` at its end, where the source reports that
 -- (`told`).

@@ -11,13 +11,13 @@ use Rattle.redo_shell.specs.Again.{StandsStill}
 use Rattle.redo_shell.specs.Answers.{Moment, SaysTruly}
 use Rattle.redo_shell.specs.Courses.{OpeningMoment, RunMoment, TableMoment}
 use Rattle.redo_shell.specs.Dump.{dump_of, DumpMoment}
-use Rattle.redo_shell.specs.Following.{StandbyMoment}
+use Rattle.redo_shell.specs.Following.{FollowingMoment, StandbyMoment}
 use Rattle.redo_shell.specs.Run.{IsComplete, MomentSoFar}
 use Rattle.redo_shell.specs.Shipping.{ShipMoment}
 use Rattle.redo_shell.specs.Stages.{Stage, IsFirst}
 use Rattle.redo_shell.specs.Status.{IsCut}
 use Rattle.redo_shell.specs.Store.{Command}
-use Rattle.redo_shell.specs.Upgrading.{UpgradeMoment}
+use Rattle.redo_shell.specs.Upgrading.{GrowthMoment, UpgradeMoment}
 use Rattle.redo_shell.specs.declared.budget.Budget.TheVariants.{Least, Usual}
 use Rattle.redo_shell.specs.declared.status.Status.{Status}
 use Rattle.redo_shell.specs.declared.status.Status.TheVariants.{Done, DoneWithRefusals, NotAStore, Damaged, DiskFault, RestartMemory}
@@ -58,10 +58,12 @@ IsCallTwice Run p commands told left old mid new status = (told → IsRunTwice p
 IsCallTwice Dump p commands told left old mid new status = LeavesOnly old new (OrAtStart old (DumpMoment p commands old.said)) × (status ≡ Done → new.said ≡ old.said ++ dump_of p commands)
     × StepsTwice p commands old mid new (λ again here. TableMoment Least p commands mid again here)
 IsCallTwice (Upgrade q) p commands told left old mid new status = LeavesOnly old new (OrAtStart old (UpgradeMoment p q commands mid.reads old.said))
+    × StepsTwice p commands old mid new (λ again here. GrowthMoment Least p q commands mid again here)
 IsCallTwice (Ship from) p commands told left old mid new status = LeavesOnly old new (OrAtStart old (ShipMoment p commands from old.said))
     × StepsTwice p commands old mid new (λ again here. TableMoment Least p commands mid again here)
 IsCallTwice Follow p commands told left old mid new status = (bytes : List ℕ) × (rest : List ℕ) × (told → left ≡ bytes ++ rest)
     × ((first : Stage) → IsFirst Least p commands mid first → LeavesOnly old new (OrAtStart old (StandbyMoment p commands first.world.history bytes old new)))
+    × StepsTwice p commands old mid new (λ again here. FollowingMoment Least p commands mid again here bytes new)
 -- these open no store that is there
 IsCallTwice (Init q) p commands told left old mid new status = ⊥
 IsCallTwice (Demo seed steps) p commands told left old mid new status = ⊥

@@ -1,17 +1,24 @@
 -- A store is made larger.
-use Rattle.std.specs.Prelude.{◌≡◌, ◌≢◌, ◌⊎◌, ◌++◌, ⊤, ℕ, List}
-use Rattle.disk_model.specs.Disk.{Files, Disk, LeavesOnly, IsSettled, SaysFront}
+use Rattle.std.specs.Prelude.{◌≡◌, ◌≢◌, ◌⊎◌, ◌<◌, ◌++◌, ⊤, ℕ, List}
+use Rattle.disk_model.specs.Disk.{Files, Disk, LeavesOnly, IsSettled, OthersStay, SaysFront}
 use Rattle.disk_model.specs.declared.machine.FileNo.TheVariants.{Objects}
+use Rattle.formats.specs.Objects.{IsObjectsFile, cell_of}
 use Rattle.formats.specs.declared.params.Params.{Params}
+use Rattle.stable_objects.specs.Growing.{IsGrown}
 use Rattle.stable_objects.specs.Larger.{IsLarger}
+use Rattle.explain_core.specs.World.{World}
+use Rattle.standing.specs.Standing.{FilesShow}
 use Rattle.restart.specs.Starts.{OrAtStart}
 use Rattle.store_engine.specs.Engine.{InEachImage}
 use Rattle.store_engine.specs.Upgrading.{IsSecond}
-use Rattle.redo_shell.specs.Again.{StandsStill}
+use Rattle.redo_shell.specs.declared.budget.Budget.{Budget}
+use Rattle.redo_shell.specs.Again.{IsStartRefused}
 use Rattle.redo_shell.specs.Causes.{JudgesUpgrade, ReadsNoStore, last_length}
+use Rattle.redo_shell.specs.Courses.{OpeningMoment}
 use Rattle.redo_shell.specs.Notices as notices
+use Rattle.redo_shell.specs.Stages.{Stage, IsFirst}
 use Rattle.redo_shell.specs.Status.{IsOfSecond, IsOfUpgrade}
-use Rattle.redo_shell.specs.Store.{Command, IsUpgraded, Opens, Stands, StandsInEither}
+use Rattle.redo_shell.specs.Store.{Command, IsUpgraded, Opens, Stands, StandsInEither, meaning_in}
 use Rattle.redo_shell.specs.declared.status.Status.{Status}
 use Rattle.redo_shell.specs.declared.status.Status.TheVariants.{Done, NotAStore, DiskFault, Memory, RestartMemory, AlreadyTwo, Smaller}
 
@@ -30,6 +37,25 @@ SaysWhyNot p q files before said = (said ≡ before) ⊎ ((line : List ℕ) × I
 abbrev pub UpgradeMoment : Params → Params → List Command → Files → List ℕ → Files → List ℕ → Type 0
 UpgradeMoment p q commands was before files said = StandsInEither p q commands files × SaysWhyNot p q was before said
 
+-- each object of a store with these numbers has the pair that it had
+pub record KeepsPairs (p : Params) (old new : List ℕ) : Type 0 where
+  pub whole : IsObjectsFile p new
+  pub cells : (x : ℕ) → x < p.objects → cell_of x new ≡ cell_of x old
+
+-- A store of version 1 with smaller numbers becomes the larger one, in files that show this world: of these the objects file alone
+-- changes, each object keeps its pair in it, and it may be that of the larger store.
+pub record IsBecoming (p q : Params) (w : World Command) (files : Files) : Type 0 where
+  pub there : Files
+  pub shows : FilesShow (meaning_in p) p there w
+  pub first : IsSecond there → ⊥
+  pub larger : IsLarger p q
+  pub others : OthersStay Objects there files
+  pub objects : KeepsPairs p (there Objects) (files Objects) ⊎ IsGrown p q (there Objects) (files Objects)
+
+-- what is done of a store that showed this world: nothing, or it becomes the larger one
+abbrev pub ShowsOrGrows : Params → Params → World Command → Files → Type 0
+ShowsOrGrows p q w files = FilesShow (meaning_in p) p files w ⊎ IsBecoming p q w files
+
 -- nothing is said where it ends so
 abbrev pub IsSilentUpgrade : Status → Type 0
 IsSilentUpgrade Done = ⊤
@@ -38,14 +64,21 @@ IsSilentUpgrade Memory = ⊤
 IsSilentUpgrade RestartMemory = ⊤
 IsSilentUpgrade status = ⊥
 
--- what the upgrade of an open store leaves and says, whatever its status
-pub record LeavesEither (p q : Params) (commands : List Command) (old new : Disk) : Type 0 where
+-- what the upgrade of an open store leaves and says, whatever its status, where engine and files showed this world
+pub record LeavesEither (p q : Params) (commands : List Command) (w : World Command) (old new : Disk) : Type 0 where
   pub images : old.tells_moments → LeavesOnly old new (UpgradeMoment p q commands old.reads old.said)
   pub stands : InEachImage new (StandsInEither p q commands)
   pub said : SaysWhyNot p q old.reads old.said new.said
+  pub steps : old.tells_moments → LeavesOnly old new (λ files said. ShowsOrGrows p q w files)
+
+-- What is done at each moment of an upgrade: the restart takes its course, and then nothing is done, or the store becomes the larger
+-- one.
+module _ (budget : Budget) (p q : Params) (commands : List Command) (old : Disk) (first : Stage) (is : IsFirst budget p commands old first) where
+  abbrev pub GrowthMoment : Files → List ℕ → Type 0
+  GrowthMoment files said = OpeningMoment budget p commands old first is files said ⊎ ShowsOrGrows p q first.world files
 
 -- A store is made larger, with the numbers q, of files that stand for commands.
-pub record IsUpgradeOn (p q : Params) (commands : List Command) (old new : Disk) (status : Status) : Type 0 where
+pub record IsUpgradeOn (budget : Budget) (p q : Params) (commands : List Command) (old new : Disk) (status : Status) : Type 0 where
   -- what a crash at any moment leaves is what one at the start could leave, or it stands for these commands, in the store that
   -- was there or in the larger one, and no more was said than why it is not made larger
   pub images : old.tells_moments → LeavesOnly old new (OrAtStart old (UpgradeMoment p q commands old.reads old.said))
@@ -64,14 +97,17 @@ pub record IsUpgradeOn (p q : Params) (commands : List Command) (old new : Disk)
   pub larger : status ≡ Done → IsLarger p q
   pub smaller : status ≡ Smaller → (IsLarger p q → ⊥) × (new.said ≡ old.said ++ notices.smaller p.objects p.cap)
   -- where the restart was refused memory, the files stand for these commands still
-  pub unopened : old.tells_moments → status ≡ RestartMemory → StandsStill p commands old new
+  pub unopened : old.tells_moments → status ≡ RestartMemory → IsStartRefused budget p commands old new
   -- with each of these two it is left as it was
   pub idle : (status ≡ AlreadyTwo) ⊎ (status ≡ Smaller) → InEachImage new (λ files. Stands p files commands)
   pub store : status ≢ NotAStore
+  -- the restart takes its course, and nothing else is done but that the store grows: a crash at any moment leaves what one at the
+  -- start could leave, or the world after some first steps of the course, or after all of it that of the store or the larger one
+  pub steps : old.tells_moments → (first : Stage) → (is : IsFirst budget p commands old first) → LeavesOnly old new (OrAtStart old (GrowthMoment budget p q commands old first is))
 
 -- An upgrade of any files.
-pub record IsUpgradeCall (q : Params) (old new : Disk) (status : Status) : Type 0 where
-  pub stands : (p : Params) (commands : List Command) → Opens p old commands → IsUpgradeOn p q commands old new status
+pub record IsUpgradeCall (budget : Budget) (q : Params) (old new : Disk) (status : Status) : Type 0 where
+  pub stands : (p : Params) (commands : List Command) → Opens p old commands → IsUpgradeOn budget p q commands old new status
   pub ends : IsOfUpgrade status
   pub judged : old.tells_files → JudgesUpgrade old new status
   pub read : status ≡ NotAStore → ReadsNoStore new

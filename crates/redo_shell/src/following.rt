@@ -1,19 +1,18 @@
 // A stream of frames is followed.
 ghost use Rattle.std.specs.Prelude.{◌≡◌, ◌≢◌, ◌<◌, ◌≤◌, ◌+◌, ◌^◌, ◌⊎◌, ◌++◌, [], false, List, ℕ, None, Ok, Err, length, take, IfOk, IfErr, OnErr, OnOk, IsErrOf};
-ghost use Rattle.disk_model.specs.Disk.{LeavesOnly, Passes, Rises};
+ghost use Rattle.disk_model.specs.Disk.{Passes, Rises};
 ghost use Rattle.disk_model.specs.declared.machine.FileNo.{FileNo};
 ghost use Rattle.formats.specs.declared.params.Params.{Params};
 ghost use Rattle.frame_stream.specs.FrameBuffer.{first_kept, taken_by};
 ghost use Rattle.explain_core.specs.History.{commands_of};
-ghost use Rattle.restart.specs.Starts.{OrAtStart};
 ghost use Rattle.script_lines.specs.Reading.{ReadsOn};
 ghost use Rattle.redo_shell.specs.Causes.{CountsFaults};
 ghost use Rattle.redo_shell.specs.Following.{Begins, IsOfMachine, IsFollowCall, IsFollowOpen, IsInputFollowed, IsUnsaid, StopsReading, at_end, notice_of, status_of_refusal};
 ghost use Rattle.redo_shell.specs.Keeps.{SaysOnly};
-ghost use Rattle.redo_shell.specs.Open.{IsUnopened};
+ghost use Rattle.redo_shell.specs.Open.{IsUnopened, OpensFiles};
 ghost use Rattle.redo_shell.specs.Stages.{Stage, IsFirst};
 ghost use Rattle.redo_shell.specs.Status.{IsOfFollow, IsOfOpened};
-ghost use Rattle.redo_shell.specs.Store.{Between, Command, IsAttached, IsWellFormed, Opens};
+ghost use Rattle.redo_shell.specs.Store.{Command, IsAttached, IsWellFormed, Opens, ShowsIn};
 ghost use Rattle.redo_shell.specs.declared.cut.Cut.TheVariants.{Refused as IsRefused, Unread as IsUnread};
 ghost use Rattle.standby_node.specs.declared.follow_err.FollowErr.TheVariants.{DiskFault as DiskFailed, Damaged as SlotDamaged};
 ghost use Rattle.script_lines.specs.declared.read_error.ReadError.TheVariants.{ReadFault as InputFailed, TooLong as InputTooLong};
@@ -194,18 +193,15 @@ fn attach_store<M: Machine>(
     machine: &mut M,
 ) -> Result<Standby<AllOps>, Status>
     ensures time { Passes (M.disk machine.old) (M.disk machine.new) }
-    ensures images { (M.disk machine.old).tells_moments → (p : Params) (commands : List Command) → Opens p (M.disk machine.old) commands →
-        LeavesOnly (M.disk machine.old) (M.disk machine.new) (OrAtStart (M.disk machine.old) (Between p (M.disk machine.old) None (length commands) (length commands) commands)) }
-    ensures again { (M.disk machine.old).tells_moments → (p : Params) (commands : List Command) → Opens p (M.disk machine.old) commands → Opens p (M.disk machine.new) commands }
+    ensures opens { (p : Params) (commands : List Command) → Opens p (M.disk machine.old) commands → OpensFiles budget p commands (M.disk machine.old) (M.disk machine.new) }
     ensures first { (p : Params) (commands : List Command) → Opens p (M.disk machine.old) commands → (first : Stage) × IsFirst budget p commands (M.disk machine.old) first × (commands_of first.world.history ≡ commands) }
     ensures begins { (p : Params) (commands : List Command) → Opens p (M.disk machine.old) commands →
-        IfOk result (λ s. (first : Stage) → IsFirst budget p commands (M.disk machine.old) first → Begins p first.world.history (M.disk machine.new) s) }
+        IfOk result (λ s. (first : Stage) → IsFirst budget p commands (M.disk machine.old) first → Begins p first.world.history (M.disk machine.new) s × ShowsIn p (M.disk machine.new) s.engine first.world) }
     ensures ready { IfOk result (λ s. (s.engine.broken ≡ false) × (s.stopped ≡ None) × (taken_by s.frames ≡ 0)) }
     ensures attached { IfOk result (λ s. IsAttached (M.disk machine.new) s.engine) }
     ensures quiet { (M.disk machine.old).tells_files → OnOk result ((M.disk machine.new).said ≡ (M.disk machine.old).said) }
     ensures read { (M.disk machine.old).tells_files → OnOk result (IsWellFormed (M.disk machine.old).reads) }
     ensures unopened { IfErr result (IsUnopened (M.disk machine.old) (M.disk machine.new)) }
-    ensures silent { (p : Params) (commands : List Command) → Opens p (M.disk machine.old) commands → OnErr result ((M.disk machine.new).said ≡ (M.disk machine.old).said) }
 {
     standing_files_meet_their_format::<AllOps>();
     opens_on_a_world::<AllOps>();

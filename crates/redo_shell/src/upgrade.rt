@@ -64,8 +64,8 @@ fn upgrade_open<M: Machine>(
 ) -> Status
     requires { IsInRange params }
     ensures time { Passes (M.disk machine.old) (M.disk machine.new) }
-    ensures leaves { (p : Numbers) (commands : List Command) → Holds p (M.disk machine.old) engine commands → forced_in engine ≡ length commands →
-        LeavesEither p params commands (M.disk machine.old) (M.disk machine.new) }
+    ensures leaves { (p : Numbers) (commands : List Command) (holds : Holds p (M.disk machine.old) engine commands) → forced_in engine ≡ length commands →
+        LeavesEither p params commands holds.world (M.disk machine.old) (M.disk machine.new) }
     ensures done { (p : Numbers) (commands : List Command) → Holds p (M.disk machine.old) engine commands → forced_in engine ≡ length commands → result ≡ Status.Done →
         InEachImage (M.disk machine.new) (IsUpgraded params commands) × IsLarger p params }
     ensures idle { (p : Numbers) (commands : List Command) → Holds p (M.disk machine.old) engine commands → forced_in engine ≡ length commands →
@@ -99,7 +99,7 @@ fn upgrade_open<M: Machine>(
 pub fn upgrade<M: Machine>(alloc: Global, budget: Budget, machine: &mut M, params: Params) -> Status
     requires { IsInRange params }
     ensures time { Passes (M.disk machine.old) (M.disk machine.new) }
-    ensures call { IsUpgradeCall params (M.disk machine.old) (M.disk machine.new) result }
+    ensures call { IsUpgradeCall budget params (M.disk machine.old) (M.disk machine.new) result }
     ensures faults { CountsFaults (M.disk machine.old) (M.disk machine.new) result }
 {
     standing_files_meet_their_format::<AllOps>();

@@ -19,7 +19,7 @@ use Rattle.standby_node.specs.Standby.{IsFollowing, StandbyView}
 use Rattle.standby_node.proofs.Settled.{IsSettledAt, restart_settled}
 
 -- an engine in which no group is open shows what its parts do
-shown_in : {O : Type 0} (meaning : Bounds → Meaning O) (p : Params) (d : Disk) (engine : EngineView) (w : World O) → engine.broken ≡ false → engine.group ≡ None → Shows (meaning_in meaning p) p d engine.parts w → ShowsIn meaning p d engine w
+pub shown_in : {O : Type 0} (meaning : Bounds → Meaning O) (p : Params) (d : Disk) (engine : EngineView) (w : World O) → engine.broken ≡ false → engine.group ≡ None → Shows (meaning_in meaning p) p d engine.parts w → ShowsIn meaning p d engine w
 shown_in meaning p d engine w unbroken none shows = record {
   unbroken = unbroken;
   sound = shows.running.sound;

@@ -12,7 +12,7 @@ use Rattle.explain_core.specs.History.{Member}
 use Rattle.explain_core.specs.World.{World}
 use Rattle.store_engine.specs.Engine.{EngineView, IsAttached, forced_in}
 use Rattle.store_engine.specs.Store.{meaning_in}
-use Rattle.standby_node.specs.Feeding.{FeedsTo, IsAtFrameEnd, IsLedTo}
+use Rattle.standby_node.specs.Feeding.{FeedsTo, IsAtFrameEnd, IsLedTo, feeds_on}
 use Rattle.standby_node.specs.Standby.{IsFollowing, StandbyView}
 use Rattle.standby_node.specs.Steps.{FollowsStep, GoesOn}
 use Rattle.standby_node.specs.declared.follow_err.FollowErr.{FollowErr}
@@ -27,13 +27,6 @@ not_failed same = cc
 pub on_ok : {P : Type 0} (result : Result (Unit {0}) FollowErr) → P → OnOk result P
 on_ok (Ok done) is = is
 on_ok (Err e) is = tt
-
--- a world leads on to where one leads to which it leads
-feeds_on : {O : Type 0} (m : Meaning O) (u v w : World O) → FeedsTo m u v → FeedsTo m v w → FeedsTo m u w
-feeds_on m u v w first FeedsTo.Nothing = first
-feeds_on m u v w first (FeedsTo.Followed x r used more) = FeedsTo.Followed x r used (feeds_on m u v x first more)
-feeds_on m u v w first (FeedsTo.Forced x more) = FeedsTo.Forced x (feeds_on m u v x first more)
-feeds_on m u v w first (FeedsTo.Relieved x must more) = FeedsTo.Relieved x must (feeds_on m u v x first more)
 
 -- what a step that is done keeps, and one after it, both keep
 and_then : {F G P Q R : Type 0} → (F → ⊥) → F ⊎ (P → Q) → G ⊎ (Q → R) → G ⊎ (P → R)

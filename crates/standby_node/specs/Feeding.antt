@@ -63,6 +63,13 @@ pub data FeedsTo {O : Type 0} (m : Meaning O) (w : World O) : World O → Type 0
   Forced : (v : World O) → FeedsTo m w v → FeedsTo m w (run m v (force_steps m v))
   Relieved : (v : World O) → may_relieve m v ≡ true → FeedsTo m w v → FeedsTo m w (run m v (thin_steps m v))
 
+-- a world leads on to where one leads to which it leads
+pub feeds_on : {O : Type 0} (m : Meaning O) (u v w : World O) → FeedsTo m u v → FeedsTo m v w → FeedsTo m u w
+feeds_on m u v w first Nothing = first
+feeds_on m u v w first (Followed x r used more) = Followed x r used (feeds_on m u v x first more)
+feeds_on m u v w first (Forced x more) = Forced x (feeds_on m u v x first more)
+feeds_on m u v w first (Relieved x must more) = Relieved x must (feeds_on m u v x first more)
+
 -- the place of the frame in which a refusal came, where this is the answer
 abbrev pub stopped_by : {T : Type 0} → ℕ → Result T FollowErr → Option ℕ
 stopped_by passed (Ok value) = None

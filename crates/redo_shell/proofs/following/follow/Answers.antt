@@ -22,7 +22,7 @@ returns-in-Ok-clause-call g c =
       bytes = followed.followed.bytes;
       taken = followed.followed.taken;
       few = followed.followed.few;
-      stream = λ p commands opens. follow_on (g.met.M.Machine.lawful c.args.machine.now) opens (λ telling. c.attach_store.ensures.images telling p commands opens) (g.met.M.Machine.lawful c.follow_open-status.new.machine) before followed.time (c.in-Ok.ensures.quiet opens.told)
+      stream = λ p commands opens. follow_on (g.met.M.Machine.lawful c.args.machine.now) opens (c.attach_store.ensures.opens p commands opens) (g.met.M.Machine.lawful c.follow_open-status.new.machine) before followed.time
           (c.attach_store.ensures.first p commands opens) (c.in-Ok.ensures.begins p commands opens) followed.followed (followed.store (before.files_told.0 opens.told) c.in-Ok.ensures.attached) followed.found;
       ends = followed.status;
       judged = λ told. judged_open c.follow_open-status.result (c.in-Ok.ensures.read told) (followed.store (before.files_told.0 told) c.in-Ok.ensures.attached) followed.found;
@@ -44,7 +44,7 @@ returns-in-Err-clause-call g c =
       few = omega arith;
       stream = λ p commands opens.
           let image = c.standing_files_meet_their_format.ensures.format p _ commands opens.stands in
-          follow_unopened (g.met.M.Machine.lawful c.args.machine.now) opens (λ telling. c.attach_store.ensures.images telling p commands opens) (c.attach_store.ensures.first p commands opens) (c.in-Err.ensures.silent p commands opens) (λ telling. c.attach_store.ensures.again telling p commands opens) unopened.ends ((unopened.judged opens.told).store image) (unopened.quiet opens.told image);
+          follow_unopened (g.met.M.Machine.lawful c.args.machine.now) opens (c.attach_store.ensures.opens p commands opens) (c.attach_store.ensures.first p commands opens) unopened.ends ((unopened.judged opens.told).store image) (unopened.quiet opens.told image);
       ends = unopened_follow c.in-Err.status unopened.ends;
       judged = unopened.judged;
       read = unopened.read;

@@ -1,7 +1,8 @@
-use Rattle.std.proofs.Common.{◌≡◌, ◌∙◌, ◌+◌, ◌^◌, ◌≤◌, ◌++◌, List, ℕ, ap, arith, length, drop, sym, take}
+use Rattle.std.proofs.Common.{◌≡◌, ◌∙◌, ◌+◌, ◌^◌, ◌≤◌, ◌++◌, List, ℕ, ap, arith, length, drop, subst, sym, take}
 use Rattle.std.proofs.lemmas.List.{length-take-le}
 use Rattle.frame_stream.specs.FrameBuffer.{taken_by}
 use Rattle.script_lines.specs.declared.read_error.ReadError.TheVariants.{Memory}
+use Rattle.redo_shell.specs.Following.{IsInputFollowed}
 use Rattle.redo_shell.proofs.FollowingLemmas.{ends_so, refused_so, starts_taking, stops_so, takes_more, written_front, written_length}
 use Rattle.redo_shell.proofs.following.follow_input.Goals as goal
 
@@ -16,6 +17,11 @@ loop-piece-init g c = record {
   room = c.in_ok-piece.ensures;
   taking = starts_taking (g.S.Source.left c.args.input.now) (g.M.Machine.disk c.args.machine.now) c.args.standby.now (g.met.M.Machine.lawful c.args.machine.now) c.requires.unbroken c.requires.fine c.requires.fresh c.standby_stands.ensures;
 }
+
+pub returns-in_err-count-clause-followed : goal.returns-in_err-count-clause-followed
+returns-in_err-count-clause-followed g c =
+    subst (λ (l : List ℕ). IsInputFollowed (g.S.Source.tells c.args.input.now) (g.S.Source.left c.args.input.now) l (g.M.Machine.disk c.args.machine.now) (g.M.Machine.disk c.loop-piece.machine) c.args.standby.now c.loop-piece.standby c.from_residual-in_err-count.result) (sym c.in_err-count.ensures.kept)
+    (stops_so c.loop-piece.invariant.taking c.in_err-count.field-0.0 c.from_residual-in_err-count.result c.from_residual-in_err-count.ensures.1)
 
 pub returns-in_err-commands-clause-followed : goal.returns-in_err-commands-clause-followed
 returns-in_err-commands-clause-followed g c =

@@ -6,7 +6,7 @@ use Rattle.redo_shell.specs.Status.{IsOfOpened}
 use Rattle.redo_shell.specs.Causes.{IsCutStore}
 use Rattle.redo_shell.specs.Notices.{already_version_two, damaged, smaller}
 use Rattle.redo_shell.proofs.HoldLemmas.{rises_within}
-use Rattle.redo_shell.proofs.UpgradeLemmas.{cut_store, in_between, judged_whole, says_before, unopened_upgrade, upgrade_images, upgrade_settled, upgrade_unopened}
+use Rattle.redo_shell.proofs.UpgradeLemmas.{cut_store, in_between, judged_whole, says_before, unopened_upgrade, upgrade_images, upgrade_settled, upgrade_steps, upgrade_unopened}
 use Rattle.redo_shell.proofs.upgrade.upgrade.Goals as goal
 
 pub returns-in-Ok-clause-time : goal.returns-in-Ok-clause-time
@@ -48,6 +48,7 @@ returns-in-Ok-clause-call g c =
             idle = λ is. c.upgrade_open.ensures.idle p commands holds opened.all is;
             unopened = λ told is. absurd (subst IsOfOpened is c.upgrade_open.ensures.status.1);
             store = λ is. subst IsOfOpened is c.upgrade_open.ensures.status.1;
+            steps = upgrade_steps p c.args.params commands old mid new files opened first (λ it. c.upgrade_open.ensures.leaves p commands it opened.all);
           };
       ends = c.upgrade_open.ensures.status.0;
       judged = λ told.

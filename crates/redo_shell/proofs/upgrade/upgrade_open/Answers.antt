@@ -9,38 +9,43 @@ use Rattle.store_engine.specs.declared.upgrade_err.UpgradeErr.{UpgradeErr}
 use Rattle.redo_shell.specs.Causes.{last_length}
 use Rattle.redo_shell.specs.Notices.{already_version_two, damaged, smaller}
 use Rattle.redo_shell.proofs.HoldLemmas.{attached_of, in_engine, rises_within, told_by}
-use Rattle.redo_shell.proofs.UpgradeLemmas.{IsOfDamage, IsOfSmaller, IsOfTwo, all_upgraded, damage_ends, damage_silent, damage_upgrade, larger_in, larger_of, leaves_saying, leaves_silent, smaller_ends, smaller_silent, smaller_upgrade, stays_idle, two_ends, two_loud, two_second, two_upgrade}
+use Rattle.redo_shell.proofs.UpgradeLemmas.{IsOfDamage, IsOfSmaller, IsOfTwo, all_upgraded, damage_ends, damage_silent, damage_upgrade, it_grows, larger_in, larger_of, leaves_saying, leaves_silent, nothing_done, smaller_ends, smaller_silent, smaller_upgrade, stays_idle, two_ends, two_loud, two_second, two_upgrade}
 use Rattle.redo_shell.proofs.upgrade.upgrade_open.Goals as goal
 
 pub returns-in-Ok-clause-leaves : goal.returns-in-Ok-clause-leaves
-returns-in-Ok-clause-leaves g c = λ p commands holds all. leaves_silent c.upgrade.ensures holds all
+returns-in-Ok-clause-leaves g c = λ p commands holds all. leaves_silent c.upgrade.ensures holds all (it_grows c.upgrade.ensures holds all c.in-Ok.ensures.cause (λ two. cc (c.in-Ok.is, two)))
 
 pub returns-in-Err-DiskFault-clause-leaves : goal.returns-in-Err-DiskFault-clause-leaves
-returns-in-Err-DiskFault-clause-leaves g c = λ p commands holds all. leaves_silent c.upgrade.ensures holds all
+returns-in-Err-DiskFault-clause-leaves g c = λ p commands holds all.
+    let cause = subst (λ (e : UpgradeErr). HasUpgradeCause c.args.engine c.args.params (Rises (g.M.Machine.disk c.args.machine.now).disk_faults (g.M.Machine.disk c.upgrade.new.machine).disk_faults) (Err e)) c.in-Err-DiskFault.field-0-is c.in-Err-DiskFault.ensures.cause in
+    leaves_silent c.upgrade.ensures holds all (it_grows c.upgrade.ensures holds all cause.0 (λ two. cc (c.in-Err-DiskFault.is, c.in-Err-DiskFault.field-0-is, two)))
 
 pub returns-in-Err-Memory-clause-leaves : goal.returns-in-Err-Memory-clause-leaves
-returns-in-Err-Memory-clause-leaves g c = λ p commands holds all. leaves_silent c.upgrade.ensures holds all
+returns-in-Err-Memory-clause-leaves g c = λ p commands holds all.
+    let cause = subst (λ (e : UpgradeErr). HasUpgradeCause c.args.engine c.args.params (Rises (g.M.Machine.disk c.args.machine.now).disk_faults (g.M.Machine.disk c.upgrade.new.machine).disk_faults) (Err e)) c.in-Err-Memory.field-0-is c.in-Err-Memory.ensures.cause in
+    leaves_silent c.upgrade.ensures holds all (it_grows c.upgrade.ensures holds all cause (λ two. cc (c.in-Err-Memory.is, c.in-Err-Memory.field-0-is, two)))
 
 pub returns-in-Err-AlreadyTwo-clause-leaves : goal.returns-in-Err-AlreadyTwo-clause-leaves
 returns-in-Err-AlreadyTwo-clause-leaves g c = λ p commands holds all.
     let second = (c.upgrade.ensures.version (told_by holds) (attached_of holds)).0 (cc (c.in-Err-AlreadyTwo.is, c.in-Err-AlreadyTwo.field-0-is)) in
-    leaves_saying c.upgrade.ensures holds all {line = already_version_two} c.end_with.ensures.runs (inl (second, refl))
+    leaves_saying c.upgrade.ensures holds all {line = already_version_two} c.end_with.ensures.runs (inl (second, refl)) (nothing_done c.upgrade.ensures holds all (c.in-Err-AlreadyTwo.is ∙ ap Err c.in-Err-AlreadyTwo.field-0-is) (λ stays. stays))
 
 pub returns-in-Err-Smaller-clause-leaves : goal.returns-in-Err-Smaller-clause-leaves
 returns-in-Err-Smaller-clause-leaves g c = λ p commands holds all.
     let cause = subst (λ (e : UpgradeErr). HasUpgradeCause c.args.engine c.args.params (Rises (g.M.Machine.disk c.args.machine.now).disk_faults (g.M.Machine.disk c.upgrade.new.machine).disk_faults) (Err e)) c.in-Err-Smaller.field-0-is c.in-Err-Smaller.ensures.cause in
     let numbers = holds.shows.shows.store.params in
     let line : smaller c.in-Err-Smaller.objects c.in-Err-Smaller.cap ≡ smaller p.objects p.cap = λ i. smaller ((cause.objects_are ∙ ap (λ q. q.objects) numbers) i) ((cause.cap_is ∙ ap (λ q. q.cap) numbers) i) in
-    leaves_saying c.upgrade.ensures holds all c.end_smaller.ensures.runs (inr (inl (λ larger. cause.smaller (larger_of holds larger), line)))
+    leaves_saying c.upgrade.ensures holds all c.end_smaller.ensures.runs (inr (inl (λ larger. cause.smaller (larger_of holds larger), line))) (nothing_done c.upgrade.ensures holds all (c.in-Err-Smaller.is ∙ ap Err c.in-Err-Smaller.field-0-is) (λ stays. stays))
 
 pub returns-in-Err-Damaged-clause-leaves : goal.returns-in-Err-Damaged-clause-leaves
 returns-in-Err-Damaged-clause-leaves g c = λ p commands holds all.
     let told = told_by holds in
     let attached = attached_of holds in
+    let cause = subst (λ (e : UpgradeErr). HasUpgradeCause c.args.engine c.args.params (Rises (g.M.Machine.disk c.args.machine.now).disk_faults (g.M.Machine.disk c.upgrade.new.machine).disk_faults) (Err e)) c.in-Err-Damaged.field-0-is c.in-Err-Damaged.ensures.cause in
     let at = c.upgrade.ensures.damaged told attached c.in-Err-Damaged.file c.in-Err-Damaged.place (cc (c.in-Err-Damaged.is, c.in-Err-Damaged.field-0-is)) in
     let layout = layout_of_file c.args.engine.parts.volatile.objects.slots ((g.M.Machine.disk c.args.machine.now).reads Objects) (attached told).0.slots in
     let line : damaged c.in-Err-Damaged.file c.in-Err-Damaged.place ≡ damaged Objects (last_length ((g.M.Machine.disk c.args.machine.now).reads Objects)) = λ i. damaged (at.file_is i) ((at.place_is ∙ ap (λ l. last_slot l + 9) layout) i) in
-    leaves_saying c.upgrade.ensures holds all c.end_damaged.ensures.runs (inr (inr line))
+    leaves_saying c.upgrade.ensures holds all c.end_damaged.ensures.runs (inr (inr line)) (it_grows c.upgrade.ensures holds all cause (λ two. cc (c.in-Err-Damaged.is, c.in-Err-Damaged.field-0-is, two)))
 
 pub returns-in-Err-AlreadyTwo-clause-quiet : goal.returns-in-Err-AlreadyTwo-clause-quiet
 returns-in-Err-AlreadyTwo-clause-quiet g c = λ told is. absurd (two_loud c.end_with.result (two_ends c.end_with.result c.end_with.ensures.status) is)

@@ -1,8 +1,9 @@
-use Rattle.restart.specs.Courses.{dirty_limit}
+use Rattle.explain_core.specs.World.{run}
+use Rattle.restart.specs.Courses.{dirty_limit, restart_course}
 use Rattle.restart.specs.Opening.{OpensOn}
 use Rattle.store_engine.specs.ImageLaws.{stands_end}
 use Rattle.store_engine.specs.Store.{meaning_in}
-use Rattle.standby_node.proofs.Attached.{follows_from, begins_on}
+use Rattle.standby_node.proofs.Attached.{follows_from, begins_on, shown_in}
 use Rattle.standby_node.proofs.standby.Standby.attach.Goals as goal
 
 pub returns-clause-begins : goal.returns-clause-begins
@@ -26,3 +27,10 @@ returns-clause-follows g c p used w on =
     let new = g.M.Machine.disk c.restart.new.machine in
     let ready = c.in_ok-restart.ensures.ready in
     follows_from g.O.Oper.meaning p new w (dirty_limit c.args.tuning p) used c.in_ok-restart.field-0 c.new.result ready.0 ready.1 c.new.ensures.passed (c.in_ok-restart.ensures.follows p used w on).shows on.sound.forced
+
+pub returns-clause-shows : goal.returns-clause-shows
+returns-clause-shows g c p used w on =
+    let meaning = g.O.Oper.meaning in
+    let m = meaning_in meaning p in
+    let ready = c.in_ok-restart.ensures.ready in
+    shown_in meaning p (g.M.Machine.disk c.restart.new.machine) c.in_ok-restart.field-0 (run m w (restart_course m (dirty_limit c.args.tuning p) w used).steps) ready.0 ready.1 (c.in_ok-restart.ensures.follows p used w on).shows
