@@ -60,13 +60,14 @@ no_records m (Logged_check table ∷ records) none = absurd (omega (arith, none)
 
 -- no frame is followed
 no_frames : (p : Params) (first : List (Member Command)) (bytes : List ℕ) → FollowsFrames p first bytes bytes (commands_of first)
-no_frames p first bytes = record { payloads = []; groups = []; split = refl; frames_are = tt; fine = refl; commands_are = refl }
+no_frames p first bytes = record { payloads = []; groups = []; whole = tt; split = refl; frames_are = tt; fine = refl; commands_are = refl }
 
 -- where more bytes come, the rest is longer
 longer : {p : Params} {first : List (Member Command)} {bytes rest : List ℕ} {commands : List Command} (more : List ℕ) → FollowsFrames p first bytes rest commands → FollowsFrames p first (bytes ++ more) (rest ++ more) commands
 longer {bytes = bytes} {rest = rest} more is = record {
   payloads = is.payloads;
   groups = is.groups;
+  whole = is.whole;
   split = ap (λ (l : List ℕ). l ++ more) is.split ∙ append_assoc (frames is.payloads) rest more;
   frames_are = is.frames_are;
   fine = is.fine;
@@ -80,7 +81,7 @@ at_frame_end : {p : Params} {old : Disk} {least : ℕ} {first : List (Member Com
 at_frame_end {p} {first = first} is = record {
   rest = is.rest;
   commands = commands_of (follows (meaning_in p) first (records_of is.groups));
-  follows_to = record { payloads = is.payloads; groups = is.groups; split = is.split; frames_are = is.frames_are; fine = is.fine; commands_are = refl };
+  follows_to = record { payloads = is.payloads; groups = is.groups; whole = is.whole; split = is.split; frames_are = is.frames_are; fine = is.fine; commands_are = refl };
   stands = is.stands;
 }
 
@@ -96,6 +97,7 @@ module _ {p : Params} {first : List (Member Command)} {bytes : List ℕ} {d : Di
   frames_followed = record {
     payloads = following.payloads;
     groups = following.groups;
+    whole = following.passed.whole;
     split = following.passed.is;
     frames_are = following.frames_are;
     fine = subst (λ (l : List (Record Command)). first_refused (meaning_in p) first l ≡ None) only_frames following.fine;

@@ -1,6 +1,8 @@
 -- A stream of frames is followed.
 use Rattle.std.specs.Prelude.{◌≡◌, ◌≢◌, ◌⊎◌, ◌+◌, ◌<◌, ◌≤◌, ◌^◌, ◌++◌, ⊤, ℕ, List, [], length, Option, None, Some, Result, Ok, Err}
+use Rattle.std.specs.List.{AllByRecursion}
 use Rattle.disk_model.specs.Disk.{Files, Disk, LeavesOnly, Rises, IsSettled}
+use Rattle.formats.specs.Log.{IsPayload}
 use Rattle.formats.specs.Records.{records_of}
 use Rattle.formats.specs.declared.params.Params.{Params}
 use Rattle.formats.specs.declared.record.Record.{Record}
@@ -37,6 +39,7 @@ use Rattle.redo_shell.specs.declared.cut.Cut.TheVariants as cuts
 pub record FollowsFrames (p : Params) (first : List (Member Command)) (bytes rest : List ℕ) (commands : List Command) : Type 0 where
   pub payloads : List (List ℕ)
   pub groups : List (List (Record Command))
+  pub whole : AllByRecursion IsPayload payloads
   pub split : bytes ≡ frames payloads ++ rest
   pub frames_are : AreFramesOf (meaning_in p) payloads groups
   pub fine : first_refused (meaning_in p) first (records_of groups) ≡ None
