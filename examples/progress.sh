@@ -8,6 +8,11 @@ for _ in {1..300}; do
 done
 kill $! && wait $! 2>/dev/null
 grep -ao -m 1 'redo: at work for' said | head -n 1
+# (what was killed lets the folder go a moment later)
+for _ in {1..300}; do
+  ! redo run </dev/null >/dev/null 2>&1 || break
+  sleep 0.2
+done
 (yes 'get 0' | head -n 1000 | redo run >answers) 2>&1
 sort -u answers
 
