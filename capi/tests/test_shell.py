@@ -82,6 +82,17 @@ class Typed:
         said, self.said = self.said.split(text, 1)
         return said
 
+    def interrupt(self):
+        """Ctrl-C, up to the next prompt. One that comes just before Python waits for a key is seen with the next key alone."""
+        for _ in range(20):
+            self.type("\x03")
+            end = time.monotonic() + 3
+            while "redo> " not in self.said and select.select([self.pty], [], [], max(0, end - time.monotonic()))[0]:
+                self.said += os.read(self.pty, 65536).decode("utf-8", "replace")
+            if "redo> " in self.said:
+                break
+        return self.until("redo> ")
+
     def line(self, text):
         """What a line is answered."""
         self.type(text + "\n")
@@ -504,8 +515,9 @@ def typed(folder):
     assert t.line('put 0 "hé"') == "ok\n" and t.line("get 0") == '"hé"\n'
     assert t.line("put 0 he") == "bad\n  put 0 he\n        ^\n" + \
         'expected HEX: "text", 0xhex, digits in pairs, @FILE or -. Is "he" meant?\n'
-    t.type("put 0 aa\x03")                           # Ctrl-C gives up the line, and not the store
-    t.until("redo> ")
+    t.type("put 0 aa")
+    t.until("aa")
+    t.interrupt()                                    # Ctrl-C gives up the line, and not the store
     assert t.line("get 0") == '"hé"\n'
     t.type("tg\t2 7 \"k\"\n")                        # what was begun is completed
     assert (said := t.until("redo> ").replace("\r", "")).endswith("\n-\n"), said
@@ -598,6 +610,7 @@ def in_tmux(folder):
         seen('Is "hello" meant?\nredo>')
         tmux("send-keys", "put 1 00")
         seen("redo> put 1 00")
+        time.sleep(0.5)                              # until Python waits for a key again
         tmux("send-keys", "C-c")
         seen("redo> put 1 00\nredo>")
         tmux("send-keys", "get 1", "Enter", "C-d")
