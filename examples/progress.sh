@@ -8,12 +8,12 @@ for _ in {1..300}; do
 done
 kill $! && wait $! 2>/dev/null
 grep -ao -m 1 'redo: at work for' said | head -n 1
-# (what was killed lets the folder go a moment later)
+# (what was killed may hold the folder for some moments more)
 for _ in {1..300}; do
-  ! redo run </dev/null >/dev/null 2>&1 || break
+  ! (yes 'get 0' | head -n 1000 | redo run >answers) 2>told || break
   sleep 0.2
 done
-(yes 'get 0' | head -n 1000 | redo run >answers) 2>&1
+cat told
 sort -u answers
 
 # A program that takes long over the first third of a log is in the place of redo here.
