@@ -24,7 +24,8 @@ one_params rows p q x y =
     let a = one_number rows (codes "N") p.objects q.objects x.0 y.0 in
     let b = one_number rows (codes "CAP") p.cap q.cap x.1 y.1 in
     let c = one_number rows (codes "LIMIT") p.limit q.limit x.2 y.2 in
-    λ i. record { objects = a i; cap = b i; limit = c i }
+    let more : p.more ≡ q.more = x.3 ∙ sym y.3 in
+    λ i. record { objects = a i; cap = b i; limit = c i; more = more i }
 
 -- a subcommand of one name is for one thing
 for_one : (name : Text) (rows : List Row) (a b : Asked) → IsFor a name rows → IsFor b name rows → a ≡ b

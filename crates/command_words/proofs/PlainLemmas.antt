@@ -166,9 +166,9 @@ unfolding clap_on_literals
 upgrade_sized = record { stops = λ a b c. refl; named = λ a b c. refl; enters = λ words. refl; rows = λ words. refl }
 
 -- the words of one ask what the subcommand is for
-sized_asks : (program name : Text) → IsSized name → (p : Params) → IsInRange p → (asked : Asked) → ((rows : List Row) → GivesParams rows p → IsFor asked name rows) → IsAllowed asked
+sized_asks : (program name : Text) → IsSized name → (p : Params) → IsInRange p → p.more ≡ false → (asked : Asked) → ((rows : List Row) → GivesParams rows p → IsFor asked name rows) → IsAllowed asked
     → Asks (program ∷ name ∷ decimal p.objects ∷ decimal p.cap ∷ decimal p.limit ∷ []) asked
-sized_asks program name sized p range asked for allowed =
+sized_asks program name sized p range plain asked for allowed =
     let a = decimal p.objects in
     let b = decimal p.cap in
     let c = decimal p.limit in
@@ -187,16 +187,16 @@ sized_asks program name sized p range asked for allowed =
         name = name;
         rows = rows;
         is = taken_as program name words (sized_shape name) (sized.stops a b c) ∙ entered_as;
-        for = for rows (gives (codes "N") p.objects a rows is_a (read_signed a is_a), gives (codes "CAP") p.cap b rows is_b (read_signed b is_b), gives (codes "LIMIT") p.limit c rows is_c (read_signed c is_c));
+        for = for rows (gives (codes "N") p.objects a rows is_a (read_signed a is_a), gives (codes "CAP") p.cap b rows is_b (read_signed b is_b), gives (codes "LIMIT") p.limit c rows is_c (read_signed c is_c), plain);
         allowed = allowed;
       };
     }
 
-pub init_asks : (program : Text) (p : Params) → IsInRange p → Asks (program ∷ codes "init" ∷ decimal p.objects ∷ decimal p.cap ∷ decimal p.limit ∷ []) (Init p)
-init_asks program p range = sized_asks program (codes "init") init_sized p range (Init p) (λ rows all. (refl, all)) range
+pub init_asks : (program : Text) (p : Params) → IsInRange p → p.more ≡ false → Asks (program ∷ codes "init" ∷ decimal p.objects ∷ decimal p.cap ∷ decimal p.limit ∷ []) (Init p)
+init_asks program p range plain = sized_asks program (codes "init") init_sized p range plain (Init p) (λ rows all. (refl, all)) range
 
-pub upgrade_asks : (program : Text) (p : Params) → IsInRange p → Asks (program ∷ codes "upgrade" ∷ decimal p.objects ∷ decimal p.cap ∷ decimal p.limit ∷ []) (Upgrade p)
-upgrade_asks program p range = sized_asks program (codes "upgrade") upgrade_sized p range (Upgrade p) (λ rows all. (refl, all)) range
+pub upgrade_asks : (program : Text) (p : Params) → IsInRange p → p.more ≡ false → Asks (program ∷ codes "upgrade" ∷ decimal p.objects ∷ decimal p.cap ∷ decimal p.limit ∷ []) (Upgrade p)
+upgrade_asks program p range plain = sized_asks program (codes "upgrade") upgrade_sized p range plain (Upgrade p) (λ rows all. (refl, all)) range
 
 -- ---- demo, with its options in either order
 

@@ -1,5 +1,5 @@
 -- What the words of the command line ask.
-use Rattle.std.specs.Prelude.{◌≡◌, ⊤, ℕ, ◌<◌, ◌≤◌, ◌^◌, List, [], Option, Some, codes}
+use Rattle.std.specs.Prelude.{◌≡◌, ⊤, ℕ, ◌<◌, ◌≤◌, ◌^◌, false, List, [], Option, Some, codes}
 use Rattle.std.specs.Str.Parse.{IsNumeral, digits_value, without_leading_plus}
 use Rattle.formats.specs.Objects.{IsInRange}
 use Rattle.clap.specs.Words.{Row, Text, fault_of, one_of, subcommand_of}
@@ -17,7 +17,7 @@ pub record Gives (rows : List Row) (id : Text) (n : ℕ) : Type 0 where
 
 -- the values are the numbers of a store, or those of a script
 abbrev pub GivesParams : List Row → Params → Type 0
-GivesParams rows p = Gives rows (codes "N") p.objects × Gives rows (codes "CAP") p.cap × Gives rows (codes "LIMIT") p.limit
+GivesParams rows p = Gives rows (codes "N") p.objects × Gives rows (codes "CAP") p.cap × Gives rows (codes "LIMIT") p.limit × (p.more ≡ false)
 
 abbrev pub GivesDemo : List Row → ℕ → ℕ → Type 0
 GivesDemo rows seed steps = Gives rows (codes "seed") seed × Gives rows (codes "steps") steps

@@ -49,6 +49,7 @@ fn params(values: &ArgMatches<'_>) -> Option<Params>
         objects: short(values, "N")?,
         cap: short(values, "CAP")?,
         limit: short(values, "LIMIT")?,
+        more: false,
     };
     if is_in_range(&params) {
         Some(params)

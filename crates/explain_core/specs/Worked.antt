@@ -1,5 +1,5 @@
 -- Worked runs: a swap of two objects, of which one is flushed and the other one is logged as an identity write.
-use Rattle.std.specs.Prelude.{ℕ, Bool, ◌==◌, if◌then◌else◌, List, [], ◌∷◌, ◌++◌}
+use Rattle.std.specs.Prelude.{ℕ, Bool, ◌==◌, if◌then◌else◌, List, [], ◌∷◌, ◌++◌, false}
 use Rattle.oper_core.specs.declared.bounds.Bounds.{Bounds}
 use Rattle.install_order.specs.Entries.{set_of}
 use Rattle.explain_core.specs.declared.byte_op.ByteOp.{ByteOp}
@@ -14,7 +14,7 @@ use Rattle.explain_core.specs.World.Step.{Begin, End, Append, Block_gate, Check,
 
 -- two objects of at most one byte
 abbrev pub two : Bounds
-two = record { objects = 2; cap = 1 }
+two = record { objects = 2; cap = 1; more = false }
 
 -- the world after these steps of a new store
 abbrev pub after_steps : List (Step ByteOp) → World ByteOp

@@ -13,6 +13,7 @@ use std::test::Fail;
 const BOUNDS: Bounds = Bounds {
     objects: 1,
     cap: 1 << 18,
+    more: false,
 };
 
 // Blocks, each with the lengths of its puts' values. The code of a put has 18 bytes more, and a piece 65,536.

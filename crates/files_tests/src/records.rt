@@ -10,7 +10,11 @@ use redo_tables::{Starts, Table};
 use std::alloc::Global;
 use std::test::Fail;
 
-pub const BOUNDS: Bounds = Bounds { objects: 4, cap: 3 };
+pub const BOUNDS: Bounds = Bounds {
+    objects: 4,
+    cap: 3,
+    more: false,
+};
 
 // A record: its kind, its number, its object and its value; of a check its next number and the object of its only start,
 // which is 1.

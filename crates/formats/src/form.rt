@@ -10,6 +10,6 @@ pub struct Form {
     /// The bounds of the smaller store that was there before. A store that was made with this version has none, and 0
     /// objects here.
     pub older: Bounds,
-    /// The greatest bounds of a store.
+    /// The greatest bounds of a store, and whether one may admit the further families of operations.
     pub most: Bounds,
 }

@@ -17,7 +17,7 @@ use Rattle.graph_view.specs.Dot.{IsGraph}
 
 -- the operations of a store, in any bounds: what they read and write is the same in all
 abbrev meaning : Meaning AllOps
-meaning = all_meaning (record { objects = 0; cap = 0 })
+meaning = all_meaning (record { objects = 0; cap = 0; more = false })
 
 -- what an operation reads, and what it writes
 abbrev pub accesses_of : AllOps → Accesses

@@ -1,5 +1,5 @@
 -- Small hash files, worked out.
-use Rattle.std.specs.Prelude.{ℕ, zero, suc, ◌+◌, ◌==◌, List, [], ◌∷◌, ◌++◌, map, if◌then◌else◌}
+use Rattle.std.specs.Prelude.{ℕ, zero, suc, ◌+◌, ◌==◌, List, [], ◌∷◌, ◌++◌, map, if◌then◌else◌, false}
 use Rattle.oper_core.specs.State.{State}
 use Rattle.oper_core.specs.Meaning.{state_after}
 use Rattle.oper_core.specs.declared.bounds.Bounds.{Bounds}
@@ -9,7 +9,7 @@ use Rattle.hash_ops.specs.declared.hash_op.HashOp.TheVariants.{Init, Put}
 use Rattle.hash_file.specs.Plan.{put_plan}
 
 abbrev pub bounds : Bounds
-bounds = record { objects = 8; cap = 1024 }
+bounds = record { objects = 8; cap = 1024; more = false }
 
 -- the keys from 1 on, so many, each with the value that is 160 greater
 abbrev pub pairs_from : ℕ → ℕ → List (List ℕ × List ℕ)

@@ -1,5 +1,5 @@
 -- Small trees, and ranges that are none.
-use Rattle.std.specs.Prelude.{ℕ, zero, suc, ◌+◌, ◌==◌, nat_le, if◌then◌else◌, List, [], ◌∷◌, ◌++◌, map}
+use Rattle.std.specs.Prelude.{ℕ, zero, suc, ◌+◌, ◌==◌, nat_le, if◌then◌else◌, List, [], ◌∷◌, ◌++◌, map, false}
 use Rattle.oper_core.specs.State.{State}
 use Rattle.oper_core.specs.Meaning.{state_after}
 use Rattle.oper_core.specs.declared.bounds.Bounds.{Bounds}
@@ -10,7 +10,7 @@ use Rattle.logical_btree.specs.Walk.{Pair}
 use Rattle.logical_btree.specs.Plan.{insert_plan}
 
 abbrev pub bounds : Bounds
-bounds = record { objects = 16; cap = 1024 }
+bounds = record { objects = 16; cap = 1024; more = false }
 
 -- the keys from 1 on, so many, each with the value that is 160 greater
 abbrev pub pairs_from : ℕ → ℕ → List Pair

@@ -50,8 +50,13 @@ impl<A: Family, B: ApartFrom<A>> Oper for Sum<A, B> {
         by_its_family!(self, op => op.apply(alloc, b, values))
     }
 
-    fn into_effect(self, alloc: Global, b: Bounds, values: Values) -> Result<Values, Memory> {
-        by_its_family!(self, op => op.into_effect(alloc, b, values))
+    fn apply_in_place(
+        self,
+        alloc: Global,
+        b: Bounds,
+        values: &mut Values,
+    ) -> Result<Values, Memory> {
+        by_its_family!(self, op => op.apply_in_place(alloc, b, values))
     }
 
     fn code_length(&self) -> u64 {

@@ -1,4 +1,3 @@
-pub mod Moved
 pub mod ReadOps
 pub mod ReadState
 pub mod RecordLemmas

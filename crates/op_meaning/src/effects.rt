@@ -1,5 +1,5 @@
 // What the operations make of values, and when they are refused.
-ghost use Rattle.std.specs.Prelude.{◌≡◌, ◌+◌, ◌<◌, ◌≤◌, ◌++◌, ◌^◌, [], ◌∷◌, IfOk, length, take, drop};
+ghost use Rattle.std.specs.Prelude.{◌≡◌, ◌+◌, ◌<◌, ◌≤◌, ◌++◌, ◌^◌, [], ◌∷◌, IfOk, OnErr, length, take, drop};
 ghost use Rattle.std.specs.List.{concat};
 ghost use Rattle.std.specs.Result.{result_err};
 ghost use Rattle.op_meaning.specs.AppState.{app_check, app_of, fed, state_code, stepped};
@@ -40,20 +40,15 @@ pub(crate) fn moved(alloc: Global, value: ByteList) -> Values
     made
 }
 
-/// Two values, moved, the second first.
-pub(crate) fn swapped(alloc: Global, values: Values) -> Values
-    requires { length values ≡ 2 }
-    ensures { result ≡ second values ∷ first values ∷ [] }
+/// Two values, taken out of their places, the second first.
+pub(crate) fn swap_in_place(alloc: Global, values: &mut Values) -> Values
+    requires { length values.old ≡ 2 }
+    ensures made { result ≡ second values.old ∷ first values.old ∷ [] }
+    ensures count { length values.new ≡ 2 }
 {
-    let mut rest = values;
-    let mut made = Values::new(alloc);
-    let Some(last) = rest.pop() else {
-        return made;
-    };
-    let Some(front) = rest.pop() else {
-        return made;
-    };
-    made.push_list(last);
+    let front = values.replace(0, ByteList::new(Vec::new(alloc)));
+    let last = values.replace(1, ByteList::new(Vec::new(alloc)));
+    let mut made = moved(alloc, last);
     made.push_list(front);
     made
 }
@@ -80,6 +75,28 @@ pub(crate) fn append(alloc: Global, b: Bounds, from: &[u8], to: &[u8]) -> Result
     one(alloc, joined.as_slice())
 }
 
+/// The same, made of the second value where it is.
+pub(crate) fn append_in_place(
+    alloc: Global,
+    b: Bounds,
+    values: &mut Values,
+) -> Result<Values, Memory>
+    requires { length values.old ≡ 2 }
+    ensures made { IfOk result (λ made. made ≡ if_applicable (append_check b (first values.old) (second values.old)) ((second values.old ++ first values.old) ∷ [])) }
+    ensures kept { (length values.new ≡ 2) × (first values.new ≡ first values.old) }
+    ensures err { OnErr result (values.new ≡ values.old) }
+{
+    if require_room(b, values.get(0), values.get(1)).is_err() {
+        return one(alloc, &[]);
+    }
+    let mut joined = values.replace(1, ByteList::new(Vec::new(alloc))).into_vec();
+    if joined.extend_from_slice(values.get(0)).is_err() {
+        values.replace(1, ByteList::new(joined));
+        return Err(Memory);
+    }
+    Ok(moved(alloc, ByteList::new(joined)))
+}
+
 /// Refuses a place past the value's end.
 pub(crate) fn require_place(place: u32, value: &[u8]) -> Result<(), Refusal>
     ensures { result_err result ≡ cut_check place value.now }
@@ -98,6 +115,24 @@ pub(crate) fn cut(alloc: Global, place: u32, value: &[u8]) -> Result<Values, Mem
         return two(alloc, &[], &[]);
     }
     two(alloc, &value[..place as usize], &value[place as usize..])
+}
+
+/// The same, where the bytes before the place stay where they are.
+pub(crate) fn cut_in_place(alloc: Global, place: u32, values: &mut Values) -> Result<Values, Memory>
+    requires { length values.old ≡ 1 }
+    ensures made { IfOk result (λ made. made ≡ if_applicable (cut_check place (first values.old)) (take place (first values.old) ∷ drop place (first values.old) ∷ [])) }
+    ensures count { length values.new ≡ 1 }
+    ensures err { OnErr result (values.new ≡ values.old) }
+{
+    if require_place(place, values.get(0)).is_err() {
+        return two(alloc, &[], &[]);
+    }
+    let rest = values.get(0)[place as usize..].to_vec(alloc)?;
+    let mut front = values.replace(0, ByteList::new(Vec::new(alloc))).into_vec();
+    front.truncate(place as usize);
+    let mut made = moved(alloc, ByteList::new(front));
+    made.push_list(ByteList::new(rest));
+    Ok(made)
 }
 
 /// Refuses a value that is no records of this width.

@@ -188,12 +188,18 @@ impl Oper for PlainOp {
         }
     }
 
-    fn into_effect(self, alloc: Global, b: Bounds, values: Values) -> Result<Values, Memory> {
+    fn apply_in_place(
+        self,
+        alloc: Global,
+        b: Bounds,
+        values: &mut Values,
+    ) -> Result<Values, Memory> {
         match self {
             PlainOp::Put { value, .. } => Ok(effects::moved(alloc, value)),
-            PlainOp::Copy { .. } => Ok(values),
-            PlainOp::Swap { .. } => Ok(effects::swapped(alloc, values)),
-            other => other.apply(alloc, b, &values),
+            PlainOp::Append { .. } => effects::append_in_place(alloc, b, values),
+            PlainOp::Cut { place, .. } => effects::cut_in_place(alloc, place, values),
+            PlainOp::Swap { .. } => Ok(effects::swap_in_place(alloc, values)),
+            other => other.apply(alloc, b, values),
         }
     }
 

@@ -1,7 +1,7 @@
 -- What an operation means, and the commands of a whole store.
-use Rattle.std.specs.Prelude.{◌≡◌, ℕ, ◌≤◌, ◌<◌, ◌^◌, nat_eq, Bool, true, false, IsTrue, Option, None, Some, List, ◌++◌, length, map, fold, All}
+use Rattle.std.specs.Prelude.{◌≡◌, ℕ, ◌≤◌, ◌<◌, ◌^◌, nat_eq, Bool, true, false, IsTrue, Option, None, Some, List, [], ◌++◌, length, slice_index, slice_index_or, map, fold, All}
 use Rattle.std.specs.List.{IsDistinct}
-use Rattle.oper_core.specs.State.{State, start, with_values}
+use Rattle.oper_core.specs.State.{State, start, is_among, with_values}
 use Rattle.oper_core.specs.declared.bounds.Bounds.{Bounds}
 use Rattle.oper_core.specs.declared.refusal.Refusal.{Refusal}
 
@@ -36,6 +36,12 @@ pub record FitsReads {O : Type 0} (m : Meaning O) (op : O) (values : List (List 
   pub count : length values ≡ length (m.reads op)
   pub short : All (λ v. length v ≤ m.cap) values
 
+-- the values of the objects that are read and not written are as they were: values stand side by side with the objects that
+-- are read
+pub record KeepsUnwritten (reads writes : List ℕ) (old new : List (List ℕ)) : Type 0 where
+  pub count : length new ≡ length old
+  pub same : (k : ℕ) → k < length reads → is_among (slice_index reads k) writes ≡ false → slice_index_or new k [] ≡ slice_index_or old k []
+
 -- the bytes begin with its code, and it is in the grammar
 pub record StartsWithCode {O : Type 0} (m : Meaning O) (bytes : List ℕ) (op : O) : Type 0 where
   pub rest : List ℕ
@@ -63,10 +69,11 @@ pub record IsLawful {O : Type 0} (m : Meaning O) : Type 0 where
   -- bytes begin with the code of at most one operation: no code is another's beginning
   pub one_code : (a b : O) (bytes : List ℕ) → StartsWithCode m bytes a → StartsWithCode m bytes b → a ≡ b
 
--- no number of the first bounds is above that of the second
+-- no number of the first bounds is above that of the second, and whatever operations the first admit, the second do too
 pub record AreWithin (b c : Bounds) : Type 0 where
   pub objects : b.objects ≤ c.objects
   pub cap : b.cap ≤ c.cap
+  pub more : b.more ≡ true → c.more ≡ true
 
 -- what an operation means under some bounds it means under wider ones too: it has the same objects and the same code, it
 -- is in the grammar where it was, and on values that fit the first bounds it is accepted where it was, with the same effect

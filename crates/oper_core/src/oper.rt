@@ -1,6 +1,6 @@
 ghost use Rattle.std.specs.Prelude.{◌≡◌, ◌≤◌, ◌<◌, ◌++◌, List, ℕ, None, All, length, take, IsTrue, IfOk, IfSome, OnOk, OnErr, IfNone};
 ghost use Rattle.std.specs.Result.{result_err};
-ghost use Rattle.oper_core.specs.Meaning.{Meaning, HasBounds, AreWithin, IsSmall, IsLawful, Widens, FitsReads, StartsWithCode};
+ghost use Rattle.oper_core.specs.Meaning.{Meaning, HasBounds, AreWithin, IsSmall, IsLawful, Widens, FitsReads, KeepsUnwritten, StartsWithCode};
 ghost use Rattle.oper_core.specs.declared.bounds.Bounds.{Bounds};
 ghost use Rattle.oper_core.specs.declared.refusal.Refusal.{Refusal};
 
@@ -34,14 +34,17 @@ pub trait Oper: Drop {
         requires { FitsReads (meaning b) self.now values.now }
         ensures { IfOk result (λ made. made ≡ (meaning b).effect self.now values.now) };
 
-    /// The same, where neither the operation nor the values are needed again: what can be moved is not copied.
-    fn into_effect(self, alloc: Global, b: Bounds, values: Values) -> Result<Values, Memory>
+    /// The same, where the operation is not needed again, nor what it writes: that value may be taken out and changed, and
+    /// need not be copied. The values of objects that it does not write stay, and without memory all do.
+    fn apply_in_place(self, alloc: Global, b: Bounds, values: &mut Values) -> Result<Values, Memory>
     where
         Self: Sized,
-        requires { FitsReads (meaning b) self values }
-        ensures { IfOk result (λ made. made ≡ (meaning b).effect self values) }
+        requires { FitsReads (meaning b) self values.old }
+        ensures made { IfOk result (λ made. made ≡ (meaning b).effect self values.old) }
+        ensures kept { OnOk result (KeepsUnwritten ((meaning b).reads self) ((meaning b).writes self) values.old values.new) }
+        ensures err { OnErr result (values.new ≡ values.old) }
     {
-        self.apply(alloc, b, &values)
+        self.apply(alloc, b, values)
     }
 
     /// How many bytes its code has.

@@ -3,6 +3,9 @@ use thiserror::Error;
 /// Why a command is refused. Where several causes apply, the first of this order is reported.
 #[derive(Clone, Copy, Debug, PartialEq, Eq, Error)]
 pub enum Refusal {
+    /// The store does not admit the operation's family.
+    #[error("NoPages")]
+    NoPages,
     #[error("NoObject")]
     NoObject,
     #[error("Same")]

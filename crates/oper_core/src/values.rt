@@ -1,9 +1,10 @@
-ghost use Rattle.std.specs.Prelude.{◌≡◌, ◌<◌, ◌++◌, [], ◌∷◌, List, ℕ, length, IfNone, IfSome, OnOk, OnErr, slice_get, Some};
+ghost use Rattle.std.specs.Prelude.{◌≡◌, ◌<◌, ◌++◌, [], ◌∷◌, List, ℕ, length, IfNone, IfSome, OnOk, OnErr, slice_get, slice_index_or, slice_set, Some};
 
 use crate::{ByteList, Memory};
 use arrayvec::ArrayVec;
 use std::alloc::Global;
 use std::marker::Model;
+use std::mem;
 
 /// A list of at most four values, each a list of bytes. The list itself takes no memory.
 #[derive(Drop)]
@@ -54,6 +55,15 @@ impl Values {
         ensures none { IfNone result (self.old ≡ []) }
     {
         self.items.pop()
+    }
+
+    /// Puts a value in a place, and gives the one that was there. No memory.
+    pub fn replace(&mut self, i: usize, list: ByteList) -> ByteList
+        requires { i < length self.old }
+        ensures value { result ≡ slice_index_or self.old i [] }
+        ensures after { self.new ≡ slice_set self.old i list }
+    {
+        mem::replace(&mut self.items.as_mut_slice()[i], list)
     }
 
     /// How many values there are.

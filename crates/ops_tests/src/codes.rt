@@ -6,7 +6,11 @@ use op_meaning::PlainOp;
 use oper_core::{Bounds, Oper, Refusal};
 use std::alloc::Global;
 
-const EIGHT: Bounds = Bounds { objects: 8, cap: 3 };
+const EIGHT: Bounds = Bounds {
+    objects: 8,
+    cap: 3,
+    more: false,
+};
 
 const NO_CODES: &[(&[u8], &str)] = &[
     (b"", "nothing"),

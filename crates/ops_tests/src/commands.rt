@@ -47,7 +47,7 @@ fn values(alloc: Global, cap: u32, objects: &[u32], read: &[&[u8]]) -> Result<Va
     Ok(values)
 }
 
-// The first refusal on these values, and the values that the command makes of them, by copies and by moves.
+// The first refusal on these values, and the values that the command makes of them, by copies and in place.
 fn outcome<O: Oper>(
     alloc: Global,
     b: Bounds,
@@ -55,11 +55,11 @@ fn outcome<O: Oper>(
     read: &[&[u8]],
 ) -> Result<(Result<(), Refusal>, Values, Values), Fail> {
     let objects = op.reads();
-    let values = values(alloc, b.cap, objects.as_slice(), read)?;
+    let mut values = values(alloc, b.cap, objects.as_slice(), read)?;
     let refused = op.check(b, &values);
     let made = op.apply(alloc, b, &values)?;
-    let moved = op.into_effect(alloc, b, values)?;
-    Ok((refused, made, moved))
+    let changed = op.apply_in_place(alloc, b, &mut values)?;
+    Ok((refused, made, changed))
 }
 
 fn are(values: &Values, want: &[&[u8]]) -> bool {
@@ -79,13 +79,14 @@ fn is_as_worked(alloc: Global, row: &Row) -> Result<bool, Fail> {
     let b = Bounds {
         objects: OBJECTS,
         cap,
+        more: false,
     };
     let op: AllOps = decoded(alloc, b, code)?;
     let again = encoded(alloc, b, &op)?;
     let length = op.code_length() == code.len() as u64;
-    let (refused, made, moved) = outcome(alloc, b, op, read)?;
+    let (refused, made, changed) = outcome(alloc, b, op, read)?;
     let good = (again.as_slice() == code) & length & (refused == want);
-    Ok(good & are(&made, new) & are(&moved, new))
+    Ok(good & are(&made, new) & are(&changed, new))
 }
 
 /// The place of the first row that is not as it says; none where all are.
@@ -103,6 +104,7 @@ fn made_by(alloc: Global, op: ProgramOp, read: &[&[u8]]) -> Result<Option<Vec<u8
     let b = Bounds {
         objects: OBJECTS,
         cap: 1024,
+        more: false,
     };
     let (refused, made, _) = outcome(alloc, b, op, read)?;
     if refused.is_err() || made.len() == 0 {

@@ -250,7 +250,11 @@ const TRIPLES: [(u32, u32, u32, Result<(), Refusal>, Result<(), Refusal>); 5] = 
     (8, 1, 1, Err(Refusal::NoObject), Err(Refusal::NoObject)),
 ];
 
-const EIGHT: Bounds = Bounds { objects: 8, cap: 3 };
+const EIGHT: Bounds = Bounds {
+    objects: 8,
+    cap: 3,
+    more: false,
+};
 
 fn is_said(
     directory: u32,

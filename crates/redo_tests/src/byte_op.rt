@@ -4,7 +4,11 @@ use oper_core::{Bounds, Memory, Oper, Values};
 use std::alloc::Global;
 use std::test::Fail;
 
-const BOUNDS: Bounds = Bounds { objects: 2, cap: 1 };
+const BOUNDS: Bounds = Bounds {
+    objects: 2,
+    cap: 1,
+    more: false,
+};
 
 /// Bytes, and how many of them are the code of an operation of the grammar.
 const CODES: [([u8; 3], usize); 6] = [

@@ -10,6 +10,7 @@ use std::test::Fail;
 pub const BOUNDS: Bounds = Bounds {
     objects: 4,
     cap: 16,
+    more: false,
 };
 
 // A block of `put 0 aa`, `put 1 bb` and `put 2 cc`, and the closed gate after it.

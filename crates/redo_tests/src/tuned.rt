@@ -16,6 +16,7 @@ use std::test::Fail;
 const BOUNDS: Bounds = Bounds {
     objects: 4,
     cap: 20_000,
+    more: false,
 };
 
 // How long each value is; an object's value has its number in each byte.

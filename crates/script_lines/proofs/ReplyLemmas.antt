@@ -8,7 +8,7 @@ use Rattle.std.specs.Fmt.{decimal}
 use Rattle.std.specs.Str.{bytes_eq, all_ascii_digits}
 use Rattle.std.specs.Char.{is_ascii_digit}
 use Rattle.oper_core.specs.declared.refusal.Refusal.{Refusal}
-use Rattle.oper_core.specs.declared.refusal.Refusal.TheVariants.{NoObject, Same, BadPlace, BadWidth, NotApp, NotCode, Halted, NoInput, NotNode, NoKey, NodeFull, TooLarge}
+use Rattle.oper_core.specs.declared.refusal.Refusal.TheVariants.{NoPages, NoObject, Same, BadPlace, BadWidth, NotApp, NotCode, Halted, NoInput, NotNode, NoKey, NodeFull, TooLarge}
 use Rattle.script_lines.specs.Replies.{Reply, ok, value, forced, bad, refused, full, end, object_value, command_count, stat, ran, pairs, bad_tree, tree_full, denied, in_group, no_group, copied, saved, backup_denied, summary, silence, Pair, pair_text, spaced_pair, pairs_reply, spaced, numbers_of, AreSmall, HasSmallNumbers, hex_glyph, hex_pair, hex_text, backup_denial_name, denial_name, name_of, text_of, reply_of, said_line}
 use Rattle.script_lines.specs.declared.denial.Denial.{Denial}
 use Rattle.script_lines.specs.declared.denial.Denial.TheVariants.{BadHash, HashFull, NoRoom}
@@ -288,7 +288,8 @@ counts_one a b same = ap counts_with same
 -- the refusal of a name
 abbrev refusal_of : List ℕ → Refusal
 refusal_of name =
-    if bytes_eq name (codes "NoObject") then NoObject
+    if bytes_eq name (codes "NoPages") then NoPages
+    else if bytes_eq name (codes "NoObject") then NoObject
     else if bytes_eq name (codes "Same") then Same
     else if bytes_eq name (codes "BadPlace") then BadPlace
     else if bytes_eq name (codes "BadWidth") then BadWidth
@@ -302,6 +303,7 @@ refusal_of name =
     else TooLarge
 
 named : (refusal : Refusal) → refusal_of (name_of refusal) ≡ refusal
+named NoPages = refl
 named NoObject = refl
 named Same = refl
 named BadPlace = refl
@@ -320,6 +322,7 @@ refused_one a b same = sym (named a) ∙ ap refusal_of same ∙ named b
 
 -- no refusal of a command has the name of another refusal
 other_name : (refusal : Refusal) → number_of_name (name_of refusal) ≡ 0
+other_name NoPages = refl
 other_name NoObject = refl
 other_name Same = refl
 other_name BadPlace = refl
@@ -385,6 +388,7 @@ no_colon_denial HashFull = refl
 no_colon_denial NoRoom = refl
 
 no_colon_name : (refusal : Refusal) → has 58 (name_of refusal) ≡ false
+no_colon_name NoPages = refl
 no_colon_name NoObject = refl
 no_colon_name Same = refl
 no_colon_name BadPlace = refl

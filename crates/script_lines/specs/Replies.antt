@@ -3,7 +3,7 @@ use Rattle.std.specs.Prelude.{⊤, ℕ, ◌<◌, ◌^◌, ◌+◌, ◌/◌, ◌%
 use Rattle.std.specs.List.{flat_map}
 use Rattle.std.specs.Fmt.{decimal}
 use Rattle.oper_core.specs.declared.refusal.Refusal.{Refusal}
-use Rattle.oper_core.specs.declared.refusal.Refusal.TheVariants.{NoObject, Same, BadPlace, BadWidth, NotApp, NotCode, Halted, NoInput, NotNode, NoKey, NodeFull, TooLarge}
+use Rattle.oper_core.specs.declared.refusal.Refusal.TheVariants.{NoPages, NoObject, Same, BadPlace, BadWidth, NotApp, NotCode, Halted, NoInput, NotNode, NoKey, NodeFull, TooLarge}
 use Rattle.script_lines.specs.declared.denial.Denial.{Denial}
 use Rattle.script_lines.specs.declared.denial.Denial.TheVariants.{BadHash, HashFull, NoRoom}
 use Rattle.script_lines.specs.declared.backup_denial.BackupDenial.{BackupDenial}
@@ -103,6 +103,7 @@ hex_text (byte ∷ bytes) = flat_map hex_pair (byte ∷ bytes)
 
 -- the name of a refusal
 abbrev pub name_of : Refusal → List ℕ
+name_of NoPages = codes "NoPages"
 name_of NoObject = codes "NoObject"
 name_of Same = codes "Same"
 name_of BadPlace = codes "BadPlace"

@@ -101,6 +101,7 @@ fn refusal_name(refusal: Refusal) -> &'static [u8]
     ensures { result.now ≡ name_of refusal }
 {
     match refusal {
+        Refusal::NoPages => b"NoPages",
         Refusal::NoObject => b"NoObject",
         Refusal::Same => b"Same",
         Refusal::BadPlace => b"BadPlace",

@@ -1,4 +1,4 @@
-//! A test crate: the tests of command_words, script_lines and redo_shell. The library is empty.
+//! A test crate: the tests of command_words, script_lines, and redo_shell with its rooms. The library is empty.
 //!
 //! They stand apart so that the proofs of those crates are made once, and not a second time with their tests. Whole scripts
 //! with their answers are rows of constant tables; the examples hold more of them, which the built program runs. Stops and

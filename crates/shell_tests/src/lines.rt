@@ -453,12 +453,14 @@ const LARGEST: Params = Params {
     objects: 65535,
     cap: 1048576,
     limit: 536870912,
+    more: false,
 };
 
 const LEAST: Params = Params {
     objects: 1,
     cap: 16,
     limit: 4128,
+    more: false,
 };
 
 // Words, and what they ask.

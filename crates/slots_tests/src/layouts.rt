@@ -1,5 +1,6 @@
-// The objects file in version 2, and a file that is laid out and filled before it is opened: worked bytes and places.
-ghost use Rattle.std.specs.Prelude.{IsTrue};
+// The objects file in versions 2 and 3, and a file that is laid out and filled before it is opened: worked bytes and places.
+ghost use Rattle.std.specs.Prelude.{◌≡◌, IsTrue, false};
+ghost use Rattle.stable_objects.specs.Admitting.{IsSecond};
 ghost use Rattle.stable_objects.specs.Larger.{IsFirst, IsLarger};
 
 use disk_model::{FileNo, Machine, MemMachine};
@@ -13,18 +14,21 @@ const SMALL: Params = Params {
     objects: 8,
     cap: 64,
     limit: 65536,
+    more: false,
 };
 
 const LARGE: Params = Params {
     objects: 16,
     cap: 128,
     limit: 65536,
+    more: false,
 };
 
 // The greatest number of objects, each of the least length.
 const MANY: Bounds = Bounds {
     objects: 65535,
     cap: 16,
+    more: false,
 };
 
 // The gate, the magic with the version, and no smaller store.
@@ -35,7 +39,10 @@ const HEADER: [u8; 17] = [
 // N, CAP and LIMIT of the small store, as they stand at 32 in version 2.
 const NUMBERS: [u8; 12] = [8, 0, 0, 0, 64, 0, 0, 0, 0, 0, 1, 0];
 
-// Those of the large one.
+// The same in version 3.
+const THIRD_NUMBERS: [u8; 12] = [8, 0, 0, 1, 64, 0, 0, 0, 0, 0, 1, 0];
+
+// Those of the large one, in version 2.
 const LARGE_NUMBERS: [u8; 12] = [0x10, 0, 0, 0, 0x80, 0, 0, 0, 0, 0, 1, 0];
 
 fn empty(alloc: Global) -> Result<MemMachine, AllocError> {
@@ -98,6 +105,83 @@ fn finds_the_first_fault_of_version_two(rt: HostRuntime) -> Result<(), Fail> {
             "{bytes:?} at {at}"
         );
     }
+    Ok(())
+}
+
+// Whether a file of version 2 is one of version 3, once this byte stands behind N: none where it is not loaded.
+fn admits(alloc: Global, byte: u8) -> Result<Option<bool>, AllocError> {
+    let mut machine = empty(alloc)?;
+    write_all(
+        &mut machine,
+        &[(0, &HEADER), (32, &NUMBERS), (1219, &[0]), (35, &[byte])],
+    );
+    match Slots::load(alloc, &mut machine) {
+        Ok(slots) => Ok(Some(slots.params().more)),
+        Err(_) => Ok(None),
+    }
+}
+
+// Each value of that byte is one of the two versions.
+const BYTES: [(u8, bool); 5] = [(0, false), (1, true), (2, true), (0x80, true), (0xff, true)];
+
+#[test]
+fn tells_version_three_by_a_byte(rt: HostRuntime) -> Result<(), Fail> {
+    for (byte, more) in BYTES {
+        assert!(rt; admits(rt.alloc(), byte)? == Some(more), "{byte}");
+    }
+    Ok(())
+}
+
+// Whether a new store that admits more is one of version 3, in 1,220 bytes.
+fn is_made_third(alloc: Global) -> Result<bool, AllocError> {
+    let mut machine = empty(alloc)?;
+    let bounds = Bounds {
+        objects: 8,
+        cap: 64,
+        more: true,
+    };
+    let made = Slots::close(&mut machine).is_ok()
+        & Slots::create(&mut machine, bounds, 65536).is_ok();
+    let bytes = machine.bytes(FileNo::Objects);
+    Ok(
+        made & (bytes.len() == 1220)
+            & (bytes.get(..17) == Some(HEADER.as_slice()))
+            & (bytes.get(32..44) == Some(THIRD_NUMBERS.as_slice())),
+    )
+}
+
+// Whether a store is of version 2.
+fn may_admit(slots: &Slots) -> bool
+    ensures second { IsTrue result → IsSecond slots.now }
+    ensures fewer { IsTrue result → slots.now.params.more ≡ false }
+{
+    !slots.is_first() && !slots.params().more
+}
+
+// Whether a store of version 2 becomes one of version 3 by one byte.
+fn is_admitted(alloc: Global) -> Result<bool, AllocError> {
+    let mut machine = empty(alloc)?;
+    write_all(&mut machine, &[(0, &HEADER), (32, &NUMBERS), (1219, &[0])]);
+    let Ok(slots) = Slots::load(alloc, &mut machine) else {
+        return Ok(false);
+    };
+    if !may_admit(&slots) {
+        return Ok(false);
+    }
+    let admitted = slots.admit_more(&mut machine).is_ok();
+    let bytes = machine.bytes(FileNo::Objects);
+    Ok(
+        admitted
+            & (bytes.len() == 1220)
+            & (bytes.get(..17) == Some(HEADER.as_slice()))
+            & (bytes.get(32..44) == Some(THIRD_NUMBERS.as_slice())),
+    )
+}
+
+#[test]
+fn makes_a_store_of_version_three(rt: HostRuntime) -> Result<(), Fail> {
+    assert!(rt; is_made_third(rt.alloc())?);
+    assert!(rt; is_admitted(rt.alloc())?);
     Ok(())
 }
 
@@ -188,7 +272,10 @@ fn may_grow(slots: &Slots, params: Params) -> bool
     ensures larger { IsTrue result → IsLarger slots.now.params params }
 {
     let stored = slots.params();
-    slots.is_first() && stored.objects <= params.objects && stored.cap <= params.cap
+    slots.is_first()
+        && stored.objects <= params.objects
+        && stored.cap <= params.cap
+        && (params.more || !stored.more)
 }
 
 // Makes the small store larger in place, with one pair, and writes the version where asked to.
@@ -199,6 +286,7 @@ fn grow(alloc: Global, machine: &mut MemMachine, version: bool) -> bool {
             Bounds {
                 objects: 8,
                 cap: 64,
+                more: false,
             },
             65536,
         )

@@ -10,6 +10,7 @@ use std::test::Fail;
 const BOUNDS: Bounds = Bounds {
     objects: 8,
     cap: 64,
+    more: false,
 };
 
 const CRASHES: [Crash; 6] = [

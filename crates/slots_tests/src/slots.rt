@@ -8,6 +8,7 @@ use std::test::Fail;
 const BOUNDS: Bounds = Bounds {
     objects: 8,
     cap: 64,
+    more: false,
 };
 
 const LIMIT: u32 = 65536;

@@ -13,6 +13,7 @@ pub const SMALL: Params = Params {
     objects: 4,
     cap: 16,
     limit: 65536,
+    more: false,
 };
 
 pub const TUNING: Tuning = Tuning {

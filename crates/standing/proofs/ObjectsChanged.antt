@@ -65,7 +65,7 @@ module _ {O : Type 0} (meaning : Bounds → Meaning O) (alike : StandAlike meani
         | inr past ↦
             cond-false (nat_lt x p.objects) (cell_of x (new Objects)) none (le-ltb x p.objects past) ∙ sym (cond-false (nat_lt x p.objects) (cell_of x (old Objects)) none (le-ltb x p.objects past))
       ] in
-      alike p p old new stands.parts commands (record { objects = omega arith; cap = omega arith }) was (record {
+      alike p p old new stands.parts commands (record { objects = omega arith; cap = omega arith; more = λ set. set }) was (record {
         objects = objects;
         cells = λ x. stored_same x ∙ was.cells x;
         active = was.active;
@@ -81,7 +81,7 @@ module _ {O : Type 0} (meaning : Bounds → Meaning O) (alike : StandAlike meani
   -- the larger one
   pub stands_grown : AreWidened meaning → AreBounded meaning → (q : Params) → IsLarger p q → IsGrown p q (old Objects) (new Objects) → StandsFor meaning q new commands
   stands_grown widened bounded q larger grown =
-      let within : AreWithin (bounds_of p) (bounds_of q) = record { objects = larger.objects; cap = larger.cap } in
+      let within : AreWithin (bounds_of p) (bounds_of q) = record { objects = larger.objects; cap = larger.cap; more = larger.more } in
       let was = stands.holds in
       let m = meaning (bounds_of p) in
       let wide = meaning (bounds_of q) in

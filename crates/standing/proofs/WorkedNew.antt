@@ -25,7 +25,7 @@ new_whole = record {
     begins = refl;
     params = refl;
     in_range = record { some = omega arith; objects = omega arith; low = omega arith; cap = omega arith; least = omega arith; limit = omega arith };
-    in_form = record { older_objects = omega arith; older_cap = omega arith; no_fewer = omega arith; objects = omega arith; no_shorter = omega arith; cap = omega arith };
+    in_form = record { older_objects = omega arith; older_cap = omega arith; no_fewer = omega arith; objects = omega arith; no_shorter = omega arith; cap = omega arith; more = λ set. set };
     whole = omega arith;
     slots = record {
       each = λ x s below two is_open. absurd (all_closed x s below two is_open);

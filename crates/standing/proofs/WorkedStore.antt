@@ -131,7 +131,7 @@ small_whole = record {
   begins = refl;
   params = refl;
   in_range = record { some = omega arith; objects = omega arith; low = omega arith; cap = omega arith; least = omega arith; limit = omega arith };
-  in_form = record { older_objects = omega arith; older_cap = omega arith; no_fewer = omega arith; objects = omega arith; no_shorter = omega arith; cap = omega arith };
+  in_form = record { older_objects = omega arith; older_cap = omega arith; no_fewer = omega arith; objects = omega arith; no_shorter = omega arith; cap = omega arith; more = λ set. set };
   whole = omega arith;
   slots = record { each = slot_whole; apart = λ x below first second. absurd (second_closed x below second) };
 }

@@ -1,5 +1,5 @@
 -- A worked store of two objects, byte by byte: a command that is installed, an identity write that is not, and a check.
-use Rattle.std.specs.Prelude.{ℕ, Bool, List, [], ◌∷◌, ◌++◌, length, replicate, codes}
+use Rattle.std.specs.Prelude.{ℕ, Bool, List, [], ◌∷◌, ◌++◌, length, replicate, codes, false}
 use Rattle.disk_model.specs.Disk.{Files}
 use Rattle.disk_model.specs.declared.machine.FileNo.TheVariants.{Objects, LogA, LogB}
 use Rattle.oper_core.specs.Meaning.{Meaning}
@@ -15,7 +15,7 @@ use Rattle.explain_core.specs.World.Step.{Append, Block_gate, Check, Slot_gate, 
 
 -- two objects of at most 16 bytes
 abbrev pub small : Params
-small = record { objects = 2; cap = 16; limit = 4128 }
+small = record { objects = 2; cap = 16; limit = 4128; more = false }
 
 abbrev pub small_meaning : Meaning ByteOp
 small_meaning = byte_meaning (bounds_of small)

@@ -18,6 +18,7 @@ const SMALL: Params = Params {
     objects: 8,
     cap: 64,
     limit: 65536,
+    more: false,
 };
 
 // The next empty objects from 0, 1, 2 and 8 on.

@@ -1,4 +1,5 @@
 // An upgrade by a call of the engine: its file, its answers, and what the files stand for where it is stopped.
+ghost use Rattle.std.specs.Prelude.{false};
 ghost use Rattle.formats.specs.Objects.{IsInRange};
 
 use crate::calls::{TUNING, does, drains, puts};
@@ -21,12 +22,14 @@ const SMALL: Params = Params {
     objects: 8,
     cap: 64,
     limit: 65536,
+    more: false,
 };
 
 const LARGE: Params = Params {
     objects: 16,
     cap: 128,
     limit: 65536,
+    more: false,
 };
 
 // Objects, the values that are put into them, and whether all is installed then: objects 0 and 1 stand in their second slots,
@@ -201,13 +204,14 @@ fn a_store_is_upgraded_once(rt: HostRuntime) -> Result<(), Fail> {
 
 // Whether these numbers are too small for the store, whose file stays as it was.
 fn is_too_small(alloc: Global, objects: u32, cap: u32) -> Result<bool, AllocError>
-    requires { IsInRange (record { objects = objects; cap = cap; limit = 65536 }) }
+    requires { IsInRange (record { objects = objects; cap = cap; limit = 65536; more = false }) }
 {
     let mut machine = made(alloc)?;
     let params = Params {
         objects,
         cap,
         limit: 65536,
+        more: false,
     };
     let refused = matches!(
         upgrade(alloc, &mut machine, params),

@@ -1,3 +1,4 @@
+pub mod Closed
 mod Undone
 mod Making
 mod RoomLemmas

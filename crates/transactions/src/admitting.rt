@@ -44,6 +44,7 @@ pub(crate) fn admit<O: Oper, M: Machine>(
     let bounds = Bounds {
         objects: params.objects,
         cap: params.cap,
+        more: params.more,
     };
     if let Err(refusal) = op.shape(bounds) {
         return Err(ExecErr::Refused(refusal));

@@ -12,6 +12,7 @@ const BANK: Params = Params {
     objects: 8,
     cap: 16,
     limit: 4128,
+    more: false,
 };
 
 const TUNING: Tuning = Tuning {
