@@ -1,2 +1,6 @@
 mod OneMore
 mod Unchanged
+mod Windows
+mod Looked
+mod LentCalls
+mod Fronts

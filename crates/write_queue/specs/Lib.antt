@@ -2,4 +2,8 @@ pub mod Codes
 pub mod Handed
 pub mod Waiting
 pub mod Before
+pub mod Looking
+pub mod LookingLaws
+pub mod Lent
+pub mod Lending
 pub mod Memory

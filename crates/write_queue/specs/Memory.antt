@@ -1,12 +1,11 @@
 -- What proofs know of a machine with a queue, and what its calls do to it.
-use Rattle.std.specs.Prelude.{◌≡◌, ℕ, ◌+◌, ◌-◌, ◌^◌, ◌≤◌, min, List, [], ◌∷◌, ◌++◌, length, take}
+use Rattle.std.specs.Prelude.{◌≡◌, ℕ, ◌+◌, ◌-◌, ◌^◌, min, List, [], ◌∷◌, ◌++◌}
 use Rattle.disk_model.specs.Disk.{Files, Disk, IsDisk}
 use Rattle.disk_model.specs.Exchanged.{with_exchange, lawful_exchange}
 use Rattle.disk_model.specs.Growing.{files_of}
 use Rattle.disk_model.specs.Call.{Call}
-use Rattle.disk_model.specs.Calls.{DiskState, IsImage, disk_start, disk_after}
 use Rattle.write_queue.specs.Waiting.{waiting}
-use Rattle.write_queue.specs.Before.{first_of, exchanged, all_calls, disk_by, lawful_by}
+use Rattle.write_queue.specs.Before.{IsLeftBy, first_of, exchanged, all_calls, disk_by, lawful_by}
 use Rattle.write_queue.specs.declared.queue_mem.QueueMem.{QueueMem}
 
 -- the files as they were handed in
@@ -31,17 +30,9 @@ lawful m =
     let d = disk_by (first_of m.past) (all_calls m.past m.queue) (files_of m.files) m.disk_faults m.say_faults in
     lawful_exchange (exchanged m.past) d (lawful_by (first_of m.past) (all_calls m.past m.queue) (files_of m.files) m.disk_faults m.say_faults m.made)
 
--- Real files that held what was handed in, all of it on the disk, once what was taken was made on them, and then so many of
--- the calls that wait, in order. A write that a crash cuts short is among them: of it a crash leaves any bytes.
-abbrev pub real_after : ℕ → QueueMem → DiskState
-real_after k m = disk_after (disk_start (first_files m)) (taken_from m ++ take k (waiting_in m))
-
 -- a crash may leave these real files, and these bytes printed, where some front of the queue was made
-pub record IsLeftByFront (m : QueueMem) (files : Files) (said : List ℕ) : Type 0 where
-  pub front : ℕ
-  pub within : front ≤ length (waiting_in m)
-  pub image : IsImage (real_after front m) files
-  pub printed : said ≡ (real_after front m).said
+abbrev pub IsLeftByFront : QueueMem → Files → List ℕ → Type 0
+IsLeftByFront m = IsLeftBy (first_files m) (taken_from m) (waiting_in m)
 
 -- the same calls, the same files, and the same counts of faults: the same to whoever looks at the machine
 pub record LooksTheSame (old new : QueueMem) : Type 0 where

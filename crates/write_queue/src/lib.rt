@@ -3,17 +3,23 @@
 //!
 //! The one contract is [`QueueMem`], a [`disk_model::Machine`] that tells its files and what a crash may leave of them, so that
 //! all that is proved of a store over such a machine holds over it. [`fronts_are_what_is_left`] says what that is worth for the real
-//! files: what a crash leaves of them, where some front of the queue was made on them, is what it may leave of the machine. It
-//! depends on disk_model alone.
+//! files: what a crash leaves of them, where some front of the queue was made on them, is what it may leave of the machine.
+//! [`LentMem`] is such a machine for one call: it copies no file, but looks at bytes that are lent, through what the call has
+//! queued. It depends on disk_model alone.
 #![tactic(auto)]
 
 mod adding;
 mod laws;
+mod lent;
+mod lent_mem;
+mod looking;
 mod past;
 mod queue;
 mod queue_mem;
 mod queued;
 
-pub use laws::fronts_are_what_is_left;
+pub use laws::{fronts_are_what_is_left, lent_fronts_are_what_is_left};
+pub use lent_mem::LentMem;
+pub use past::Past;
 pub use queue_mem::QueueMem;
 pub use queued::Queued;

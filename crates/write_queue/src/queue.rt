@@ -1,8 +1,9 @@
 // Calls that wait for the caller.
-ghost use Rattle.std.specs.Prelude.{◌≡◌, ◌++◌, [], ◌∷◌, OnOk};
+ghost use Rattle.std.specs.Prelude.{◌≡◌, ◌+◌, ◌<◌, ◌^◌, ◌++◌, [], ◌∷◌, OnOk, OnErr, length};
+ghost use Rattle.disk_model.specs.Call.{Write};
 
 use crate::Queued;
-use disk_model::Failed;
+use disk_model::{Failed, FileNo};
 use std::alloc::Global;
 use std::mem;
 
@@ -40,6 +41,47 @@ impl Queue {
         ensures { waiting self.new ≡ waiting self.old ++ call_of call ∷ [] }
     {
         self.calls.push(call).unwrap();
+    }
+
+    /// Adds a write that ends within the places of 64 bits. Else, and out of memory, it changes nothing.
+    pub fn add_write(
+        &mut self,
+        alloc: Global,
+        file: FileNo,
+        at: u64,
+        bytes: &[u8],
+    ) -> Result<(), Failed>
+        ensures short { OnOk result (at + length bytes.now < 2 ^ 64) }
+        ensures added { OnOk result (waiting self.new ≡ waiting self.old ++ Write file at bytes.now ∷ []) }
+        ensures same { OnErr result (waiting self.new ≡ waiting self.old) }
+    {
+        if at.checked_add(bytes.len() as u64).is_none() {
+            return Err(Failed);
+        }
+        let Ok(copy) = Vec::from_slice(alloc, bytes) else {
+            return Err(Failed);
+        };
+        self.reserve()?;
+        self.add(Queued::Write {
+            file,
+            at,
+            bytes: copy,
+        });
+        Ok(())
+    }
+
+    /// The calls.
+    pub fn as_slice(&self) -> &[Queued]
+        ensures { calls_in result.now ≡ waiting self.now }
+    {
+        self.calls.as_slice()
+    }
+
+    /// The calls, moved out.
+    pub fn into_vec(self) -> Vec<Queued>
+        ensures { calls_in result.items ≡ waiting self }
+    {
+        self.calls
     }
 
     /// Gives the calls, and has none then.
