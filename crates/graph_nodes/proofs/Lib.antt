@@ -1,3 +1,4 @@
+pub mod Back
 pub mod Options
 pub mod Read
 pub mod Found

@@ -4,10 +4,10 @@ ghost use Rattle.graph_nodes.specs.Arcs.{AreCells, IsStartOf};
 ghost use Rattle.graph_nodes.specs.Search.{HasNoArcs, IsBare, IsBehind};
 
 use crate::nodes::Nodes;
-use number_lists::{Chains, PackedOption};
+use number_lists::{Chains, PackedOption, SparseChains};
 
 /// Whether the first cell in the list of the node w has an arc from the node v.
-pub(crate) fn is_led_from(v: u32, w: u32, nodes: &Nodes, into: &Chains) -> bool
+pub(crate) fn is_led_from(v: u32, w: u32, nodes: &Nodes, into: &SparseChains) -> bool
     requires list { w < length into.now.lists }
     requires cells { AreCells nodes.now.arcs.now nodes.now.node.now (list_at into.now.lists w) }
     ensures { IsTrue result → IsBehind nodes.now.arcs.now nodes.now.node.now into.now v w }

@@ -6,14 +6,14 @@ ghost use Rattle.graph_nodes.specs.Removed.{IsInOrder};
 
 use crate::names::Names;
 use crate::settling::settle;
-use number_lists::{Chains, PackedOption};
+use number_lists::{PackedOption, SparseChains};
 
 /// Takes away the arcs of the slots' cells.
 pub(crate) fn clear_slots(
     slots: &[u32],
     arcs: &mut [PackedOption],
     node: &[u32],
-    into: &mut Chains,
+    into: &mut SparseChains,
     names: &mut Names,
 )
     requires slots { (i : ℕ) → IsTrue (is_among i slots.now) → i < length node.now }
@@ -32,7 +32,7 @@ fn clear_slot(
     slot: u32,
     arcs: &mut [PackedOption],
     node: &[u32],
-    into: &mut Chains,
+    into: &mut SparseChains,
     names: &mut Names,
 )
     requires slot { slot < length node.now }
@@ -51,7 +51,7 @@ fn clear_arc(
     cell: usize,
     arcs: &mut [PackedOption],
     node: &[u32],
-    into: &mut Chains,
+    into: &mut SparseChains,
     names: &mut Names,
 )
     requires cell { cell < length arcs.old }

@@ -19,7 +19,7 @@ use crate::pruning::tidy;
 use crate::removing::{release, scatter};
 use crate::searches::Searches;
 use crate::uniting::find_way;
-use number_lists::{Chains, PackedOption, push_in_room};
+use number_lists::{Chains, PackedOption, SparseChains, push_in_room};
 use oper_core::Memory;
 use std::alloc::Global;
 use std::marker::Model;
@@ -36,7 +36,7 @@ pub struct SlotGraph {
     names: Names,
     members: Chains,
     /// By node, the cells whose arcs lead into it from another, and some without such an arc, but never those alone.
-    into: Chains,
+    into: SparseChains,
     searches: Searches,
     levels: Levels,
     /// How many looks at cells are saved up.
@@ -74,7 +74,7 @@ impl SlotGraph {
             held: Vec::new(alloc),
             names: Names::new(alloc),
             members: Chains::new(alloc),
-            into: Chains::new(alloc),
+            into: SparseChains::new(alloc),
             searches: Searches::new(alloc),
             levels: Levels::new(alloc),
             saved: 0,
@@ -281,7 +281,7 @@ impl SlotGraph {
 }
 
 /// Adds eight cells without arcs.
-fn add_cells(arcs: &mut Vec<PackedOption>, into: &mut Chains)
+fn add_cells(arcs: &mut Vec<PackedOption>, into: &mut SparseChains)
     requires arcs { vec_len arcs.old + 8 ≤ vec_capacity arcs.old }
     requires into { 8 ≤ into.old.item_room }
     ensures added { AreCellsAdded 8 arcs.old.items arcs.new.items into.old into.new }
@@ -294,7 +294,7 @@ fn add_cells(arcs: &mut Vec<PackedOption>, into: &mut Chains)
 }
 
 /// Adds eight cells, which are in no list.
-fn add_items(lists: &mut Chains)
+fn add_items(lists: &mut SparseChains)
     requires { 8 ≤ lists.old.item_room }
     ensures { AreItemsAdded 8 lists.old lists.new }
 {

@@ -1,7 +1,7 @@
 ghost use Rattle.std.specs.Prelude.{◌≡◌, ◌≤◌, ◌+◌, [], OnOk, length};
 ghost use Rattle.std.specs.Vec.{vec_capacity};
 
-use number_lists::Chains;
+use number_lists::SparseChains;
 use oper_core::Memory;
 use std::alloc::Global;
 
@@ -14,7 +14,7 @@ pub(crate) struct Levels {
     /// By node, its level: no arc leads to a lower one.
     pub(crate) level: Vec<u32>,
     /// By node, the cells whose arcs lead into it from another node of its level, and some without such an arc.
-    pub(crate) near: Chains,
+    pub(crate) near: SparseChains,
     /// How many looks at cells it took to raise nodes.
     pub(crate) spent: u64,
     /// How often a search was given up.
@@ -32,7 +32,7 @@ impl Levels {
     {
         Levels {
             level: Vec::new(alloc),
-            near: Chains::new(alloc),
+            near: SparseChains::new(alloc),
             spent: 0,
             raises: 0,
             used: 0,

@@ -7,14 +7,14 @@ ghost use Rattle.graph_nodes.specs.Arcs.{arc_at, node_at};
 ghost use Rattle.graph_nodes.specs.Levels.{AreLinked, IsLinkable, level_at};
 
 use crate::nodes::Nodes;
-use number_lists::{Chains, NumberSet};
+use number_lists::{NumberSet, SparseChains};
 
 /// Puts the cells of these nodes that have arcs to other nodes of one level into the lists of these.
 pub(crate) fn link_all(
     ahead: &NumberSet,
     nodes: &Nodes,
     level: &[u32],
-    near: &mut Chains,
+    near: &mut SparseChains,
     slots: &mut Vec<u32>,
 )
     requires ready { IsLinkable nodes.now.arcs.now nodes.now.node.now nodes.now.members.now level.now near.old }
@@ -30,7 +30,7 @@ pub(crate) fn link_all(
 }
 
 /// Puts the cells of the node that have arcs to other nodes of its level into the lists of these.
-fn link_node(n: u32, nodes: &Nodes, level: &[u32], near: &mut Chains, slots: &mut Vec<u32>)
+fn link_node(n: u32, nodes: &Nodes, level: &[u32], near: &mut SparseChains, slots: &mut Vec<u32>)
     requires n { n < length nodes.now.node.now }
     requires ready { IsLinkable nodes.now.arcs.now nodes.now.node.now nodes.now.members.now level.now near.old }
     requires room { nodes.now.members.now.items ≤ vec_capacity slots.old }
@@ -43,7 +43,7 @@ fn link_node(n: u32, nodes: &Nodes, level: &[u32], near: &mut Chains, slots: &mu
 }
 
 /// Puts the cells of the slots that have arcs to other nodes of one level into the lists of these.
-fn link_slots(slots: &[u32], nodes: &Nodes, level: &[u32], near: &mut Chains)
+fn link_slots(slots: &[u32], nodes: &Nodes, level: &[u32], near: &mut SparseChains)
     requires slots { (i : ℕ) → IsTrue (is_among i slots.now) → i < length nodes.now.node.now }
     requires distinct { IsDistinct nat_eq slots.now }
     requires ready { IsLinkable nodes.now.arcs.now nodes.now.node.now nodes.now.members.now level.now near.old }
@@ -56,7 +56,7 @@ fn link_slots(slots: &[u32], nodes: &Nodes, level: &[u32], near: &mut Chains)
 }
 
 /// Puts the cells of the slot that have arcs to other nodes of one level into the lists of these.
-fn link_slot(slot: u32, nodes: &Nodes, level: &[u32], near: &mut Chains)
+fn link_slot(slot: u32, nodes: &Nodes, level: &[u32], near: &mut SparseChains)
     requires slot { slot < length nodes.now.node.now }
     requires ready { IsLinkable nodes.now.arcs.now nodes.now.node.now nodes.now.members.now level.now near.old }
     requires free { (c j : ℕ) → c / 8 ≡ slot → arc_at nodes.now.arcs.now c ≡ Some j → IsFree near.old.lists c }
@@ -68,7 +68,7 @@ fn link_slot(slot: u32, nodes: &Nodes, level: &[u32], near: &mut Chains)
 }
 
 /// Puts the cell into the list of the node to which its arc leads, if that is another one and both are of one level.
-pub(crate) fn link_cell(cell: u32, nodes: &Nodes, level: &[u32], near: &mut Chains)
+pub(crate) fn link_cell(cell: u32, nodes: &Nodes, level: &[u32], near: &mut SparseChains)
     requires cell { cell < length nodes.now.arcs.now }
     requires ready { IsLinkable nodes.now.arcs.now nodes.now.node.now nodes.now.members.now level.now near.old }
     requires free { (j : ℕ) → arc_at nodes.now.arcs.now cell ≡ Some j → IsFree near.old.lists cell }

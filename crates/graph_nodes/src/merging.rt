@@ -5,7 +5,7 @@ ghost use Rattle.graph_nodes.specs.Kept.{AreGathered};
 ghost use Rattle.graph_nodes.specs.Merge.{IsFiled, IsRelabelled, IsAbsorbed, AreMerged, AreMoved, gathered, renamed};
 
 use crate::names::Names;
-use number_lists::{Chains, NumberSet};
+use number_lists::{Chains, NumberSet, SparseChains};
 
 /// Merges all taken nodes into one of them.
 fn merge(
@@ -13,7 +13,7 @@ fn merge(
     taken: &NumberSet,
     node: &mut [u32],
     members: &mut Chains,
-    into: &mut Chains,
+    into: &mut SparseChains,
     slots: &mut Vec<u32>,
 )
     requires one { one < length members.old.lists }
@@ -35,7 +35,7 @@ pub(crate) fn gather(
     node: &mut [u32],
     names: &mut Names,
     members: &mut Chains,
-    into: &mut Chains,
+    into: &mut SparseChains,
     slots: &mut Vec<u32>,
 )
     requires taken { taken.now.end ≤ length members.old.lists }
@@ -55,7 +55,7 @@ pub(crate) fn gather(
 }
 
 /// Moves the cells in the lists of the taken nodes to the list of one of them.
-pub(crate) fn join_lists(one: u32, taken: &NumberSet, lists: &mut Chains)
+pub(crate) fn join_lists(one: u32, taken: &NumberSet, lists: &mut SparseChains)
     requires one { one < length lists.old.lists }
     requires taken { taken.now.end ≤ length lists.old.lists }
     ensures { AreMoved (gathered taken.now.members one) lists.old lists.new }
@@ -66,7 +66,7 @@ pub(crate) fn join_lists(one: u32, taken: &NumberSet, lists: &mut Chains)
 }
 
 /// Moves the cells in the list of the node to that of another, unless they are the same.
-fn join_list(n: u32, one: u32, lists: &mut Chains)
+fn join_list(n: u32, one: u32, lists: &mut SparseChains)
     requires n { n < length lists.old.lists }
     requires one { one < length lists.old.lists }
     ensures { AreMoved (renamed n one) lists.old lists.new }
@@ -109,7 +109,7 @@ fn absorb(
     one: u32,
     node: &mut [u32],
     members: &mut Chains,
-    into: &mut Chains,
+    into: &mut SparseChains,
     slots: &mut Vec<u32>,
 )
     requires n { n < length members.old.lists }

@@ -10,7 +10,7 @@ ghost use Rattle.graph_nodes.specs.Levels.{ArePruned};
 
 use crate::nodes::Nodes;
 use crate::settling::{is_from_outside, settle};
-use number_lists::{Chains, NumberSet, PackedOption};
+use number_lists::{NumberSet, PackedOption, SparseChains};
 
 /// How many arcs have to be inserted for each cell that is looked at: a look is dear where there are many slots, since it
 /// waits for memory.
@@ -25,7 +25,7 @@ pub(crate) fn tidy(
     n: u32,
     arcs: &[PackedOption],
     node: &[u32],
-    into: &mut Chains,
+    into: &mut SparseChains,
     cells: &mut Vec<u32>,
     saved: &mut u64,
 )
@@ -53,7 +53,7 @@ pub(crate) fn prune_found(
     stop: u32,
     count: usize,
     nodes: &Nodes,
-    near: &mut Chains,
+    near: &mut SparseChains,
     cells: &mut Vec<u32>,
     found: &NumberSet,
 )
@@ -74,7 +74,7 @@ pub(crate) fn prune_found(
 }
 
 /// Drops all cells without an arc from another node from the node's list.
-fn prune(n: u32, arcs: &[PackedOption], node: &[u32], into: &mut Chains, cells: &mut Vec<u32>)
+fn prune(n: u32, arcs: &[PackedOption], node: &[u32], into: &mut SparseChains, cells: &mut Vec<u32>)
     requires list { n < length into.old.lists }
     requires cells { AreCells arcs.now node.now (list_at into.old.lists n) }
     requires items { length arcs.now ≤ into.old.items }
@@ -88,7 +88,7 @@ fn prune(n: u32, arcs: &[PackedOption], node: &[u32], into: &mut Chains, cells: 
 }
 
 /// Puts those of the cells into the node's empty list that have an arc from another node.
-fn put_back(cells: &[u32], n: u32, arcs: &[PackedOption], node: &[u32], into: &mut Chains)
+fn put_back(cells: &[u32], n: u32, arcs: &[PackedOption], node: &[u32], into: &mut SparseChains)
     requires list { n < length into.old.lists }
     requires cells { AreCells arcs.now node.now cells.now }
     requires distinct { IsDistinct nat_eq cells.now }
@@ -103,7 +103,7 @@ fn put_back(cells: &[u32], n: u32, arcs: &[PackedOption], node: &[u32], into: &m
 }
 
 /// Puts the cell into the node's list, if it has an arc from another node.
-fn push_if_outside(cell: u32, n: u32, arcs: &[PackedOption], node: &[u32], into: &mut Chains)
+fn push_if_outside(cell: u32, n: u32, arcs: &[PackedOption], node: &[u32], into: &mut SparseChains)
     requires list { n < length into.old.lists }
     requires cell { cell < length arcs.now }
     requires slot { cell / 8 < length node.now }

@@ -7,7 +7,7 @@ use crate::ahead::find_low;
 use crate::levels::Levels;
 use crate::linking::link_all;
 use crate::nodes::Nodes;
-use number_lists::{Chains, NumberSet};
+use number_lists::{NumberSet, SparseChains};
 
 /// Raises w and all that it reaches to the level, where they are below it. Answers how many cells were looked at.
 pub(crate) fn raise(
@@ -43,7 +43,7 @@ pub(crate) fn raise(
 }
 
 /// Sets the level of these nodes, whose lists of cells from nodes of their level are empty then.
-fn lift(l: u32, ahead: &NumberSet, level: &mut Vec<u32>, near: &mut Chains)
+fn lift(l: u32, ahead: &NumberSet, level: &mut Vec<u32>, near: &mut SparseChains)
     requires levels { ahead.now.end ≤ length level.old.items }
     requires lists { ahead.now.end ≤ length near.old.lists }
     ensures lifted { AreLifted ahead.now.members l level.old.items level.new.items near.old near.new }

@@ -8,7 +8,7 @@ ghost use Rattle.graph_nodes.specs.Kept.{IsSearchable, IsWide};
 use crate::front::Front;
 use crate::nodes::Nodes;
 use crate::searches::Searches;
-use number_lists::{Chains, NumberSet, PackedOption};
+use number_lists::{NumberSet, PackedOption, SparseChains};
 
 /// Searches from v against the arcs of the cells in the lists, until the search is over or has looked at more cells than
 /// so many.
@@ -17,7 +17,7 @@ pub(crate) fn look(
     stop: u32,
     looks: u64,
     nodes: &Nodes,
-    near: &Chains,
+    near: &SparseChains,
     searches: &mut Searches,
 )
     requires start { v < searches.old.found.end }
@@ -47,7 +47,13 @@ pub(crate) fn look(
 }
 
 /// The same, until the search is over.
-pub(crate) fn look_all(v: u32, stop: u32, nodes: &Nodes, near: &Chains, searches: &mut Searches)
+pub(crate) fn look_all(
+    v: u32,
+    stop: u32,
+    nodes: &Nodes,
+    near: &SparseChains,
+    searches: &mut Searches,
+)
     requires start { v < searches.old.found.end }
     requires ready { IsSearchable nodes.now.arcs.now nodes.now.node.now near.now searches.old.found.end (vec_capacity searches.old.cells) }
     ensures against { IsSearching nodes.now.arcs.now nodes.now.node.now near.now v stop searches.new.back.next searches.new.found.members }
@@ -76,7 +82,7 @@ pub(crate) fn look_all(v: u32, stop: u32, nodes: &Nodes, near: &Chains, searches
 fn step_back(
     stop: u32,
     nodes: &Nodes,
-    near: &Chains,
+    near: &SparseChains,
     cells: &mut Vec<u32>,
     found: &mut NumberSet,
     back: &mut Front,
@@ -101,7 +107,7 @@ fn expand(
     stop: u32,
     arcs: &[PackedOption],
     node: &[u32],
-    into: &Chains,
+    into: &SparseChains,
     cells: &mut Vec<u32>,
     found: &mut NumberSet,
 )

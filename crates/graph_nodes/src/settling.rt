@@ -3,10 +3,10 @@ ghost use Rattle.number_lists.specs.Lists.{list_at};
 ghost use Rattle.graph_nodes.specs.Arcs.{AreCells, IsFromOutside};
 ghost use Rattle.graph_nodes.specs.Into.{IsSettled};
 
-use number_lists::{Chains, PackedOption};
+use number_lists::{PackedOption, SparseChains};
 
 /// Drops cells from the front of the node's list until the first one has an arc from another node.
-pub(crate) fn settle(n: u32, arcs: &[PackedOption], node: &[u32], into: &mut Chains)
+pub(crate) fn settle(n: u32, arcs: &[PackedOption], node: &[u32], into: &mut SparseChains)
     requires list { n < length into.old.lists }
     requires cells { AreCells arcs.now node.now (list_at into.old.lists n) }
     ensures { IsSettled arcs.now node.now n into.old into.new }

@@ -8,13 +8,13 @@ ghost use Rattle.graph_nodes.specs.Search.{IsBehind};
 ghost use Rattle.graph_nodes.specs.Spread.{StartsIn, StartAmongIn, IsTakenUp, IsRoundDone, IsSpread};
 
 use crate::nodes::Nodes;
-use number_lists::{Chains, NumberSet, PackedOption};
+use number_lists::{NumberSet, PackedOption, SparseChains};
 
 /// Takes the node w and all that walks from it lead to among the nodes that were found.
 pub(crate) fn spread(
     w: u32,
     nodes: &Nodes,
-    into: &Chains,
+    into: &SparseChains,
     cells: &mut Vec<u32>,
     found: &NumberSet,
     taken: &mut NumberSet,
@@ -40,7 +40,7 @@ pub(crate) fn spread(
 fn take_round(
     arcs: &[PackedOption],
     node: &[u32],
-    into: &Chains,
+    into: &SparseChains,
     cells: &mut Vec<u32>,
     found: &NumberSet,
     taken: &mut NumberSet,
@@ -65,7 +65,7 @@ fn take_up(
     n: u32,
     arcs: &[PackedOption],
     node: &[u32],
-    into: &Chains,
+    into: &SparseChains,
     cells: &mut Vec<u32>,
     taken: &mut NumberSet,
 )

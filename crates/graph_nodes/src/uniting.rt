@@ -13,7 +13,7 @@ use crate::raising::raise;
 use crate::search::{look, look_all};
 use crate::searches::Searches;
 use crate::spreading::spread;
-use number_lists::Chains;
+use number_lists::SparseChains;
 use std::mem;
 
 /// Finds the nodes that an arc from v to w makes one: those on the way from w to v, and none where it joins no nodes. The
@@ -24,7 +24,7 @@ pub(crate) fn find_way(
     v: u32,
     w: u32,
     nodes: &Nodes,
-    into: &Chains,
+    into: &SparseChains,
     levels: &mut Levels,
     searches: &mut Searches,
 )

@@ -61,7 +61,7 @@ among-set (ys ∷ lists) zero (suc j) x k there = inl there
 among-set (ys ∷ lists) (suc i) zero x k there = inl there
 among-set (ys ∷ lists) (suc i) (suc j) x k there = elim (among-set lists i j x k there) [ inl r ↦ inl r | inr r ↦ inr (ap suc r.0, r.1) ]
 
-all-apart : (x : ℕ) (ys : List ℕ) → (IsTrue (is_among x ys) → ⊥) → AllByRecursion (λ y. nat_eq x y ≡ Bool.false) ys
+pub all-apart : (x : ℕ) (ys : List ℕ) → (IsTrue (is_among x ys) → ⊥) → AllByRecursion (λ y. nat_eq x y ≡ Bool.false) ys
 all-apart x [] free = tt
 all-apart x (y ∷ ys) free = (false_from_ne_true _ (λ e. free (or_left (x == y) _ e)), all-apart x ys (λ there. free (or_right (x == y) _ there)))
 
@@ -134,7 +134,7 @@ none-equal : (x : ℕ) (ys : List ℕ) → AllByRecursion (λ y. nat_eq x y ≡ 
 none-equal x [] all there = both_ways _ refl there
 none-equal x (y ∷ ys) all there = elim (or_cases (x == y) (is_among x ys) there) [ inl e ↦ both_ways _ all.0 e | inr r ↦ none-equal x ys all.1 r ]
 
-first-apart : (x : ℕ) (ys : List ℕ) → IsDistinct nat_eq (x ∷ ys) → (IsTrue (is_among x ys) → ⊥) × IsDistinct nat_eq ys
+pub first-apart : (x : ℕ) (ys : List ℕ) → IsDistinct nat_eq (x ∷ ys) → (IsTrue (is_among x ys) → ⊥) × IsDistinct nat_eq ys
 unfolding IsDistinct
 first-apart x ys is = (none-equal x ys is.0, is.1)
 

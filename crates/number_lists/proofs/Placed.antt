@@ -43,7 +43,7 @@ read-left [] i v lt = absurd (omega arith)
 read-left (x ∷ xs) zero v lt = refl
 read-left (x ∷ xs) (suc i) v lt = read-left xs i v (omega arith)
 
-read-last : (xs : List ℕ) (v : ℕ) → slice_index (xs ++ v ∷ []) (length xs) ≡ v
+pub read-last : (xs : List ℕ) (v : ℕ) → slice_index (xs ++ v ∷ []) (length xs) ≡ v
 read-last [] v = refl
 read-last (x ∷ xs) v = read-last xs v
 
@@ -56,7 +56,7 @@ parts xs v i lt = elim (cases_lt i (length xs)) [
       inr (e, ap (λ (k : ℕ). slice_index (xs ++ v ∷ []) k) e ∙ read-last xs v)
 ]
 
-distinct-push : (xs : List ℕ) (n : ℕ) → IsFalse (is_among n xs) → IsDistinct nat_eq xs → IsDistinct nat_eq (xs ++ n ∷ [])
+pub distinct-push : (xs : List ℕ) (n : ℕ) → IsFalse (is_among n xs) → IsDistinct nat_eq xs → IsDistinct nat_eq (xs ++ n ∷ [])
 distinct-push xs n out are = IsDistinct-push nat_eq_equiv xs n are out
 
 -- one number more, which was not there
@@ -93,7 +93,7 @@ pub placed-none : (place : List ℕ) → ArePlaced [] place
 unfolding IsDistinct
 placed-none place = record { below = λ i low. absurd (omega arith); at = λ i low. absurd (omega arith); distinct = tt }
 
-among-more : (k n : ℕ) (xs : List ℕ) → IsTrue (is_among k (xs ++ n ∷ [])) ↔ (IsTrue (is_among k xs) ⊎ (k ≡ n))
+pub among-more : (k n : ℕ) (xs : List ℕ) → IsTrue (is_among k (xs ++ n ∷ [])) ↔ (IsTrue (is_among k xs) ⊎ (k ≡ n))
 among-more k n [] = ((λ t. elim (or_cases (k == n) false t) [ inl e ↦ inr (eqb-true k n e) | inr r ↦ absurd (both_ways _ refl r) ]), (λ s. elim s [ inl r ↦ absurd (both_ways _ refl r) | inr e ↦ or_left (k == n) false (eq-eqb k n e) ]))
 among-more k n (x ∷ xs) =
     let on = among-more k n xs in (

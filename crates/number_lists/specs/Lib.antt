@@ -2,7 +2,8 @@ pub mod Lists
 pub mod Links
 pub mod Followed
 pub mod Members
+pub mod Sparse
 pub mod Marks
-pub mod Back
+pub mod Counts
 pub mod MarkLaws
 pub mod Packed

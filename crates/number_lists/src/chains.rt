@@ -53,6 +53,14 @@ impl Chains {
         }
     }
 
+    /// How many lists there are.
+    pub fn len(&self) -> usize
+        ensures { result ≡ length self.now.lists }
+    {
+        let _next = &self.next;
+        self.chains.len()
+    }
+
     /// How many numbers a list has.
     pub fn count(&self, list: u32) -> usize
         requires { list < length self.now.lists }

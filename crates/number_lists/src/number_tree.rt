@@ -1,26 +1,22 @@
 ghost use Rattle.std.specs.Prelude.{◌≡◌, ◌≢◌, ℕ, ◌<◌, ◌≤◌, ◌+◌, ◌*◌, ◌/◌, ◌^◌, [], true, false, IsTrue, IsFalse, OnOk, length, slice_set};
-ghost use Rattle.std.specs.Vec.{vec_len, vec_capacity};
 ghost use Rattle.number_lists.specs.Marks.{mark_at, IsCount, IsNext, IsFirstBelow, IsNextRow, IsEmptyRow, AreLevels, IsGrown};
 
-use crate::push::push_in_room;
+use crate::level::{Level, ROW};
 use oper_core::Memory;
 use std::alloc::Global;
 use std::marker::Model;
-
-/// How many numbers a row has.
-const ROW: usize = 64;
 
 /// A set of numbers below an end, in which the next member is found without a look at each number.
 #[derive(Drop)]
 pub struct NumberTree {
     /// Whether each number is a member.
-    low: Vec<bool>,
+    low: Level,
     /// Whether each row of `low` has a member.
-    mid: Vec<bool>,
+    mid: Level,
     /// Whether each row of `mid` has one.
-    high: Vec<bool>,
+    high: Level,
     /// Whether each row of `high` has one.
-    top: Vec<bool>,
+    top: Level,
     count: usize,
     /// No number below this one is a member.
     least: usize,
@@ -30,15 +26,14 @@ pub struct NumberTree {
 
 impl Model for NumberTree {
     ghost use Rattle.std.specs.Prelude.{◌≡◌, ◌+◌, ◌≤◌, ◌^◌, length};
-    ghost use Rattle.std.specs.Vec.{vec_capacity};
     ghost use Rattle.number_lists.specs.Marks.{Marks, AreLevels, IsBelowMarks, count_marks};
 
     ghost Value = { Marks };
 
-    ghost view = { λ t. record { marks = t.low.items; room = t.room } };
+    ghost view = { λ t. record { marks = t.low.marks; room = t.room } };
 
-    ghost invariant = { λ t. AreLevels t.low.items t.mid.items t.high.items t.top.items × (t.count ≡ count_marks t.low.items) × IsBelowMarks t.least t.low.items × (length t.low.items ≤ 2 ^ 32) ×
-        (length t.low.items + t.room ≤ vec_capacity t.low) × (length t.mid.items + t.room ≤ vec_capacity t.mid) × (length t.high.items + t.room ≤ vec_capacity t.high) × (length t.top.items + t.room ≤ vec_capacity t.top) };
+    ghost invariant = { λ t. AreLevels t.low.marks t.mid.marks t.high.marks t.top.marks × (t.count ≡ count_marks t.low.marks) × IsBelowMarks t.least t.low.marks × (length t.low.marks ≤ 2 ^ 32) ×
+        (t.room ≤ t.low.room) × (t.room ≤ t.mid.room) × (t.room ≤ t.high.room) × (t.room ≤ t.top.room) };
 }
 
 impl NumberTree {
@@ -48,10 +43,10 @@ impl NumberTree {
         ensures room { result.room ≡ 0 }
     {
         NumberTree {
-            low: Vec::new(alloc),
-            mid: Vec::new(alloc),
-            high: Vec::new(alloc),
-            top: Vec::new(alloc),
+            low: Level::new(alloc),
+            mid: Level::new(alloc),
+            high: Level::new(alloc),
+            top: Level::new(alloc),
             count: 0,
             least: 0,
             room: 0,
@@ -71,7 +66,7 @@ impl NumberTree {
         requires { n < length self.now.marks }
         ensures { result ≡ mark_at self.now.marks n }
     {
-        self.low[n as usize]
+        self.low.has(n as usize)
     }
 
     /// Puts in a number, or takes it out.
@@ -94,15 +89,15 @@ impl NumberTree {
         ensures room { self.new.room ≡ self.old.room }
     {
         let n = n as usize;
-        if self.low[n] {
+        if self.low.has(n) {
             return;
         }
         mark(
             n,
-            self.low.as_mut_slice(),
-            self.mid.as_mut_slice(),
-            self.high.as_mut_slice(),
-            self.top.as_mut_slice(),
+            &mut self.low,
+            &mut self.mid,
+            &mut self.high,
+            &mut self.top,
         );
         self.count += 1;
         self.least = self.least.min(n);
@@ -115,15 +110,15 @@ impl NumberTree {
         ensures room { self.new.room ≡ self.old.room }
     {
         let n = n as usize;
-        if !self.low[n] {
+        if !self.low.has(n) {
             return;
         }
         unmark(
             n,
-            self.low.as_mut_slice(),
-            self.mid.as_mut_slice(),
-            self.high.as_mut_slice(),
-            self.top.as_mut_slice(),
+            &mut self.low,
+            &mut self.mid,
+            &mut self.high,
+            &mut self.top,
         );
         self.count -= 1;
         self.least = past(self.least, n);
@@ -142,16 +137,16 @@ impl NumberTree {
         ensures { IsNext self.now.marks from result }
     {
         let row = from / ROW + 1;
-        let near = first_in(self.low.as_slice(), from, row * ROW);
+        let near = first_in(self.low.marks(), from, row * ROW);
         if let Some(found) = near {
             return Some(found as u32);
         }
         let block = row / ROW + 1;
         let part = block / ROW + 1;
-        let parts = first_in(self.top.as_slice(), part, self.top.len());
-        let blocks = next_over(self.high.as_slice(), block, parts);
-        let rows = next_over(self.mid.as_slice(), row, blocks);
-        let Some(found) = next_over(self.low.as_slice(), from, rows) else {
+        let parts = first_in(self.top.marks(), part, self.top.len());
+        let blocks = next_over(self.high.marks(), block, parts);
+        let rows = next_over(self.mid.marks(), row, blocks);
+        let Some(found) = next_over(self.low.marks(), from, rows) else {
             return None;
         };
         Some(found as u32)
@@ -166,10 +161,10 @@ impl NumberTree {
         if self.room > 0 {
             return Ok(());
         }
-        self.low.reserve(1)?;
-        self.mid.reserve(1)?;
-        self.high.reserve(1)?;
-        self.top.reserve(1)?;
+        self.low.make_room()?;
+        self.mid.make_room()?;
+        self.high.make_room()?;
+        self.top.make_room()?;
         self.room = 1;
         Ok(())
     }
@@ -182,7 +177,7 @@ impl NumberTree {
         ensures end { length self.new.marks ≡ length self.old.marks + 1 }
         ensures room { self.old.room ≡ self.new.room + 1 }
     {
-        push_in_room(&mut self.low, false);
+        self.low.add();
         grow(self.low.len(), &mut self.mid);
         grow(self.mid.len(), &mut self.high);
         grow(self.high.len(), &mut self.top);
@@ -191,14 +186,15 @@ impl NumberTree {
 }
 
 /// Adds a row, where there are too few for so many entries below.
-fn grow(entries: usize, rows: &mut Vec<bool>)
-    requires room { vec_len rows.old < vec_capacity rows.old }
-    requires entries { entries ≤ 64 * length rows.old.items + 64 }
-    ensures grown { IsGrown entries rows.old.items rows.new.items }
-    ensures capacity { vec_capacity rows.old ≤ vec_capacity rows.new }
+fn grow(entries: usize, rows: &mut Level)
+    requires room { 0 < rows.old.room }
+    requires entries { entries ≤ 64 * length rows.old.marks + 64 }
+    requires small { entries ≤ 2 ^ 32 }
+    ensures grown { IsGrown entries rows.old.marks rows.new.marks }
+    ensures room { rows.old.room ≤ rows.new.room + 1 }
 {
     if entries / ROW >= rows.len() {
-        push_in_room(rows, false);
+        rows.add();
     }
 }
 
@@ -213,32 +209,32 @@ fn past(least: usize, n: usize) -> usize
 }
 
 /// Puts in the number, and marks its row in each level.
-fn mark(n: usize, low: &mut [bool], mid: &mut [bool], high: &mut [bool], top: &mut [bool])
-    requires below { n < length low.old }
-    requires levels { AreLevels low.old mid.old high.old top.old }
-    ensures low { low.new ≡ slice_set low.old n true }
-    ensures mid { length mid.new ≡ length mid.old }
-    ensures high { length high.new ≡ length high.old }
-    ensures top { length top.new ≡ length top.old }
-    ensures levels { AreLevels low.new mid.new high.new top.new }
+fn mark(n: usize, low: &mut Level, mid: &mut Level, high: &mut Level, top: &mut Level)
+    requires below { n < length low.old.marks }
+    requires levels { AreLevels low.old.marks mid.old.marks high.old.marks top.old.marks }
+    ensures low { (low.new.marks ≡ slice_set low.old.marks n true) × (low.new.room ≡ low.old.room) }
+    ensures mid { mid.new.room ≡ mid.old.room }
+    ensures high { high.new.room ≡ high.old.room }
+    ensures top { top.new.room ≡ top.old.room }
+    ensures levels { AreLevels low.new.marks mid.new.marks high.new.marks top.new.marks }
 {
     let row = n / ROW;
     let block = row / ROW;
-    low[n] = true;
-    mid[row] = true;
-    high[block] = true;
-    top[block / ROW] = true;
+    low.put(n);
+    mid.put(row);
+    high.put(block);
+    top.put(block / ROW);
 }
 
 /// Takes out the number, and the marks of its rows that have no others.
-fn unmark(n: usize, low: &mut [bool], mid: &mut [bool], high: &mut [bool], top: &mut [bool])
-    requires below { n < length low.old }
-    requires levels { AreLevels low.old mid.old high.old top.old }
-    ensures low { low.new ≡ slice_set low.old n false }
-    ensures mid { length mid.new ≡ length mid.old }
-    ensures high { length high.new ≡ length high.old }
-    ensures top { length top.new ≡ length top.old }
-    ensures levels { AreLevels low.new mid.new high.new top.new }
+fn unmark(n: usize, low: &mut Level, mid: &mut Level, high: &mut Level, top: &mut Level)
+    requires below { n < length low.old.marks }
+    requires levels { AreLevels low.old.marks mid.old.marks high.old.marks top.old.marks }
+    ensures low { (low.new.marks ≡ slice_set low.old.marks n false) × (low.new.room ≡ low.old.room) }
+    ensures mid { mid.new.room ≡ mid.old.room }
+    ensures high { high.new.room ≡ high.old.room }
+    ensures top { top.new.room ≡ top.old.room }
+    ensures levels { AreLevels low.new.marks mid.new.marks high.new.marks top.new.marks }
 {
     let row = n / ROW;
     if has_others(n, low) {
@@ -251,19 +247,19 @@ fn unmark(n: usize, low: &mut [bool], mid: &mut [bool], high: &mut [bool], top: 
     if has_others(block, high) {
         return;
     }
-    top[block / ROW] = false;
+    top.take(block / ROW);
 }
 
 /// Takes away the mark, and reports whether its row has others.
-fn has_others(n: usize, marks: &mut [bool]) -> bool
-    requires { n < length marks.old }
-    ensures marks { marks.new ≡ slice_set marks.old n false }
-    ensures others { IsTrue result → (i : ℕ) × (i / 64 ≡ n / 64) × IsTrue (mark_at marks.new i) }
-    ensures none { IsFalse result → IsEmptyRow marks.new (n / 64) }
+fn has_others(n: usize, level: &mut Level) -> bool
+    requires { n < length level.old.marks }
+    ensures marks { level.new.marks ≡ slice_set level.old.marks n false }
+    ensures room { level.new.room ≡ level.old.room }
+    ensures others { IsTrue result → (i : ℕ) × (i / 64 ≡ n / 64) × IsTrue (mark_at level.new.marks i) }
+    ensures none { IsFalse result → IsEmptyRow level.new.marks (n / 64) }
 {
-    marks[n] = false;
-    let row = n / ROW * ROW;
-    first_in(marks, row, row + ROW).is_some()
+    level.take(n);
+    level.has_marks(n)
 }
 
 /// The first mark at or above the number. `row` is the first row after that of the number that has a mark.

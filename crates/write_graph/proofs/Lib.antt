@@ -1,3 +1,4 @@
+pub mod Unlinked
 pub mod Place
 pub mod Tables
 pub mod Loops

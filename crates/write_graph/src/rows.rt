@@ -5,7 +5,7 @@ ghost use Rattle.write_graph.specs.RowTables.{IsRow};
 ghost use Rattle.write_graph.specs.Rows.{last_cell_of, waiting_of, AreEmpty, AreSameLast, AreSameWaiting, IsLastSet, IsWaiting, IsTaken, AreCellsAdded};
 
 use indexmap::IndexSet;
-use number_lists::{Chains, PackedOption, push_in_room};
+use number_lists::{PackedOption, SparseChains, push_in_room};
 use oper_core::Memory;
 use std::alloc::Global;
 use std::marker::Model;
@@ -18,7 +18,7 @@ const MOST: usize = 1 << 32;
 pub(crate) struct Rows {
     objects: IndexSet<u32>,
     last: Vec<PackedOption>,
-    waiting: Chains,
+    waiting: SparseChains,
 }
 
 impl Model for Rows {
@@ -43,7 +43,7 @@ impl Rows {
         Rows {
             objects: IndexSet::new(alloc),
             last: Vec::new(alloc),
-            waiting: Chains::new(alloc),
+            waiting: SparseChains::new(alloc),
         }
     }
 

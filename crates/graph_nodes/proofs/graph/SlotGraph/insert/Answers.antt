@@ -10,7 +10,7 @@ use Rattle.graph_nodes.specs.Levels.{AreLinked, AreStillLevelled, IsLinkable, le
 use Rattle.graph_nodes.specs.Merge.{AreMoved, gathered, IsFiled}
 use Rattle.graph_nodes.specs.Named.{Graph}
 use Rattle.number_lists.specs.MarkLaws.{mark-below}
-use Rattle.number_lists.specs.Back.{back-is}
+use Rattle.graph_nodes.proofs.Back.{back-is}
 use Rattle.graph_nodes.proofs.Ordered.{value-at, slot-in, joined-at, joined-below, kept-inserted, cell-free, pushed-cells}
 use Rattle.graph_nodes.proofs.Levelled.{have-as, have-inserted, level-room-more, linkable-kept, lost-still, ready-at, still-at}
 use Rattle.graph_nodes.proofs.Bare.{own-end}

@@ -3,7 +3,7 @@ use Rattle.std.specs.Prelude.{IsTrue}
 use Rattle.std.specs.Vec.{vec_capacity}
 use Rattle.oper_core.specs.State.{is_among}
 use Rattle.number_lists.specs.MarkLaws.{mark-below}
-use Rattle.number_lists.specs.Back.{back-is}
+use Rattle.graph_nodes.proofs.Back.{back-is}
 use Rattle.graph_nodes.specs.Arcs.{node_at, held_at}
 use Rattle.graph_nodes.specs.Into.{AreLed, AreCleared}
 use Rattle.graph_nodes.specs.Named.{Graph, IsMinimal, AreTold}
