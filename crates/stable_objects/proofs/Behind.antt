@@ -1,5 +1,6 @@
 -- A larger store that is laid out behind the slots of another.
 use Rattle.std.proofs.Common.{◌≡◌, inl, inr, ◌<◌, ◌≤◌, ◌+◌, ℕ, List, [], ◌∷◌, length, drop, refl, sym, ◌∙◌, ap, subst, arith}
+use Rattle.std.specs.Prelude.{false}
 use Rattle.std.proofs.lemmas.List.{drop_all}
 use Rattle.disk_model.specs.Disk.{HoldsAt}
 use Rattle.formats.specs.Bytes.{byte_at, number_at}
@@ -8,7 +9,7 @@ use Rattle.formats.specs.declared.form.Form.{Form}
 use Rattle.formats.specs.declared.layout.Layout.{Layout}
 use Rattle.formats.specs.declared.params.Params.{Params}
 use Rattle.stable_objects.specs.Larger.{IsLarger, larger_layout, seconded}
-use Rattle.stable_objects.specs.LayoutLaws.{first_is, second_in}
+use Rattle.stable_objects.specs.LayoutLaws.{first_is, first_unset, four_bytes, params_at_same, second_in}
 use Rattle.stable_objects.specs.Making.{KeepsFront, HasClosedSlots, IsNewFile}
 use Rattle.stable_objects.specs.Replacing.{AgreesOutside}
 use Rattle.stable_objects.specs.SlotsView.{SlotsView, AreOf}
@@ -53,23 +54,26 @@ module _ (slots : SlotsView) (q : Params) (old mid new : List ℕ) (are : AreOf 
       number_stays (second_form (bounds_of slots.params)).numbers (length (number_fields q)) mid new two place k (inl (omega (arith, within), omega (arith, within, reach, one.no_shorter)))
       ∙ number_stays (second_form (bounds_of slots.params)).first (length mid) old mid one place k (inl (omega (arith, within), omega (arith, within, reach)))
 
-  behind : (place : ℕ) → 9 ≤ place → number_at 4 place (seconded new) ≡ number_at 4 place new
-  behind place le = number_stays 8 1 new (seconded new) three place 4 (inr (omega (arith, le)))
+  behind : (k place : ℕ) → 9 ≤ place → number_at k place (seconded new) ≡ number_at k place new
+  behind k place le = number_stays 8 1 new (seconded new) three place k (inr (omega (arith, le)))
+
+  unset : slots.params.more ≡ false
+  unset = first_unset slots.params fits
 
   objects : number_at 4 9 (seconded new) ≡ slots.params.objects
-  objects = behind 9 (omega arith) ∙ early 4 9 (omega arith) ∙ ap (λ (p : Params). p.objects) numbers
+  objects = behind 4 9 (omega arith) ∙ early 4 9 (omega arith) ∙ four_bytes 9 old (ap (λ (p : Params). p.more) numbers ∙ unset) ∙ ap (λ (p : Params). p.objects) numbers
 
   cap : number_at 4 13 (seconded new) ≡ slots.params.cap
-  cap = behind 13 (omega arith) ∙ early 4 13 (omega arith) ∙ ap (λ (p : Params). p.cap) numbers
+  cap = behind 4 13 (omega arith) ∙ early 4 13 (omega arith) ∙ ap (λ (p : Params). p.cap) numbers
 
   form : form_in (seconded new) ≡ second_form (bounds_of slots.params)
-  form = second_in (seconded new) (byte_written 8 50 new) ∙ (λ i. second_form (record { objects = objects i; cap = cap i }))
+  form = second_in (seconded new) (byte_written 8 50 new) ∙ (λ i. second_form (record { objects = objects i; cap = cap i; more = sym unset i }))
 
   at_numbers : params_at (second_form (bounds_of slots.params)).numbers (seconded new) ≡ q
   at_numbers =
       let place = (second_form (bounds_of slots.params)).numbers in
       let own : params_at place new ≡ q = numbers_stand q (small_range q in_range) place new (drop (length (number_fields q)) (drop place new)) (stands_behind place (number_fields q) mid new holds) in
-      (λ i. record { objects = behind place (omega arith) i; cap = behind (place + 4) (omega arith) i; limit = behind (place + 8) (omega arith) i }) ∙ own
+      params_at_same place place (seconded new) new (λ k at within. behind k (place + at) (omega arith)) ∙ own
 
   params : params_in (seconded new) ≡ q
   params = ap (λ (f : Form). params_at f.numbers (seconded new)) form ∙ at_numbers
@@ -96,6 +100,7 @@ module _ (slots : SlotsView) (q : Params) (old mid new : List ℕ) (are : AreOf 
     objects = in_range.objects;
     no_shorter = larger.cap;
     cap = in_range.cap;
+    more = λ set. refl;
   }
 
   slots_closed : AreSlotsClosed q (seconded new)

@@ -3,7 +3,7 @@ use Rattle.std.proofs.Common.{◌≡◌, ◌≢◌, inl, inr, ◌<◌, ◌≤◌
 use Rattle.std.proofs.lemmas.Bool.{cases_eq, cases_lt, ltb-true, ltb-false, lt-ltb, le-ltb}
 use Rattle.std.proofs.lemmas.Grind.{get_or-set_at}
 use Rattle.std.proofs.lemmas.List.{get_or-set_other, get_or_default}
-use Rattle.disk_model.specs.Disk.{Disk, HoldsAt, In, IsDisk, Runs, Same, Stays, Torn}
+use Rattle.disk_model.specs.Disk.{Disk, Files, HoldsAt, In, IsDisk, Runs, Same, Stays, Torn}
 use Rattle.disk_model.specs.Moments.{runs_none, runs_wider}
 use Rattle.disk_model.specs.declared.machine.FileNo.TheVariants.{Objects}
 use Rattle.oper_core.specs.Cell.{Cell}
@@ -16,11 +16,11 @@ use Rattle.stable_objects.specs.SlotGates.{slot_gate}
 use Rattle.stable_objects.specs.SlotLaws.{closed_tells, place_of_file}
 use Rattle.stable_objects.specs.SlotsView.{SlotsView, AreHeads, AreOf, head, id_in, layout_of}
 use Rattle.stable_objects.specs.SpareLaws.{keeps_none}
-use Rattle.stable_objects.specs.Spares.{IsClosing, IsSpareByte, KeepsBut, KeepsButGates, KeepsButSpares, spare_id, spare_place}
+use Rattle.stable_objects.specs.Spares.{IsClosing, IsSpareByte, KeepsBut, KeepsButGates, KeepsButSpares, KeepsFilledBut, spare_id, spare_place}
 use Rattle.stable_objects.proofs.Bytes.{byte_written}
 use Rattle.stable_objects.proofs.Changed.{closed_lower, each_stays, kept, stands}
-use Rattle.stable_objects.proofs.Outside.{agrees_wider, byte_beside, held_agrees, torn_agrees}
-use Rattle.stable_objects.proofs.Places.{place_within}
+use Rattle.stable_objects.proofs.Outside.{agrees_wider, byte_beside, filled_beside, held_agrees, torn_agrees}
+use Rattle.stable_objects.proofs.Places.{place_within, places_apart}
 use Rattle.stable_objects.proofs.Put.{look_first}
 use Rattle.stable_objects.proofs.Replaced.{IsSpare, slot_room, spare}
 
@@ -65,6 +65,16 @@ module _ (slots : SlotsView) (x at : ℕ) (below : x < slots.params.objects) whe
   pub spare_run : spare_id slots x ≡ 0 → at ≡ spare_place slots x → (n : ℕ) → n ≤ slots.params.cap → (old new : Disk) → Runs (In Objects (Torn (at + 1) (12 + n))) Same old new → Runs (In Objects (KeepsButSpares slots)) Same old new
   spare_run closed here n short old new run =
       runs_wider old new (In Objects (Torn (at + 1) (12 + n))) (In Objects (KeepsButSpares slots)) (λ a b is. record { changed = torn_spare closed here n short (a Objects) (b Objects) is.changed; others = is.others }) run
+
+  -- what other slots are filled with stays
+  pub others_filled : at ≡ spare_place slots x → (n : ℕ) → n ≤ slots.params.cap → (old new : List ℕ) → Torn (at + 1) (12 + n) old new → KeepsFilledBut slots x old new
+  others_filled here n short old new torn y id value there differs fits filled =
+      let one = (spare slots x).two in
+      let two = (spare slots y).two in
+      let apart : 2 * y + spare_in slots y ≢ 2 * x + spare_in slots x = λ same. differs (omega (arith, same, one, two)) in
+      filled_beside (at + 1) (12 + n) (spare_place slots y) id value old new
+      (elim (places_apart (layout_of slots) x (spare_in slots x) y (spare_in slots y) apart) [ inl before ↦ inl (omega (arith, before, fits, here)) | inr behind ↦ inr (omega (arith, behind, short, here)) ])
+      (torn_agrees (at + 1) (12 + n) old new torn) filled
 
 -- two identifiers that are one are that of the object
 id_of_both : (slots : SlotsView) (x n : ℕ) → head slots x 0 ≡ n → head slots x 1 ≡ n → id_in slots x ≡ n
@@ -233,6 +243,11 @@ module _ (inside slots : SlotsView) (same : inside ≡ slots) (heads : AreHeads 
   pub spare_written : found ≡ 0 → (n : ℕ) → n ≤ slots.params.cap → (old mid new : Disk) → Stays old mid → Runs (In Objects (Torn (at + 1) (12 + n))) Same mid new → Runs (In Objects (KeepsButSpares slots)) Same old new
   spare_written none n short old mid new look run =
       look_first (KeepsButSpares slots) (keeps_none (layout_of slots) (IsSpareByte slots)) old mid new look (spare_run slots x at below (sym id_found ∙ none) place_found n short mid new run)
+
+  pub filled_others : (n : ℕ) → n ≤ slots.params.cap → (old mid new : Disk) → Stays old mid → Runs (In Objects (Torn (at + 1) (12 + n))) Same mid new → old.tells_files → KeepsFilledBut slots x (old.reads Objects) (new.reads Objects)
+  filled_others n short old mid new look run told =
+      subst (λ (f : Files). KeepsFilledBut slots x (f Objects) (new.reads Objects)) (look.reads told)
+      (others_filled slots x at below place_found n short (mid.reads Objects) (new.reads Objects) (run.reads (look.time.files_told.0 told)).changed)
 
   pub below_inside : x < inside.params.objects
   below_inside = omega (arith, below, ap (λ (w : SlotsView). w.params.objects) same)

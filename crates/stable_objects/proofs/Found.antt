@@ -40,9 +40,10 @@ number_read file place n at k within =
 -- the numbers that were read are those of the file
 pub numbers_read : (file bytes : List ℕ) (place : ℕ) → bytes ≡ padded file place 12 → params_at 0 bytes ≡ params_at place file
 numbers_read file bytes place is =
-    let spot : place + 0 ≡ place = omega arith in
     ap (λ (l : List ℕ). params_at 0 l) is
-    ∙ params_at_same 0 place (padded file place 12) file (number_read file place 12 0 4 (omega arith) ∙ ap (λ (n : ℕ). number_at 4 n file) spot) (number_read file place 12 4 4 (omega arith)) (number_read file place 12 8 4 (omega arith))
+    ∙ params_at_same 0 place (padded file place 12) file (λ k at within.
+    let spot : 0 + at ≡ at = omega arith in
+    ap (λ (p : ℕ). number_at k p (padded file place 12)) spot ∙ number_read file place 12 at k within)
 
 -- the form of what was read is the file's
 form_read : (file : List ℕ) → form_in (padded file 0 17) ≡ form_in file
@@ -103,7 +104,7 @@ number_slice bytes n at whole within = little_from-take 0 4 (length bytes - at) 
 
 -- after numbers without a fault
 numbers_behind : (form : Form) (p : Params) (behind : ℕ → Type 0) (place : ℕ) → IsInRange p → IsInForm form p → behind place → NumberChecks form p behind place
-numbers_behind form p behind place is fits later = goes_on ((is.some, fits.objects), fits.no_fewer) (goes_on ((is.low, fits.cap), fits.no_shorter) (goes_on (is.least, is.limit) later))
+numbers_behind form p behind place is fits later = goes_on ((is.some, fits.objects), fits.no_fewer, fits.more) (goes_on ((is.low, fits.cap), fits.no_shorter) (goes_on (is.least, is.limit) later))
 
 -- after a header and numbers without a fault
 pub behind_header : (file : List ℕ) (behind : ℕ → Type 0) (place : ℕ) → take 7 (drop 1 file) ≡ codes "RDOOBJ0" → IsInRange (params_in file) → IsInForm (form_in file) (params_in file) → behind place
@@ -124,8 +125,8 @@ number_damage file form place is_open has fault =
     }
 
 -- version 2, with these bounds
-pub second_here : (head : List ℕ) (objects cap : ℕ) → get_or head 8 0 ≡ 50 → objects ≡ number_at 4 9 head → cap ≡ number_at 4 13 head → second_form (record { objects = objects; cap = cap }) ≡ form_in head
-second_here head objects cap version is_objects is_cap = (λ i. second_form (record { objects = is_objects i; cap = is_cap i })) ∙ sym (second_in head version)
+pub second_here : (head : List ℕ) (objects cap : ℕ) → get_or head 8 0 ≡ 50 → objects ≡ number_at 4 9 head → cap ≡ number_at 4 13 head → second_form (record { objects = objects; cap = cap; more = false }) ≡ form_in head
+second_here head objects cap version is_objects is_cap = (λ i. second_form (record { objects = is_objects i; cap = is_cap i; more = false })) ∙ sym (second_in head version)
 
 -- what a test of two lists says
 pub differ : (xs ys : List ℕ) (b : Bool) → b ≡ not (bytes_eq xs ys) → b ≡ true → xs ≢ ys

@@ -27,8 +27,7 @@ module _ (p : Params) (at n : ℕ) (old new : List ℕ) (is : IsObjectsFile p ol
       (stays 4 9 (omega (arith, form.header))) (stays 4 13 (omega (arith, form.header)))
 
   numbers : params_at (form_in old).numbers new ≡ params_at (form_in old).numbers old
-  numbers = params_at_same (form_in old).numbers (form_in old).numbers new old
-      (stays 4 (form_in old).numbers (omega (arith, form.between))) (stays 4 ((form_in old).numbers + 4) (omega (arith, form.between))) (stays 4 ((form_in old).numbers + 8) (omega (arith, form.between)))
+  numbers = params_at_same (form_in old).numbers (form_in old).numbers new old (λ k place within. stays k ((form_in old).numbers + place) (omega (arith, within, form.between)))
 
   pub layout_kept : layout_in new ≡ layout_in old
   layout_kept = layout_same new old form_kept (ap (λ (f : Form). params_at f.numbers new) form_kept ∙ numbers ∙ ap (λ (f : Form). params_at f.numbers old) (sym form_kept))

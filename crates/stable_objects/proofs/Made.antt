@@ -119,12 +119,11 @@ form_opened file some =
 pub now_open : (p : Params) (file : List ℕ) → IsInRange p → 0 < length file → HasFields p file → HasClosedSlots (new_layout p) file → IsNewFile p (opened file)
 now_open p file in_range some fields closed =
     let agrees = gate_agrees file some in
-    let number : (place : ℕ) → 1 ≤ place → number_at 4 place (opened file) ≡ number_at 4 place file = λ place le. number_stays 0 1 file (opened file) agrees place 4 (inr le) in
     let form : form_in (opened file) ≡ new_form p = form_opened file some ∙ fields.form in
     let known = new_is_form p in
     let numbers = (new_form p).numbers in
     let at_numbers : params_at numbers (opened file) ≡ params_at numbers file =
-    params_at_same numbers numbers (opened file) file (number numbers (omega (arith, known.behind))) (number (numbers + 4) (omega (arith, known.behind))) (number (numbers + 8) (omega (arith, known.behind))) in
+    params_at_same numbers numbers (opened file) file (λ k place within. number_stays 0 1 file (opened file) agrees (numbers + place) k (inr (omega (arith, known.behind)))) in
     let params : params_in (opened file) ≡ p =
     ap (λ (f : Form). params_at f.numbers (opened file)) form ∙ at_numbers ∙ ap (λ (f : Form). params_at f.numbers file) (sym fields.form) ∙ fields.params in
     let layout : layout_in (opened file) ≡ new_layout p = λ i. record { params = params i; first = (form i).first } in

@@ -4,14 +4,14 @@ use Rattle.std.specs.Prelude.{nat_lt}
 use Rattle.std.proofs.lemmas.Bool.{cond-true, cond-false, lt-ltb, le-ltb}
 use Rattle.oper_core.specs.Cell.{Cell}
 use Rattle.formats.specs.Bytes.{number_at}
-use Rattle.formats.specs.Objects.{bounds_of, first_form, second_form, form_in, params_at, layout_in, place_in, slot_place, holder, cell_of}
+use Rattle.formats.specs.Objects.{IsInForm, bounds_of, first_form, second_form, form_in, params_at, layout_in, place_in, slot_place, holder, cell_of}
 use Rattle.formats.specs.declared.form.Form.{Form}
 use Rattle.formats.specs.declared.layout.Layout.{Layout}
 use Rattle.formats.specs.declared.params.Params.{Params}
 use Rattle.stable_objects.specs.Filling.{IsFilledTo}
 use Rattle.stable_objects.specs.Growing.{pair_before}
 use Rattle.stable_objects.specs.Larger.{IsFirst, IsLarger, IsStill, larger_layout, seconded}
-use Rattle.stable_objects.specs.LayoutLaws.{first_is, second_in}
+use Rattle.stable_objects.specs.LayoutLaws.{first_is, first_unset, four_bytes, second_in}
 use Rattle.stable_objects.specs.Replacing.{IsPut}
 use Rattle.stable_objects.specs.SlotLaws.{open_tells, holder_below, id_is, held_is_open, value_short}
 use Rattle.stable_objects.specs.SlotsView.{SlotsView, AreOf, id_in}
@@ -43,9 +43,10 @@ module _ (slots : SlotsView) (q : Params) (file : List ℕ) (are : AreOf slots f
 
   form : form_in (seconded file) ≡ second_form (bounds_of slots.params)
   form =
-      let objects = behind 9 (omega arith) ∙ ap (λ (p : Params). p.objects) numbers in
+      let unset = first_unset slots.params (subst (λ (f : Form). IsInForm f slots.params) was are.whole.in_form) in
+      let objects = behind 9 (omega arith) ∙ four_bytes 9 file (ap (λ (p : Params). p.more) numbers ∙ unset) ∙ ap (λ (p : Params). p.objects) numbers in
       let cap = behind 13 (omega arith) ∙ ap (λ (p : Params). p.cap) numbers in
-      second_in (seconded file) (byte_written 8 50 file) ∙ (λ i. second_form (record { objects = objects i; cap = cap i }))
+      second_in (seconded file) (byte_written 8 50 file) ∙ (λ i. second_form (record { objects = objects i; cap = cap i; more = sym unset i }))
 
   module _ (n : ℕ) (cells : ℕ → Cell) (filled : IsFilledTo q n cells (seconded file)) where
     layout : layout_in (seconded file) ≡ larger_layout slots q

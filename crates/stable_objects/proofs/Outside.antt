@@ -141,20 +141,26 @@ module _ (place id : ℕ) (value file mid new : List ℕ) (small : id < 2 ^ 64) 
     within = omega (arith, ap length second, written_long (place + 13) value mid);
   }
 
--- what stands before a slot, and its gate, don't count for what is filled
-pub filled_behind : (at n place id : ℕ) (value old new : List ℕ) → at + n ≤ place + 1 → AgreesOutside at n old new → IsFilled place id value old → IsFilled place id value new
-filled_behind at n place id value old new le agrees filled =
-    let long = number_stays at n old new agrees (place + 9) 4 (inr (omega (arith, le))) ∙ filled.long in
+-- what is beside all that a slot is filled with doesn't count for it
+pub filled_beside : (at n place id : ℕ) (value old new : List ℕ) → (place + 13 + length value ≤ at) ⊎ (at + n ≤ place + 1) → AgreesOutside at n old new → IsFilled place id value old → IsFilled place id value new
+filled_beside at n place id value old new apart agrees filled =
+    let out : (a k : ℕ) → 1 ≤ a → a + k ≤ 13 + length value → IsBeside at n old (place + a) k = λ a k some short.
+    elim apart [ inl before ↦ inl (omega (arith, before, short), omega (arith, short, filled.within)) | inr behind ↦ inr (omega (arith, behind, some)) ] in
+    let long = number_stays at n old new agrees (place + 9) 4 (out 9 4 (omega arith) (omega arith)) ∙ filled.long in
     record {
-      numbered = number_stays at n old new agrees (place + 1) 8 (inr (omega (arith, le))) ∙ filled.numbered;
+      numbered = number_stays at n old new agrees (place + 1) 8 (out 1 8 (omega arith) (omega arith)) ∙ filled.numbered;
       long = long;
       stands =
           ap (λ (k : ℕ). take k (drop (place + 13) new)) long
-          ∙ read_same at n old new agrees (place + 13) (length value) (inr (omega (arith, le)))
+          ∙ read_same at n old new agrees (place + 13) (length value) (out 13 (length value) (omega arith) (omega arith))
           ∙ ap (λ (k : ℕ). take k (drop (place + 13) old)) (sym filled.long)
           ∙ filled.stands;
       within = omega (arith, filled.within, agrees.no_shorter);
     }
+
+-- what stands before a slot, and its gate, don't count either
+pub filled_behind : (at n place id : ℕ) (value old new : List ℕ) → at + n ≤ place + 1 → AgreesOutside at n old new → IsFilled place id value old → IsFilled place id value new
+filled_behind at n place id value old new le agrees filled = filled_beside at n place id value old new (inr le) agrees filled
 
 pub filled_stays : (place id : ℕ) (value old new : List ℕ) → AgreesOutside place 1 old new → IsFilled place id value old → IsFilled place id value new
 filled_stays place id value old new agrees filled = filled_behind place 1 place id value old new (omega arith) agrees filled

@@ -167,7 +167,7 @@ module _ (slots : SlotsView) (x s id : ℕ) (value : List ℕ) (is : IsReplacing
       )
 
 -- an object has the greater of its two identifiers
-greater_id : (slots : SlotsView) (x s id : ℕ) → s < 2 → head slots x s ≡ id → head slots x (1 - s) < id → id_in slots x ≡ id
+pub greater_id : (slots : SlotsView) (x s id : ℕ) → s < 2 → head slots x s ≡ id → head slots x (1 - s) < id → id_in slots x ≡ id
 greater_id slots x zero id two here less =
     let held : nat_lt (head slots x 0) (head slots x 1) ≡ false = le-ltb (head slots x 0) (head slots x 1) (omega (arith, here, less)) in
     ap (λ (b : Bool). head slots x (if b then 1 else 0)) held ∙ here

@@ -60,9 +60,8 @@ module _ (cap at n place : ℕ) (old new : List ℕ) (agrees : AgreesOutside at 
     whole = λ is_open. whole (sym gate ∙ is_open);
   }
 
-module _ (slots : SlotsView) (old new : List ℕ) (are : AreOf slots old) (begins : BeginsStore new) (form : form_in new ≡ form_in old) (layout : layout_in new ≡ layout_in old) (longer : length old ≤ length new)
-    (each : (y t : ℕ) → y < slots.params.objects → t < 2 → SlotStays slots.params.cap (place_in old y t) old new) where
-  still_whole : AreWholeBy (layout_in old) slots.params new
+module _ (slots : SlotsView) (old new : List ℕ) (are : AreOf slots old) (each : (y t : ℕ) → y < slots.params.objects → t < 2 → SlotStays slots.params.cap (place_in old y t) old new) where
+  pub still_whole : AreWholeBy (layout_in old) slots.params new
   still_whole = record {
     each = λ y t below two. (each y t below two).whole;
     apart = λ y below first second alike.
@@ -73,33 +72,37 @@ module _ (slots : SlotsView) (old new : List ℕ) (are : AreOf slots old) (begin
         are.whole.slots.apart y below (sym one.gate ∙ first) (sym next.gate ∙ second) (sym (id (place_in old y 0) first one) ∙ alike ∙ id (place_in old y 1) second next);
   }
 
-  still_cells : (x : ℕ) → x < slots.params.objects → cell_of x new ≡ cell_of x old
-  still_cells x below =
+  pub still_held : (x : ℕ) → x < slots.params.objects → held_by (layout_in old) x new ≡ cell_of x old
+  still_held x below =
       let first = (each x 0 below (omega arith)).cell in
       let second = (each x 1 below (omega arith)).cell in
       let both : held_by (layout_in old) x new ≡ held_by (layout_in old) x old = λ i. greater (first i) (second i) in
-      cell_is_held (layout_in old) x new layout ∙ both ∙ sym (cell_is_held (layout_in old) x old refl)
+      both ∙ sym (cell_is_held (layout_in old) x old refl)
 
-  pub still : IsStill slots old new
-  still = record {
-    are = record {
-      whole = record {
-        begins = begins;
-        params = ap (λ (l : Layout). l.params) layout ∙ are.whole.params;
-        in_range = are.whole.in_range;
-        in_form = subst (λ (f : Form). IsInForm f slots.params) (sym form) are.whole.in_form;
-        whole = subst (λ (l : Layout). last_slot l < length new) (sym layout) (omega (arith, are.whole.whole, longer));
-        slots = whole_in (layout_in old) slots.params new layout still_whole;
+  module _ (begins : BeginsStore new) (form : form_in new ≡ form_in old) (layout : layout_in new ≡ layout_in old) (longer : length old ≤ length new) where
+    still_cells : (x : ℕ) → x < slots.params.objects → cell_of x new ≡ cell_of x old
+    still_cells x below = cell_is_held (layout_in old) x new layout ∙ still_held x below
+
+    pub still : IsStill slots old new
+    still = record {
+      are = record {
+        whole = record {
+          begins = begins;
+          params = ap (λ (l : Layout). l.params) layout ∙ are.whole.params;
+          in_range = are.whole.in_range;
+          in_form = subst (λ (f : Form). IsInForm f slots.params) (sym form) are.whole.in_form;
+          whole = subst (λ (l : Layout). last_slot l < length new) (sym layout) (omega (arith, are.whole.whole, longer));
+          slots = whole_in (layout_in old) slots.params new layout still_whole;
+        };
+        first = are.first ∙ ap (λ (f : Form). f.first) (sym form);
+        heads = λ x s below two.
+            are.heads x s below two
+            ∙ sym (ap (λ (c : Cell). c.id) (each x s below two).cell)
+            ∙ ap (λ (l : Layout). open_identifier (slot_place l x s) new) (sym layout);
+        lengths = λ x below. are.lengths x below ∙ ap (λ (c : Cell). length c.value) (sym (still_cells x below));
       };
-      first = are.first ∙ ap (λ (f : Form). f.first) (sym form);
-      heads = λ x s below two.
-          are.heads x s below two
-          ∙ sym (ap (λ (c : Cell). c.id) (each x s below two).cell)
-          ∙ ap (λ (l : Layout). open_identifier (slot_place l x s) new) (sym layout);
-      lengths = λ x below. are.lengths x below ∙ ap (λ (c : Cell). length c.value) (sym (still_cells x below));
-    };
-    cells = still_cells;
-  }
+      cells = still_cells;
+    }
 
 -- a store of version 1
 module _ (slots : SlotsView) (old new : List ℕ) (are : AreOf slots old) (first : IsFirst slots) where
@@ -160,9 +163,9 @@ module _ (slots : SlotsView) (old new : List ℕ) (are : AreOf slots old) (first
         slot
 
     pub still_in_front : IsStill slots old new
-    still_in_front = still slots old new are
+    still_in_front = still slots old new are each
         (read_same (end_of_slots slots) (length new) old new agrees 0 8 (inl (omega arith, omega (arith, reach))) ∙ are.whole.begins)
-        (form_kept slots.params (end_of_slots slots) (length new) old new are.whole agrees before) (layout_kept slots.params (end_of_slots slots) (length new) old new are.whole agrees before) agrees.no_shorter each
+        (form_kept slots.params (end_of_slots slots) (length new) old new are.whole agrees before) (layout_kept slots.params (end_of_slots slots) (length new) old new are.whole agrees before) agrees.no_shorter
 
     -- and the last head is there still
     pub still_headed : HasLastHead slots new
@@ -177,20 +180,18 @@ module _ (slots : SlotsView) (old new : List ℕ) (are : AreOf slots old) (first
     beside_version : AgreesOutside 8 1 old new
     beside_version = torn_agrees 8 1 old new torn
 
-    number : (place : ℕ) → 9 ≤ place → number_at 4 place new ≡ number_at 4 place old
-    number place le = number_stays 8 1 old new beside_version place 4 (inr (omega (arith, le)))
-
     pub still_first : byte_at 8 new ≢ 50 → IsStill slots old new
     still_first other =
         let form_new : form_in new ≡ first_form = first_in new other in
         let form : form_in new ≡ form_in old = form_new ∙ sym was in
-        let numbers : params_at 9 new ≡ params_at 9 old = params_at_same 9 9 new old (number 9 (omega arith)) (number 13 (omega arith)) (number 17 (omega arith)) in
+        let numbers : params_at 9 new ≡ params_at 9 old = params_at_same 9 9 new old (λ k place within. number_stays 8 1 old new beside_version (9 + place) k (inr (omega arith))) in
         let layout : layout_in new ≡ layout_in old = layout_same new old form (ap (λ (f : Form). params_at f.numbers new) form_new ∙ numbers ∙ ap (λ (f : Form). params_at f.numbers old) (sym form_new)) in
         let behind : (y t : ℕ) → 9 ≤ place_in old y t = λ y t. omega (arith, ap (λ (f : Form). f.first) was) in
-        still slots old new are (read_same 8 1 old new beside_version 0 8 (inl (omega arith, omega (arith, reach))) ∙ are.whole.begins) form layout beside_version.no_shorter
+        still slots old new are
         (λ y t below two. slot_beside slots.params.cap 8 1 (place_in old y t) old new beside_version
         (byte_beside 8 1 old new beside_version (place_in old y t) (inr (omega (arith, behind y t))))
         (λ is_open k m some fits. inr (omega (arith, behind y t))) (are.whole.slots.each y t below two))
+        (read_same 8 1 old new beside_version 0 8 (inl (omega arith, omega (arith, reach))) ∙ are.whole.begins) form layout beside_version.no_shorter
 
     pub now_second : byte_at 8 new ≡ 50 → new ≡ seconded old
     now_second is =

@@ -1,4 +1,5 @@
--- What the growth of a store of version 1 leaves: the store as it was, or the larger one, whose objects have the same pairs.
+-- What the growth of a store leaves: the store as it was, or the larger one, whose objects have the same pairs. A store of
+-- version 1 becomes one of version 2 or 3, and one of version 2 one of version 3.
 use Rattle.std.specs.Prelude.{◌≡◌, ◌⊎◌, ◌<◌, ◌+◌, ℕ, List, [], nat_lt, if◌then◌else◌}
 use Rattle.disk_model.specs.Disk.{Files, Disk, OthersStay, Rises}
 use Rattle.disk_model.specs.declared.machine.FileNo.{FileNo}
@@ -16,7 +17,7 @@ use Rattle.stable_objects.specs.SlotsView.{SlotsView, AreOf, layout_of}
 abbrev pub pair_before : Params → List ℕ → ℕ → Cell
 pair_before p file x = if nat_lt x p.objects then cell_of x file else record { id = 0; value = [] }
 
--- the file is of version 2, of a store with these numbers, and its objects have the pairs that they had
+-- the file is of version 2 or 3, of a store with these numbers, and its objects have the pairs that they had
 pub record IsGrown (p q : Params) (old new : List ℕ) : Type 0 where
   pub version : byte_at 8 new ≡ 50
   pub whole : IsObjectsFile q new

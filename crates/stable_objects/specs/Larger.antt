@@ -1,5 +1,5 @@
 -- A store of version 1 that is made larger: the slots of version 2 stand behind its own.
-use Rattle.std.specs.Prelude.{◌≡◌, ◌<◌, ◌≤◌, ◌+◌, ℕ, List, [], ◌∷◌, length}
+use Rattle.std.specs.Prelude.{◌≡◌, ◌<◌, ◌≤◌, ◌+◌, ℕ, true, List, [], ◌∷◌, length}
 use Rattle.disk_model.specs.Disk.{written_over}
 use Rattle.formats.specs.Bytes.{IsOpenAt}
 use Rattle.formats.specs.Objects.{bounds_of, slots_end, second_form, place_in, cell_of}
@@ -11,10 +11,11 @@ use Rattle.stable_objects.specs.SlotsView.{SlotsView, AreOf}
 abbrev pub IsFirst : SlotsView → Type 0
 IsFirst slots = slots.first ≡ 32
 
--- neither number is smaller
+-- neither number is smaller, and no operations are given up
 pub record IsLarger (p q : Params) : Type 0 where
   pub objects : p.objects ≤ q.objects
   pub cap : p.cap ≤ q.cap
+  pub more : p.more ≡ true → q.more ≡ true
 
 -- what a store is, and what its objects hold, is as it was
 pub record IsStill (slots : SlotsView) (old new : List ℕ) : Type 0 where

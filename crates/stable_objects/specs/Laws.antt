@@ -38,7 +38,7 @@ nowhere : (file : List ℕ) (place : ℕ) → IsObjectsFile (params_in file) fil
 nowhere file place is (magic wrong) = wrong (magic_stands file is.begins)
 nowhere file place is (older_objects wrong) = wrong is.in_form.older_objects
 nowhere file place is (older_cap wrong) = wrong is.in_form.older_cap
-nowhere file place is (objects wrong) = wrong ((is.in_range.some, is.in_form.objects), is.in_form.no_fewer)
+nowhere file place is (objects wrong) = wrong ((is.in_range.some, is.in_form.objects), is.in_form.no_fewer, is.in_form.more)
 nowhere file place is (cap wrong) = wrong ((is.in_range.low, is.in_form.cap), is.in_form.no_shorter)
 nowhere file place is (limit wrong) = wrong (is.in_range.least, is.in_range.limit)
 nowhere file place is (cut numbers short) = omega (arith, short, is.whole)
@@ -89,7 +89,7 @@ first_is_fault file place (goes_on _ (goes_on _ (goes_on _ (goes_on _ (goes_on _
 first_is_fault file place (goes_on m (goes_on few (goes_on short (goes_on o (goes_on c (goes_on l behind)))))) = slots behind
   where
     in_form : IsInForm (form_in file) (params_in file)
-    in_form = record { older_objects = few; older_cap = short; no_fewer = o.1; objects = o.0.1; no_shorter = c.1; cap = c.0.1 }
+    in_form = record { older_objects = few; older_cap = short; no_fewer = o.1; objects = o.0.1; no_shorter = c.1; cap = c.0.1; more = o.2 }
 
     in_range : IsInRange (params_in file)
     in_range =

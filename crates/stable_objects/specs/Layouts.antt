@@ -1,5 +1,5 @@
 -- Which layouts there are, and that of a new store.
-use Rattle.std.specs.Prelude.{◌≡◌, ◌≤◌, ◌<◌, ◌+◌, ◌&&◌, ◌^◌, Bool, nat_le, if◌then◌else◌}
+use Rattle.std.specs.Prelude.{◌≡◌, ◌≤◌, ◌<◌, ◌+◌, ◌&&◌, ◌^◌, Bool, false, nat_le, not, if◌then◌else◌}
 use Rattle.oper_core.specs.declared.bounds.Bounds.{Bounds}
 use Rattle.formats.specs.Objects.{IsInRange, first_form, second_form}
 use Rattle.formats.specs.declared.form.Form.{Form}
@@ -18,7 +18,7 @@ pub record IsForm (form : Form) : Type 0 where
   pub header : 32 ≤ form.first
   pub near : form.first < 2 ^ 28
   -- where the slots begin at 32 the file is of version 1
-  pub small : form.first ≡ 32 → (form.most.objects ≤ 4096) × (form.most.cap ≤ 16384)
+  pub small : form.first ≡ 32 → (form.most.objects ≤ 4096) × (form.most.cap ≤ 16384) × (form.most.more ≡ false)
 
 -- The slots of a store may stand so: behind the header, and not far from the file's start.
 pub record IsLayout (layout : Layout) : Type 0 where
@@ -26,17 +26,17 @@ pub record IsLayout (layout : Layout) : Type 0 where
   pub behind : 32 ≤ layout.first
   pub near : layout.first < 2 ^ 28
   -- where they begin at 32 the file is of version 1
-  pub small : layout.first ≡ 32 → (layout.params.objects ≤ 4096) × (layout.params.cap ≤ 16384)
+  pub small : layout.first ≡ 32 → (layout.params.objects ≤ 4096) × (layout.params.cap ≤ 16384) × (layout.params.more ≡ false)
 
--- version 1 has room for these numbers
+-- version 1 has room for these numbers, and a store with them does not admit the further families of operations
 abbrev pub fits_first : Params → Bool
-fits_first p = nat_le p.objects 4096 && nat_le p.cap 16384
+fits_first p = nat_le p.objects 4096 && nat_le p.cap 16384 && not p.more
 
 -- no store was there before
 abbrev pub no_store : Bounds
-no_store = record { objects = 0; cap = 0 }
+no_store = record { objects = 0; cap = 0; more = false }
 
--- the form of a new store's file: version 1 where it has room for the numbers, else version 2
+-- the form of a new store's file: version 1 where that is enough, else version 2 or 3
 abbrev pub new_form : Params → Form
 new_form p = if fits_first p then first_form else second_form no_store
 

@@ -9,9 +9,11 @@ pub mod GateLaws
 pub mod Filling
 pub mod Larger
 pub mod Growing
+pub mod Admitting
 pub mod Laws
 pub mod SlotLaws
 pub mod Replacing
 pub mod Spares
 pub mod SpareLaws
 pub mod Ready
+pub mod HoldLaws

@@ -11,7 +11,7 @@ use Rattle.stable_objects.specs.Layouts.{new_form, new_layout}
 
 -- the numbers of a store with these bounds and this limit
 abbrev pub params_with : Bounds → ℕ → Params
-params_with b limit = record { objects = b.objects; cap = b.cap; limit = limit }
+params_with b limit = record { objects = b.objects; cap = b.cap; limit = limit; more = b.more }
 
 -- there is an objects gate, and it is closed
 pub record IsClosedFile (file : List ℕ) : Type 0 where

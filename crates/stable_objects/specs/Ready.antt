@@ -49,6 +49,11 @@ pub record AreOldOrNewSince (old : Disk) (p : Params) (objects : List ℕ) (pair
   pub other_files : OthersStay Objects old.reads files
   pub silent : said ≡ old.said
 
+-- each of these objects has the pair that it is to have, and each other one what it had
+pub record AreReplaced (p : Params) (objects : List ℕ) (pairs : ℕ → Cell) (old new : List ℕ) : Type 0 where
+  pub each : (x : ℕ) → x < p.objects → IsTrue (is_among x objects) → cell_of x new ≡ pairs x
+  pub others : (x : ℕ) → x < p.objects → IsFalse (is_among x objects) → cell_of x new ≡ cell_of x old
+
 -- all these gates are open
 abbrev pub AreOpened : SlotsView → List ℕ → List ℕ → Type 0
 AreOpened slots objects file = (x : ℕ) → IsTrue (is_among x objects) → IsOpenAt (spare_place slots x) file
@@ -62,3 +67,11 @@ pub record AreHeld (before after : SlotsView) (objects : List ℕ) (pairs : ℕ 
   pub other_heads : (x s : ℕ) → x < before.params.objects → s < 2 → IsFalse (is_among x objects) → head after x s ≡ head before x s
   pub lengths : (x : ℕ) → x < before.params.objects → IsTrue (is_among x objects) → length_in after x ≡ length (pairs x).value
   pub other_lengths : (x : ℕ) → x < before.params.objects → IsFalse (is_among x objects) → length_in after x ≡ length_in before x
+
+-- The same of one object, with this identifier and a value of this length.
+pub record IsHeld (before after : SlotsView) (x id long : ℕ) : Type 0 where
+  pub layout : layout_of after ≡ layout_of before
+  pub opened : head after x (spare_in before x) ≡ id
+  pub other_heads : (y s : ℕ) → s < 2 → (y ≢ x) ⊎ (s ≢ spare_in before x) → head after y s ≡ head before y s
+  pub long_is : length_in after x ≡ long
+  pub other_lengths : (y : ℕ) → y ≢ x → length_in after y ≡ length_in before y

@@ -6,7 +6,7 @@ use Rattle.formats.specs.Bytes.{byte_at}
 use Rattle.formats.specs.Objects.{IsObjectsFile, last_slot, cell_of}
 use Rattle.formats.specs.declared.layout.Layout.{Layout}
 use Rattle.formats.specs.declared.params.Params.{Params}
-use Rattle.stable_objects.specs.Replacing.{spare_in}
+use Rattle.stable_objects.specs.Replacing.{IsFilled, spare_in}
 use Rattle.stable_objects.specs.SlotsView.{SlotsView, head, id_in, layout_of, place_of}
 
 -- where the slot stands that doesn't hold an object
@@ -44,6 +44,11 @@ KeepsButGates slots = KeepsBut (layout_of slots) (IsSpareGate slots)
 -- all stays but what closed spare slots have behind their gates
 abbrev pub KeepsButSpares : SlotsView → List ℕ → List ℕ → Type 0
 KeepsButSpares slots = KeepsBut (layout_of slots) (IsSpareByte slots)
+
+-- what a spare slot of another object is filled with stays in it
+abbrev pub KeepsFilledBut : SlotsView → ℕ → List ℕ → List ℕ → Type 0
+KeepsFilledBut slots x old new = (y id : ℕ) (value : List ℕ) → y < slots.params.objects → y ≢ x → length value ≤ slots.params.cap
+    → IsFilled (spare_place slots y) id value old → IsFilled (spare_place slots y) id value new
 
 -- some spare slots are closed, and all else is as it was
 pub record IsClosing (before after : SlotsView) : Type 0 where

@@ -10,7 +10,7 @@ ghost use Rattle.stable_objects.specs.Replacing.{IsPut};
 use crate::Slots;
 use crate::layout::{
     CLOSED, FIRST_SLOT, FIRST_VERSION, MAGIC, MAGIC_PLACE, NO_STORE, OPEN, SECOND_VERSION,
-    fits_first, gate_place, new_form, place_of,
+    SWITCH_PLACE, fits_first, gate_place, new_form, place_of,
 };
 use crate::replacing::head_of;
 use byteorder::{ByteOrder, LittleEndian};
@@ -18,12 +18,13 @@ use disk_model::{Failed, FileNo, Machine};
 use formats::{Layout, Params};
 use oper_core::Bounds;
 
-/// The three numbers.
+/// The three numbers, with the switch behind N.
 pub fn numbers_of(params: Params) -> [u8; 12]
     ensures { result ≡ number_fields params }
 {
     let mut bytes = [0; 12];
     LittleEndian::write_u32(&mut bytes, params.objects);
+    bytes[SWITCH_PLACE] = u8::from(params.more);
     LittleEndian::write_u32(&mut bytes[4..], params.cap);
     LittleEndian::write_u32(&mut bytes[8..], params.limit);
     bytes
@@ -53,8 +54,8 @@ pub fn close_slots<M: Machine>(machine: &mut M, layout: Layout) -> Result<(), Fa
     Ok(())
 }
 
-// Writes the magic, the version and the numbers of a new store. In version 2 the header says that no store was there
-// before.
+// Writes the magic, the version and the numbers of a new store. In versions 2 and 3 the header says that no store was
+// there before.
 fn write_fields<M: Machine>(machine: &mut M, params: Params) -> Result<(), Failed>
     requires { IsInRange params }
     ensures runs { Runs (In Objects KeepsGate) Same (M.disk machine.old) (M.disk machine.new) }
@@ -75,6 +76,7 @@ fn write_fields<M: Machine>(machine: &mut M, params: Params) -> Result<(), Faile
         objects: NO_STORE.objects,
         cap: NO_STORE.cap,
         limit: 0,
+        more: NO_STORE.more,
     };
     machine.write_at(
         FileNo::Objects,
@@ -159,6 +161,7 @@ impl Slots {
             objects: bounds.objects,
             cap: bounds.cap,
             limit,
+            more: bounds.more,
         };
         Slots::lay_out(machine, params)?;
         Slots::open(machine)?;

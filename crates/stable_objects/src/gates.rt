@@ -1,10 +1,11 @@
 // The gates of slots that are ready are opened together.
-ghost use Rattle.std.specs.Prelude.{◌≡◌, ◌<◌, ◌≤◌, ◌^◌, ℕ, All, IfOk, IsTrue, OnOk, IsErr, length};
+ghost use Rattle.std.specs.Prelude.{◌<◌, ◌≤◌, ◌^◌, ℕ, All, IfOk, IsTrue, OnOk, IsErr, length};
 ghost use Rattle.disk_model.specs.Disk.{IsSettled, LeavesOnly, Rises, Runs, In, Same, Stays, Torn};
 ghost use Rattle.disk_model.specs.declared.machine.FileNo.TheVariants.{Objects};
 ghost use Rattle.oper_core.specs.Cell.{Cell};
 ghost use Rattle.formats.specs.Bytes.{IsOpenAt};
-ghost use Rattle.stable_objects.specs.Ready.{IsReady, AreOldOrNew, AreOldOrNewSince, AreOpened, AreReady, KeepsButGatesOf};
+ghost use Rattle.stable_objects.specs.Ready.{IsHeld, IsReady, AreOldOrNew, AreOldOrNewSince, AreOpened, AreReady, KeepsButGatesOf};
+ghost use Rattle.stable_objects.specs.Replacing.{IsRenewed};
 ghost use Rattle.stable_objects.specs.Spares.{spare_place};
 ghost use Rattle.stable_objects.specs.SlotsView.{AreOf, id_in};
 
@@ -75,5 +76,17 @@ impl Slots {
         }
         machine.sync(FileNo::Objects)?;
         Ok(())
+    }
+    /// Holds an object in the slot that didn't hold it, whose gate was opened over this identifier and a value of this
+    /// length: the numbers in memory are those after [`Slots::replace`]. No device call is made.
+    pub fn hold(&mut self, object: u32, lsn: u64, length: u32)
+        requires object { object < self.old.params.objects }
+        requires later { id_in self.old object < lsn }
+        ensures held { IsHeld self.old self.new object lsn length }
+        ensures renewed { IsRenewed self.old self.new object lsn length }
+    {
+        let slot = self.spare(object);
+        self.heads[slot] = lsn;
+        self.lengths[object as usize] = length;
     }
 }

@@ -86,7 +86,7 @@ impl Slots {
         Ok(())
     }
 
-    /// Makes the store one of version 2 with these numbers, in place: it lays out the larger store behind the slots, moves
+    /// Makes the store one of version 2 or 3 with these numbers, in place: it lays out the larger store behind the slots, moves
     /// the pair of each object, syncs, and then writes the version. A crash at any moment leaves the store as it was, or
     /// the larger one. It moves one value at a time.
     ///

@@ -32,6 +32,7 @@ impl Slots {
         second_form(Bounds {
             objects: self.params.objects,
             cap: self.params.cap,
+            more: self.params.more,
         })
     }
 

@@ -22,7 +22,7 @@ pub const SECOND_VERSION: u8 = b'2';
 
 pub const VERSION_PLACE: u64 = 8;
 
-// In version 2, the bounds of the smaller store that was there before; in version 1, N and CAP.
+// In versions 2 and 3, the bounds of the smaller store that was there before; in version 1, N and CAP.
 pub const OBJECTS_PLACE: u64 = 9;
 
 pub const CAP_PLACE: u64 = 13;
@@ -30,13 +30,19 @@ pub const CAP_PLACE: u64 = 13;
 // The gate, the magic, the version, and two numbers of four bytes.
 pub const HEADER_BYTES: usize = 17;
 
-// N, CAP and LIMIT.
+// N with the switch behind it, CAP and LIMIT.
 pub const NUMBERS_BYTES: usize = 12;
+
+// The place of the switch in them: 0 there is version 1 or 2, any other value version 3.
+pub const SWITCH_PLACE: usize = 3;
+
+// The switch, as it is written.
+pub const MORE: u8 = 1;
 
 // In version 1 the slots begin here.
 pub const FIRST_SLOT: u64 = 32;
 
-// In version 2 the numbers have so many bytes, of which the last 20 are free.
+// In versions 2 and 3 the numbers have so many bytes, of which the last 20 are free.
 pub const NUMBERS_ROOM: u64 = 32;
 
 // A slot's gate, its identifier and its length.
@@ -48,16 +54,22 @@ pub const MIN_CAP: u32 = 16;
 pub const FIRST_MOST: Bounds = Bounds {
     objects: 4096,
     cap: 16384,
+    more: false,
 };
 
-/// The greatest bounds of a store of version 2.
+/// The greatest bounds of a store of version 2 or 3.
 pub const SECOND_MOST: Bounds = Bounds {
     objects: 65535,
     cap: 1048576,
+    more: true,
 };
 
 /// No store, where a new one is made.
-pub const NO_STORE: Bounds = Bounds { objects: 0, cap: 0 };
+pub const NO_STORE: Bounds = Bounds {
+    objects: 0,
+    cap: 0,
+    more: false,
+};
 
 // How far the limit is at least above twice CAP.
 pub const LEAST_ROOM: u32 = 4096;
@@ -76,7 +88,7 @@ pub fn first_form() -> Form
     }
 }
 
-/// The form of version 2, behind the slots of a store of version 1 with these bounds.
+/// The form of versions 2 and 3, behind the slots of a store of version 1 with these bounds.
 pub fn second_form(older: Bounds) -> Form
     requires objects { older.objects ≤ 4096 }
     requires cap { older.cap ≤ 16384 }
@@ -91,14 +103,14 @@ pub fn second_form(older: Bounds) -> Form
     }
 }
 
-/// Whether version 1 has room for these numbers.
+/// Whether version 1 has room for these numbers, and is enough for what the store admits.
 pub fn fits_first(params: Params) -> bool
     ensures { result ≡ has_room params }
 {
-    params.objects <= FIRST_MOST.objects && params.cap <= FIRST_MOST.cap
+    params.objects <= FIRST_MOST.objects && params.cap <= FIRST_MOST.cap && !params.more
 }
 
-/// The form of a new store with these numbers: version 1 where it has room for them, else version 2.
+/// The form of a new store with these numbers: version 1 where that is enough, else version 2 or 3.
 pub fn new_form(params: Params) -> Form
     ensures { result ≡ form_of params }
 {

@@ -15,7 +15,8 @@ use crate::damage::damaged_at;
 use crate::heads::read_heads;
 use crate::layout::{
     CAP_PLACE, FIRST_MOST, HEADER_BYTES, LEAST_ROOM, MAGIC, MAGIC_PLACE, MAX_LIMIT, MIN_CAP,
-    NUMBERS_BYTES, OBJECTS_PLACE, OPEN, SECOND_VERSION, first_form, gate_place, second_form,
+    NUMBERS_BYTES, OBJECTS_PLACE, OPEN, SECOND_VERSION, SWITCH_PLACE, first_form, gate_place,
+    second_form,
 };
 use crate::{OpenErr, Slots};
 use byteorder::{ByteOrder, LittleEndian};
@@ -45,7 +46,11 @@ fn parse_header(head: &[u8]) -> Result<Form, ReadErr>
     if cap > FIRST_MOST.cap {
         return Err(damaged_at(CAP_PLACE));
     }
-    Ok(second_form(Bounds { objects, cap }))
+    Ok(second_form(Bounds {
+        objects,
+        cap,
+        more: false,
+    }))
 }
 
 // The numbers in these bytes, which stand in a file of this form.
@@ -56,8 +61,13 @@ fn parse_numbers(bytes: &[u8], form: Form) -> Result<Params, ReadErr>
     ensures cause { IfErr result (FailsBy ⊥ (FailsAt (NumberChecks form (params_at 0 bytes.now) NoMore))) }
     ensures no_memory { IfErr result (λ e. e ≢ ReadErr.Memory) }
 {
-    let objects = LittleEndian::read_u32(bytes);
-    if objects == 0 || objects > form.most.objects || objects < form.older.objects {
+    let objects = LittleEndian::read_u24(bytes);
+    let more = bytes[SWITCH_PLACE] > 0;
+    if objects == 0
+        || objects > form.most.objects
+        || objects < form.older.objects
+        || (more && !form.most.more)
+    {
         return Err(damaged_at(form.numbers));
     }
     let cap = LittleEndian::read_u32(&bytes[4..]);
@@ -72,6 +82,7 @@ fn parse_numbers(bytes: &[u8], form: Form) -> Result<Params, ReadErr>
         objects,
         cap,
         limit,
+        more,
     })
 }
 

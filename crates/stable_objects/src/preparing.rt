@@ -4,7 +4,7 @@ ghost use Rattle.std.specs.Prelude.{◌≡◌, ◌<◌, ◌≤◌, length, OnOk,
 ghost use Rattle.disk_model.specs.Disk.{Rises, Runs, In, Same};
 ghost use Rattle.disk_model.specs.declared.machine.FileNo.TheVariants.{Objects};
 ghost use Rattle.stable_objects.specs.Replacing.{IsFilled};
-ghost use Rattle.stable_objects.specs.Spares.{IsClosing, KeepsButGates, KeepsButSpares, spare_id, spare_place};
+ghost use Rattle.stable_objects.specs.Spares.{IsClosing, KeepsButGates, KeepsButSpares, KeepsFilledBut, spare_id, spare_place};
 ghost use Rattle.stable_objects.specs.SlotsView.{AreOf};
 
 use crate::Slots;
@@ -49,6 +49,7 @@ impl Slots {
         ensures runs { Runs (In Objects (KeepsButSpares self.now)) Same (M.disk machine.old) (M.disk machine.new) }
         ensures filled { (M.disk machine.old).tells_files → spare_id self.now object ≡ 0 →
             OnOk result (IsFilled (spare_place self.now object) lsn bytes.now ((M.disk machine.new).reads Objects)) }
+        ensures others { (M.disk machine.old).tells_files → KeepsFilledBut self.now object ((M.disk machine.old).reads Objects) ((M.disk machine.new).reads Objects) }
         ensures cause { IsErr result → Rises (M.disk machine.old).disk_faults (M.disk machine.new).disk_faults }
     {
         let slot = self.spare(object);

@@ -59,13 +59,14 @@ impl Slots {
         }
     }
 
-    /// How many objects the store has, and how many bytes each may hold.
+    /// How many objects the store has, how many bytes each may hold, and which operations it admits.
     pub fn bounds(&self) -> Bounds
         ensures { result ≡ bounds_of self.now.params }
     {
         Bounds {
             objects: self.params.objects,
             cap: self.params.cap,
+            more: self.params.more,
         }
     }
 
