@@ -2,3 +2,4 @@ mod Counts
 mod Lookups
 mod Put
 mod Same
+mod Swaps

@@ -2,11 +2,11 @@
 use Rattle.std.specs.Prelude.{◌≡◌, ℕ, Bool, false, List, [], ◌∷◌, Option, None, IsSome, is_some, nat_eq, length, take, ◌⊎◌}
 use Rattle.std.specs.Borrow.{Bor}
 use Rattle.std.specs.List.{IsDistinct, list_any}
-use Rattle.std.specs.Map.{lookup, remove_entry}
+use Rattle.std.specs.Map.{keys_of, lookup, remove_entry}
 use Rattle.std.specs.Option.{option_map, option_map_or, option_or}
 use Rattle.oper_core.specs.Cell.{Cell}
 use Rattle.dirty_cache.specs.declared.entry.Entry.{Entry}
-use Rattle.dirty_cache.specs.Places.{entry_at, count_of}
+use Rattle.dirty_cache.specs.Places.{entry_at, count_of, with_bytes}
 
 -- what an entry holds of its object
 abbrev pub cell_of_entry : Entry → Cell
@@ -78,6 +78,15 @@ module _ (old new : Contents) where
     pub each : (y : ℕ) → IsSame y
     pub dirty : dirty_count new ≡ dirty_count old
     pub clean : clean_count new ≡ clean_count old
+    pub limit : new.limit ≡ old.limit
+
+  -- all is the same, the order of the clean entries too, but that the entry of x, if there is one, has this value
+  pub record IsSwapped (x : ℕ) (bytes : List ℕ) : Type 0 where
+    pub entry : held new x ≡ option_map (with_bytes bytes) (held old x)
+    pub others : (y : ℕ) → nat_eq x y ≡ false → held new y ≡ held old y
+    pub dirty : (y : ℕ) → is_dirty new y ≡ is_dirty old y
+    pub count : dirty_count new ≡ dirty_count old
+    pub order : keys_of new.clean ≡ keys_of old.clean
     pub limit : new.limit ≡ old.limit
 
   -- no room is taken away

@@ -1,12 +1,13 @@
-ghost use Rattle.std.specs.Prelude.{◌≡◌, ◌+◌, ◌<◌, ◌≤◌, ◌⊎◌, ℕ, true, false, if◌then◌else◌, List, length, None, Some, IsSome, nat_eq, IfOk, OnOk};
+ghost use Rattle.std.specs.Prelude.{◌≡◌, ◌+◌, ◌<◌, ◌≤◌, ◌⊎◌, ℕ, true, false, if◌then◌else◌, List, length, None, Some, IsSome, is_some, nat_eq, IfOk, OnOk};
 ghost use Rattle.std.specs.Borrow.{sem};
 ghost use Rattle.std.specs.Map.{remove_entry};
 ghost use Rattle.std.specs.Option.{option_copied};
-ghost use Rattle.dirty_cache.specs.Contents.{empty, held, is_dirty, dirty_count, clean_count, AreDirty, in_front, HasRoom, IsSame, IsSameOrForgotten, IsUnchanged, KeepsRooms, shown};
+ghost use Rattle.dirty_cache.specs.Contents.{empty, held, is_dirty, dirty_count, clean_count, AreDirty, in_front, HasRoom, IsSame, IsSameOrForgotten, IsSwapped, IsUnchanged, KeepsRooms, shown};
 ghost use Rattle.dirty_cache.specs.Ends.{EndsUsed};
+ghost use Rattle.dirty_cache.specs.Places.{bytes_or};
 
 use crate::Entry;
-use crate::clean::remember;
+use crate::clean::{remember, swap_clean};
 use crate::places::Places;
 use lru::LruCache;
 use oper_core::{ByteList, Memory};
@@ -123,6 +124,27 @@ impl Cache {
         if let Some(entry) = self.dirty.replace(x, None) {
             remember(&mut self.clean, x, entry);
         }
+    }
+
+    /// Puts another value into the object's entry, and hands back the one that was there: so a value is lent, and comes
+    /// back. False where the object is not cached: then nothing changes. No memory.
+    pub fn swap(&mut self, x: u32, bytes: &mut ByteList) -> bool
+        ensures found { result ≡ is_some (held self.old x) }
+        ensures after { IsSwapped self.old self.new x bytes.old }
+        ensures rooms { KeepsRooms self.old self.new }
+        ensures bytes { bytes.new ≡ bytes_or (held self.old x) bytes.old }
+    {
+        if self.dirty.swap(x, bytes) {
+            return true;
+        }
+        swap_clean(&mut self.clean, x, bytes)
+    }
+
+    /// How many clean objects are cached at most.
+    pub fn limit(&self) -> usize
+        ensures { result ≡ self.now.limit }
+    {
+        self.clean.cap().get()
     }
 
     /// How many objects are dirty.

@@ -1,12 +1,12 @@
-ghost use Rattle.std.specs.Prelude.{◌≡◌, ◌+◌, ℕ, [], false, IsSome, nat_eq, OnOk};
+ghost use Rattle.std.specs.Prelude.{◌≡◌, ◌+◌, ℕ, [], false, IsSome, is_some, nat_eq, OnOk};
 ghost use Rattle.std.specs.List.{IsDistinct};
 ghost use Rattle.std.specs.Map.{keys_of, lookup};
-ghost use Rattle.std.specs.Option.{option_copied, option_len};
-ghost use Rattle.dirty_cache.specs.Places.{count_of, entry_at};
+ghost use Rattle.std.specs.Option.{option_copied, option_len, option_map};
+ghost use Rattle.dirty_cache.specs.Places.{bytes_or, count_of, entry_at, with_bytes};
 
 use crate::Entry;
 use indexmap::IndexMap;
-use oper_core::Memory;
+use oper_core::{ByteList, Memory};
 use std::alloc::Global;
 use std::marker::Model;
 use std::mem;
@@ -84,11 +84,42 @@ impl Places {
         before
     }
 
+    /// Puts another value into the entry in the object's place, and hands back the one that was there. False where there
+    /// is no entry: then nothing changes.
+    pub fn swap(&mut self, x: u32, bytes: &mut ByteList) -> bool
+        ensures found { result ≡ is_some (entry_at self.old x) }
+        ensures entry { entry_at self.new x ≡ option_map (with_bytes bytes.old) (entry_at self.old x) }
+        ensures others { (y : ℕ) → nat_eq x y ≡ false → entry_at self.new y ≡ entry_at self.old y }
+        ensures kept { (y : ℕ) → IsSome (lookup (nat_eq y) self.old) → IsSome (lookup (nat_eq y) self.new) }
+        ensures count { count_of self.new ≡ count_of self.old }
+        ensures bytes { bytes.new ≡ bytes_or (entry_at self.old x) bytes.old }
+    {
+        let Some(place) = self.places.get_mut(&x) else {
+            return false;
+        };
+        swap_place(place, bytes)
+    }
+
     /// How many of the places hold an entry.
     pub fn count(&self) -> usize
         ensures count { result ≡ count_of self.now }
         ensures apart { IsDistinct nat_eq (keys_of self.now) }
     {
         self.held
+    }
+}
+
+// Puts another value into an entry, and hands back the one that was there. False where there is no entry.
+fn swap_place(place: &mut Option<Entry>, bytes: &mut ByteList) -> bool
+    ensures found { result ≡ is_some place.old }
+    ensures place { place.new ≡ option_map (with_bytes bytes.old) place.old }
+    ensures bytes { bytes.new ≡ bytes_or place.old bytes.old }
+{
+    match place {
+        Some(entry) => {
+            mem::swap(&mut entry.bytes, bytes);
+            true
+        }
+        None => false,
     }
 }

@@ -1,8 +1,8 @@
 -- Why a command is not done, on every machine.
-use Rattle.std.specs.Prelude.{◌≡◌, ◌⊎◌, ◌+◌, ◌<◌, ◌≤◌, ◌^◌, ⊤, ℕ, Bool, true, false, List, length, None, Some, Result, Ok, Err}
+use Rattle.std.specs.Prelude.{◌≡◌, ◌⊎◌, ◌+◌, ◌<◌, ◌≤◌, ◌^◌, ⊤, ℕ, Bool, true, false, List, length, Option, None, Some, Result, Ok, Err}
 use Rattle.disk_model.specs.Disk.{Disk, Rises}
 use Rattle.disk_model.specs.declared.machine.FileNo.{FileNo}
-use Rattle.oper_core.specs.Meaning.{Meaning, FitsReads, read_values, refusal_of}
+use Rattle.oper_core.specs.Meaning.{Meaning, FitsReads, refusal_of}
 use Rattle.oper_core.specs.State.{State}
 use Rattle.oper_core.specs.declared.bounds.Bounds.{Bounds}
 use Rattle.oper_core.specs.declared.refusal.Refusal.{Refusal}
@@ -74,9 +74,9 @@ module _ {O : Type 0} (meaning : Bounds → Meaning O) (p : Params) (op : O) whe
   IsAdmitFailure old new objects Memory = NeedsMemory
   IsAdmitFailure old new objects e = IsReadFailure old new (HasLongSlot new objects.slots (m.reads op)) e
 
--- What an admission answers where the objects have these values: it read theirs, and what is refused is refused on them.
-abbrev pub IsAdmittedOn : {O : Type 0} → Meaning O → State → O → Result (List (List ℕ) × ℕ) ExecErr → Type 0
-IsAdmittedOn m state op (Ok pair) = pair.0 ≡ read_values m state op
+-- What an admission answers where the objects have these values: what is refused is refused on them.
+abbrev pub IsAdmittedOn : {O : Type 0} → Meaning O → State → O → Result (Option (List (List ℕ)) × ℕ) ExecErr → Type 0
+IsAdmittedOn m state op (Ok pair) = ⊤
 IsAdmittedOn m state op (Err (Refused refusal)) = refusal_of m state op ≡ Some refusal
 IsAdmittedOn m state op (Err DiskFault) = ⊤
 IsAdmittedOn m state op (Err (Damaged file place)) = ⊤

@@ -1,11 +1,12 @@
 // What a command reads, and what refuses it.
 ghost use Rattle.std.specs.Prelude.{◌≡◌, ◌<◌, ◌≤◌, ◌+◌, ◌^◌, false, length, OnErr, IfOk, IfErr, IsErrOf};
 ghost use Rattle.disk_model.specs.declared.machine.FileNo.TheVariants.{Objects as ObjectsFile};
-ghost use Rattle.oper_core.specs.Meaning.{IsInGrammar};
+ghost use Rattle.oper_core.specs.Meaning.{IsInGrammar, read_values};
 ghost use Rattle.formats.specs.declared.params.Params.{Params as Numbers};
 ghost use Rattle.running_store.specs.Calls.{IsFailed};
 ghost use Rattle.running_store.specs.Fetches.{IsFetch};
 ghost use Rattle.running_store.specs.Laid.{IsLaidOn, values_in};
+ghost use Rattle.running_store.specs.Lent.{inputs_in};
 ghost use Rattle.running_store.specs.Parts.{meaning_in};
 ghost use Rattle.running_store.specs.StoreView.{store_params};
 ghost use Rattle.running_store.specs.Commands.{command_length, IsReady};
@@ -31,17 +32,22 @@ fn record_length<O: Oper>(op: &O) -> Result<u64, Memory>
     Ok(RECORD_HEAD as u64 + code)
 }
 
-// The values of the objects that an operation reads, where nothing refuses it on them, and the length of its record.
+// Copies of what an operation reads, or none where the cache has it, if nothing refuses the operation on that; and the length of
+// its record.
 pub(crate) fn admit<O: Oper, M: Machine>(
     store: &mut Store<O>,
     machine: &mut M,
     op: &O,
-) -> Result<(Values, u64), ExecErr>
+) -> Result<(Option<Values>, u64), ExecErr>
     requires unbroken { store.old.broken ≡ false }
     ensures call { IsFetch (M.disk machine.old) (M.disk machine.new) store.old store.new (IsFailed (ending_of_exec result)) }
-    ensures ready { IfOk result (λ pair. IsReady O.meaning (store_params store.old) op.now pair.0) }
+    ensures ready { IfOk result (λ pair. IsReady O.meaning (store_params store.old) op.now
+        (inputs_in store.new.parts.volatile.objects.cache ((meaning_in O.meaning (store_params store.old)).reads op.now) pair.0)) }
     ensures length { IfOk result (λ pair. (pair.1 ≡ command_length (meaning_in O.meaning (store_params store.old)) op.now) × (0 < pair.1) × (pair.1 < 2 ^ 63 + 9)) }
-    // Where the objects are laid on their file, on the values that these have.
+    // Where the objects are laid on their file, the values that these have are read, and what is refused is refused on them.
+    ensures read { (M.disk machine.old).tells_files → IsLaidOn store.old.parts.volatile.objects ((M.disk machine.old).reads ObjectsFile) → IfOk result (λ pair.
+        inputs_in store.new.parts.volatile.objects.cache ((meaning_in O.meaning (store_params store.old)).reads op.now) pair.0
+        ≡ read_values (meaning_in O.meaning (store_params store.old)) (values_in store.old.parts.volatile.objects ((M.disk machine.old).reads ObjectsFile)) op.now) }
     ensures shown { (M.disk machine.old).tells_files → IsLaidOn store.old.parts.volatile.objects ((M.disk machine.old).reads ObjectsFile) →
         IsAdmittedOn (meaning_in O.meaning (store_params store.old)) (values_in store.old.parts.volatile.objects ((M.disk machine.old).reads ObjectsFile)) op.now result }
     ensures fault { IsErrOf result ExecErr.DiskFault → IsInGrammar (meaning_in O.meaning (store_params store.old)) op.now
@@ -53,10 +59,10 @@ pub(crate) fn admit<O: Oper, M: Machine>(
     if let Err(refusal) = op.shape(bounds) {
         return Err(ExecErr::Refused(refusal));
     }
-    let values = store.values_of(machine, op.reads().as_slice())?;
-    if let Err(refusal) = op.check(bounds, &values) {
+    let copies = store.inputs_of(machine, op.reads().as_slice())?;
+    if let Err(refusal) = store.check_command(op, &copies) {
         return Err(ExecErr::Refused(refusal));
     }
     let length = record_length(op)?;
-    Ok((values, length))
+    Ok((copies, length))
 }

@@ -41,8 +41,8 @@ pub fn execute<O: Oper, M: Machine>(
     ensures outcome { IsOutcome O.meaning grouped (M.disk machine.old) (M.disk machine.new) store.old.parts store.new.parts op result }
 {
     explain_core::append_keeps::<O>();
-    let (values, length) = admit(store, machine, &op)?;
+    let (copies, length) = admit(store, machine, &op)?;
     require_place(store, machine, length, grouped)?;
-    store.append_command(op, values)?;
+    store.append_command(op, copies)?;
     Ok(store.log().accepted())
 }

@@ -124,12 +124,12 @@ fn follow_command<O: Oper, M: Machine>(
 {
     explain_core::append_keeps::<O>();
     let number = store.log().next();
-    let (values, length) = match admit(store, machine, &op) {
+    let (copies, length) = match admit(store, machine, &op) {
         Ok(admitted) => admitted,
         Err(e) => return Err(record_error(number, e)),
     };
     require_room(store, machine, length)?;
-    store.append_command(op, values)?;
+    store.append_command(op, copies)?;
     Ok(())
 }
 

@@ -1,6 +1,6 @@
 -- Objects that are fetched keep their pairs, and report them; and why one is not fetched.
 use Rattle.std.proofs.Common.{◌≡◌, ℕ, ◌<◌, ◌+◌, List, [], ◌∷◌, ◌++◌, length, map, take, slice_index, refl, sym, ap, ◌∙◌, subst, arith, Bool, true, false}
-use Rattle.std.specs.Prelude.{IfErr, IfOk, IsErrAnd, IsOk, OnOk, Result, Ok, Err}
+use Rattle.std.specs.Prelude.{All, IfErr, IfOk, IsErrAnd, IsOk, OnOk, Result, Ok, Err}
 use Rattle.std.proofs.lemmas.Bool.{both_ways}
 use Rattle.std.proofs.lemmas.List.{map-append, take_more}
 use Rattle.std.proofs.lemmas.List.Elements.{Contains-get_or}
@@ -25,6 +25,7 @@ use Rattle.running_store.specs.LaidLaws.{cells_same, cells_twice}
 use Rattle.running_store.specs.LongSlot.{HasLongSlot, IsLongSlot}
 use Rattle.running_store.specs.StoreView.{StoreView}
 use Rattle.running_store.specs.Unchanged.{HasRead}
+use Rattle.running_store.proofs.LentLemmas.{values_kept}
 
 -- the pair that was read is that of the slots
 pub read_pair : (slots : SlotsView) (file : List ℕ) (o lsn : ℕ) (bytes : List ℕ) → AreOf slots file → o < slots.params.objects → lsn ≡ id_in slots o → bytes ≡ (cell_of o file).value
@@ -127,3 +128,20 @@ pub handed_on : {T : Type 0} (first second : Disk) (before after : StoreView) (r
 handed_on first second before after r e is fetch =
     let q = err_from_is_err_and r is in
     subst (λ (b : Bool). IsFetch first second before after (b ≡ true)) (sym (ap (λ (k : Result _ ReadErr). has_failed is_read_fault k) q.1 ∙ ap is_read_fault q.2)) fetch
+
+-- where objects are not read after calls that change nothing, they are not read for the same cause
+pub later_fails : (first second new : Disk) (slots mid : SlotsView) (objects : List ℕ) (e : ReadErr) → Stays first second → mid ≡ slots
+    → FailsBy (Rises second.disk_faults new.disk_faults) (HasLongSlot new mid objects) e → FailsBy (Rises first.disk_faults new.disk_faults) (HasLongSlot new slots objects) e
+later_fails first second new slots mid objects e stays same =
+    fails_on (Rises second.disk_faults new.disk_faults) (Rises first.disk_faults new.disk_faults) (HasLongSlot new mid objects) (HasLongSlot new slots objects) e
+    (λ risen below. let rose = risen below in omega (arith, rose, stays.time.disk_faults)) (λ file place slot. subst (λ (s : SlotsView). HasLongSlot new s objects file place) same slot)
+
+-- what was read after a fetch is what the objects had before it
+pub read_later : (first second : Disk) (old mid : Laid) (objects : List ℕ) (values : List (List ℕ)) → HasRead first second old mid → All (λ x. x < old.slots.params.objects) objects
+    → (second.tells_files → IsLaidOn mid (second.reads Objects) → values ≡ map (values_in mid (second.reads Objects)) objects)
+    → first.tells_files → IsLaidOn old (first.reads Objects) → values ≡ map (values_in old (first.reads Objects)) objects
+read_later first second old mid objects values read below are told laid =
+    let reads : second.reads Objects ≡ first.reads Objects = ap (λ (f : Files). f Objects) (read.stays.reads told) in
+    let kept = read.cells told laid in
+    are (read.stays.time.files_told.0 told) (subst (λ (file : List ℕ). IsLaidOn mid file) (sym reads) kept.1)
+    ∙ ap (λ (file : List ℕ). map (values_in mid file) objects) reads ∙ values_kept (first.reads Objects) old mid objects below kept.0

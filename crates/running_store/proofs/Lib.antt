@@ -10,3 +10,10 @@ pub mod Tails
 pub mod Rewritten
 pub mod RewriteEnds
 pub mod PrepareLemmas
+pub mod RoundHolds
+pub mod RoundFills
+pub mod RoundFlushed
+pub mod RoundShows
+pub mod RoundEnds
+mod LentLemmas
+mod DoneLemmas

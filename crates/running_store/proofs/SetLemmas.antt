@@ -1,13 +1,17 @@
 -- Values that stand beside objects are set from the back, one after the other.
-use Rattle.std.proofs.Common.{◌≡◌, ℕ, suc, ◌<◌, ◌≤◌, ◌+◌, ◌==◌, ◌||◌, ◌&&◌, Bool, true, false, if◌then◌else◌, List, [], ◌∷◌, ◌++◌, Option, Some, length, take, drop, slice_index, get_or, drop-cons, subst, refl, sym, ap, ◌∙◌, arith, length-append, length-take}
-use Rattle.std.specs.Prelude.{All}
+use Rattle.std.proofs.Common.{◌≡◌, ℕ, suc, ◌<◌, ◌≤◌, ◌+◌, ◌==◌, ◌||◌, ◌&&◌, Bool, true, false, if◌then◌else◌, List, [], ◌∷◌, ◌++◌, Option, Some, nat_eq, inl, inr, length, take, drop, slice_index, get_or, drop-cons, subst, refl, sym, ap, ◌∙◌, arith, length-append, length-take}
+use Rattle.std.specs.Prelude.{All, slice_set}
 use Rattle.std.proofs.Math.Seq.{get_or-append_seam}
-use Rattle.std.proofs.lemmas.Bool.{eqb-true}
-use Rattle.std.proofs.lemmas.List.{take_at, take-take, get_or-take, take_more}
+use Rattle.std.proofs.lemmas.Bool.{eqb-true, ne_eqb}
+use Rattle.std.proofs.lemmas.Bool.Decides.{eqb_tells}
+use Rattle.std.proofs.lemmas.Grind.{get_or-set_at}
+use Rattle.std.proofs.lemmas.List.{get_or-set_other, take_at, take-take, get_or-take, take_more}
 use Rattle.std.proofs.lemmas.List.Elements.{All-append, All-cons}
 use Rattle.oper_core.specs.State.{is_among, value_for}
 use Rattle.dirty_cache.specs.declared.entry.Entry.{Entry}
+use Rattle.number_lists.specs.Marks.{mark_at}
 use Rattle.running_store.specs.Laid.{with_chosen, with_entries}
+use Rattle.running_store.specs.Lengths.{with_marks}
 
 -- the values that are left after the last is taken
 pub record IsTaken (values left : List (List ℕ)) (v : List ℕ) : Type 0 where
@@ -40,6 +44,13 @@ module _ (lsn : ℕ) where
       → with_entries old lsn (o ∷ objects) (v ∷ values) x ≡ (if x == o then Some (entry_of v) else with_entries old lsn objects values x)
   entries_cons old o objects v values x =
       elim (x == o) as (λ b. (if (b || is_among x objects) then Some (entry_of (if b then v else value_for x objects values)) else old x) ≡ (if b then Some (entry_of v) else with_entries old lsn objects values x))
+      [ true ↦ refl | false ↦ refl ]
+
+  -- so do marks
+  marks_cons : (old : ℕ → Bool) (o : ℕ) (objects : List ℕ) (v : List ℕ) (values : List (List ℕ)) (x : ℕ)
+      → with_marks old (o ∷ objects) (v ∷ values) x ≡ (if x == o then (length v == 0) else with_marks old objects values x)
+  marks_cons old o objects v values x =
+      elim (x == o) as (λ b. (if (b || is_among x objects) then (length (if b then v else value_for x objects values) == 0) else old x) ≡ (if b then (length v == 0) else with_marks old objects values x))
       [ true ↦ refl | false ↦ refl ]
 
   -- tests of two objects that are one where they count
@@ -92,6 +103,17 @@ module _ (lsn : ℕ) where
         ∙ or_behind (x == slice_index objects n) (is_among x (drop (suc n) objects)) (old x)
         ∙ ap (λ (os : List ℕ). is_among x os || old x) (sym objects_here)
 
+    -- and its mark is by the value
+    pub marks_set : (old now next : ℕ → Bool) → ((x : ℕ) → now x ≡ with_marks old (drop (suc n) objects) (drop (suc n) values) x)
+        → ((x : ℕ) → next x ≡ (if x == slice_index objects n then (length v == 0) else now x))
+        → (x : ℕ) → next x ≡ with_marks old (drop n objects) (drop n values) x
+    marks_set old now next before set x =
+        set x
+        ∙ ap (λ (b : Bool). if x == slice_index objects n then (length v == 0) else b) (before x)
+        ∙ sym (marks_cons old (slice_index objects n) (drop (suc n) objects) v (drop (suc n) values) x)
+        ∙ ap (λ (vs : List (List ℕ)). with_marks old (slice_index objects n ∷ drop (suc n) objects) vs x) (sym values_here)
+        ∙ ap (λ (os : List ℕ). with_marks old os (drop n values) x) (sym objects_here)
+
     -- the last of the values that are left is set, where its object is chosen
     pub chosen_back : (chosen : List ℕ) (old now next : ℕ → Option Entry) → ((x : ℕ) → now x ≡ with_chosen old lsn chosen (drop (suc n) objects) (drop (suc n) values) x)
         → ((x : ℕ) → next x ≡ (if (x == slice_index objects n) && is_among (slice_index objects n) chosen then Some (entry_of v) else now x))
@@ -116,3 +138,24 @@ module _ (lsn : ℕ) where
         ∙ dirty_cases (x == slice_index objects n) (is_among (slice_index objects n) chosen) (is_among x chosen) (is_among x (drop (suc n) objects)) (old x)
         (λ same. ap (λ y. is_among y chosen) (sym (eqb-true x (slice_index objects n) same)))
         ∙ ap (λ (os : List ℕ). (is_among x chosen && is_among x os) || old x) (sym objects_here)
+
+-- what is set at one place
+pub set_at : {A : Type 0} (old new : ℕ → A) (o : ℕ) (a : A) → new o ≡ a → ((y : ℕ) → nat_eq o y ≡ false → new y ≡ old y) → (x : ℕ) → new x ≡ (if x == o then a else old x)
+set_at old new o a here others x = elim (eqb_tells x o) [
+  | inl same ↦ ap new same.1 ∙ here ∙ sym (ap (λ (b : Bool). if b then a else old x) same.0)
+  | inr other ↦ others x (ne_eqb o x (λ is. other.1 (sym is))) ∙ sym (ap (λ (b : Bool). if b then a else old x) other.0)
+]
+
+-- what is true there
+pub true_at : (old new : ℕ → Bool) (o : ℕ) → new o ≡ true → ((y : ℕ) → nat_eq o y ≡ false → new y ≡ old y) → (x : ℕ) → new x ≡ ((x == o) || old x)
+true_at old new o here others x = elim (eqb_tells x o) [
+  | inl same ↦ ap new same.1 ∙ here ∙ sym (ap (λ (b : Bool). b || old x) same.0)
+  | inr other ↦ others x (ne_eqb o x (λ is. other.1 (sym is))) ∙ sym (ap (λ (b : Bool). b || old x) other.0)
+]
+
+-- a mark that is set
+pub mark_set : (marks : List Bool) (o : ℕ) (mark : Bool) → o < length marks → (x : ℕ) → mark_at (slice_set marks o mark) x ≡ (if x == o then mark else mark_at marks x)
+mark_set marks o mark below x = elim (eqb_tells x o) [
+  | inl same ↦ get_or-set_at marks o x mark false same.1 below ∙ sym (ap (λ (b : Bool). if b then mark else mark_at marks x) same.0)
+  | inr other ↦ get_or-set_other marks o x mark false other.1 ∙ sym (ap (λ (b : Bool). if b then mark else mark_at marks x) other.0)
+]

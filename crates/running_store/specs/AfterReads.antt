@@ -4,6 +4,7 @@ use Rattle.std.specs.Prelude.{◌↔◌}
 use Rattle.disk_model.specs.Disk.{Disk, Files, Stays}
 use Rattle.disk_model.specs.Moments.{first_call}
 use Rattle.disk_model.specs.Silent.{IsSilent}
+use Rattle.disk_model.specs.declared.machine.FileNo.TheVariants.{Objects}
 use Rattle.oper_core.specs.Meaning.{Meaning}
 use Rattle.oper_core.specs.declared.bounds.Bounds.{Bounds}
 use Rattle.formats.specs.declared.params.Params.{Params}
@@ -14,11 +15,14 @@ use Rattle.explain_core.specs.World.{World, Step}
 use Rattle.standing.specs.Moments.{TakesSome, moments_none, moments_twice}
 use Rattle.standing.specs.Standing.{FilesShow}
 use Rattle.running_store.specs.Calls.{IsCall, Never, call_as, call_twice}
+use Rattle.running_store.specs.Commands.{IsLeft}
 use Rattle.running_store.specs.Courses.{Course, Stop}
+use Rattle.running_store.specs.Fetched.{fetched-twice}
 use Rattle.running_store.specs.Fetches.{IsFetch, fetch_call}
 use Rattle.running_store.specs.Forced.{files_shown}
+use Rattle.running_store.specs.LaidLaws.{cells_twice}
 use Rattle.running_store.specs.Parts.{Parts, Shows, meaning_in, parts}
-use Rattle.running_store.specs.Reads.{read_shows}
+use Rattle.running_store.specs.Reads.{read_shows, untaken_cells, untaken_fetched}
 use Rattle.running_store.specs.StoreView.{StoreView}
 use Rattle.running_store.specs.Taking.{Ending, Follows, Takes}
 use Rattle.running_store.specs.Taking.Ending.{Done, Stopped}
@@ -97,4 +101,23 @@ call_stopped meaning old new before after n stops stop so is = record {
   stopped = λ other ends. subst (λ (s : Stop). stops after.parts.log s) (cc ends) so;
   broken = is.broken;
   fault = is.fault;
+}
+
+-- a fetch, and then a look at what is cached, which changes nothing
+pub fetch_left : (old new : Disk) (before mid after : StoreView) (failed : Type 0) → IsFetch old new before mid failed → IsLeft mid after → after.parts.log ≡ mid.parts.log → IsFetch old new before after failed
+fetch_left old new before mid after failed is left log = record {
+  read = record {
+    stays = is.read.stays;
+    fetched = fetched-twice before.parts.volatile.objects mid.parts.volatile.objects after.parts.volatile.objects is.read.fetched (untaken_fetched mid.parts after.parts left.untaken);
+    cells = λ told laid.
+        let file = old.reads Objects in
+        let read = is.read.cells told laid in (
+          cells_twice file before.parts.volatile.objects mid.parts.volatile.objects after.parts.volatile.objects is.read.fetched.slots read.0 (untaken_cells mid.parts after.parts left.untaken file),
+          left.untaken.laid file read.1,
+        );
+  };
+  log = log ∙ is.log;
+  entries = left.untaken.entries ∙ is.entries;
+  identities = left.counted ∙ is.identities;
+  broken = (λ broken. is.broken.0 (sym left.flag ∙ broken), λ failing. left.flag ∙ is.broken.1 failing);
 }

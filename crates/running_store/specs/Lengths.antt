@@ -1,5 +1,6 @@
 -- How long the values of objects are, as far as memory tells, and the next one that is empty.
 use Rattle.std.specs.Prelude.{◌≡◌, ◌≢◌, ◌<◌, ◌≤◌, ◌==◌, ℕ, if◌then◌else◌, List, length, Bool, Option, None, Some, MatchOption}
+use Rattle.oper_core.specs.State.{is_among, value_for}
 use Rattle.stable_objects.specs.SlotsView.{length_in}
 use Rattle.dirty_cache.specs.Contents.{held, is_dirty}
 use Rattle.dirty_cache.specs.declared.entry.Entry.{Entry}
@@ -35,3 +36,7 @@ pub record AreEmpties (objects : ℕ) (long : ℕ → ℕ) (marks : List Bool) :
 pub record AreKept (laid : Laid) (marks : List Bool) : Type 0 where
   pub cached : AreCached laid.slots.params laid.cache
   pub empties : AreEmpties laid.slots.params.objects (length_at laid) marks
+
+-- the marks, with those of these objects by the values beside them
+abbrev pub with_marks : (ℕ → Bool) → List ℕ → List (List ℕ) → ℕ → Bool
+with_marks marks objects values x = if is_among x objects then (length (value_for x objects values) == 0) else marks x

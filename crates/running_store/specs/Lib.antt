@@ -1,10 +1,12 @@
 pub mod Laid
 pub mod LaidLaws
+pub mod Lent
 pub mod LongSlot
 pub mod Courses
 pub mod CourseLaws
 pub mod Running
 pub mod Parts
+pub mod Ran
 pub mod Joins
 pub mod Fetched
 pub mod Appended
@@ -23,6 +25,7 @@ pub mod Forced
 pub mod Stored
 pub mod RoundImages
 pub mod Taking
+pub mod RoundCalls
 pub mod Kept
 pub mod KeptLaws
 pub mod Written

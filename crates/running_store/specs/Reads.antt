@@ -72,7 +72,7 @@ module _ (before after : Parts) (it : IsUntaken before after) where
   pub untaken_fetched : IsFetched before.volatile.objects after.volatile.objects
   untaken_fetched = fetched-same before.volatile.objects after.volatile.objects it.slots it.dirty it.held
 
-  untaken_cells : (file : List ℕ) → KeepsCells file before.volatile.objects after.volatile.objects
+  pub untaken_cells : (file : List ℕ) → KeepsCells file before.volatile.objects after.volatile.objects
   untaken_cells file x below = ap (λ (e : Option Pair). cell_or e (cell_of x file)) (it.held x)
 
   pub untaken_shows : {O : Type 0} (m : Meaning O) (p : Params) (d : Disk) (w : World O) → Shows m p d before w → Shows m p d after w

@@ -2,7 +2,7 @@
 use Rattle.std.proofs.Common.{◌≡◌, ◌∙◌, sym, ap, subst, ℕ, Bool, true, false, List, [], ◌∷◌, refl, inl, inr, ◌⊎◌}
 use Rattle.std.specs.Prelude.{◌==◌, ◌||◌, ◌&&◌, IsTrue, if◌then◌else◌}
 use Rattle.std.proofs.Math.Path.{fun_ext}
-use Rattle.std.proofs.lemmas.Bool.{both_ways, cases_Bool, cases_lt, cond-false, cond-true, eqb-true, or_cases}
+use Rattle.std.proofs.lemmas.Bool.{cases_Bool, cases_lt, cond-false, cond-true, eqb-true}
 use Rattle.disk_model.specs.Disk.{Files, OthersStay}
 use Rattle.disk_model.specs.declared.machine.FileNo.TheVariants.{Objects}
 use Rattle.oper_core.specs.Cell.{Cell}
@@ -46,14 +46,19 @@ module _ {O : Type 0} (m : Meaning O) where
     | inr other ↦ cond-false (y == x) (w.cache x) (w.slots y) other ∙ sym (cond-false (y == x) (w.cache y) (w.slots y) other)
   ]
 
-  -- what is stable after the gates: the slots of their objects have the cache's cells
-  pub stable_after : (w : World O) (gates : List Gate) → stable_of (run m w (gates_of gates)) ≡ record (stable_of w) { slots = slots_after w gates }
+  -- the world after the gates: the slots of their objects have the cache's cells, and their nodes are installed
+  pub run_gates : (w : World O) (gates : List Gate) → (installed : ℕ → Bool) × (run m w (gates_of gates) ≡ record w { slots = slots_after w gates; installed = installed })
   unfolding run step
-  stable_after w [] = refl
-  stable_after w (g ∷ gates) =
+  run_gates w [] = (w.installed, refl)
+  run_gates w (g ∷ gates) =
       let here : slots_after (step m w (gate_step g)) gates ≡ slots_after w (g ∷ gates) = fun_ext (λ (y : ℕ).
       ap (λ (c : Cell). if is_among y (objects_of gates) then w.cache y else c) (here_is w g.object y) ∙ sym (cond_or (y == g.object) (is_among y (objects_of gates)) (w.cache y) (w.slots y))) in
-      stable_after (step m w (gate_step g)) gates ∙ ap (λ (slots : ℕ → Cell). record (stable_of w) { slots = slots }) here
+      let more = run_gates (step m w (gate_step g)) gates in
+      (more.0, more.1 ∙ ap (λ (slots : ℕ → Cell). record w { slots = slots; installed = more.0 }) here)
+
+  -- and what is stable then
+  stable_after : (w : World O) (gates : List Gate) → stable_of (run m w (gates_of gates)) ≡ record (stable_of w) { slots = slots_after w gates }
+  stable_after w gates = ap stable_of (run_gates w gates).1
 
 and_off : (b c : Bool) → c ≡ false → (b && c) ≡ false
 and_off true c off = off

@@ -11,9 +11,12 @@
 //!
 //! [`Objects`] holds what is cached: an object's identifier and value are those of the cache, or else those of its slot, and
 //! what was read and forgotten is read again, and is the same. The length of each value is known without a read, from the
-//! cache or the head of its slot, so `next_empty` finds the next empty object in memory alone. For a backup a
+//! cache or the head of its slot, so `next_empty` finds the next empty object in memory alone. A command that is checked or done
+//! (`check_command`, `append_command`) is lent the values that it reads by the cache, which has them again when the call returns,
+//! or it reads copies where the cache does not hold all at once (`inputs_of`). For a backup a
 //! slot is read past the cache (`read_slot`), and the log is copied to another machine (`copy_log`). Several objects are made
-//! ready to be flushed with two syncs (`prepare`), so that the flush of each has one. An error says what can come:
+//! ready to be flushed with two syncs (`prepare`), so that the flush of each has one; or one sync stands behind all their gates,
+//! of which a crash then leaves any open (`flush_together`; after a force `flush_round`). An error says what can come:
 //! `ReadErr` of a call that reads, `RewriteErr` of a rewrite, `Failed` or `Memory` of one that fails by that alone, and
 //! [`StoreErr`] of the calls above that fail by either. The crate depends on log_records, stable_objects, dirty_cache,
 //! number_lists and write_graph, of which a store is made, on standing and explain_core, which say what files and worlds are,
@@ -24,18 +27,21 @@ mod appending;
 mod cached;
 mod checks;
 mod commands;
+mod doing;
 mod empties;
 mod entering;
 mod fault;
 mod fetching;
 mod finishing;
 mod laws;
+mod lending;
 mod limits;
 mod log_copy;
 mod objects;
 mod preparing;
 mod reading;
 mod rewriting;
+mod rounds;
 mod slots;
 mod store;
 mod store_err;

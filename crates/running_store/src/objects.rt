@@ -11,7 +11,7 @@ ghost use Rattle.stable_objects.specs.SlotsView.{IsLate, place_of};
 ghost use Rattle.oper_core.specs.State.{is_among};
 ghost use Rattle.dirty_cache.specs.Contents.{held, is_dirty, AreDirty, HasRoom};
 ghost use Rattle.running_store.specs.Fetched.{IsFetched};
-ghost use Rattle.running_store.specs.Laid.{IsLaidOn, values_in, id_at, with_chosen, with_entries};
+ghost use Rattle.running_store.specs.Laid.{IsLaidOn, values_in, id_at, with_chosen};
 ghost use Rattle.running_store.specs.Limits.{clean_limit as clean_objects};
 
 use crate::empties::empty_objects;
@@ -159,23 +159,6 @@ impl Objects {
             self.room_for(*object)?;
         }
         Ok(())
-    }
-
-    /// Gives these objects new values, which stand side by side with them, and an identifier. No memory.
-    pub(crate) fn set_values(&mut self, lsn: u64, objects: &[u32], values: Values)
-        requires below { All (λ x. x < self.old.slots.params.objects) objects.now }
-        requires room { All (HasRoom self.old.cache) objects.now }
-        requires count { length values ≡ length objects.now }
-        requires short { All (λ v. length v ≤ self.old.slots.params.cap) values }
-        ensures slots { self.new.slots ≡ self.old.slots }
-        ensures entries { (x : ℕ) → held self.new.cache x ≡ with_entries (held self.old.cache) lsn objects.now values x }
-        ensures dirty { (x : ℕ) → is_dirty self.new.cache x ≡ (is_among x objects.now || is_dirty self.old.cache x) }
-        ensures laid { (file : List ℕ) → IsLaidOn self.old file → IsLaidOn self.new file }
-    {
-        let mut values = values;
-        while let Some(value) = values.pop() {
-            self.set(objects[values.len()], lsn, value);
-        }
     }
 
     /// Gives those of these objects new values that are chosen; the values stand side by side with all of them. No memory.

@@ -1,6 +1,6 @@
 // Objects are made ready for their flush: what is cached of them is written to the slots that don't hold them, whose gates stay
 // closed.
-ghost use Rattle.std.specs.Prelude.{◌≡◌, [], All, false, OnOk, IsErr};
+ghost use Rattle.std.specs.Prelude.{◌≡◌, ℕ, List, [], ◌∷◌, All, false, OnOk, IsErr};
 ghost use Rattle.disk_model.specs.Disk.{Any, In, IsSettled, LeavesOnly, Rises, Runs, Same};
 ghost use Rattle.disk_model.specs.declared.machine.FileNo.TheVariants.{Objects as ObjectsFile};
 ghost use Rattle.formats.specs.declared.params.Params.{Params as Numbers};
@@ -14,6 +14,7 @@ ghost use Rattle.running_store.specs.Courses.{course};
 ghost use Rattle.running_store.specs.Courses.Stop.{Through};
 ghost use Rattle.running_store.specs.Laid.{HasClosedSpare, IsLaidOn};
 ghost use Rattle.running_store.specs.Parts.{VolatileShows, meaning_in};
+ghost use Rattle.running_store.specs.RoundCalls.{AreFilled};
 ghost use Rattle.running_store.specs.Taking.{Takes};
 
 use crate::fault::note;
@@ -60,6 +61,8 @@ impl Objects {
     /// Writes what is cached of an object to the slot that doesn't hold it, if that is closed. Nothing is synced.
     fn fill_spare<M: Machine>(&self, machine: &mut M, object: u32) -> Result<(), Failed>
         ensures runs { Runs (In ObjectsFile (KeepsButSpares self.now.slots)) Same (M.disk machine.old) (M.disk machine.new) }
+        ensures filled { (M.disk machine.old).tells_files → (done : List ℕ) → AreFilled self.now done ((M.disk machine.old).reads ObjectsFile) →
+            OnOk result (AreFilled self.now (object ∷ done) ((M.disk machine.new).reads ObjectsFile)) }
         ensures cause { IsErr result → Rises (M.disk machine.old).disk_faults (M.disk machine.new).disk_faults }
     {
         if let Some(entry) = self.cache.entry(object) {
@@ -72,6 +75,7 @@ impl Objects {
     /// Writes what is cached of these objects to the slots that don't hold them, of those that are closed, and syncs them.
     fn fill_spares<M: Machine>(&self, machine: &mut M, objects: &[u32]) -> Result<(), Failed>
         ensures runs { Runs (In ObjectsFile (KeepsButSpares self.now.slots)) Same (M.disk machine.old) (M.disk machine.new) }
+        ensures filled { (M.disk machine.old).tells_files → OnOk result (AreFilled self.now objects.now ((M.disk machine.new).reads ObjectsFile)) }
         ensures settled { IsSettled (M.disk machine.old) → OnOk result (IsSettled (M.disk machine.new)) }
         ensures cause { IsErr result → Rises (M.disk machine.old).disk_faults (M.disk machine.new).disk_faults }
     {
@@ -96,6 +100,7 @@ impl Objects {
             OnOk result (IsUnseen self.old.slots.params ((M.disk machine.old).reads ObjectsFile) ((M.disk machine.new).reads ObjectsFile)) }
         ensures laid { (M.disk machine.old).tells_files → IsLaidOn self.old ((M.disk machine.old).reads ObjectsFile) →
             OnOk result (IsLaidOn self.new ((M.disk machine.new).reads ObjectsFile)) }
+        ensures filled { (M.disk machine.old).tells_files → OnOk result (AreFilled self.new objects.now ((M.disk machine.new).reads ObjectsFile)) }
         ensures settled { IsSettled (M.disk machine.old) → OnOk result (IsSettled (M.disk machine.new)) }
         ensures any_moment { (M.disk machine.old).tells_moments → IsSettled (M.disk machine.old) → AreOf self.old.slots ((M.disk machine.old).reads ObjectsFile) →
             LeavesOnly (M.disk machine.old) (M.disk machine.new) (IsUnseenSince (M.disk machine.old) self.old.slots.params) }

@@ -1,4 +1,4 @@
-use Rattle.std.proofs.Common.{◌≡◌, ◌∙◌, ap, sym, subst, ℕ, arith}
+use Rattle.std.proofs.Common.{◌≡◌, ◌∙◌, ap, sym, subst, ℕ, List, arith}
 use Rattle.std.specs.Prelude.{Err, None}
 use Rattle.disk_model.specs.Disk.{Disk}
 use Rattle.formats.specs.declared.params.Params.{Params}
@@ -7,8 +7,9 @@ use Rattle.stable_objects.specs.SlotsView.{SlotsView}
 use Rattle.explain_core.specs.World.{World}
 use Rattle.running_store.specs.AfterReads.{fetch_unbroken}
 use Rattle.running_store.specs.Calls.{IsCall, IsFailed}
-use Rattle.running_store.specs.Commands.{HasPlaceBelow, IsReady, command_length}
+use Rattle.running_store.specs.Commands.{HasPlaceBelow, IsCommanded, IsReady, command_length}
 use Rattle.running_store.specs.Fetches.{IsFetch}
+use Rattle.running_store.specs.Lent.{inputs_in}
 use Rattle.running_store.specs.Logged.{HasPlace}
 use Rattle.running_store.specs.Parts.{Shows, meaning_in}
 use Rattle.running_store.specs.StoreView.{StoreView, log_length, next_of, store_params}
@@ -26,71 +27,75 @@ use Rattle.cache_manager.specs.Endings.{at_err}
 use Rattle.execution.proofs.Unadmitted.{unadmitted_call, unadmitted_outcome, unadmitted_takes}
 use Rattle.execution.proofs.Unplaced.{lacks_before, unplaced_call, unplaced_cause, unplaced_outcome, unplaced_takes}
 use Rattle.execution.proofs.executing.execute.Given.{Over}
-use Rattle.execution.proofs.executing.execute.Goals.{In_ok-values, In_err-require_place, In_ok-require_place}
+use Rattle.execution.proofs.executing.execute.Goals.{In_ok-copies, In_err-require_place, In_ok-require_place}
 use Rattle.execution.proofs.executing.execute.Goals as goal
 
 -- it is not admitted
-pub returns-in_err-values-clause-call : goal.returns-in_err-values-clause-call
-returns-in_err-values-clause-call g c =
+pub returns-in_err-copies-clause-call : goal.returns-in_err-copies-clause-call
+returns-in_err-copies-clause-call g c =
     let old = g.M.Machine.disk c.args.machine.now in
     let new = g.M.Machine.disk c.admit.new.machine in
-    let e = c.in_err-values.field-0.0 in
+    let e = c.in_err-copies.field-0.0 in
     at_err (λ r. IsCall g.O.Oper.meaning old new c.args.store.now c.admit.new.store 0 (StopsCommand c.args.grouped (store_params c.args.store.now).limit) (ending_of_exec r)) c.from_residual.result e c.from_residual.ensures.1
-    (unadmitted_call g.O.Oper.meaning c.args.grouped c.args.op old new c.args.store.now c.admit.new.store e c.in_err-values.ensures.cause c.in_err-values.ensures.call)
+    (unadmitted_call g.O.Oper.meaning c.args.grouped c.args.op old new c.args.store.now c.admit.new.store e c.in_err-copies.ensures.cause c.in_err-copies.ensures.call)
 
-pub returns-in_err-values-clause-takes : goal.returns-in_err-values-clause-takes
-returns-in_err-values-clause-takes g c =
+pub returns-in_err-copies-clause-takes : goal.returns-in_err-copies-clause-takes
+returns-in_err-copies-clause-takes g c =
     let old = g.M.Machine.disk c.args.machine.now in
     let new = g.M.Machine.disk c.admit.new.machine in
-    let e = c.in_err-values.field-0.0 in
+    let e = c.in_err-copies.field-0.0 in
     at_err (λ r. Takes g.O.Oper.meaning old new c.args.store.now.parts c.admit.new.store.parts (λ m w used. exec_course m c.args.grouped (store_params c.args.store.now).limit c.args.op w used) (ending_of_exec r)) c.from_residual.result e
     c.from_residual.ensures.1
-    (unadmitted_takes g.O.Oper.meaning c.args.grouped c.args.op old new c.args.store.now c.admit.new.store (IsFailed (ending_of_error e)) c.in_err-values.ensures.call (g.met.M.Machine.lawful c.admit.new.machine) g.met.O.Oper.bounded g.met.O.Oper.lawful e
-    c.in_err-values.ensures.cause c.in_err-values.ensures.shown)
+    (unadmitted_takes g.O.Oper.meaning c.args.grouped c.args.op old new c.args.store.now c.admit.new.store (IsFailed (ending_of_error e)) c.in_err-copies.ensures.call (g.met.M.Machine.lawful c.admit.new.machine) g.met.O.Oper.bounded g.met.O.Oper.lawful e
+    c.in_err-copies.ensures.cause c.in_err-copies.ensures.shown)
 
-pub returns-in_err-values-clause-in_world : goal.returns-in_err-values-clause-in_world
-returns-in_err-values-clause-in_world g c p w shows =
+pub returns-in_err-copies-clause-in_world : goal.returns-in_err-copies-clause-in_world
+returns-in_err-copies-clause-in_world g c p w shows =
     let old = g.M.Machine.disk c.args.machine.now in
     let new = g.M.Machine.disk c.admit.new.machine in
-    let e = c.in_err-values.field-0.0 in
+    let e = c.in_err-copies.field-0.0 in
     at_err (λ r. HasCauseIn c.args.grouped (meaning_in g.O.Oper.meaning p) p.limit w (log_length c.args.store.now) c.args.op r) c.from_residual.result e c.from_residual.ensures.1
-    (admit_cause g.O.Oper.meaning c.args.grouped p old new c.args.store.now.parts w shows c.args.op g.met.O.Oper.bounded g.met.O.Oper.lawful e c.in_err-values.ensures.call.read.stays c.in_err-values.ensures.cause
-    c.in_err-values.ensures.shown (λ is. c.in_err-values.ensures.fault (λ i. Err (is i))))
+    (admit_cause g.O.Oper.meaning c.args.grouped p old new c.args.store.now.parts w shows c.args.op g.met.O.Oper.bounded g.met.O.Oper.lawful e c.in_err-copies.ensures.call.read.stays c.in_err-copies.ensures.cause
+    c.in_err-copies.ensures.shown (λ is. c.in_err-copies.ensures.fault (λ i. Err (is i))))
 
-pub returns-in_err-values-clause-outcome : goal.returns-in_err-values-clause-outcome
-returns-in_err-values-clause-outcome g c =
+pub returns-in_err-copies-clause-outcome : goal.returns-in_err-copies-clause-outcome
+returns-in_err-copies-clause-outcome g c =
     let old = g.M.Machine.disk c.args.machine.now in
     let new = g.M.Machine.disk c.admit.new.machine in
-    let e = c.in_err-values.field-0.0 in
+    let e = c.in_err-copies.field-0.0 in
     at_err (λ r. IsOutcome g.O.Oper.meaning c.args.grouped old new c.args.store.now.parts c.admit.new.store.parts c.args.op r) c.from_residual.result e c.from_residual.ensures.1
-    (unadmitted_outcome g.O.Oper.meaning c.args.grouped c.args.op old new c.args.store.now c.admit.new.store (IsFailed (ending_of_error e)) c.in_err-values.ensures.call e c.in_err-values.ensures.cause)
+    (unadmitted_outcome g.O.Oper.meaning c.args.grouped c.args.op old new c.args.store.now c.admit.new.store (IsFailed (ending_of_error e)) c.in_err-copies.ensures.call e c.in_err-copies.ensures.cause)
 
 -- after the admission nothing refuses it
-module _ (g : Over) (c : In_ok-values g) where
+module _ (g : Over) (c : In_ok-copies g) where
+  -- what it reads
+  abbrev values : List (List ℕ)
+  values = inputs_in c.admit.new.store.parts.volatile.objects.cache ((meaning_in g.O.Oper.meaning (store_params c.args.store.now)).reads c.args.op) c.in_ok-copies.copies
+
   said : (p : Params) (w : World g.row.O.Denot) → Shows (meaning_in g.O.Oper.meaning p) p (g.M.Machine.disk c.args.machine.now) c.args.store.now.parts w → refusal_in (meaning_in g.O.Oper.meaning p) w c.args.op ≡ None
   said p w shows =
-      accepted g.O.Oper.meaning g.met.O.Oper.bounded g.met.O.Oper.lawful p (g.M.Machine.disk c.args.machine.now) c.args.store.now.parts w shows c.args.op c.in_ok-values.values c.in_ok-values.ensures.ready
-      (c.in_ok-values.ensures.shown shows.told shows.store.laid)
+      accepted g.O.Oper.meaning g.met.O.Oper.bounded g.met.O.Oper.lawful p (g.M.Machine.disk c.args.machine.now) c.args.store.now.parts w shows c.args.op values c.in_ok-copies.ensures.ready
+      (c.in_ok-copies.ensures.read shows.told shows.store.laid)
 
 pub require_place-requires-clause-unbroken : goal.require_place-requires-clause-unbroken
-require_place-requires-clause-unbroken g c = fetch_unbroken (g.M.Machine.disk c.args.machine.now) (g.M.Machine.disk c.admit.new.machine) c.args.store.now c.admit.new.store c.in_ok-values.ensures.call
+require_place-requires-clause-unbroken g c = fetch_unbroken (g.M.Machine.disk c.args.machine.now) (g.M.Machine.disk c.admit.new.machine) c.args.store.now c.admit.new.store c.in_ok-copies.ensures.call
 
 pub require_place-requires-clause-range : goal.require_place-requires-clause-range
-require_place-requires-clause-range g c = let range = c.in_ok-values.ensures.length in (range.1, range.2)
+require_place-requires-clause-range g c = let range = c.in_ok-copies.ensures.length in (range.1, range.2)
 
 -- it gets no place
 module _ (g : Over) (c : In_err-require_place g) where
   lacks : LacksPlace c.args.grouped (store_params c.args.store.now).limit c.args.store.now.parts.log (command_length (meaning_in g.O.Oper.meaning (store_params c.args.store.now)) c.args.op) c.in_err-require_place.field-0.0
   lacks =
-      let range = c.in_ok-values.ensures.length in
+      let range = c.in_ok-copies.ensures.length in
       lacks_before g.O.Oper.meaning c.args.grouped c.args.op (g.M.Machine.disk c.args.machine.now) (g.M.Machine.disk c.admit.new.machine) (g.M.Machine.disk c.require_place.new.machine) c.args.store.now c.admit.new.store c.require_place.new.store
-      c.in_ok-values.ensures.call c.in_ok-values.length c.in_err-require_place.field-0.0 range.0 c.in_err-require_place.ensures.lacks
+      c.in_ok-copies.ensures.call c.in_ok-copies.length c.in_err-require_place.field-0.0 range.0 c.in_err-require_place.ensures.lacks
 
   call : IsCall g.O.Oper.meaning (g.M.Machine.disk c.args.machine.now) (g.M.Machine.disk c.require_place.new.machine) c.args.store.now c.require_place.new.store 0
       (StopsCommand c.args.grouped (store_params c.args.store.now).limit) (ending_of_exec {T = ℕ} (Err c.in_err-require_place.field-0.0))
   call =
       unplaced_call g.O.Oper.meaning c.args.grouped c.args.op (g.M.Machine.disk c.args.machine.now) (g.M.Machine.disk c.admit.new.machine) (g.M.Machine.disk c.require_place.new.machine) c.args.store.now c.admit.new.store c.require_place.new.store
-      c.in_ok-values.ensures.call _ c.in_err-require_place.ensures.call
+      c.in_ok-copies.ensures.call _ c.in_err-require_place.ensures.call
 
 pub returns-in_err-require_place-clause-call : goal.returns-in_err-require_place-clause-call
 returns-in_err-require_place-clause-call g c =
@@ -106,7 +111,7 @@ returns-in_err-require_place-clause-takes g c =
     let e = c.in_err-require_place.field-0.0 in
     at_err (λ r. Takes g.O.Oper.meaning old new c.args.store.now.parts c.require_place.new.store.parts (λ m w used. exec_course m c.args.grouped (store_params c.args.store.now).limit c.args.op w used) (ending_of_exec r))
     c.from_residual-in_err-require_place.result e c.from_residual-in_err-require_place.ensures.1
-    (unplaced_takes g.O.Oper.meaning c.args.grouped c.args.op old (g.M.Machine.disk c.admit.new.machine) new c.args.store.now c.admit.new.store c.require_place.new.store c.in_ok-values.ensures.call (said g at.In_ok-values) e
+    (unplaced_takes g.O.Oper.meaning c.args.grouped c.args.op old (g.M.Machine.disk c.admit.new.machine) new c.args.store.now c.admit.new.store c.require_place.new.store c.in_ok-copies.ensures.call (said g at.In_ok-copies) e
     (lacks g at.In_err-require_place) c.in_err-require_place.ensures.takes)
 
 pub returns-in_err-require_place-clause-in_world : goal.returns-in_err-require_place-clause-in_world
@@ -115,7 +120,7 @@ returns-in_err-require_place-clause-in_world g c p w shows =
     let e = c.in_err-require_place.field-0.0 in
     at_err (λ r. HasCauseIn c.args.grouped (meaning_in g.O.Oper.meaning p) p.limit w (log_length c.args.store.now) c.args.op r) c.from_residual-in_err-require_place.result e c.from_residual-in_err-require_place.ensures.1
     (unplaced_cause g.O.Oper.meaning c.args.grouped c.args.op (g.M.Machine.disk c.args.machine.now) (g.M.Machine.disk c.admit.new.machine) (g.M.Machine.disk c.require_place.new.machine) c.args.store.now c.admit.new.store c.require_place.new.store
-    c.in_ok-values.ensures.call (said g at.In_ok-values) e (lacks g at.In_err-require_place) p w shows)
+    c.in_ok-copies.ensures.call (said g at.In_ok-copies) e (lacks g at.In_err-require_place) p w shows)
 
 pub returns-in_err-require_place-clause-outcome : goal.returns-in_err-require_place-clause-outcome
 returns-in_err-require_place-clause-outcome g c =
@@ -125,8 +130,8 @@ returns-in_err-require_place-clause-outcome g c =
     let e = c.in_err-require_place.field-0.0 in
     let called = call g at.In_err-require_place in
     at_err (λ r. IsOutcome g.O.Oper.meaning c.args.grouped old new c.args.store.now.parts c.require_place.new.store.parts c.args.op r) c.from_residual-in_err-require_place.result e c.from_residual-in_err-require_place.ensures.1
-    (unplaced_outcome g.O.Oper.meaning c.args.grouped c.args.op old (g.M.Machine.disk c.admit.new.machine) new c.args.store.now c.admit.new.store c.require_place.new.store c.in_ok-values.ensures.call e (lacks g at.In_err-require_place)
-    (c.in_ok-values.values, c.in_ok-values.ensures.ready) called.fault c.in_err-require_place.ensures.left)
+    (unplaced_outcome g.O.Oper.meaning c.args.grouped c.args.op old (g.M.Machine.disk c.admit.new.machine) new c.args.store.now c.admit.new.store c.require_place.new.store c.in_ok-copies.ensures.call e (lacks g at.In_err-require_place)
+    (values g at.In_ok-copies, c.in_ok-copies.ensures.ready) called.fault c.in_err-require_place.ensures.left)
 
 -- it has its place, and no call was made since its objects were read
 module _ (g : Over) (c : In_ok-require_place g) where
@@ -134,13 +139,29 @@ module _ (g : Over) (c : In_ok-require_place g) where
   fetched =
       let has = c.in_ok-require_place.ensures.has in
       subst (λ (d : Disk). IsFetch (g.M.Machine.disk c.args.machine.now) d c.args.store.now c.require_place.new.store ⊥) (sym (ap (λ m. g.M.Machine.disk m) has.1))
-      (subst (λ (s : StoreView). IsFetch (g.M.Machine.disk c.args.machine.now) (g.M.Machine.disk c.admit.new.machine) c.args.store.now s ⊥) (sym has.2) c.in_ok-values.ensures.call)
+      (subst (λ (s : StoreView). IsFetch (g.M.Machine.disk c.args.machine.now) (g.M.Machine.disk c.admit.new.machine) c.args.store.now s ⊥) (sym has.2) c.in_ok-copies.ensures.call)
+
+  abbrev here : StoreView
+  here = c.require_place.new.store
+
+  abbrev kept : List (List ℕ)
+  kept = inputs_in here.parts.volatile.objects.cache ((meaning_in g.O.Oper.meaning (store_params here)).reads c.args.op) c.in_ok-copies.copies
+
+  -- the cache has what it had
+  same_values : inputs_in c.admit.new.store.parts.volatile.objects.cache ((meaning_in g.O.Oper.meaning (store_params c.args.store.now)).reads c.args.op) c.in_ok-copies.copies ≡ kept
+  same_values =
+      ap (λ (q : Params). inputs_in c.admit.new.store.parts.volatile.objects.cache ((meaning_in g.O.Oper.meaning q).reads c.args.op) c.in_ok-copies.copies) (sym (ap (λ (s : SlotsView). s.params) c.in_ok-copies.ensures.call.read.fetched.slots))
+      ∙ ap (λ (s : StoreView). inputs_in s.parts.volatile.objects.cache ((meaning_in g.O.Oper.meaning (store_params s)).reads c.args.op) c.in_ok-copies.copies) (sym c.in_ok-require_place.ensures.has.2)
+
+  done_on : (after : StoreView) → IsCommanded g.O.Oper.meaning here after c.args.op kept
+      → IsCommanded g.O.Oper.meaning here after c.args.op (inputs_in c.admit.new.store.parts.volatile.objects.cache ((meaning_in g.O.Oper.meaning (store_params c.args.store.now)).reads c.args.op) c.in_ok-copies.copies)
+  done_on after is = subst (λ (vs : List (List ℕ)). IsCommanded g.O.Oper.meaning here after c.args.op vs) (sym same_values) is
 
   place : HasPlaceBelow (store_params c.args.store.now).limit c.args.store.now.parts.log (command_length (meaning_in g.O.Oper.meaning (store_params c.args.store.now)) c.args.op)
   place =
       let has = c.in_ok-require_place.ensures.has in
-      let range = c.in_ok-values.ensures.length in
-      place_before (g.M.Machine.disk c.args.machine.now) (g.M.Machine.disk c.admit.new.machine) c.args.store.now c.admit.new.store c.in_ok-values.ensures.call c.in_ok-values.length _ range.0 has.0
+      let range = c.in_ok-copies.ensures.length in
+      place_before (g.M.Machine.disk c.args.machine.now) (g.M.Machine.disk c.admit.new.machine) c.args.store.now c.admit.new.store c.in_ok-copies.ensures.call c.in_ok-copies.length _ range.0 has.0
 
 pub append_command-requires-clause-unbroken : goal.append_command-requires-clause-unbroken
 append_command-requires-clause-unbroken g c =
@@ -151,7 +172,8 @@ pub append_command-requires-clause-ready : goal.append_command-requires-clause-r
 append_command-requires-clause-ready g c =
     let at = goal.at.append_command-requires-clause-ready g c in
     let it = fetched g at.In_ok-require_place in
-    subst (λ (q : Params). IsReady g.O.Oper.meaning q c.args.op c.in_ok-values.values) (sym (ap (λ (s : SlotsView). s.params) it.read.fetched.slots)) c.in_ok-values.ensures.ready
+    subst (λ (vs : List (List ℕ)). IsReady g.O.Oper.meaning (store_params c.require_place.new.store) c.args.op vs) (same_values g at.In_ok-require_place)
+    (subst (λ (q : Params). IsReady g.O.Oper.meaning q c.args.op (values g at.In_ok-copies)) (sym (ap (λ (s : SlotsView). s.params) it.read.fetched.slots)) c.in_ok-copies.ensures.ready)
 
 pub append_command-requires-clause-number : goal.append_command-requires-clause-number
 append_command-requires-clause-number g c =
@@ -163,9 +185,9 @@ pub append_command-requires-clause-place : goal.append_command-requires-clause-p
 append_command-requires-clause-place g c =
     let meaning = g.O.Oper.meaning in
     let read : StoreView = c.admit.new.store in
-    let range = c.in_ok-values.ensures.length in
+    let range = c.in_ok-copies.ensures.length in
     subst (λ (s : StoreView). HasPlace s.parts.log.log (command_length (meaning_in meaning (store_params s)) c.args.op)) (sym c.in_ok-require_place.ensures.has.2)
-    (subst (λ (q : Params). HasPlace read.parts.log.log (command_length (meaning_in meaning q) c.args.op)) (sym (ap (λ (s : SlotsView). s.params) c.in_ok-values.ensures.call.read.fetched.slots))
+    (subst (λ (q : Params). HasPlace read.parts.log.log (command_length (meaning_in meaning q) c.args.op)) (sym (ap (λ (s : SlotsView). s.params) c.in_ok-copies.ensures.call.read.fetched.slots))
     (subst (λ (k : ℕ). HasPlace read.parts.log.log k) range.0 c.in_ok-require_place.ensures.fits))
 
 -- it lacks memory
@@ -177,7 +199,7 @@ returns-in_err-append_command-clause-call g c =
     at_err (λ r. IsCall g.O.Oper.meaning old new c.args.store.now c.append_command.new.self 0 (StopsCommand c.args.grouped (store_params c.args.store.now).limit) (ending_of_exec r)) c.from_residual-in_err-append_command.result Memory
     c.from_residual-in_err-append_command.ensures.1
     (short_call g.O.Oper.meaning c.args.grouped c.args.op old new c.args.store.now c.require_place.new.store c.append_command.new.self (fetched g at.In_ok-require_place) (g.met.M.Machine.lawful c.require_place.new.machine)
-    c.in_ok-values.values c.in_ok-values.ensures.ready (place g at.In_ok-require_place) c.in_err-append_command.ensures)
+    (values g at.In_ok-copies) c.in_ok-copies.ensures.ready (place g at.In_ok-require_place) c.in_err-append_command.ensures)
 
 pub returns-in_err-append_command-clause-takes : goal.returns-in_err-append_command-clause-takes
 returns-in_err-append_command-clause-takes g c =
@@ -187,7 +209,7 @@ returns-in_err-append_command-clause-takes g c =
     at_err (λ r. Takes g.O.Oper.meaning old new c.args.store.now.parts c.append_command.new.self.parts (λ m w used. exec_course m c.args.grouped (store_params c.args.store.now).limit c.args.op w used) (ending_of_exec r))
     c.from_residual-in_err-append_command.result Memory c.from_residual-in_err-append_command.ensures.1
     (short_takes g.O.Oper.meaning c.args.grouped c.args.op old new c.args.store.now c.require_place.new.store c.append_command.new.self (fetched g at.In_ok-require_place) (g.met.M.Machine.lawful c.require_place.new.machine)
-    c.in_ok-values.values c.in_ok-values.ensures.ready (place g at.In_ok-require_place) c.in_err-append_command.ensures)
+    (values g at.In_ok-copies) c.in_ok-copies.ensures.ready (place g at.In_ok-require_place) c.in_err-append_command.ensures)
 
 pub returns-in_err-append_command-clause-in_world : goal.returns-in_err-append_command-clause-in_world
 returns-in_err-append_command-clause-in_world g c p w shows =
@@ -200,32 +222,32 @@ returns-in_err-append_command-clause-outcome g c =
     let new = g.M.Machine.disk c.require_place.new.machine in
     at_err (λ r. IsOutcome g.O.Oper.meaning c.args.grouped old new c.args.store.now.parts c.append_command.new.self.parts c.args.op r) c.from_residual-in_err-append_command.result Memory c.from_residual-in_err-append_command.ensures.1
     (short_outcome g.O.Oper.meaning c.args.grouped c.args.op old new c.args.store.now c.require_place.new.store c.append_command.new.self (fetched g at.In_ok-require_place) (g.met.M.Machine.lawful c.require_place.new.machine)
-    c.in_ok-values.values c.in_ok-values.ensures.ready (place g at.In_ok-require_place) c.in_err-append_command.ensures)
+    (values g at.In_ok-copies) c.in_ok-copies.ensures.ready (place g at.In_ok-require_place) c.in_err-append_command.ensures)
 
 -- it is done
 pub returns-clause-call : goal.returns-clause-call
 returns-clause-call g c =
     let at = goal.at.returns-clause-call g c in
     finished_call g.O.Oper.meaning c.args.grouped c.args.op (g.M.Machine.disk c.args.machine.now) (g.M.Machine.disk c.require_place.new.machine) c.args.store.now c.require_place.new.store c.append_command.new.self
-    (fetched g at.In_ok-require_place) (g.met.M.Machine.lawful c.require_place.new.machine) c.in_ok-values.values c.in_ok-values.ensures.ready (place g at.In_ok-require_place) c.in_ok-append_command.ensures
+    (fetched g at.In_ok-require_place) (g.met.M.Machine.lawful c.require_place.new.machine) (values g at.In_ok-copies) c.in_ok-copies.ensures.ready (place g at.In_ok-require_place) (done_on g at.In_ok-require_place c.append_command.new.self c.in_ok-append_command.ensures)
 
 pub returns-clause-takes : goal.returns-clause-takes
 returns-clause-takes g c =
     let at = goal.at.returns-clause-takes g c in
     finished_takes g.O.Oper.meaning c.args.grouped c.args.op (g.M.Machine.disk c.args.machine.now) (g.M.Machine.disk c.require_place.new.machine) c.args.store.now c.require_place.new.store c.append_command.new.self
-    (fetched g at.In_ok-require_place) (g.met.M.Machine.lawful c.require_place.new.machine) c.in_ok-values.values c.in_ok-values.ensures.ready (place g at.In_ok-require_place) c.in_ok-append_command.ensures
-    g.met.O.Oper.bounded g.met.O.Oper.lawful c.in_ok-values.ensures.shown c.append_keeps.ensures.command
+    (fetched g at.In_ok-require_place) (g.met.M.Machine.lawful c.require_place.new.machine) (values g at.In_ok-copies) c.in_ok-copies.ensures.ready (place g at.In_ok-require_place) (done_on g at.In_ok-require_place c.append_command.new.self c.in_ok-append_command.ensures)
+    g.met.O.Oper.bounded g.met.O.Oper.lawful c.in_ok-copies.ensures.read c.append_keeps.ensures.command
 
 pub returns-clause-in_world : goal.returns-clause-in_world
 returns-clause-in_world g c p w shows =
     let at = goal.at.returns-clause-in_world g c in
     finished_cause g.O.Oper.meaning c.args.grouped c.args.op (g.M.Machine.disk c.args.machine.now) (g.M.Machine.disk c.require_place.new.machine) c.args.store.now c.require_place.new.store c.append_command.new.self
-    (fetched g at.In_ok-require_place) (g.met.M.Machine.lawful c.require_place.new.machine) c.in_ok-values.values c.in_ok-values.ensures.ready (place g at.In_ok-require_place) c.in_ok-append_command.ensures
-    g.met.O.Oper.bounded g.met.O.Oper.lawful c.in_ok-values.ensures.shown c.append_keeps.ensures.command p w shows c.accepted.result (c.accepted.ensures ∙ ap (λ (l : RecordLogView). l.accepted) c.log.ensures)
+    (fetched g at.In_ok-require_place) (g.met.M.Machine.lawful c.require_place.new.machine) (values g at.In_ok-copies) c.in_ok-copies.ensures.ready (place g at.In_ok-require_place) (done_on g at.In_ok-require_place c.append_command.new.self c.in_ok-append_command.ensures)
+    g.met.O.Oper.bounded g.met.O.Oper.lawful c.in_ok-copies.ensures.read c.append_keeps.ensures.command p w shows c.accepted.result (c.accepted.ensures ∙ ap (λ (l : RecordLogView). l.accepted) c.log.ensures)
 
 pub returns-clause-outcome : goal.returns-clause-outcome
 returns-clause-outcome g c =
     let at = goal.at.returns-clause-outcome g c in
     finished_outcome g.O.Oper.meaning c.args.grouped c.args.op (g.M.Machine.disk c.args.machine.now) (g.M.Machine.disk c.require_place.new.machine) c.args.store.now c.require_place.new.store c.append_command.new.self
-    (fetched g at.In_ok-require_place) (g.met.M.Machine.lawful c.require_place.new.machine) c.in_ok-values.values c.in_ok-values.ensures.ready (place g at.In_ok-require_place) c.in_ok-append_command.ensures c.accepted.result
+    (fetched g at.In_ok-require_place) (g.met.M.Machine.lawful c.require_place.new.machine) (values g at.In_ok-copies) c.in_ok-copies.ensures.ready (place g at.In_ok-require_place) (done_on g at.In_ok-require_place c.append_command.new.self c.in_ok-append_command.ensures) c.accepted.result
     (c.accepted.ensures ∙ ap (λ (l : RecordLogView). l.accepted) c.log.ensures)

@@ -1,4 +1,4 @@
-use Rattle.std.proofs.Common.{◌≡◌, ◌∙◌, ◌≤◌, ◌+◌, ap, sym, subst, ℕ, arith, length, refl, rules}
+use Rattle.std.proofs.Common.{◌≡◌, ◌∙◌, ◌≤◌, ◌+◌, ap, sym, subst, ℕ, List, arith, length, refl, rules}
 use Rattle.std.specs.Prelude.{◌^◌, Err, IfErr, OnErr, false}
 use Rattle.disk_model.specs.Disk.{Disk, Stays}
 use Rattle.formats.specs.Limits.{log_limit}
@@ -10,7 +10,8 @@ use Rattle.explain_core.specs.History.Member.{Command}
 use Rattle.running_store.specs.AfterReads.{fetch_unbroken}
 use Rattle.running_store.specs.CallLaws.{unbroken_after}
 use Rattle.running_store.specs.Calls.{IsCall}
-use Rattle.running_store.specs.Commands.{IsReady, command_length, commanded_call, left_call, left_takes}
+use Rattle.running_store.specs.Commands.{IsCommanded, IsReady, command_length, commanded_call, left_call, left_takes}
+use Rattle.running_store.specs.Lent.{inputs_in}
 use Rattle.running_store.specs.Logged.{HasPlace}
 use Rattle.running_store.specs.Parts.{Volatile, meaning_in}
 use Rattle.running_store.specs.StoreView.{StoreView, log_length, next_of, store_params}
@@ -94,9 +95,13 @@ module _ (g : Over) (c : In-Ok g) where
   abbrev n : ℕ
   n = c.in-Ok.admitted.1
 
+  -- what it reads
+  abbrev values : List (List ℕ)
+  values = inputs_in read.parts.volatile.objects.cache ((meaning_in g.O.Oper.meaning (store_params before)).reads c.args.op) c.in-Ok.admitted.0
+
   -- so it may come next
   comes : MayCome g.O.Oper.meaning n (Command c.args.op) old before.parts
-  comes = command_comes g.O.Oper.meaning c.args.op old before c.in-Ok.admitted.0 n c.in-Ok.ensures.ready c.in-Ok.ensures.length.0 g.met.O.Oper.bounded g.met.O.Oper.lawful c.in-Ok.ensures.shown
+  comes = command_comes g.O.Oper.meaning c.args.op old before values n c.in-Ok.ensures.ready c.in-Ok.ensures.length.0 g.met.O.Oper.bounded g.met.O.Oper.lawful c.in-Ok.ensures.read
 
   takes_room : (new : Disk) (room : StoreView) (ending : Ending) → Takes g.O.Oper.meaning mid new read.parts room.parts (roomed g.O.Oper.meaning n (Command c.args.op)) ending
       → Takes g.O.Oper.meaning old new before.parts room.parts (roomed g.O.Oper.meaning n (Command c.args.op)) ending
@@ -178,6 +183,15 @@ module _ (g : Over) (c : In_ok-require_room g) where
   params : store_params room ≡ store_params c.args.store.now
   params = ap (λ (s : Volatile). s.objects.slots.params) c.in_ok-require_room.ensures.kept.0 ∙ ap (λ (s : SlotsView). s.params) c.in-Ok.ensures.call.read.fetched.slots
 
+  abbrev kept : List (List ℕ)
+  kept = inputs_in room.parts.volatile.objects.cache ((meaning_in g.O.Oper.meaning (store_params room)).reads c.args.op) c.in-Ok.admitted.0
+
+  -- the cache has what it had
+  same_values : inputs_in c.admit.new.store.parts.volatile.objects.cache ((meaning_in g.O.Oper.meaning (store_params c.args.store.now)).reads c.args.op) c.in-Ok.admitted.0 ≡ kept
+  same_values =
+      ap (λ (q : Params). inputs_in c.admit.new.store.parts.volatile.objects.cache ((meaning_in g.O.Oper.meaning q).reads c.args.op) c.in-Ok.admitted.0) (sym (ap (λ (s : SlotsView). s.params) c.in-Ok.ensures.call.read.fetched.slots))
+      ∙ ap (λ (v : Volatile). inputs_in v.objects.cache ((meaning_in g.O.Oper.meaning v.objects.slots.params).reads c.args.op) c.in-Ok.admitted.0) (sym c.in_ok-require_room.ensures.kept.0)
+
   next_is : next_of room ≡ next_of c.args.store.now
   next_is = room_next g.O.Oper.meaning (g.M.Machine.disk c.args.machine.now) (g.M.Machine.disk c.admit.new.machine) new c.args.store.now c.admit.new.store room c.in-Ok.ensures.call c.in_ok-require_room.ensures.kept.1
 
@@ -187,7 +201,9 @@ append_command-requires-clause-unbroken g c = fine g (goal.at.append_command-req
 pub append_command-requires-clause-ready : goal.append_command-requires-clause-ready
 append_command-requires-clause-ready g c =
     let at = (goal.at.append_command-requires-clause-ready g c).In_ok-require_room in
-    subst (λ (q : Params). IsReady g.O.Oper.meaning q c.args.op c.in-Ok.admitted.0) (sym (params g at)) c.in-Ok.ensures.ready
+    let in_goal = goal.at.append_command-requires-clause-ready g c in
+    subst (λ (vs : List (List ℕ)). IsReady g.O.Oper.meaning (store_params c.require_room.new.store) c.args.op vs) (same_values g at)
+    (subst (λ (q : Params). IsReady g.O.Oper.meaning q c.args.op (values g in_goal.In-Ok)) (sym (params g at)) c.in-Ok.ensures.ready)
 
 pub append_command-requires-clause-number : goal.append_command-requires-clause-number
 append_command-requires-clause-number g c =
@@ -259,7 +275,7 @@ returns-clause-call g c =
     let at = in_goal.In-Ok in
     let there = in_goal.In_ok-require_room in
     then_call g.O.Oper.meaning (old g at) (mid g at) (new g there) (before g at) (read g at) (room g there) c.in-Ok.ensures.call c.append_command.new.self 0 Ending.Done c.in_ok-require_room.ensures.call
-    (commanded_call g.O.Oper.meaning (room g there) c.append_command.new.self (fine g there) (new g there) (g.met.M.Machine.lawful c.require_room.new.machine) c.args.op c.in-Ok.admitted.0 c.in_ok-append_command.ensures)
+    (commanded_call g.O.Oper.meaning (room g there) c.append_command.new.self (fine g there) (new g there) (g.met.M.Machine.lawful c.require_room.new.machine) c.args.op (kept g there) c.in_ok-append_command.ensures)
 
 pub returns-clause-takes : goal.returns-clause-takes
 returns-clause-takes g c =
@@ -271,8 +287,8 @@ returns-clause-takes g c =
     as_member g.O.Oper.meaning (n g at) (Command c.args.op) (old g at) (before g at).parts (comes g at) (new g there) after.parts Ending.Done
     (appended_takes g.O.Oper.meaning (n g at) (Command c.args.op) (old g at) (new g there) (before g at).parts (room g there).parts after.parts call.quiet (takes_room g at (new g there) (room g there) Ending.Done c.in_ok-require_room.ensures.takes)
     (g.met.M.Machine.lawful c.require_room.new.machine)
-    (command_after g.O.Oper.meaning c.args.op (old g at) (before g at) c.in-Ok.admitted.0 (n g at) c.in-Ok.ensures.ready c.in-Ok.ensures.length.0 g.met.O.Oper.bounded g.met.O.Oper.lawful c.in-Ok.ensures.shown (new g there) (room g there) after (params g there)
-    c.in_ok-append_command.ensures c.append_keeps.ensures.command))
+    (command_after g.O.Oper.meaning c.args.op (old g at) (before g at) (values g at) (n g at) c.in-Ok.ensures.ready c.in-Ok.ensures.length.0 g.met.O.Oper.bounded g.met.O.Oper.lawful c.in-Ok.ensures.read (new g there) (room g there) after (params g there)
+    (subst (λ (vs : List (List ℕ)). IsCommanded g.O.Oper.meaning (room g there) after c.args.op vs) (sym (same_values g there)) c.in_ok-append_command.ensures) c.append_keeps.ensures.command))
 
 pub returns-clause-in_world : goal.returns-clause-in_world
 returns-clause-in_world g c p w shows =

@@ -29,3 +29,6 @@ pub returns-in_err-room_for-clause-fetched : goal.returns-in_err-room_for-clause
 returns-in_err-room_for-clause-fetched c =
     let so_far = c.loop-object.invariant in
     fetched-twice c.args.self.now c.loop-object.self c.room_for.new.self (fetched-same c.args.self.now c.loop-object.self so_far.slots so_far.dirty so_far.entries) c.room_for.ensures.fetched
+
+pub returns-in_err-room_for-clause-laid : goal.returns-in_err-room_for-clause-laid
+returns-in_err-room_for-clause-laid c = λ file laid. c.room_for.ensures.laid file (c.loop-object.invariant.laid file laid)

@@ -45,3 +45,6 @@ pub returns-clause-any_moment : goal.returns-clause-any_moment
 returns-clause-any_moment g c =
     let law = c.spare_slots_are_not_seen.ensures in
     both_moments _ _ _ _ c.close_spares.ensures.slots c.close_spares.ensures.runs law.gates law.spares _ c.fill_spares.ensures.runs c.in_ok-close_spares.ensures.are c.in_ok-close_spares.ensures.settled
+
+pub returns-clause-filled : goal.returns-clause-filled
+returns-clause-filled g c told = c.in_ok-fill_spares.ensures.filled (c.close_spares.ensures.runs.time.files_told.0 told)

@@ -7,17 +7,20 @@ use Rattle.oper_core.specs.Meaning.{IsLawful, Meaning}
 use Rattle.oper_core.specs.declared.bounds.Bounds.{Bounds}
 use Rattle.install_order.specs.declared.entry.Entry.{Entry}
 use Rattle.log_records.specs.RecordLog.{RecordLogView}
-use Rattle.stable_objects.specs.SlotsView.{SlotsView}
+use Rattle.dirty_cache.specs.Contents.{HasRoom}
 use Rattle.explain_core.specs.History.Member.{Command}
 use Rattle.running_store.specs.Among.{small_bounds}
 use Rattle.running_store.specs.Commands.{IsCommanded, IsLeft, IsReady}
+use Rattle.running_store.specs.Lent.{inputs_in}
 use Rattle.running_store.specs.Parts.{IsAppended, Parts, parts}
+use Rattle.running_store.specs.Ran.{HasRun}
 use Rattle.running_store.specs.StoreView.{IsUsable, StoreView, next_of, store_params, view_of}
 use Rattle.running_store.specs.Unchanged.{IsSameLog, IsUntaken}
 use Rattle.running_store.proofs.Commanded.{command_usable, left_usable}
+use Rattle.running_store.proofs.DoneLemmas.{ran_from, ready_from}
 use Rattle.running_store.proofs.Inside.{usable_before}
 use Rattle.running_store.proofs.store.Store.append_command.Given.{Over}
-use Rattle.running_store.proofs.store.Store.append_command.Goals.{After-make_room}
+use Rattle.running_store.proofs.store.Store.append_command.Goals.{After-append_encoded, After-make_room, In_err-run}
 use Rattle.running_store.proofs.store.Store.append_command.Goals as goal
 
 module _ (g : Over) (c : After-make_room g) where
@@ -46,31 +49,33 @@ module _ (g : Over) (c : After-make_room g) where
   laws : IsLawful m
   laws = g.met.O.Oper.lawful (bounds_of c.self.inside.objects.slots.params) (small_bounds c.self.inside.objects.slots.params c.params-params.ensures.range)
 
-  ready : IsReady g.O.Oper.meaning c.self.inside.objects.slots.params c.args.op c.args.values
-  ready = subst (λ (s : StoreView). IsReady g.O.Oper.meaning (store_params s) c.args.op c.args.values) (sym c.self.view_is) c.requires.ready
+  -- what it reads
+  abbrev values : List (List ℕ)
+  values = inputs_in c.self.inside.objects.cache (m.reads c.args.op) c.args.copies
+
+  ready : IsReady g.O.Oper.meaning c.self.inside.objects.slots.params c.args.op values
+  ready =
+      subst (λ (s : StoreView). IsReady g.O.Oper.meaning (store_params s) c.args.op (inputs_in s.parts.volatile.objects.cache ((g.O.Oper.meaning (bounds_of (store_params s))).reads c.args.op) c.args.copies)) (sym c.self.view_is) c.requires.ready
 
   below : All (λ x. x < m.objects) (m.writes c.args.op)
   below = laws.writes_below c.args.op ready.shape
 
-pub set_values-requires-clause-below : goal.set_values-requires-clause-below
-set_values-requires-clause-below g c =
-    let at = (goal.at.set_values-requires-clause-below g c).After-make_room in
-    let b = bounds_of c.self.inside.objects.slots.params in
-    let params = ap (λ (s : SlotsView). s.params) c.make_room.ensures.slots in
-    let there = subst (λ (l : List ℕ). All (λ x. x < (m g at).objects) l) (sym (c.as_slice-2.ensures.value ∙ c.writes-writes.ensures b)) (below g at) in
-    λ k d within. omega (arith, there k d within, (g.met.O.Oper.bounded b).objects, ap (λ (q : Params). q.objects) params)
+pub run-requires-clause-ready : goal.run-requires-clause-ready
+run-requires-clause-ready g c =
+    let at = (goal.at.run-requires-clause-ready g c).After-make_room in
+    ready_from g.O.Oper.meaning c.self.inside.objects c.make_room.new.self c.args.op c.args.copies c.make_room.ensures.slots c.make_room.ensures.entries (ready g at)
 
-pub set_values-requires-clause-short : goal.set_values-requires-clause-short
-set_values-requires-clause-short g c =
-    let at = (goal.at.set_values-requires-clause-short g c).After-make_room in
-    let b = bounds_of c.self.inside.objects.slots.params in
-    let params = ap (λ (s : SlotsView). s.params) c.make_room.ensures.slots in
-    let made = c.in_ok-made.ensures ∙ ap (λ (bounds : Bounds). (g.O.Oper.meaning bounds).effect c.args.op c.args.values) c.bounds-bounds.ensures in
-    let short = subst (λ (l : List (List ℕ)). All (λ v. length v ≤ (m g at).cap) l) (sym made) ((laws g at).made c.args.op c.args.values (ready g at).shape (ready g at).fits).1 in
-    λ k d within. omega (arith, short k d within, (g.met.O.Oper.bounded b).cap, ap (λ (q : Params). q.cap) params)
+pub run-requires-clause-room : goal.run-requires-clause-room
+run-requires-clause-room g c =
+    subst (λ (l : List ℕ). All (HasRoom c.make_room.new.self.cache) l) (c.as_slice.ensures.value ∙ c.writes-writes.ensures (bounds_of c.make_room.new.self.slots.params)) c.in_ok-make_room.ensures.room
 
 pub invariant_of-self : goal.invariant_of-self
 invariant_of-self g c = λ fine. usable g (goal.at.invariant_of-self g c).After-make_room c.self.inside.log c.self.inside.graph.entries refl refl
+
+pub returns-in_err-make_room : goal.returns-in_err-make_room
+returns-in_err-make_room g c =
+    let q = err_from_is_err_and c.from_residual.result c.from_residual.ensures.1 in
+    rw (q.1) (refused g (goal.at.returns-in_err-make_room g c).After-make_room c.self.inside.log c.self.inside.graph.entries refl refl)
 
 pub invariant_of-self-in_err-make_room-2 : goal.invariant_of-self-in_err-make_room-2
 invariant_of-self-in_err-make_room-2 g c = λ fine. usable g (goal.at.invariant_of-self-in_err-make_room-2 g c).After-make_room c.self.inside.log c.make_room-2.new.self.entries refl c.make_room-2.ensures.same
@@ -88,34 +93,63 @@ returns-in_err-code g c =
     let q = err_from_is_err_and c.from_residual-in_err-code.result c.from_residual-in_err-code.ensures.1 in
     rw (q.1) (refused g (goal.at.returns-in_err-code g c).After-make_room c.encode_command.new.self c.make_room-2.new.self.entries c.encode_command.ensures.kept c.make_room-2.ensures.same)
 
-pub invariant_of-self-in_err-made : goal.invariant_of-self-in_err-made
-invariant_of-self-in_err-made g c = λ fine. usable g (goal.at.invariant_of-self-in_err-made g c).After-make_room c.encode_command.new.self c.make_room-2.new.self.entries c.encode_command.ensures.kept c.make_room-2.ensures.same
+-- the values that it was lent are back
+module _ (g : Over) (c : In_err-run g) where
+  given_back : IsUntaken (parts c.self.inside.log c.self.inside.objects c.self.inside.graph.entries) (parts c.encode_command.new.self c.run.new.self c.make_room-2.new.self.entries)
+  given_back =
+      let room = c.make_room.ensures in
+      record {
+        log = c.encode_command.ensures.kept;
+        slots = c.in_err-run.ensures.slots ∙ room.slots;
+        held = λ x. c.in_err-run.ensures.same x ∙ room.entries x;
+        dirty = λ x. c.in_err-run.ensures.fetched.dirty x ∙ room.fetched.dirty x;
+        laid = λ file laid. c.in_err-run.ensures.laid file (room.laid file laid);
+        entries = c.make_room-2.ensures.same;
+      }
 
-pub returns-in_err-made : goal.returns-in_err-made
-returns-in_err-made g c =
-    let q = err_from_is_err_and c.from_residual-in_err-made.result c.from_residual-in_err-made.ensures.1 in
-    rw (q.1) (refused g (goal.at.returns-in_err-made g c).After-make_room c.encode_command.new.self c.make_room-2.new.self.entries c.encode_command.ensures.kept c.make_room-2.ensures.same)
+pub invariant_of-self-in_err-run : goal.invariant_of-self-in_err-run
+invariant_of-self-in_err-run g c = λ fine.
+    let at = goal.at.invariant_of-self-in_err-run g c in
+    left_usable (before g at.After-make_room) (parts c.encode_command.new.self c.run.new.self c.make_room-2.new.self.entries) c.self.inside.identities (used g at.After-make_room) (given_back g at.In_err-run)
+
+pub returns-in_err-run : goal.returns-in_err-run
+returns-in_err-run g c =
+    let at = goal.at.returns-in_err-run g c in
+    let q = err_from_is_err_and c.from_residual-in_err-run.result c.from_residual-in_err-run.ensures.1 in
+    rw (q.1) (subst (λ (s : StoreView). IsLeft s (view_of c.encode_command.new.self c.run.new.self c.make_room-2.new.self.entries c.self.inside.identities c.self.inside.broken)) c.self.view_is
+    (record { untaken = given_back g at.In_err-run; counted = refl; flag = refl }))
+
+-- it is done
+module _ (g : Over) (c : After-append_encoded g) where
+  ran : HasRun g.O.Oper.meaning c.self.inside.objects c.run.new.self c.self.inside.log.next c.args.op c.args.copies
+  ran = ran_from g.O.Oper.meaning c.self.inside.objects c.make_room.new.self c.run.new.self c.self.inside.log.next c.args.op c.args.copies c.make_room.ensures.slots c.make_room.ensures.entries c.make_room.ensures.fetched.dirty
+      (subst (λ (n : ℕ). HasRun g.O.Oper.meaning c.make_room.new.self c.run.new.self n c.args.op c.args.copies) c.next-number.ensures c.in_ok-run.ensures.done)
 
 pub invariant_of-self-2 : goal.invariant_of-self-2
 invariant_of-self-2 g c = λ fine.
-    let at = (goal.at.invariant_of-self-2 g c).After-make_room in
-    let made = (m g at).effect c.args.op c.args.values in
-    let after = parts c.append_encoded.new.self c.set_values.new.self c.add.new.self.entries in
-    let done : IsAppended (m g at) (before g at) after (Command c.args.op) made = search rules in
-    command_usable (before g at) after c.self.inside.identities (used g at) (m g at) c.args.op made done
-    (λ k d within. omega (arith, below g at k d within, (g.met.O.Oper.bounded (bounds_of c.self.inside.objects.slots.params)).objects)) (omega (arith, ap (λ (s : StoreView). next_of s) c.self.view_is, c.requires.number))
+    let at = goal.at.invariant_of-self-2 g c in
+    let here = at.After-make_room in
+    let made = (m g here).effect c.args.op (values g here) in
+    let after = parts c.append_encoded.new.self c.run.new.self c.add.new.self.entries in
+    let is = ran g at.After-append_encoded in
+    let done : IsAppended (m g here) (before g here) after (Command c.args.op) made = record { log = search rules; slots = c.in_ok-run.ensures.slots ∙ c.make_room.ensures.slots; held = is.entries; dirty = is.dirty; entries = search rules } in
+    command_usable (before g here) after c.self.inside.identities (used g here) (m g here) c.args.op made done
+    (λ k d within. omega (arith, below g here k d within, (g.met.O.Oper.bounded (bounds_of c.self.inside.objects.slots.params)).objects)) (omega (arith, ap (λ (s : StoreView). next_of s) c.self.view_is, c.requires.number))
 
 pub returns : goal.returns
 returns g c =
-    let at = (goal.at.returns g c).After-make_room in
-    let after = parts c.append_encoded.new.self c.set_values.new.self c.add.new.self.entries in
-    let done : IsAppended (m g at) (before g at) after (Command c.args.op) ((m g at).effect c.args.op c.args.values) = search rules in
-    subst (λ (s : StoreView). IsCommanded g.O.Oper.meaning s (view_of c.append_encoded.new.self c.set_values.new.self c.add.new.self.entries c.self.inside.identities c.self.inside.broken) c.args.op c.args.values) c.self.view_is (record {
-      ready = ready g at;
+    let at = goal.at.returns g c in
+    let here = at.After-make_room in
+    let after = parts c.append_encoded.new.self c.run.new.self c.add.new.self.entries in
+    let is = ran g at.After-append_encoded in
+    let done : IsAppended (m g here) (before g here) after (Command c.args.op) ((m g here).effect c.args.op (values g here)) = record { log = search rules; slots = c.in_ok-run.ensures.slots ∙ c.make_room.ensures.slots; held = is.entries; dirty = is.dirty; entries = search rules } in
+    subst (λ (s : StoreView). IsCommanded g.O.Oper.meaning s (view_of c.append_encoded.new.self c.run.new.self c.add.new.self.entries c.self.inside.identities c.self.inside.broken) c.args.op
+    (inputs_in s.parts.volatile.objects.cache ((g.O.Oper.meaning (bounds_of (store_params s))).reads c.args.op) c.args.copies)) c.self.view_is (record {
+      ready = ready g here;
       number = omega (arith, ap (λ (s : StoreView). next_of s) c.self.view_is, c.requires.number);
-      bounds = (used g at).in_use.bounds;
+      bounds = (used g here).in_use.bounds;
       appended = done;
-      laid = λ file laid. c.set_values.ensures.laid file (c.make_room.ensures.laid file laid);
+      laid = λ file laid. c.in_ok-run.ensures.laid file (c.make_room.ensures.laid file laid);
       counted = refl;
       flag = refl;
     })
