@@ -5,20 +5,19 @@ use Rattle.std.specs.Prelude.{IsTrue, IsFalse, ◌==◌, nat_lt, slice_get}
 use Rattle.std.specs.List.{list_any}
 use Rattle.std.proofs.lemmas.Bool.{both_ways, and_parts, and_from, or_left, or_right, or_from, or_cases, eq-eqb, eqb-true, lt-ltb, le-ltb, ltb-true, not_from_true, not_from_false, false_from_ne_true}
 use Rattle.disk_model.specs.Disk.{Disk}
+use Rattle.disk_model.specs.declared.machine.FileNo.TheVariants.{Objects}
 use Rattle.oper_core.specs.Meaning.{Meaning, IsLawful}
 use Rattle.oper_core.specs.State.{is_among}
 use Rattle.formats.specs.declared.params.Params.{Params}
 use Rattle.write_graph.specs.Graph.{IsLeast, IsNodeNamed, IsSingleIdentity, NamesMinimal}
-use Rattle.install_order.specs.Order.{IsNode}
-use Rattle.explain_core.specs.World.{World, graph_access}
+use Rattle.explain_core.specs.World.{World}
 use Rattle.cache_manager.specs.Beside.{HasCopied, IsFresh}
-use Rattle.running_store.specs.Courses.{is_identity_at}
 use Rattle.cache_manager.specs.InstallCourses.{is_stale, must_log, next_node, work}
 use Rattle.running_store.specs.Parts.{Parts, Shows}
 use Rattle.cache_manager.specs.Thin.{IsWork}
-use Rattle.cache_manager.proofs.Next.{next_is}
-use Rattle.cache_manager.proofs.NextWork.{name_held, next_shown, work_shown}
-use Rattle.cache_manager.proofs.WorkOf.{AreAlone, all_the_node, cached_is_last, listed_is}
+use Rattle.cache_manager.proofs.NextWork.{next_shown, work_shown}
+use Rattle.cache_manager.proofs.Singles.{single_from, single_gives}
+use Rattle.cache_manager.proofs.WorkOf.{AreAlone, listed_is}
 
 module _ {O : Type 0} (m : Meaning O) (lawful : IsLawful m) (alone : AreAlone) (p : Params) (d : Disk) (it : Parts) (w : World O) (shows : Shows m p d it w) (n : ℕ) (least : IsLeast (NamesMinimal it.volatile.entries) n)
     (items : List ℕ) (is : (node : ℕ → Bool) → IsNodeNamed it.volatile.entries n node → IsWork it.volatile node items) (copied : ℕ) where
@@ -30,29 +29,6 @@ module _ {O : Type 0} (m : Meaning O) (lawful : IsLawful m) (alone : AreAlone) (
 
   same : items ≡ work m w
   same = work_shown m lawful p d it w shows n least items is
-
-  is_node : IsNode (graph_access m w) node
-  is_node = (next_is m lawful w shows.running.sound n (name_held m lawful p d it w shows n least)).minimal.0
-
-  -- the version of an object that the node has to flush is of an identity write where the node is that alone
-  single_gives : (x : ℕ) → IsTrue (is_among x (work m w)) → IsSingleIdentity it.volatile.entries n node → IsTrue (is_identity_at w.history (w.cache x).id)
-  single_gives x there single =
-      let due = listed_is m lawful w shows.running.sound x there in
-      let last = cached_is_last m lawful w shows.running.sound x due.1 node due in
-      let one : due.0.0 ≡ n = single.1 due.0.0 due.0.1 in
-      let made : IsTrue (is_identity_at w.history n) = (and_parts (w.graph n) _ (sym (shows.store.identities n) ∙ single.0)).1 in
-      subst (λ (k : ℕ). IsTrue (is_identity_at w.history k)) (sym one ∙ last) made
-
-  -- and the other way round
-  single_from : (x : ℕ) → IsTrue (is_among x (work m w)) → IsTrue (is_identity_at w.history (w.cache x).id) → IsSingleIdentity it.volatile.entries n node
-  single_from x there made =
-      let due = listed_is m lawful w shows.running.sound x there in
-      let all = all_the_node m lawful w shows.running.sound x due.1 node alone is_node made due in
-      let here : n ≡ (w.cache x).id = all n named.is_name.0 in
-      let held : IsTrue (w.graph n) = name_held m lawful p d it w shows n least in (
-        shows.store.identities n ∙ and_from (w.graph n) _ held (subst (λ (k : ℕ). IsTrue (is_identity_at w.history k)) (sym here) made),
-        λ k in_node. all k in_node ∙ sym here,
-      )
 
   first_among : (objects : List ℕ) (x : ℕ) → slice_get objects 0 ≡ Some x → IsTrue (is_among x objects)
   first_among [] x is = cc
@@ -69,7 +45,7 @@ module _ {O : Type 0} (m : Meaning O) (lawful : IsLawful m) (alone : AreAlone) (
   must_shown (inl many) = or_left (nat_lt 1 (length (work m w))) _ (let long = ap length same in lt-ltb 1 (length (work m w)) (omega (arith, many, long)))
   must_shown (inr has) =
       let there : IsTrue (is_among has.0 (work m w)) = subst (λ (l : List ℕ). IsTrue (is_among has.0 l)) same (first_among items has.0 has.1) in
-      let stale : IsTrue (is_stale m copied w has.0) = and_from (nat_lt has.0 copied) _ (lt-ltb has.0 copied has.2) (not_from_false _ (false_from_ne_true _ (λ made. has.3 node named (single_from has.0 there made)))) in
+      let stale : IsTrue (is_stale m copied w has.0) = and_from (nat_lt has.0 copied) _ (lt-ltb has.0 copied has.2) (not_from_false _ (false_from_ne_true _ (λ made. has.3 node named (single_from m lawful alone p (d.reads Objects) it.volatile w shows.store shows.running.sound n node named has.0 (listed_is m lawful w shows.running.sound has.0 there) made)))) in
       or_right (nat_lt 1 (length (work m w))) _ (any_from (is_stale m copied w) (work m w) has.0 there stale)
 
   pub may_shown : length items ≤ 1 → IsFresh it.volatile.entries n copied items → IsFalse (must_log m copied w)
@@ -84,6 +60,7 @@ module _ {O : Type 0} (m : Meaning O) (lawful : IsLawful m) (alone : AreAlone) (
       none_stale [] few all fresh = refl
       none_stale (x ∷ []) few all fresh = or_from (is_stale m copied w x) false (false_from_ne_true _ (λ stale.
           let u = and_parts (nat_lt x copied) _ stale in
-          let made = single_gives x (all x (or_left (x == x) false (eq-eqb x x refl))) (fresh x refl (ltb-true x copied u.0)) in
+          let due = listed_is m lawful w shows.running.sound x (all x (or_left (x == x) false (eq-eqb x x refl))) in
+          let made = single_gives m lawful alone p (d.reads Objects) it.volatile w shows.store shows.running.sound n node named x due (fresh x refl (ltb-true x copied u.0)) in
           both_ways _ (not_from_true _ made) u.1)) refl
       none_stale (x ∷ y ∷ objects) few all fresh = absurd (omega (arith, few))

@@ -1,24 +1,33 @@
 -- The steps of installs and drains beside a copy of the slots may be taken while it is made.
 use Rattle.std.proofs.Common.{◌≡◌, sym, subst, ℕ, ◌+◌, ◌<◌, Bool, true, false, List, [], ◌∷◌, ◌++◌, length, refl, inl, inr, Option, None, Some}
 use Rattle.std.specs.Prelude.{◌==◌, IsTrue, IsFalse, nat_lt, if◌then◌else◌}
-use Rattle.std.specs.List.{list_any}
-use Rattle.std.proofs.lemmas.Bool.{both_ways, or_cases, or_left, or_parts, eqb-true, and_from, eq-eqb, lt-ltb, cases_Bool, not_from_false}
+use Rattle.std.specs.List.{AllByRecursion, list_any}
+use Rattle.std.proofs.lemmas.Bool.{both_ways, or_left, or_parts, and_from, eq-eqb, lt-ltb, cases_Bool, not-true, not_from_false}
 use Rattle.oper_core.specs.Meaning.{Meaning, IsLawful}
+use Rattle.install_order.specs.Order.{IsNode}
 use Rattle.oper_core.specs.State.{is_among}
 use Rattle.explain_core.specs.Backup.{AreBeside, IsIdentityAt, IsOneIdentity}
 use Rattle.explain_core.specs.History.{Member, numbered}
 use Rattle.explain_core.specs.History.Member.{Command, Identity}
-use Rattle.explain_core.specs.World.{World, Step, step, run}
-use Rattle.explain_core.specs.World.Step.{Block_gate}
+use Rattle.explain_core.specs.RoundGates.{Gate, gate_step, gates_of}
+use Rattle.explain_core.specs.Rounds.{object_at, round_gates}
+use Rattle.explain_core.specs.Sound.{IsSound}
+use Rattle.explain_core.specs.World.{World, Step, end_of, graph_access, node_named, step, run, work_of}
+use Rattle.explain_core.specs.World.Step.{Block_gate, Removal}
 use Rattle.running_store.specs.CourseLaws.{behind_both, through_is}
 use Rattle.running_store.specs.Courses.{Course, and_then, waits, force_steps, is_identity_at, is_identity_some, removal_steps}
 use Rattle.cache_manager.specs.EachStep.{each_force, each_identities}
 use Rattle.cache_manager.specs.FreeSteps.{IsFree, free_beside}
-use Rattle.cache_manager.specs.InstallCourses.{identities, is_stale, must_log, others, next_node, work, finish_steps, install_course, drain_course}
+use Rattle.cache_manager.specs.InstallCourses.{identities, is_stale, may_flush, must_log, others, next_node, removals_of, round_limit, round_steps, work, finish_steps, install_course, drain_course}
 use Rattle.running_store.specs.Running.{IsRunning, KeepsSound}
 use Rattle.cache_manager.proofs.Goes.{Goes}
-use Rattle.cache_manager.proofs.Installs.{by_courses}
+use Rattle.cache_manager.proofs.DueWorlds.{passes_due}
+use Rattle.cache_manager.proofs.Installs.{by_install}
+use Rattle.cache_manager.proofs.Lists.{none_passes}
 use Rattle.cache_manager.proofs.Next.{next_is}
+use Rattle.cache_manager.proofs.NextDue.{each_gate}
+use Rattle.cache_manager.proofs.RoundGoes.{MayRound}
+use Rattle.cache_manager.proofs.DrainTurns.{by_drain}
 use Rattle.cache_manager.proofs.WorkOf.{AreAlone, all_the_node, listed_is}
 
 module _ {O : Type 0} (m : Meaning O) (copied : ℕ) where
@@ -49,29 +58,22 @@ module _ {O : Type 0} (m : Meaning O) (copied : ℕ) where
       either true = refl
       either false = refl
 
-  -- of objects none of which is stale
-  none_passes : (p : ℕ → Bool) (objects : List ℕ) → IsFalse (list_any p objects) → (x : ℕ) → IsTrue (is_among x objects) → IsFalse (p x)
-  none_passes p [] none x there = absurd (both_ways _ refl there)
-  none_passes p (a ∷ objects) none x there =
-      let u = or_parts (p a) (list_any p objects) none in
-      elim (or_cases (x == a) (is_among x objects) there) [
-        | inl here ↦ subst (λ (z : ℕ). IsFalse (p z)) (sym (eqb-true x a here)) u.0
-        | inr later ↦ none_passes p objects u.1 x later
-      ]
-
   module _ (lawful : IsLawful m) (keeps : KeepsSound m) (alone : AreAlone) where
-    -- a node that may be finished: a copied object of its work is flushed from one identity write
-    one_identity : (w : World O) (c : ℕ) → IsRunning m w → IsTrue (w.graph c) → IsFalse (must_log m copied w) → (x : ℕ) → IsTrue (is_among x (work m w)) → x < copied → IsOneIdentity w (next_node m w)
-    one_identity w c is there may x among low =
-        let fresh = none_passes (is_stale m copied w) (work m w) (or_parts (nat_lt 1 (length (work m w))) (list_any (is_stale m copied w) (work m w)) may).1 x among in
+    -- a node that flushes a copied object which is not stale is one identity write
+    fresh_identity : (w : World O) → IsSound m w → (node : ℕ → Bool) → IsNode (graph_access m w) node → (x : ℕ) → work_of m w node x → IsFalse (is_stale m copied w x) → x < copied → IsOneIdentity w node
+    fresh_identity w sound node is_node x due fresh low =
         let made : IsTrue (is_identity_at w.history (w.cache x).id) = elim (cases_Bool (is_identity_at w.history (w.cache x).id)) [
           | inl yes_made ↦ yes_made
           | inr none ↦ absurd (both_ways _ fresh (and_from (nat_lt x copied) _ (lt-ltb x copied low) (not_from_false _ none)))
         ] in
-        let due = listed_is m lawful w is.sound x among in
-        let next = next_is m lawful w is.sound c there in
         let one = identity_gives (numbered w.history (w.cache x).id) made in
-        ((w.cache x).id, one.0, all_the_node m lawful w is.sound x due.1 (next_node m w) alone next.minimal.0 made due, (one.1, one.2))
+        ((w.cache x).id, one.0, all_the_node m lawful w sound x due.1 node alone is_node made due, (one.1, one.2))
+
+    -- so is one that may be finished
+    one_identity : (w : World O) (c : ℕ) → IsRunning m w → IsTrue (w.graph c) → IsFalse (must_log m copied w) → (x : ℕ) → IsTrue (is_among x (work m w)) → x < copied → IsOneIdentity w (next_node m w)
+    one_identity w c is there may x among low =
+        let fresh = none_passes (is_stale m copied w) (work m w) (or_parts (nat_lt 1 (length (work m w))) (list_any (is_stale m copied w) (work m w)) may).1 x among in
+        fresh_identity w is.sound (next_node m w) (next_is m lawful w is.sound c there).minimal.0 x (listed_is m lawful w is.sound x among) fresh low
 
     same_identity : (w v : World O) (node : ℕ → Bool) → v.history ≡ w.history → IsOneIdentity w node → IsOneIdentity v node
     same_identity w v node same one = (one.0, one.1, one.2, subst (λ (h : List (Member O)). IsIdentityAt h one.0 one.1) (sym same) one.3)
@@ -86,6 +88,36 @@ module _ {O : Type 0} (m : Meaning O) (copied : ℕ) where
         beside_append w (force_steps m w) (removal_steps m (next_node m w) (work m w)) (free_beside m copied w (force_steps m w) (each_force m (IsFree copied) (λ v. tt) w))
         (removal_beside v (next_node m w) (work m w) (λ x among low. same_identity w v (next_node m w) (force_history w) (one_identity w c is there may x among low)))
 
-    pub go_beside : (w : World O) (used : ℕ) → IsRunning m w → AreBeside m copied w (install_course m copied w used).steps × AreBeside m copied w (drain_course m copied w used).steps
-    go_beside w used is = by_courses m copied lawful keeps alone (λ w c. AreBeside m copied w c.steps) (λ w used. tt) (λ w used c is there may. finish_beside w c is there may)
-        (λ w used c is there must. free_beside m copied w (identities m (others m copied w) w used).steps (each_identities m (IsFree copied) (λ v. tt) (others m copied w) (λ x there value v. tt) w used)) beside_then w used is
+    -- the gates of a round, and its removals
+    beside_gates : (w v : World O) (gates : List Gate) → v.history ≡ w.history → AllByRecursion (λ g. g.object < copied → IsOneIdentity w g.node) gates → AreBeside m copied v (gates_of gates)
+    unfolding step
+    beside_gates w v [] same are = tt
+    beside_gates w v (g ∷ gates) same are = ((λ low. same_identity w v g.node same (are.0 low)), beside_gates w (step m v (gate_step g)) gates same are.1)
+
+    beside_removals : (v : World O) (gates : List Gate) → AreBeside m copied v (removals_of gates)
+    beside_removals v [] = tt
+    beside_removals v (g ∷ gates) = (tt, beside_removals (step m v (Removal g.node)) gates)
+
+    round_beside : (most : ℕ) (w : World O) → IsRunning m w → AreBeside m copied w (round_steps m copied most w)
+    round_beside most w is =
+        let gates = round_gates m (may_flush m copied) most w in
+        let v = run m w (force_steps m w) in
+        let each = each_gate m (may_flush m copied) w (λ g. g.object < copied → IsOneIdentity w g.node)
+        (λ n passes low.
+        let due = passes_due m lawful w is.sound (may_flush m copied) n passes in
+        fresh_identity w is.sound (node_named m w n) due.minimal.0 (object_at m w n) due.work (not-true _ due.flushes) low) most (end_of w) 0 in
+        beside_append w (force_steps m w) (gates_of gates ++ removals_of gates) (free_beside m copied w (force_steps m w) (each_force m (IsFree copied) (λ v. tt) w))
+        (beside_append v (gates_of gates) (removals_of gates) (beside_gates w v gates (force_history w) each) (beside_removals (run m v (gates_of gates)) gates))
+
+    finishing : (w : World O) (used c : ℕ) → IsRunning m w → IsTrue (w.graph c) → IsFalse (must_log m copied w) → AreBeside m copied w (finish_steps m w)
+    finishing w used c is there may = finish_beside w c is there may
+
+    logging : (w : World O) (used c : ℕ) → IsRunning m w → IsTrue (w.graph c) → IsTrue (must_log m copied w) → AreBeside m copied w (identities m (others m copied w) w used).steps
+    logging w used c is there must = free_beside m copied w (identities m (others m copied w) w used).steps (each_identities m (IsFree copied) (λ v. tt) (others m copied w) (λ x there value v. tt) w used)
+
+    pub install_beside : (w : World O) (used : ℕ) → IsRunning m w → AreBeside m copied w (install_course m copied w used).steps
+    install_beside w used is = by_install m copied lawful keeps alone (λ w c. AreBeside m copied w c.steps) (λ w used. tt) finishing logging beside_then w used is
+
+    pub drain_beside : MayRound m → (w : World O) (used : ℕ) → IsRunning m w → AreBeside m copied w (drain_course m copied w used).steps
+    drain_beside rounds_may w used is =
+        by_drain m copied lawful keeps alone rounds_may (λ w c. AreBeside m copied w c.steps) (λ w used. tt) finishing logging beside_then (λ w used is. round_beside (round_limit m) w is) w used is

@@ -1,19 +1,19 @@
 -- What is logged from one state of a store to another, over the calls of an install.
-use Rattle.std.proofs.Common.{◌≡◌, ◌∙◌, sym, subst, ap, ℕ, ◌+◌, ◌<◌, ◌≤◌, ◌⊎◌, Bool, List, length, refl, arith}
+use Rattle.std.proofs.Common.{◌≡◌, ◌∙◌, sym, subst, ap, ℕ, ◌+◌, ◌<◌, ◌≤◌, ◌⊎◌, Bool, List, length, refl, arith, inl, inr}
 use Rattle.std.specs.Prelude.{All, IsTrue, ◌==◌, ◌&&◌, not}
 use Rattle.std.specs.List.{filter, list_any}
-use Rattle.std.proofs.lemmas.Bool.{and_parts, eqb-true, false_from_ne_true}
+use Rattle.std.proofs.lemmas.Bool.{and_parts, both_ways, cases_Bool, eqb-true, false_from_ne_true}
 use Rattle.std.proofs.lemmas.List.Filters.{length-filter_both}
 use Rattle.oper_core.specs.State.{is_among}
 use Rattle.install_order.specs.Entries.{accesses}
 use Rattle.install_order.specs.Order.{NoEdgeInto}
 use Rattle.install_order.specs.declared.entry.Entry.{Entry}
 use Rattle.write_graph.specs.Graph.{IsNodeNamed, numbers}
-use Rattle.dirty_cache.specs.Contents.{AreDirty, Contents, is_dirty}
-use Rattle.log_records.specs.RecordLog.{RecordLogView}
+use Rattle.dirty_cache.specs.Contents.{AreDirty}
 use Rattle.running_store.specs.Among.{all_among}
 use Rattle.running_store.specs.Flushed.{DirtiesNone}
 use Rattle.running_store.specs.Parts.{Parts}
+use Rattle.running_store.specs.RoundCalls.{AreFlushed}
 use Rattle.cache_manager.specs.Beside.{HasCopied}
 use Rattle.cache_manager.specs.LogsDirty.{AreIdentitiesFrom, HasLogged, LogsDirty, count_older, is_older}
 use Rattle.cache_manager.specs.Thin.{IsWork}
@@ -41,16 +41,14 @@ logs_twice before here after one two = record {
       omega (arith, a, b);
 }
 
--- the log, the entries and what is cached are as they were
-pub logs_same : (before after : Parts) → after.log ≡ before.log → after.volatile.entries ≡ before.volatile.entries → after.volatile.objects.cache ≡ before.volatile.objects.cache → LogsDirty before after
-logs_same before after log entries cache =
-    let next : after.log.next ≡ before.log.next = ap (λ (l : RecordLogView). l.next) log in
-    record {
-      rising = omega (arith, next);
-      dirty = λ x is. ap (λ (c : Contents). is_dirty c x) (sym cache) ∙ is;
-      identities = λ first from are. subst (λ (es : List Entry). AreIdentitiesFrom first es) (sym entries) are;
-      older = λ first objects from are all. let same = ap (λ (es : List Entry). count_older first es objects) entries in omega (arith, next, same);
-    }
+-- objects were flushed
+pub logs_flushed : (before after : Parts) (objects : List ℕ) → after.log.next ≡ before.log.next → after.volatile.entries ≡ before.volatile.entries → AreFlushed before.volatile.objects after.volatile.objects objects → LogsDirty before after
+logs_flushed before after objects next entries flushed = record {
+  rising = omega (arith, next);
+  dirty = λ x is. elim (cases_Bool (is_among x objects)) [ inl there ↦ absurd (both_ways _ (flushed.clean x there) is) | inr off ↦ sym (flushed.others x off).dirty ∙ is ];
+  identities = λ first from are. subst (λ (es : List Entry). AreIdentitiesFrom first es) (sym entries) are;
+  older = λ first objects from are all. let same = ap (λ (es : List Entry). count_older first es objects) entries in omega (arith, next, same);
+}
 
 -- a minimal node was taken out
 pub logs_removal : (before after : Parts) (node : ℕ → Bool) → NoEdgeInto (accesses before.volatile.entries) node → after.volatile.entries ≡ filter (λ e. not (node e.number)) before.volatile.entries → after.log.next ≡ before.log.next

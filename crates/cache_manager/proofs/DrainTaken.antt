@@ -1,9 +1,9 @@
--- The installs of a drain, as calls on parts that show a world take them.
-use Rattle.std.proofs.Common.{◌≡◌, ◌∙◌, ap, ℕ, ◌+◌, ◌<◌, ◌≤◌, false, List, [], ◌∷◌, length, refl, arith, inl, inr}
-use Rattle.std.specs.Prelude.{All, IsTrue, ◌==◌}
+-- The turns of a drain, as calls on parts that show a world take them.
+use Rattle.std.proofs.Common.{◌≡◌, ◌∙◌, ap, ℕ, ◌+◌, ◌<◌, ◌≤◌, false, List, [], length, arith, inl, inr}
+use Rattle.std.specs.Prelude.{All}
 use Rattle.std.specs.List.Sorted.{IsStrictlyIncreasing}
 use Rattle.std.proofs.lemmas.List.{length-map}
-use Rattle.std.proofs.lemmas.Bool.{both_ways, cases_Bool, eq-eqb, or_left}
+use Rattle.std.proofs.lemmas.Bool.{both_ways, cases_Bool}
 use Rattle.disk_model.specs.Disk.{Disk}
 use Rattle.disk_model.specs.declared.machine.FileNo.TheVariants.{Objects}
 use Rattle.oper_core.specs.Meaning.{Meaning, IsLawful, IsSmall}
@@ -19,24 +19,21 @@ use Rattle.explain_core.specs.World.{World, run}
 use Rattle.running_store.specs.Among.{all_among}
 use Rattle.running_store.specs.CourseLaws.{behind_through}
 use Rattle.running_store.specs.Courses.{Course, and_then, course, is_through}
-use Rattle.cache_manager.specs.InstallCourses.{drain_course, install_course, removals}
+use Rattle.cache_manager.specs.InstallCourses.{drain_course, removals, turn_course}
 use Rattle.running_store.specs.Courses.Stop.{Through}
 use Rattle.running_store.specs.Parts.{Parts, Shows, meaning_in}
 use Rattle.running_store.specs.Running.{KeepsSound}
 use Rattle.cache_manager.proofs.Balance.{count_listed}
 use Rattle.cache_manager.proofs.Counts.{count_at_most}
-use Rattle.cache_manager.proofs.Loops.{drain_installs, drain_none}
-use Rattle.cache_manager.proofs.NamedNext.{no_members, some_members}
+use Rattle.cache_manager.proofs.DrainTurns.{drain_none, drain_turns}
+use Rattle.cache_manager.proofs.NamedNext.{no_members}
 use Rattle.cache_manager.proofs.Planned.{rises_apart, rises_from_increasing}
-use Rattle.cache_manager.proofs.Removals.{install_removes_one, removals-append}
+use Rattle.cache_manager.proofs.Removals.{removals-append}
+use Rattle.cache_manager.proofs.RoundGoes.{MayRound}
 use Rattle.cache_manager.proofs.ThinWorlds.{store_small}
 use Rattle.cache_manager.proofs.WorkOf.{AreAlone}
 
-some_entry : (entries : List Entry) → (entries ≡ [] → ⊥) → (n : ℕ) × IsTrue (is_among n (numbers entries))
-some_entry [] some = absurd (some refl)
-some_entry (e ∷ entries) some = (e.number, or_left (e.number == e.number) (is_among e.number (numbers entries)) (eq-eqb e.number e.number refl))
-
-module _ {O : Type 0} (meaning : Bounds → Meaning O) (lawful : (b : Bounds) → IsSmall b → IsLawful (meaning b)) (keep : (b : Bounds) → IsSmall b → KeepsSound (meaning b)) (alone : AreAlone) (copied : ℕ)
+module _ {O : Type 0} (meaning : Bounds → Meaning O) (lawful : (b : Bounds) → IsSmall b → IsLawful (meaning b)) (keep : (b : Bounds) → IsSmall b → KeepsSound (meaning b)) (rounds : (b : Bounds) → IsSmall b → MayRound (meaning b)) (alone : AreAlone) (copied : ℕ)
     (now : Disk) (here : Parts) (p : Params) (v : World O) (shows : Shows (meaning_in meaning p) p now here v) where
   abbrev m : Meaning O
   m = meaning_in meaning p
@@ -45,27 +42,24 @@ module _ {O : Type 0} (meaning : Bounds → Meaning O) (lawful : (b : Bounds) �
   used = used_of here.log.log
 
   abbrev one : Course O
-  one = install_course m copied v used
+  one = turn_course m copied v used
 
   small : IsSmall (bounds_of p)
   small = store_small m p (now.reads Objects) here.volatile v shows.store
 
-  -- an install is next
-  pub installs : drain_course m copied v used ≡ and_then m v one (λ u used. drain_course m copied u used)
-  installs = drain_installs m copied (lawful (bounds_of p) small) (keep (bounds_of p) small) alone v used shows.running
+  -- a turn is next
+  pub turns : drain_course m copied v used ≡ and_then m v one (λ u used. drain_course m copied u used)
+  turns = drain_turns m copied (lawful (bounds_of p) small) (keep (bounds_of p) small) alone (rounds (bounds_of p) small) v used shows.running
 
-  -- it removes a node
-  pub removes_one : (here.volatile.entries ≡ [] → ⊥) → one.stop ≡ Through → removals (drain_course m copied v used).steps ≡ 1 + removals (drain_course m copied (run m v one.steps) one.used).steps
-  removes_one some through =
-      let e = some_entry here.volatile.entries some in
-      let held = some_members m v here.volatile.entries shows.store.members (lawful (bounds_of p) small) shows.running.sound e.0 e.1 in
+  -- it removes its nodes
+  pub removes : one.stop ≡ Through → removals (drain_course m copied v used).steps ≡ removals one.steps + removals (drain_course m copied (run m v one.steps) one.used).steps
+  removes through =
       let rest = drain_course m copied (run m v one.steps) one.used in
-      let same = ap (λ (c : Course O). removals c.steps) (installs ∙ behind_through one rest one.stop (ap is_through through)) in
-      omega (arith, same, removals-append one.steps rest.steps, install_removes_one m copied v used held through)
+      ap (λ (c : Course O). removals c.steps) (turns ∙ behind_through one rest one.stop (ap is_through through)) ∙ removals-append one.steps rest.steps
 
   -- where the graph has no entry nothing is left
   pub drained : here.volatile.entries ≡ [] → drain_course m copied v used ≡ course [] used Through
-  drained none = drain_none m copied (lawful (bounds_of p) small) (keep (bounds_of p) small) alone v used (no_members m v here.volatile.entries shows.store.members none)
+  drained none = drain_none m copied (lawful (bounds_of p) small) (keep (bounds_of p) small) alone (rounds (bounds_of p) small) v used (no_members m v here.volatile.entries shows.store.members none)
 
 -- and nothing is dirty
 pub all_clean : {O : Type 0} (m : Meaning O) (p : Params) (now : Disk) (here : Parts) (v : World O) → Shows m p now here v → here.volatile.entries ≡ [] → (x : ℕ) → is_dirty here.volatile.objects.cache x ≡ false

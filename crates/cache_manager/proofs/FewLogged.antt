@@ -6,12 +6,14 @@ use Rattle.std.proofs.lemmas.Bool.{cases_eq, both_ways, or_cases, or_left, or_ri
 use Rattle.oper_core.specs.State.{is_among}
 use Rattle.oper_core.specs.Meaning.{Meaning}
 use Rattle.explain_core.specs.History.Member.{Identity}
+use Rattle.explain_core.specs.RoundGates.{Gate, gate_step, gates_of}
+use Rattle.explain_core.specs.Rounds.{round_gates}
 use Rattle.explain_core.specs.Sound.{IsSound}
 use Rattle.explain_core.specs.World.{World, Step, step, run, end_of}
 use Rattle.explain_core.specs.World.Step.{Append, Block_gate, Slot_gate, Removal}
 use Rattle.running_store.specs.Courses.{Course, course, waits, buffered, grown, force_steps, room_steps, placed, cached_length, identity_length, identity_steps, removal_steps}
 use Rattle.cache_manager.specs.EachStep.{each_identities}
-use Rattle.cache_manager.specs.InstallCourses.{logged_by, identity_course, identities, next_node, work, but_longest, finish_steps, logged_in}
+use Rattle.cache_manager.specs.InstallCourses.{logged_by, identity_course, identities, may_flush, next_node, removals_of, round_steps, work, but_longest, finish_steps, logged_in}
 use Rattle.running_store.specs.Courses.Stop.{Through, Full, At_end}
 use Rattle.running_store.specs.Running.{IsRunning, KeepsSound}
 use Rattle.cache_manager.proofs.Goes.{room_goes}
@@ -79,6 +81,40 @@ module _ {O : Type 0} (m : Meaning O) where
 
   pub none_finish : (w : World O) → logged_in (finish_steps m w) ≡ []
   none_finish w = logged-append (force_steps m w) (removal_steps m (next_node m w) (work m w)) ∙ (λ i. none_force w i ++ none_removal (next_node m w) (work m w) i)
+
+  -- a round logs nothing
+  none_gates : (gates : List Gate) → logged_in {O = O} (gates_of gates ++ removals_of gates) ≡ []
+  none_gates gates = logged-append {O = O} (gates_of gates) (removals_of gates) ∙ (λ i. first gates i ++ second gates i)
+    where
+      first : (gates : List Gate) → logged_in {O = O} (gates_of gates) ≡ []
+      first [] = refl
+      first (g ∷ gates) = first gates
+
+      second : (gates : List Gate) → logged_in {O = O} (removals_of gates) ≡ []
+      second [] = refl
+      second (g ∷ gates) = second gates
+
+  pub none_round : (copied most : ℕ) (w : World O) → logged_in (round_steps m copied most w) ≡ []
+  none_round copied most w =
+      let gates = round_gates m (may_flush m copied) most w in
+      logged-append (force_steps m w) (gates_of gates ++ removals_of gates) ∙ (λ i. none_force w i ++ none_gates gates i)
+
+  tally_gates : (w : World O) (gates : List Gate) → Tally m w (gates_of gates)
+  unfolding run
+  tally_gates w [] = tally_none_here w
+  tally_gates w (g ∷ gates) =
+      tally_append m w (gate_step g ∷ []) (gates_of gates) (tally_none m w (gate_step g ∷ []) refl (λ y is. slot_plain m w g.node g.object y is)) (tally_gates (step m w (gate_step g)) gates)
+
+  tally_removals : (w : World O) (gates : List Gate) → Tally m w (removals_of gates)
+  unfolding run step
+  tally_removals w [] = tally_none_here w
+  tally_removals w (g ∷ gates) = tally_append m w (Removal g.node ∷ []) (removals_of gates) (tally_none m w (Removal g.node ∷ []) refl (λ y is. is)) (tally_removals (step m w (Removal g.node)) gates)
+
+  pub tally_round : (copied most : ℕ) (w : World O) → Tally m w (round_steps m copied most w)
+  tally_round copied most w =
+      let gates = round_gates m (may_flush m copied) most w in
+      let v = run m w (force_steps m w) in
+      tally_append m w (force_steps m w) (gates_of gates ++ removals_of gates) (tally_force w) (tally_append m v (gates_of gates) (removals_of gates) (tally_gates v gates) (tally_removals (run m v (gates_of gates)) gates))
 
   -- identity writes log the objects that are asked for, and no others
   abbrev AllLogged : (ℕ → Type 0) → List (Step O) → Type 0

@@ -1,15 +1,14 @@
--- An install may be taken from every world in which calls are made, and leaves less to do; so a drain leaves nothing.
+-- An install may be taken from every world in which calls are made, and leaves less to do.
 use Rattle.std.specs.List.{list_any}
-use Rattle.std.proofs.Common.{◌≡◌, sym, subst, ℕ, Bool, false, zero, suc, ◌+◌, ◌<◌, ◌≤◌, List, [], ◌∷◌, length, refl, arith, inl, inr}
+use Rattle.std.proofs.Common.{◌≡◌, sym, subst, ℕ, Bool, false, zero, suc, ◌<◌, ◌≤◌, List, [], ◌∷◌, length, refl, arith, inl, inr}
 use Rattle.std.specs.Prelude.{⊤, IsTrue, IsFalse, nat_lt, ◌==◌}
 use Rattle.std.proofs.lemmas.Bool.{cases_eq, cases_Bool, both_ways, false_from_ne_true, or_cases, or_left, or_right, or_parts, and_parts, eq-eqb, eqb-true, ltb-true, ltb-false, cond_both}
 use Rattle.oper_core.specs.State.{is_among}
 use Rattle.oper_core.specs.Meaning.{Meaning, IsLawful}
 use Rattle.install_order.specs.NodeLaws.{some-from, some-gives}
-use Rattle.explain_core.specs.Turns.{count_below, dirty_in}
 use Rattle.explain_core.specs.World.{World, end_of, AreAllowed}
 use Rattle.running_store.specs.Courses.{Course, course, and_then, cached_length}
-use Rattle.cache_manager.specs.InstallCourses.{identities, next_node, work, is_stale, must_log, others, but_longest, finish_steps, rounds, has_members, install_course, drains, drain_course}
+use Rattle.cache_manager.specs.InstallCourses.{identities, next_node, work, is_stale, must_log, others, but_longest, finish_steps, rounds, has_members, install_course}
 use Rattle.running_store.specs.Courses.Stop.{Through}
 use Rattle.running_store.specs.Running.{IsRunning, IsDrained, KeepsSound}
 use Rattle.cache_manager.proofs.Counts.{count_one, count_at_most}
@@ -18,7 +17,7 @@ use Rattle.cache_manager.proofs.Goes.{Goes, goes_then, goes_weaker, goes_if, goe
 use Rattle.cache_manager.proofs.Lists.{AreApart, other_among, but_longest_among, but_longest_apart, but_longest_some, copied_some}
 use Rattle.cache_manager.proofs.Logging.{AreLogged, identities_goes}
 use Rattle.cache_manager.proofs.Next.{next_is, below}
-use Rattle.cache_manager.proofs.Plain.{is_plain, plain_in, left_in, plain_below}
+use Rattle.cache_manager.proofs.Plain.{is_plain, plain_in}
 use Rattle.cache_manager.proofs.WorkOf.{AreAlone, listed_is, listed_apart, work_there, work_is_plain, stale_is_plain}
 
 -- of two objects or more each has another one beside it
@@ -121,7 +120,7 @@ module _ {O : Type 0} (m : Meaning O) (copied : ℕ) (lawful : IsLawful m) (keep
       let one = some-gives (end_of w) w.graph some in
       rounds_go m.objects w used one.0 is one.2 (count_at_most m.objects (is_plain w))
 
-  none_left : (w : World O) → IsRunning m w → IsFalse (has_members m w) → IsDrained w
+  pub none_left : (w : World O) → IsRunning m w → IsFalse (has_members m w) → IsDrained w
   none_left w is none =
       let empty : (n : ℕ) → IsFalse (w.graph n) = λ n. false_from_ne_true _ (λ there. both_ways _ none (some-from (end_of w) w.graph n (below m lawful w is.sound n there) there)) in
       record {
@@ -132,29 +131,14 @@ module _ {O : Type 0} (m : Meaning O) (copied : ℕ) (lawful : IsLawful m) (keep
         ];
       }
 
-  -- as many installs as there is left to do are enough
-  pub drains_go : (n : ℕ) (w : World O) (used : ℕ) → IsRunning m w → left_in m w ≤ n → Goes m w (drains m copied n w used) IsDrained
-  drains_go zero w used is few = goes_none m w used IsDrained (none_left w is (false_from_ne_true _ (λ some.
-      let one = some-gives (end_of w) w.graph some in
-      absurd (omega (arith, few, count_one (end_of w) w.graph one.0 one.1 one.2)))))
-  drains_go (suc n) w used is few =
-      let first = rounds m copied m.objects w used in
-      goes_if m w (has_members m w) (and_then m w first (λ v used. drains m copied n v used)) (course [] used Through) IsDrained
-      (λ some. goes_then m w first (λ v used. drains m copied n v used) (IsInstalled m w) IsDrained (install_goes w used is some)
-      (λ v done. drains_go n v first.used done.running (omega (arith, done.less, few))))
-      (λ none. goes_none m w used IsDrained (none_left w is none))
-
-  pub drain_goes : (w : World O) (used : ℕ) → IsRunning m w → Goes m w (drain_course m copied w used) IsDrained
-  drain_goes w used is = drains_go (count_below (end_of w) w.graph + dirty_in m w) w used is (omega (arith, plain_below m w))
-
   pub install_allowed : (w : World O) (used : ℕ) → IsRunning m w → AreAllowed m w (install_course m copied w used).steps
   install_allowed w used is =
       (goes_if m w (has_members m w) (rounds m copied m.objects w used) (course [] used Through) (λ v. ⊤)
       (λ some. goes_weaker m w (rounds m copied m.objects w used) (IsInstalled m w) (λ v. ⊤) (λ v done. tt) (install_goes w used is some))
       (λ none. goes_none m w used (λ v. ⊤) tt)).allowed
 
-  -- What holds of each course of a kind, from a world in which calls are made, holds of an install and of a drain: of none, of a
-  -- node's last steps, of the identity writes of a round, and of one such course after the other.
+  -- What holds of each course of a kind, from a world in which calls are made, holds of an install: of none, of a node's last
+  -- steps, of the identity writes before them, and of one such course after the other.
   module _ (Q : World O → Course O → Type 0) (none : (w : World O) (used : ℕ) → Q w (course [] used Through))
       (finish : (w : World O) (used c : ℕ) → IsRunning m w → IsTrue (w.graph c) → IsFalse (must_log m copied w) → Q w (course (finish_steps m w) used Through))
       (log : (w : World O) (used c : ℕ) → IsRunning m w → IsTrue (w.graph c) → IsTrue (must_log m copied w) → Q w (identities m (others m copied w) w used))
@@ -168,19 +152,8 @@ module _ {O : Type 0} (m : Meaning O) (copied : ℕ) (lawful : IsLawful m) (keep
         (λ v logged. let some = some_logged w is must in by_rounds n v logging.used c logged.running (logged.members c there) (omega (arith, some, logged.plain, few))))
         (λ may. finish w used c is there may)
 
-    by_some : (w : World O) (used : ℕ) → IsRunning m w → IsTrue (has_members m w) → Q w (rounds m copied m.objects w used)
+    pub by_some : (w : World O) (used : ℕ) → IsRunning m w → IsTrue (has_members m w) → Q w (rounds m copied m.objects w used)
     by_some w used is some = let one = some-gives (end_of w) w.graph some in by_rounds m.objects w used one.0 is one.2 (count_at_most m.objects (is_plain w))
 
-    by_drains : (n : ℕ) (w : World O) (used : ℕ) → IsRunning m w → Q w (drains m copied n w used)
-    by_drains zero w used is = none w used
-    by_drains (suc n) w used is =
-        let first = rounds m copied m.objects w used in
-        cond_both (has_members m w) (and_then m w first (λ v used. drains m copied n v used)) (course [] used Through) (Q w)
-        (λ some. then w first (λ v used. drains m copied n v used) (IsInstalled m w) (install_goes w used is some) (by_some w used is some) (λ v done. by_drains n v first.used done.running))
-        (λ empty. none w used)
-
-    pub by_courses : (w : World O) (used : ℕ) → IsRunning m w → Q w (install_course m copied w used) × Q w (drain_course m copied w used)
-    by_courses w used is = (
-      cond_both (has_members m w) (rounds m copied m.objects w used) (course [] used Through) (Q w) (by_some w used is) (λ empty. none w used),
-      by_drains (count_below (end_of w) w.graph + dirty_in m w) w used is,
-    )
+    pub by_install : (w : World O) (used : ℕ) → IsRunning m w → Q w (install_course m copied w used)
+    by_install w used is = cond_both (has_members m w) (rounds m copied m.objects w used) (course [] used Through) (Q w) (by_some w used is) (λ empty. none w used)

@@ -9,15 +9,17 @@ use Rattle.oper_core.specs.Meaning.{Meaning, IsLawful}
 use Rattle.explain_core.specs.Turns.{is_dirty_in}
 use Rattle.explain_core.specs.World.{World, Step}
 use Rattle.running_store.specs.Courses.{Course, and_then, cached_length}
-use Rattle.cache_manager.specs.InstallCourses.{identities, work, others, finish_steps, must_log, install_course, drain_course, logged_in}
+use Rattle.cache_manager.specs.InstallCourses.{identities, work, others, finish_steps, must_log, install_course, drain_course, logged_in, round_limit, round_steps}
 use Rattle.cache_manager.specs.FewLogged.{AreFewLogged}
 use Rattle.running_store.specs.Running.{IsRunning, KeepsSound}
-use Rattle.cache_manager.proofs.FewLogged.{tally_finish, none_finish, tally_none_here, tally_identities, fewer_others}
+use Rattle.cache_manager.proofs.FewLogged.{tally_finish, none_finish, none_round, tally_none_here, tally_round, tally_identities, fewer_others}
 use Rattle.cache_manager.proofs.Goes.{Goes}
-use Rattle.cache_manager.proofs.Installs.{by_courses, some_work, work_may_be_logged}
+use Rattle.cache_manager.proofs.Installs.{by_install, some_work, work_may_be_logged}
 use Rattle.cache_manager.proofs.Lists.{AreApart, some_among as listed_some, but_longest_among, but_longest_apart}
 use Rattle.cache_manager.proofs.Plain.{is_plain, plain_below}
+use Rattle.cache_manager.proofs.RoundGoes.{MayRound}
 use Rattle.cache_manager.proofs.Tally.{Tally, IsFewer, tally_then, tally_count, fewer_then}
+use Rattle.cache_manager.proofs.DrainTurns.{by_drain}
 use Rattle.cache_manager.proofs.WorkOf.{AreAlone, listed_apart}
 
 -- what the steps log are few
@@ -37,6 +39,9 @@ module _ {O : Type 0} (m : Meaning O) (copied : ℕ) where
 
   few_finish : (w : World O) → LogsFew m copied w (finish_steps m w)
   few_finish w = record { tally = tally_finish m w; fewer = λ none. inl (none_finish m w) }
+
+  few_round : (most : ℕ) (w : World O) → LogsFew m copied w (round_steps m copied most w)
+  few_round most w = record { tally = tally_round m copied most w; fewer = λ none. inl (none_round m copied most w) }
 
   module _ (lawful : IsLawful m) (keeps : KeepsSound m) (alone : AreAlone) where
     few_others : (w : World O) (used c : ℕ) → IsRunning m w → IsTrue (w.graph c) → IsTrue (must_log m copied w) → LogsFew m copied w (identities m (others m copied w) w used).steps
@@ -71,7 +76,11 @@ module _ {O : Type 0} (m : Meaning O) (copied : ℕ) where
       fewer = λ none. elim (few.fewer none) [ inl nothing ↦ inl nothing | inr less ↦ inr (omega (arith, less, plain_below m w)) ];
     }
 
-    pub go_logging : (w : World O) (used : ℕ) → IsRunning m w → AreFewLogged m copied w (logged_in (install_course m copied w used).steps) × AreFewLogged m copied w (logged_in (drain_course m copied w used).steps)
-    go_logging w used is =
-        let few = by_courses m copied lawful keeps alone (λ w c. LogsFew m copied w c.steps) (λ w used. few_none w) (λ w used c is there may. few_finish w) few_others few_then w used is in
-        (are_few w (install_course m copied w used).steps few.0, are_few w (drain_course m copied w used).steps few.1)
+    pub install_logging : (w : World O) (used : ℕ) → IsRunning m w → AreFewLogged m copied w (logged_in (install_course m copied w used).steps)
+    install_logging w used is =
+        are_few w (install_course m copied w used).steps (by_install m copied lawful keeps alone (λ w c. LogsFew m copied w c.steps) (λ w used. few_none w) (λ w used c is there may. few_finish w) few_others few_then w used is)
+
+    pub drain_logging : MayRound m → (w : World O) (used : ℕ) → IsRunning m w → AreFewLogged m copied w (logged_in (drain_course m copied w used).steps)
+    drain_logging rounds_may w used is =
+        are_few w (drain_course m copied w used).steps
+        (by_drain m copied lawful keeps alone rounds_may (λ w c. LogsFew m copied w c.steps) (λ w used. few_none w) (λ w used c is there may. few_finish w) few_others few_then (λ w used is. few_round (round_limit m) w) w used is)

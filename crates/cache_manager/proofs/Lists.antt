@@ -1,8 +1,8 @@
 -- Objects of a list: apart from each other, in a filtered list, below a bound.
-use Rattle.std.proofs.Common.{◌≡◌, ◌∙◌, sym, subst, ap, ℕ, zero, suc, ◌+◌, ◌<◌, ◌≤◌, Bool, false, List, [], ◌∷◌, length, refl, arith, inl, inr, Option, None, Some}
+use Rattle.std.proofs.Common.{◌≡◌, ◌∙◌, sym, subst, ap, ℕ, zero, suc, ◌+◌, ◌<◌, ◌≤◌, Bool, false, List, [], ◌∷◌, length, refl, arith, inl, inr, Option, None, Some, drop, drop-cons, slice_index}
 use Rattle.std.specs.Prelude.{⊤, ◌==◌, not, IsTrue, IsFalse, nat_lt, nat_le}
-use Rattle.std.specs.List.{filter}
-use Rattle.std.proofs.lemmas.Bool.{cases_Bool, cases_eq, both_ways, or_cases, or_left, or_right, eq-eqb, ne_eqb, eqb-true, not-true, not_from_false, false_from_ne_true, cond-true, cond-false, leb-true, le-leb}
+use Rattle.std.specs.List.{filter, list_any}
+use Rattle.std.proofs.lemmas.Bool.{cases_Bool, cases_eq, both_ways, or_cases, or_left, or_parts, or_right, eq-eqb, ne_eqb, eqb-true, not-true, not_from_false, false_from_ne_true, cond-true, cond-false, leb-true, le-leb}
 use Rattle.oper_core.specs.State.{is_among}
 use Rattle.identity_writes.specs.Plan.{but_kept}
 use Rattle.cache_manager.specs.InstallCourses.{counted, longest, longest_of, not_copied, but_longest}
@@ -152,3 +152,17 @@ one_kept copied lengths xs none some =
           longest_among lengths y ys,
           false_from_ne_true _ (λ there. both_ways _ (not-true _ (among_filter (λ z. not (z == keep)) (y ∷ ys) keep there).1) (eq-eqb keep keep refl)),
         )
+
+-- of objects none of which passes
+pub none_passes : (p : ℕ → Bool) (objects : List ℕ) → IsFalse (list_any p objects) → (x : ℕ) → IsTrue (is_among x objects) → IsFalse (p x)
+none_passes p [] none x there = absurd (both_ways _ refl there)
+none_passes p (a ∷ objects) none x there =
+    let u = or_parts (p a) (list_any p objects) none in
+    elim (or_cases (x == a) (is_among x objects) there) [
+      | inl here ↦ subst (λ (z : ℕ). IsFalse (p z)) (sym (eqb-true x a here)) u.0
+      | inr later ↦ none_passes p objects u.1 x later
+    ]
+
+-- one of the objects is next
+pub first_left : (xs : List ℕ) (i : ℕ) → i < length xs → drop i xs ≡ slice_index xs i ∷ drop (i + 1) xs
+first_left xs i there = let next : suc i ≡ i + 1 = omega arith in drop-cons xs i 0 there ∙ ap (λ (k : ℕ). slice_index xs i ∷ drop k xs) next

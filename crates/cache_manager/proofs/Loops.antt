@@ -1,24 +1,23 @@
--- An install is a round and an install, or its last steps; a drain is an install and a drain.
-use Rattle.std.proofs.Common.{◌≡◌, ◌∙◌, sym, ap, ℕ, zero, suc, ◌+◌, ◌≤◌, [], refl, arith, inl, inr}
+-- An install logs and is an install again, or it is a node's last steps.
+use Rattle.std.proofs.Common.{◌≡◌, ◌∙◌, sym, ap, ℕ, zero, suc, ◌≤◌, [], refl, arith, inl, inr}
 use Rattle.std.specs.Prelude.{IsTrue, IsFalse}
-use Rattle.std.proofs.lemmas.Bool.{cases_Bool, cond-true, cond-false, false_from_ne_true}
+use Rattle.std.proofs.lemmas.Bool.{cases_Bool, cond-true, cond-false}
 use Rattle.oper_core.specs.Meaning.{Meaning, IsLawful}
-use Rattle.install_order.specs.NodeLaws.{some-from, some-gives}
-use Rattle.explain_core.specs.Turns.{count_below, dirty_in}
+use Rattle.install_order.specs.NodeLaws.{some-from}
 use Rattle.explain_core.specs.World.{World, run, end_of}
 use Rattle.running_store.specs.CourseLaws.{behind_stopped, through_is}
 use Rattle.running_store.specs.Courses.{Course, and_then, behind, course, is_through}
-use Rattle.cache_manager.specs.InstallCourses.{drain_course, drains, finish_steps, has_members, identities, install_course, must_log, others, rounds}
+use Rattle.cache_manager.specs.InstallCourses.{finish_steps, has_members, identities, install_course, must_log, others, rounds}
 use Rattle.running_store.specs.Courses.Stop.{Through}
 use Rattle.running_store.specs.Running.{IsRunning, KeepsSound}
-use Rattle.cache_manager.proofs.Counts.{count_at_most, count_one}
-use Rattle.cache_manager.proofs.Installs.{few_left, install_goes, others_go, some_logged}
+use Rattle.cache_manager.proofs.Counts.{count_at_most}
+use Rattle.cache_manager.proofs.Installs.{few_left, others_go, some_logged}
 use Rattle.cache_manager.proofs.Next.{below}
-use Rattle.cache_manager.proofs.Plain.{is_plain, left_in, plain_below, plain_in}
+use Rattle.cache_manager.proofs.Plain.{is_plain, plain_in}
 use Rattle.cache_manager.proofs.WorkOf.{AreAlone}
 
 -- two courses after a third are one if they are where that is not stopped
-then_same : {O : Type 0} (m : Meaning O) (w : World O) (first : Course O) (next other : World O → ℕ → Course O)
+pub then_same : {O : Type 0} (m : Meaning O) (w : World O) (first : Course O) (next other : World O → ℕ → Course O)
     → (first.stop ≡ Through → next (run m w first.steps) first.used ≡ other (run m w first.steps) first.used) → and_then m w first next ≡ and_then m w first other
 then_same {O} m w first next other same = elim (cases_Bool (is_through first.stop)) [
   | inl through ↦ ap (λ (c : Course O). behind first c first.stop) (same (through_is first.stop through))
@@ -77,57 +76,3 @@ module _ {O : Type 0} (m : Meaning O) (copied : ℕ) (lawful : IsLawful m) (keep
   -- there is none
   pub install_none : (w : World O) (used : ℕ) → IsFalse (has_members m w) → install_course m copied w used ≡ course [] used Through
   install_none w used none = cond-false (has_members m w) (rounds m copied m.objects w used) (course [] used Through) none
-
-  drains_on : (n : ℕ) (w : World O) (used : ℕ) → IsTrue (has_members m w) → drains m copied (suc n) w used ≡ and_then m w (rounds m copied m.objects w used) (λ v used. drains m copied n v used)
-  drains_on n w used some = cond-true (has_members m w) (and_then m w (rounds m copied m.objects w used) (λ v used. drains m copied n v used)) (course [] used Through) some
-
-  drains_end : (n : ℕ) (w : World O) (used : ℕ) → IsFalse (has_members m w) → drains m copied n w used ≡ course [] used Through
-  drains_end zero w used none = refl
-  drains_end (suc n) w used none = cond-false (has_members m w) (and_then m w (rounds m copied m.objects w used) (λ v used. drains m copied n v used)) (course [] used Through) none
-
-  nothing_left : (w : World O) → left_in m w ≤ 0 → IsFalse (has_members m w)
-  nothing_left w few = false_from_ne_true _ (λ some. let one = some-gives (end_of w) w.graph some in absurd (omega (arith, few, count_one (end_of w) w.graph one.0 one.1 one.2)))
-
-  -- so many installs and more are the same course
-  drains_same : (n k : ℕ) (w : World O) (used : ℕ) → IsRunning m w → left_in m w ≤ n → left_in m w ≤ k → drains m copied n w used ≡ drains m copied k w used
-  drains_same zero k w used is few enough = sym (drains_end k w used (nothing_left w few))
-  drains_same (suc n) zero w used is enough few = drains_end (suc n) w used (nothing_left w few)
-  drains_same (suc n) (suc k) w used is enough also = elim (cases_Bool (has_members m w)) [
-    | inl some ↦ drains_on n w used some
-        ∙ then_same m w (rounds m copied m.objects w used) (λ v used. drains m copied n v used) (λ v used. drains m copied k v used) (λ through.
-        let done = (install_goes m copied lawful keeps alone w used is some).through through in
-        drains_same n k (run m w (rounds m copied m.objects w used).steps) (rounds m copied m.objects w used).used done.running (omega (arith, enough, done.less)) (omega (arith, also, done.less)))
-        ∙ sym (drains_on k w used some)
-    | inr none ↦ drains_end (suc n) w used none ∙ sym (drains_end (suc k) w used none)
-  ]
-
-  abbrev most_left : World O → ℕ
-  most_left w = count_below (end_of w) w.graph + dirty_in m w
-
-  left_low : (w : World O) → left_in m w ≤ most_left w
-  left_low w = omega (arith, plain_below m w)
-
-  -- where there is none
-  pub drain_none : (w : World O) (used : ℕ) → IsFalse (has_members m w) → drain_course m copied w used ≡ course [] used Through
-  drain_none w used none = drains_end (most_left w) w used none
-
-  none_first : (w : World O) (used : ℕ) → and_then m w (course [] used Through) (λ v used. drain_course m copied v used) ≡ drain_course m copied w used
-  unfolding run
-  none_first w used = refl
-
-  -- a drain is an install, and begins again
-  pub drain_installs : (w : World O) (used : ℕ) → IsRunning m w → drain_course m copied w used ≡ and_then m w (install_course m copied w used) (λ v used. drain_course m copied v used)
-  drain_installs w used is = elim (cases_Bool (has_members m w)) [
-    | inl some ↦
-        let n = most_left w in
-        let low = left_low w in
-        let one = rounds m copied m.objects w used in
-        drains_same n (suc n) w used is low (omega (arith, low))
-        ∙ drains_on n w used some
-        ∙ then_same m w one (λ v used. drains m copied n v used) (λ v used. drain_course m copied v used) (λ through.
-        let v = run m w one.steps in
-        let done = (install_goes m copied lawful keeps alone w used is some).through through in
-        drains_same n (most_left v) v one.used done.running (omega (arith, done.less, low)) (left_low v))
-        ∙ ap (λ (c : Course O). and_then m w c (λ v used. drain_course m copied v used)) (sym (install_is w used some))
-    | inr none ↦ sym (none_first w used) ∙ ap (λ (c : Course O). and_then m w c (λ v used. drain_course m copied v used)) (sym (install_none w used none))
-  ]

@@ -38,7 +38,7 @@ module _ {O : Type 0} (m : Meaning O) (lawful : IsLawful m) (w : World O) (sound
   below n there = omega (arith, (sound.graph n there).1, sound.next.1)
 
   -- what the test says
-  none_enters : (node : ℕ → Bool) → IsTrue (not (is_entered m w node)) → NoEdgeInto a node
+  pub none_enters : (node : ℕ → Bool) → IsTrue (not (is_entered m w node)) → NoEdgeInto a node
   none_enters node t o p off held edge =
       both_ways _ (not-true _ t) (some-from end (λ o. not (node o) && some_below end (λ p. node p && edge_test a m.objects end o p)) o (edge-start a m.objects end o p is_within edge)
       (and_from _ _ (not_from_false _ off) (some-from end (λ p. node p && edge_test a m.objects end o p) p (edge-end a m.objects end o p is_within edge) (and_from _ _ held (test-from a m.objects end o p is_within edge)))))
@@ -100,3 +100,11 @@ module _ {O : Type 0} (m : Meaning O) (lawful : IsLawful m) (w : World O) (sound
         is_name = (named.1, λ n held. r.2 n (below n (inside n held)) (passes_from (next_node m w) n minimal held (inside n held)));
         least = λ k other member min name. r.2 k (below k member) (passes_from other k min name.0 member);
       }
+
+  -- it has the next name
+  pub next_has_name : (c : ℕ) → IsTrue (w.graph c) → IsTrue (w.graph (next_name m w)) × IsName (next_node m w) (next_name m w)
+  next_has_name c there =
+      let next = next_is c there in
+      let r = least-is passes end in
+      let named = node-is a m.objects end (next_name m w) is_within in
+      (next.inside (next_name m w) named.1, (named.1, λ n held. r.2 n (below n (next.inside n held)) (passes_from (next_node m w) n next.minimal held (next.inside n held))))

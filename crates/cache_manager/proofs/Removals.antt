@@ -1,14 +1,15 @@
--- An install removes one node, and flushes one object at most.
+-- An install removes one node, and flushes one object at most; a round removes the node of each of its gates.
 use Rattle.std.proofs.Common.{◌≡◌, ◌∙◌, sym, subst, ap, ℕ, zero, suc, ◌+◌, ◌≤◌, Bool, false, List, [], ◌∷◌, ◌++◌, length, take, refl, arith, append_assoc}
 use Rattle.std.specs.Prelude.{IsTrue}
 use Rattle.std.specs.List.{AllByRecursion}
 use Rattle.std.proofs.lemmas.Bool.{both_ways, cond-true, cond_both}
 use Rattle.oper_core.specs.Meaning.{Meaning}
-use Rattle.explain_core.specs.Turns.{count_below, dirty_in}
-use Rattle.explain_core.specs.World.{World, Step, run, end_of}
+use Rattle.explain_core.specs.RoundGates.{Gate, gates_of}
+use Rattle.explain_core.specs.Rounds.{round_gates}
+use Rattle.explain_core.specs.World.{World, Step, run}
 use Rattle.running_store.specs.Courses.{Course, is_through, course, behind, and_then, force_steps, removal_steps}
 use Rattle.cache_manager.specs.EachStep.{each_force, each_identities}
-use Rattle.cache_manager.specs.InstallCourses.{removed_by, identities, next_node, work, others, finish_steps, must_log, rounds, has_members, install_course, drains, drain_course, flushed_by, flushed_in, removals}
+use Rattle.cache_manager.specs.InstallCourses.{removed_by, identities, next_node, work, others, finish_steps, may_flush, must_log, removals_of, round_steps, rounds, has_members, install_course, flushed_by, flushed_in, removals}
 use Rattle.running_store.specs.Courses.Stop.{Through}
 use Rattle.running_store.specs.CourseLaws.{behind_both}
 
@@ -105,17 +106,16 @@ module _ {O : Type 0} (m : Meaning O) where
   install_removes_one copied w used some =
       subst (λ (c : Course O). c.stop ≡ Through → removals c.steps ≡ 1) (sym (cond-true (has_members m w) (rounds m copied m.objects w used) (course [] used Through) some)) (rounds_remove copied m.objects w used).through
 
-  -- a drain removes at most one node in each of its turns
-  drains_remove : (copied n : ℕ) (w : World O) (used : ℕ) → removals (drains m copied n w used).steps ≤ n
-  drains_remove copied zero w used = omega arith
-  drains_remove copied (suc n) w used =
-      let first = rounds m copied m.objects w used in
-      let v = run m w first.steps in
-      let one = (rounds_remove copied m.objects w used).removed in
-      cond_both (has_members m w) (and_then m w first (λ v used. drains m copied n v used)) (course [] used Through) (λ (c : Course O). removals c.steps ≤ suc n)
-      (λ some. behind_both (λ (c : Course O). removals c.steps ≤ suc n) first (drains m copied n v first.used) first.stop
-      (λ on. omega (arith, removals-append first.steps (drains m copied n v first.used).steps, one, drains_remove copied n v first.used)) (λ ends. omega (arith, one)))
-      (λ none. omega arith)
+  -- a round removes the nodes of its gates
+  none_gates : (gates : List Gate) → removals {O = O} (gates_of gates) ≡ 0
+  none_gates [] = refl
+  none_gates (g ∷ gates) = let rest = none_gates gates in omega (arith, rest)
 
-  pub drain_removes : (copied : ℕ) (w : World O) (used : ℕ) → removals (drain_course m copied w used).steps ≤ count_below (end_of w) w.graph + dirty_in m w
-  drain_removes copied w used = drains_remove copied (count_below (end_of w) w.graph + dirty_in m w) w used
+  each_removed : (gates : List Gate) → removals {O = O} (removals_of gates) ≡ length gates
+  each_removed [] = refl
+  each_removed (g ∷ gates) = let rest = each_removed gates in omega (arith, rest)
+
+  pub round_removes : (copied most : ℕ) (w : World O) → removals (round_steps m copied most w) ≡ length (round_gates m (may_flush m copied) most w)
+  round_removes copied most w =
+      let gates = round_gates m (may_flush m copied) most w in
+      omega (arith, removals-append (force_steps m w) (gates_of gates ++ removals_of gates), removals-append {O = O} (gates_of gates) (removals_of gates), (none_force w).removed, none_gates gates, each_removed gates)

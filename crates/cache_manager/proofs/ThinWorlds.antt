@@ -34,7 +34,7 @@ here : (x : ℕ) (xs : List ℕ) → IsTrue (is_among x (x ∷ xs))
 here x xs = or_left (x == x) (is_among x xs) (eq-eqb x x refl)
 
 -- where all that pass are equal, at most one does
-count_few : (n : ℕ) (q : ℕ → Bool) → ((x y : ℕ) → IsTrue (q x) → IsTrue (q y) → x ≡ y) → count_below n q ≤ 1
+pub count_few : (n : ℕ) (q : ℕ → Bool) → ((x y : ℕ) → IsTrue (q x) → IsTrue (q y) → x ≡ y) → count_below n q ≤ 1
 count_few zero q few = omega arith
 count_few (suc n) q few = elim (cases_Bool (q n)) [
   | inl top ↦

@@ -1,10 +1,12 @@
 -- What an install and a drain do, as functions of the world and of the log's length. No group is open in the world.
-use Rattle.std.specs.Prelude.{◌+◌, ◌^◌, ℕ, zero, suc, nat_lt, nat_le, Bool, not, ◌&&◌, ◌||◌, true, if◌then◌else◌, Option, None, Some, List, [], ◌∷◌, ◌++◌, length}
+use Rattle.std.specs.Prelude.{◌+◌, ◌^◌, ◌/◌, ℕ, zero, suc, nat_lt, nat_le, Bool, not, ◌&&◌, ◌||◌, true, if◌then◌else◌, Option, None, Some, List, [], ◌∷◌, ◌++◌, length, max}
 use Rattle.std.specs.List.{filter, list_any}
 use Rattle.oper_core.specs.Meaning.{Meaning}
 use Rattle.install_order.specs.Computed.{some_below, least_below}
 use Rattle.identity_writes.specs.Plan.{but_kept}
 use Rattle.explain_core.specs.History.Member.{Identity}
+use Rattle.explain_core.specs.RoundGates.{Gate, gates_of}
+use Rattle.explain_core.specs.Rounds.{round_gates}
 use Rattle.explain_core.specs.Turns.{count_below, dirty_in, has_work, is_entered}
 use Rattle.explain_core.specs.World.{World, Step, step, end_of, node_named}
 use Rattle.explain_core.specs.World.Step.{Append, Slot_gate, Removal}
@@ -33,6 +35,16 @@ not_copied copied objects = filter (λ x. nat_le copied x) objects
 -- all but the longest of those that are not copied
 abbrev pub but_longest : ℕ → (ℕ → ℕ) → List ℕ → List ℕ
 but_longest copied lengths objects = but_kept (longest_of lengths (not_copied copied objects)) objects
+
+-- the nodes that the gates install are removed
+abbrev pub removals_of : {O : Type 0} → List Gate → List (Step O)
+removals_of [] = []
+removals_of (g ∷ gates) = Removal g.node ∷ removals_of gates
+
+-- so many nodes are installed in one round: as many as have objects of at most 2^20 bytes together, however long their values
+-- are, and at least 64
+abbrev pub round_limit : {O : Type 0} → Meaning O → ℕ
+round_limit m = max 64 (2 ^ 20 / m.cap)
 
 module _ {O : Type 0} (m : Meaning O) where
   -- an identity write of x: room is made for it, and it is placed
@@ -89,12 +101,36 @@ module _ {O : Type 0} (m : Meaning O) where
     abbrev pub install_course : World O → ℕ → Course O
     install_course w used = if has_members w then rounds m.objects w used else course [] used Through
 
-    -- installs until nothing is left: so many at most
+    -- an object may be flushed as it is
+    abbrev pub may_flush : World O → ℕ → Bool
+    may_flush w x = not (is_stale w x)
+
+    -- A round: all that waits is forced, the gates of minimal nodes are opened that have one object to flush, from the least name
+    -- on and of so many at most, and then the nodes are removed.
+    abbrev pub round_steps : ℕ → World O → List (Step O)
+    round_steps most w = let gates = round_gates m may_flush most w in force_steps m w ++ (gates_of gates ++ removals_of gates)
+
+    abbrev pub round_course : ℕ → World O → ℕ → Course O
+    round_course most w used = course (round_steps most w) used Through
+
+    -- the next node may be finished, and it has an object to flush
+    abbrev pub is_next_due : World O → Bool
+    is_next_due w = not (must_log w) && nat_lt 0 (length (work w))
+
+    -- a turn of a drain: a round, where the next node is due, else an install
+    abbrev pub drain_turn : World O → ℕ → Course O
+    drain_turn w used = if is_next_due w then round_course (round_limit m) w used else rounds m.objects w used
+
+    -- if something is left
+    abbrev pub turn_course : World O → ℕ → Course O
+    turn_course w used = if has_members w then drain_turn w used else course [] used Through
+
+    -- turns until nothing is left: so many at most
     abbrev pub drains : ℕ → World O → ℕ → Course O
     drains zero w used = course [] used Through
-    drains (suc n) w used = if has_members w then and_then m w (rounds m.objects w used) (λ v used. drains n v used) else course [] used Through
+    drains (suc n) w used = if has_members w then and_then m w (drain_turn w used) (λ v used. drains n v used) else course [] used Through
 
-    -- each install takes a member out, and the identity writes are of different dirty objects
+    -- each turn takes a member out, and the identity writes are of different dirty objects
     abbrev pub drain_course : World O → ℕ → Course O
     drain_course w used = drains (count_below (end_of w) w.graph + dirty_in m w) w used
 

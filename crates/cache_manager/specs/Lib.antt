@@ -1,5 +1,4 @@
 pub mod InstallCourses
-pub mod RoundCourses
 pub mod Beside
 pub mod Endings
 pub mod RecordPlace
@@ -9,5 +8,7 @@ pub mod FreeSteps
 pub mod Upkeep
 pub mod FewLogged
 pub mod Thin
+pub mod DueNodes
+pub mod RoundNodes
 pub mod LogsDirty
 pub mod Worked

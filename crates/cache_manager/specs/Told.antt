@@ -1,5 +1,5 @@
 -- What an install tells of the steps that it took, and of the parts.
-use Rattle.std.specs.Prelude.{◌≡◌, ◌↔◌, ◌+◌, ◌<◌, ℕ, false, List, [], ◌∷◌, length, Option, None, Some}
+use Rattle.std.specs.Prelude.{◌≡◌, ◌↔◌, ◌+◌, ◌<◌, ◌≤◌, ℕ, false, List, [], ◌∷◌, length, Option, None, Some}
 use Rattle.oper_core.specs.Meaning.{Meaning}
 use Rattle.explain_core.specs.World.{World, Step}
 use Rattle.cache_manager.specs.InstallCourses.{flushed_in, logged_in, members_removed}
@@ -31,3 +31,14 @@ pub record TellsParts (before after : Parts) (install : Install) : Type 0 where
   pub some : (install ≡ Clean → ⊥) → 0 < ops_of install
   pub numbered : after.log.next ≡ before.log.next + identities_of install
   pub entries : length after.volatile.entries + ops_of install ≡ length before.volatile.entries + identities_of install
+
+-- What a turn of a drain tells on every machine: so many nodes were installed, unless the graph had no entry. Each of them had an
+-- entry at least, and each identity write puts one in.
+abbrev pub installed : Option ℕ → ℕ
+installed None = 0
+installed (Some n) = n
+
+abbrev pub TellsTurn : Parts → Parts → Option ℕ → Type 0
+TellsTurn before after None = (before.volatile.entries ≡ []) × (after ≡ before)
+TellsTurn before after (Some n) =
+    (0 < n) × (before.log.next ≤ after.log.next) × (length after.volatile.entries + n + before.log.next ≤ length before.volatile.entries + after.log.next)

@@ -1,14 +1,20 @@
-ghost use Rattle.std.specs.Prelude.{◌≡◌, ◌+◌, ◌<◌, ◌≤◌, ℕ, IsTrue, All, List, length};
+ghost use Rattle.std.specs.Prelude.{◌≡◌, ◌⊎◌, ◌+◌, ◌<◌, ◌≤◌, ℕ, IsTrue, All, List, length};
+ghost use Rattle.formats.specs.declared.params.Params.{Params as Numbers};
 ghost use Rattle.oper_core.specs.Meaning.{IsSmall};
 ghost use Rattle.oper_core.specs.declared.bounds.Bounds.{Bounds};
+ghost use Rattle.explain_core.specs.RoundGates.{IsGateAmong};
+ghost use Rattle.explain_core.specs.Rounds.{gate_at, is_due, round_gates};
+ghost use Rattle.explain_core.specs.Sound.{IsSound};
 ghost use Rattle.explain_core.specs.Turns.{count_below, dirty_in};
 ghost use Rattle.explain_core.specs.World.{World, run, end_of};
 ghost use Rattle.running_store.specs.Courses.{force_course};
-ghost use Rattle.cache_manager.specs.InstallCourses.{identities, has_members, install_course, drain_course, logged_in, flushed_in, removals};
-ghost use Rattle.cache_manager.specs.RoundCourses.{round_course};
+ghost use Rattle.cache_manager.specs.InstallCourses.{identities, has_members, install_course, drain_course, logged_in, flushed_in, may_flush, removals, round_course};
+ghost use Rattle.cache_manager.specs.DueNodes.{IsRoundFrom, gates_at};
 ghost use Rattle.running_store.specs.Courses.Stop.{Through};
 ghost use Rattle.explain_core.specs.Backup.{AreBeside};
 ghost use Rattle.cache_manager.specs.FewLogged.{AreFewLogged};
+ghost use Rattle.running_store.specs.Parts.{ShowsVolatile, Volatile, meaning_in};
+ghost use Rattle.running_store.specs.RoundImages.{objects_of};
 ghost use Rattle.running_store.specs.Running.{IsRunning, MayBeTaken, IsDrained};
 
 use oper_core::Oper;
@@ -50,6 +56,7 @@ pub fn drain_may_be_taken<O: Oper>()
         IsDrained (run (O.meaning b) w (drain_course (O.meaning b) copied w used).steps) }
 {
     explain_core::every_run_keeps::<O>();
+    explain_core::a_round_may_be_taken::<O>();
     install_order::last_blind_write_is_alone();
 }
 
@@ -69,15 +76,16 @@ pub fn install_is_bounded<O: Oper>()
 }
 
 /// The same bound holds for all that a drain logs, and it removes at most as many nodes as the graph has members and there
-/// are dirty objects together.
+/// are dirty objects together: a round of several nodes takes as many members out at least.
 pub fn drain_is_bounded<O: Oper>()
     ensures logged { (b : Bounds) (copied : ℕ) (w : World O) (used : ℕ) → IsSmall b → IsRunning (O.meaning b) w →
         AreFewLogged (O.meaning b) copied w (logged_in (drain_course (O.meaning b) copied w used).steps) }
-    ensures removed { (b : Bounds) (copied : ℕ) (w : World O) (used : ℕ) →
+    ensures removed { (b : Bounds) (copied : ℕ) (w : World O) (used : ℕ) → IsSmall b → IsRunning (O.meaning b) w →
         removals (drain_course (O.meaning b) copied w used).steps
         ≤ count_below (end_of w) w.graph + dirty_in (O.meaning b) w }
 {
     explain_core::every_run_keeps::<O>();
+    explain_core::a_round_may_be_taken::<O>();
     install_order::last_blind_write_is_alone();
 }
 
@@ -90,10 +98,12 @@ pub fn installs_go_beside_a_copy<O: Oper>()
         AreBeside (O.meaning b) copied w (drain_course (O.meaning b) copied w used).steps }
 {
     explain_core::every_run_keeps::<O>();
+    explain_core::a_round_may_be_taken::<O>();
     install_order::last_blind_write_is_alone();
 }
 
-/// A round may be made, beside a copy of the slots too, of so many nodes at most.
+/// A round may be made, of so many nodes at most: behind a force the gates of minimal nodes are opened, which have one object to flush,
+/// and behind them the nodes leave the graph.
 pub fn round_may_be_taken<O: Oper>()
     ensures { (b : Bounds) (copied most : ℕ) (w : World O) (used : ℕ) → IsSmall b → IsRunning (O.meaning b) w →
         MayBeTaken (O.meaning b) w (round_course (O.meaning b) copied most w used).steps }
@@ -101,3 +111,19 @@ pub fn round_may_be_taken<O: Oper>()
     explain_core::every_run_keeps::<O>();
     explain_core::a_round_may_be_taken::<O>();
 }
+
+/// The names that a store finds for a round are those of the nodes whose gates a round of its world opens, and the objects
+/// beside them are those that the gates flush.
+pub fn a_round_is_found<O: Oper>()
+    ensures { (p : Numbers) (file : List ℕ) (it : Volatile) (copied most : ℕ) (names objects : List ℕ) (w : World O) → let m = meaning_in O.meaning p in
+        ShowsVolatile m p file it w → IsSound m w → IsRoundFrom it copied most 0 names objects →
+        (round_gates m (may_flush m copied) most w ≡ gates_at m w names) × (objects_of (gates_at m w names) ≡ objects) }
+{
+    install_order::last_blind_write_is_alone();
+}
+
+/// A round has as many nodes as it may have, or all that are due.
+pub fn a_round_is_full<O: Oper>()
+    ensures { (b : Bounds) (copied most : ℕ) (w : World O) (n : ℕ) → let m = O.meaning b in let gates = round_gates m (may_flush m copied) most w in
+        n < end_of w → IsTrue (is_due m (may_flush m copied) w n) → (length gates ≡ most) ⊎ IsGateAmong (gate_at m w n) gates }
+{}

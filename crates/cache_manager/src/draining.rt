@@ -12,15 +12,15 @@ ghost use Rattle.running_store.specs.StoreView.{log_length, logged_since, next_o
 ghost use Rattle.running_store.specs.Taking.{Takes};
 ghost use Rattle.cache_manager.specs.Endings.{ending_of};
 
-use crate::rounds::install_ready;
-use crate::{Install, InstallErr};
+use crate::InstallErr;
+use crate::turning::take_turn;
 use disk_model::Machine;
 use oper_core::Oper;
 use running_store::Store;
 
-/// Installs the minimal node of the least name until no node is left, beside a copy of the slots as [`install_one`](crate::install_one) does. Of
-/// nodes that are minimal together the objects are made ready with two syncs, and then each has one more. It answers how many
-/// nodes were installed.
+/// Installs nodes until none is left, beside a copy of the slots as [`install_one`](crate::install_one) does. Where the minimal node
+/// of the least name has one object to flush, that and others like it are installed together, with four syncs at most for all
+/// of them; else it is installed alone. It answers how many nodes were installed.
 pub fn drain<O: Oper, M: Machine>(
     store: &mut Store<O>,
     machine: &mut M,
@@ -31,7 +31,7 @@ pub fn drain<O: Oper, M: Machine>(
     ensures takes { Takes O.meaning (M.disk machine.old) (M.disk machine.new) store.old.parts store.new.parts (λ m w used. drain_course m copied w used) (ending_of result) }
     ensures count { (p : Numbers) (w : World O) → Shows (meaning_in O.meaning p) p (M.disk machine.old) store.old.parts w →
         IfOk result (λ n. n ≡ removals (drain_course (meaning_in O.meaning p) copied w (log_length store.old)).steps) }
-    // Each install takes an entry out of the graph at least, and each identity write puts one in.
+    // Each node has an entry at least, and each identity write puts one into the graph.
     ensures bounded { IfOk result (λ n. n + next_of store.old ≤ length store.old.parts.volatile.entries + next_of store.new) }
     // And these are of different objects that were dirty.
     ensures few { (objects : List ℕ) → AreDirty store.old.parts.volatile.objects.cache objects → IfOk result (λ n. n ≤ length store.old.parts.volatile.entries + length objects) }
@@ -40,15 +40,15 @@ pub fn drain<O: Oper, M: Machine>(
         OnOk result ((x : ℕ) → is_dirty store.new.parts.volatile.objects.cache x ≡ false) }
 {
     explain_core::every_run_keeps::<O>();
+    explain_core::a_round_may_be_taken::<O>();
     install_order::last_blind_write_is_alone();
     // Called for their clauses: the numbers of the graph rise, and are below the next, which is 2^62 at most.
     let _params = store.params();
     let _held = store.graph().len();
-    let mut round = Vec::new(store.alloc());
     let mut count = 0;
-    while let Install::Installed { .. } = install_ready(store, machine, copied, &mut round)? {
+    while let Some(n) = take_turn(store, machine, copied)? {
         let _params = store.params();
-        count += 1;
+        count += n;
     }
     Ok(count)
 }

@@ -1,5 +1,5 @@
-//! How the objects of a running store reach their slots: one node of the write graph at a time. A drain makes the objects of
-//! nodes that are minimal together ready first, with two syncs for all of them.
+//! How the objects of a running store reach their slots: one node of the write graph at a time, or in a drain the minimal nodes
+//! that have one object to flush together, in a round of four syncs at most.
 //!
 //! What an install and a drain do is a course, a function of a world and of the log's length; functions without parameters
 //! and with an empty body say that its steps may be taken, and what bounds them. [`install_one`] and [`drain`] take it, or
@@ -8,6 +8,7 @@
 #![tactic(auto)]
 
 mod beside;
+mod choosing;
 mod courses;
 mod draining;
 mod identities;
@@ -15,14 +16,16 @@ mod identity;
 mod install;
 mod install_err;
 mod installing;
-mod preparing;
+mod removing;
 mod rounds;
 mod thin;
+mod turning;
 mod worked;
 
 pub use courses::{
-    drain_is_bounded, drain_may_be_taken, force_may_be_taken, identities_may_be_taken,
-    install_is_bounded, install_may_be_taken, installs_go_beside_a_copy, round_may_be_taken,
+    a_round_is_found, a_round_is_full, drain_is_bounded, drain_may_be_taken, force_may_be_taken,
+    identities_may_be_taken, install_is_bounded, install_may_be_taken, installs_go_beside_a_copy,
+    round_may_be_taken,
 };
 pub use draining::drain;
 pub use install::Install;

@@ -20,7 +20,6 @@ ghost use Rattle.cache_manager.specs.Told.{IsInstall, TellsParts, listed};
 
 use crate::beside::may_finish;
 use crate::identities::log_others;
-use crate::preparing::make_ready;
 use crate::thin::work_of;
 use crate::{Install, InstallErr};
 use disk_model::{Failed, Machine};
@@ -104,22 +103,4 @@ pub fn install_one<O: Oper, M: Machine>(
         log_others(store, machine, due, copied)?;
     }
     Ok(Install::Clean)
-}
-
-/// The same, after the object of the node is made ready, with those of other minimal nodes.
-pub(crate) fn install_ready<O: Oper, M: Machine>(
-    store: &mut Store<O>,
-    machine: &mut M,
-    copied: u32,
-    round: &mut Vec<u32>,
-) -> Result<Install, InstallErr>
-    requires unbroken { store.old.broken ≡ false }
-    ensures call { IsCall O.meaning (M.disk machine.old) (M.disk machine.new) store.old store.new (logged_since store.old store.new) (StopsAt log_limit) (ending_of result) }
-    ensures takes { Takes O.meaning (M.disk machine.old) (M.disk machine.new) store.old.parts store.new.parts (λ m w used. install_course m copied w used) (ending_of result) }
-    ensures tells { IfOk result (TellsParts store.old.parts store.new.parts) }
-    ensures logs { OnOk result (LogsDirty store.old.parts store.new.parts) }
-{
-    make_ready(store, machine, copied, round)?;
-    let install = install_one(store, machine, copied)?;
-    Ok(install)
 }

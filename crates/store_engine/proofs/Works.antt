@@ -3,9 +3,10 @@ use Rattle.std.proofs.Common.{◌≡◌, ◌∙◌, ap, ℕ, ◌+◌, ◌≤◌,
 use Rattle.std.specs.Prelude.{Result, Ok, Err, IfOk, IfErr, OnOk}
 use Rattle.disk_model.specs.Disk.{Disk}
 use Rattle.disk_model.specs.declared.machine.Failed.{Failed as Failure}
-use Rattle.oper_core.specs.Meaning.{Meaning}
+use Rattle.oper_core.specs.Meaning.{IsSmall, Meaning}
 use Rattle.oper_core.specs.declared.bounds.Bounds.{Bounds}
 use Rattle.formats.specs.Limits.{log_limit}
+use Rattle.formats.specs.Objects.{bounds_of}
 use Rattle.formats.specs.declared.params.Params.{Params}
 use Rattle.log_records.specs.Loading.{IsTailFault}
 use Rattle.log_records.specs.RecordLog.{RecordLogView}
@@ -20,6 +21,7 @@ use Rattle.cache_manager.specs.InstallCourses.{drain_course, install_course, rem
 use Rattle.running_store.specs.Kept.{HasLog, StopsAt}
 use Rattle.running_store.specs.Parts.{Shows}
 use Rattle.running_store.specs.Rewrites.{ending_of_rewrite}
+use Rattle.running_store.specs.Running.{IsRunning}
 use Rattle.running_store.specs.StoreView.{StoreView, log_length, logged_since, next_of}
 use Rattle.running_store.specs.Taking.{Takes}
 use Rattle.cache_manager.specs.Endings.{ending_of}
@@ -37,7 +39,7 @@ use Rattle.store_engine.specs.Store.{meaning_in}
 use Rattle.store_engine.proofs.Calls.{call_of, keeps_of, takes_of}
 use Rattle.store_engine.proofs.Grouped.{alone_shown}
 use Rattle.store_engine.proofs.Holding.{Stand, holds_accepted}
-use Rattle.store_engine.proofs.Keeping.{KeepsRuns, MayTake}
+use Rattle.store_engine.proofs.Keeping.{KeepsRuns, MayTake, small_shown}
 use Rattle.store_engine.proofs.PlainCourses.{upkeep_checkpoint, upkeep_trim}
 use Rattle.store_engine.proofs.Steps.{are_plain}
 use Rattle.store_engine.proofs.Ways.{bounded_so, damaged_by}
@@ -102,7 +104,7 @@ module _ {O : Type 0} (meaning : Bounds → Meaning O) (old new : Disk) (store l
       → ((objects : List ℕ) → AreDirty store.parts.volatile.objects.cache objects → IfOk r (λ n. n ≤ length store.parts.volatile.entries + length objects)) → OnOk r (later.parts.volatile.entries ≡ [])
       → ((p : Params) (w : World O) → Shows (meaning_in meaning p) p old store.parts w → OnOk r ((x : ℕ) → is_dirty later.parts.volatile.objects.cache x ≡ false))
       → MayTake meaning (λ m w used. drain_course m (so_far copied) w used)
-      → ((p : Params) (w : World O) (used : ℕ) → removals (drain_course (meaning_in meaning p) (so_far copied) w used).steps ≤ count_below (end_of w) w.graph + dirty_in (meaning_in meaning p) w)
+      → ((p : Params) (w : World O) (used : ℕ) → IsSmall (bounds_of p) → IsRunning (meaning_in meaning p) w → removals (drain_course (meaning_in meaning p) (so_far copied) w used).steps ≤ count_below (end_of w) w.graph + dirty_in (meaning_in meaning p) w)
       → IsDraining meaning old new (engine_of store None copied) (engine_of later None copied) r
   draining n is r call taken counts bounded within drained clean may removed =
       let k = so_far copied in
@@ -116,8 +118,9 @@ module _ {O : Type 0} (meaning : Bounds → Meaning O) (old new : Disk) (store l
         bounded = bounded_so r (next_of store) (next_of later) (length store.parts.volatile.entries) call.rising bounded;
         within = within;
         few = λ p w shows.
+            let alone = alone_shown meaning p old (engine_of store None copied) w shows refl in
             few_removed r (removals (drain_course (meaning_in meaning p) k w (log_length store)).steps) (count_below (end_of w) w.graph + dirty_in (meaning_in meaning p) w)
-            (count p w (alone_shown meaning p old (engine_of store None copied) w shows refl)) (removed p w (log_length store));
+            (count p w alone) (removed p w (log_length store) (small_shown (meaning_in meaning p) p old store.parts w alone) alone.running);
         drained = drained;
         clean = λ p w shows. clean p w (alone_shown meaning p old (engine_of store None copied) w shows refl);
       }

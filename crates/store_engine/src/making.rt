@@ -42,6 +42,7 @@ impl<O: Oper> Engine<O> {
         let bounds = Bounds {
             objects: params.objects,
             cap: params.cap,
+            more: params.more,
         };
         Slots::create(machine, bounds, params.limit)?;
         Ok(())

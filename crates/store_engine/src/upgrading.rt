@@ -11,11 +11,11 @@ use disk_model::Machine;
 use formats::Params;
 use oper_core::Oper;
 
-// Whether a store with these numbers has as many objects as one with the others, and values as long.
+// Whether a store with these numbers has as many objects as one with the others, values as long, and all its operations.
 fn has_room_for(params: Params, stored: Params) -> bool
     ensures { IsTrue result ↔ IsLarger stored params }
 {
-    stored.objects <= params.objects && stored.cap <= params.cap
+    stored.objects <= params.objects && stored.cap <= params.cap && (params.more || !stored.more)
 }
 
 impl<O: Oper> Engine<O> {

@@ -97,7 +97,7 @@ impl<O: Oper> Engine<O> {
         Ok(cache_manager::install_one(&mut self.store, machine, copied)?)
     }
 
-    /// Installs the minimal node of the least name until no node is left. It answers how many were installed; in a group
+    /// Installs nodes until none is left, those that wait for no other in rounds. It answers how many were installed; in a group
     /// `InGroup`.
     pub fn drain<M: Machine>(&mut self, machine: &mut M) -> Result<u64, WorkErr>
         requires unbroken { self.old.broken ≡ false }

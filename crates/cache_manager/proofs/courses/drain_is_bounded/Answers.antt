@@ -1,6 +1,7 @@
 use Rattle.running_store.specs.Running.{KeepsSound}
-use Rattle.cache_manager.proofs.InstallsLog.{go_logging}
-use Rattle.cache_manager.proofs.Removals.{drain_removes}
+use Rattle.cache_manager.proofs.InstallsLog.{drain_logging}
+use Rattle.cache_manager.proofs.RoundGoes.{MayRound}
+use Rattle.cache_manager.proofs.DrainTurns.{drain_removes}
 use Rattle.cache_manager.proofs.courses.drain_is_bounded.Goals as goal
 
 pub returns : goal.returns
@@ -8,6 +9,11 @@ returns g c = record {
   logged = λ b copied w used small is.
       let m = g.O.Oper.meaning b in
       let keeps : KeepsSound m = λ v taken sound may. c.every_run_keeps.ensures.from_sound b v taken small sound may in
-      (go_logging m copied (g.met.O.Oper.lawful b small) keeps c.last_blind_write_is_alone.ensures w used is).1;
-  removed = λ b copied w used. drain_removes (g.O.Oper.meaning b) copied w used;
+      let rounds : MayRound m = λ may most v is stable. c.a_round_may_be_taken.ensures b may most v small is.sound stable in
+      drain_logging m copied (g.met.O.Oper.lawful b small) keeps c.last_blind_write_is_alone.ensures rounds w used is;
+  removed = λ b copied w used small is.
+      let m = g.O.Oper.meaning b in
+      let keeps : KeepsSound m = λ v taken sound may. c.every_run_keeps.ensures.from_sound b v taken small sound may in
+      let rounds : MayRound m = λ may most v is stable. c.a_round_may_be_taken.ensures b may most v small is.sound stable in
+      drain_removes m copied (g.met.O.Oper.lawful b small) keeps c.last_blind_write_is_alone.ensures rounds w used is;
 }

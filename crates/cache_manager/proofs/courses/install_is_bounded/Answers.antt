@@ -1,5 +1,5 @@
 use Rattle.running_store.specs.Running.{KeepsSound}
-use Rattle.cache_manager.proofs.InstallsLog.{go_logging}
+use Rattle.cache_manager.proofs.InstallsLog.{install_logging}
 use Rattle.cache_manager.proofs.Removals.{install_removes, install_removes_one}
 use Rattle.cache_manager.proofs.courses.install_is_bounded.Goals as goal
 
@@ -8,7 +8,7 @@ returns g c = record {
   logged = λ b copied w used small is.
       let m = g.O.Oper.meaning b in
       let keeps : KeepsSound m = λ v taken sound may. c.every_run_keeps.ensures.from_sound b v taken small sound may in
-      (go_logging m copied (g.met.O.Oper.lawful b small) keeps c.last_blind_write_is_alone.ensures w used is).0;
+      install_logging m copied (g.met.O.Oper.lawful b small) keeps c.last_blind_write_is_alone.ensures w used is;
   flushed = λ b copied w used. (install_removes (g.O.Oper.meaning b) copied w used).1;
   removed = λ b copied w used. (install_removes (g.O.Oper.meaning b) copied w used).0;
   one = λ b copied w used. install_removes_one (g.O.Oper.meaning b) copied w used;

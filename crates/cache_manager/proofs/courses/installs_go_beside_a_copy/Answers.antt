@@ -1,5 +1,6 @@
 use Rattle.running_store.specs.Running.{KeepsSound}
-use Rattle.cache_manager.proofs.Copying.{go_beside}
+use Rattle.cache_manager.proofs.Copying.{drain_beside, install_beside}
+use Rattle.cache_manager.proofs.RoundGoes.{MayRound}
 use Rattle.cache_manager.proofs.courses.installs_go_beside_a_copy.Goals as goal
 
 pub returns : goal.returns
@@ -7,9 +8,10 @@ returns g c = record {
   install = λ b copied w used small is.
       let m = g.O.Oper.meaning b in
       let keeps : KeepsSound m = λ v taken sound may. c.every_run_keeps.ensures.from_sound b v taken small sound may in
-      (go_beside m copied (g.met.O.Oper.lawful b small) keeps c.last_blind_write_is_alone.ensures w used is).0;
+      install_beside m copied (g.met.O.Oper.lawful b small) keeps c.last_blind_write_is_alone.ensures w used is;
   drain = λ b copied w used small is.
       let m = g.O.Oper.meaning b in
       let keeps : KeepsSound m = λ v taken sound may. c.every_run_keeps.ensures.from_sound b v taken small sound may in
-      (go_beside m copied (g.met.O.Oper.lawful b small) keeps c.last_blind_write_is_alone.ensures w used is).1;
+      let rounds : MayRound m = λ may most v is stable. c.a_round_may_be_taken.ensures b may most v small is.sound stable in
+      drain_beside m copied (g.met.O.Oper.lawful b small) keeps c.last_blind_write_is_alone.ensures rounds w used is;
 }

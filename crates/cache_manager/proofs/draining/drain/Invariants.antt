@@ -12,8 +12,8 @@ use Rattle.running_store.specs.StoreView.{log_length, next_of}
 use Rattle.running_store.specs.Taking.Ending.{Done}
 use Rattle.cache_manager.proofs.draining.drain.Given as goal
 
-abbrev pub invariant-loop-round : goal.invariant-loop-round
-invariant-loop-round g l =
+abbrev pub invariant-loop-n : goal.invariant-loop-n
+invariant-loop-n g l =
     let meaning = g.O.Oper.meaning in
     let disk = g.M.Machine.disk in
     let before = l.fn.store in
@@ -28,5 +28,5 @@ invariant-loop-round g l =
           × (removals (drain_course (meaning_in meaning p) l.fn.copied w (log_length before)).steps ≡ l.count + removals (drain_course (meaning_in meaning p) l.fn.copied v (log_length here)).steps);
     }
 
-abbrev pub decreases-loop-round : goal.decreases-loop-round
-decreases-loop-round g l = 2 * (2 ^ 62 - next_of l.store) + length l.store.parts.volatile.entries
+abbrev pub decreases-loop-n : goal.decreases-loop-n
+decreases-loop-n g l = 2 * (2 ^ 62 - next_of l.store) + length l.store.parts.volatile.entries

@@ -1,4 +1,4 @@
-use Rattle.std.proofs.Common.{◌≡◌, ◌∙◌, sym, subst, ap, ℕ, ◌+◌, ◌<◌, suc, List, [], ◌∷◌, ◌++◌, append_assoc, drop, drop-cons, slice_index, length, refl, arith}
+use Rattle.std.proofs.Common.{◌≡◌, ◌∙◌, sym, subst, ap, ℕ, ◌+◌, suc, List, [], ◌∷◌, ◌++◌, append_assoc, drop, slice_index, length, refl, arith}
 use Rattle.std.proofs.lemmas.List.{append-nil, drop_all}
 use Rattle.install_order.specs.declared.entry.Entry.{Entry}
 use Rattle.running_store.specs.CallLaws.{IsLogging, logging_none, logging_twice, unbroken_after}
@@ -14,11 +14,8 @@ use Rattle.running_store.specs.Taking.{Ending, Takes}
 use Rattle.running_store.specs.Taking.Ending.{Done}
 use Rattle.running_store.specs.TakesLaws.{takes_first, takes_none}
 use Rattle.cache_manager.specs.Endings.{err_cuts, same_ends}
+use Rattle.cache_manager.proofs.Lists.{first_left}
 use Rattle.cache_manager.proofs.identities.log_all.Goals as goal
-
--- one of the objects is next
-first_left : (xs : List ℕ) (i : ℕ) → i < length xs → drop i xs ≡ slice_index xs i ∷ drop (i + 1) xs
-first_left xs i there = let next : suc i ≡ i + 1 = omega arith in drop-cons xs i 0 there ∙ ap (λ (k : ℕ). slice_index xs i ∷ drop k xs) next
 
 -- its entry is the next
 entries_on : (all here after : List Entry) (n k x : ℕ) (xs rest : List ℕ) → xs ≡ x ∷ rest → after ≡ here ++ identity_entries n (x ∷ []) → k ≡ n + 1 → here ++ identity_entries n xs ≡ all → after ++ identity_entries k rest ≡ all

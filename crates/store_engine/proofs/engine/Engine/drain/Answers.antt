@@ -25,7 +25,7 @@ module _ (g : Over) (c : After-drain g) where
       as_alone c.self.inside.store c.drain.new.store c.self.inside.group c.self.inside.copied c.args.self.now c.self.view_is none (λ before after. IsDraining g.O.Oper.meaning old new before after c.drain.result)
       (draining g.O.Oper.meaning old new c.self.inside.store c.drain.new.store c.self.inside.copied (λ b w steps. c.every_run_keeps.ensures.from_sound b w steps) (λ p files w. c.image_stands.ensures p files w)
       c.copied_so_far-copied.result (c.copied_so_far-copied.ensures ∙ ap (λ (e : EngineView). so_far e.copied) (sym c.self.view_is)) c.drain.result
-      c.drain.ensures.call c.drain.ensures.takes c.drain.ensures.count c.drain.ensures.bounded c.drain.ensures.few c.drain.ensures.drained c.drain.ensures.clean (λ b w used small running. c.drain_may_be_taken.ensures.taken b (so_far c.self.inside.copied) w used small running) (λ p w used. c.drain_is_bounded.ensures.removed (bounds_of p) (so_far c.self.inside.copied) w used))
+      c.drain.ensures.call c.drain.ensures.takes c.drain.ensures.count c.drain.ensures.bounded c.drain.ensures.few c.drain.ensures.drained c.drain.ensures.clean (λ b w used small running. c.drain_may_be_taken.ensures.taken b (so_far c.self.inside.copied) w used small running) (λ p w used small running. c.drain_is_bounded.ensures.removed (bounds_of p) (so_far c.self.inside.copied) w used small running))
 
 pub returns-in_err-drain-clause-alone : goal.returns-in_err-drain-clause-alone
 returns-in_err-drain-clause-alone g c = λ none.

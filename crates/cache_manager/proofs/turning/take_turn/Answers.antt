@@ -1,0 +1,221 @@
+use Rattle.std.proofs.Common.{◌≡◌, ◌∙◌, sym, subst, ap, ℕ, ◌+◌, ◌≤◌, List, [], refl, arith, length}
+use Rattle.std.proofs.lemmas.Bool.{both_ways}
+use Rattle.oper_core.specs.State.{is_among}
+use Rattle.formats.specs.Limits.{log_limit}
+use Rattle.install_order.specs.declared.entry.Entry.{Entry}
+use Rattle.write_graph.specs.Graph.{IsLeast, NamesMinimal, numbers}
+use Rattle.running_store.specs.CallLaws.{IsLogging, call_short, logging_none}
+use Rattle.running_store.specs.Calls.{Never, call_none}
+use Rattle.running_store.specs.Courses.{Course, course}
+use Rattle.running_store.specs.Courses.Stop.{Through}
+use Rattle.running_store.specs.Kept.{StopsAt}
+use Rattle.running_store.specs.Laid.{Laid}
+use Rattle.running_store.specs.Parts.{Parts, Volatile, meaning_in, volatile}
+use Rattle.running_store.specs.StoreView.{log_length}
+use Rattle.running_store.specs.Taking.{Ending, Takes}
+use Rattle.running_store.specs.Taking.Ending.{Done, Short}
+use Rattle.running_store.specs.TakesLaws.{takes_none, takes_nothing, takes_same}
+use Rattle.cache_manager.specs.DueNodes.{NamesDue}
+use Rattle.cache_manager.specs.Endings.{same_ends, short_ends}
+use Rattle.cache_manager.specs.InstallCourses.{install_course, removals, round_course, turn_course}
+use Rattle.cache_manager.specs.Told.{TellsParts}
+use Rattle.cache_manager.specs.declared.install.Install.{Install}
+use Rattle.cache_manager.proofs.DirtyLogs.{logs_none}
+use Rattle.cache_manager.proofs.Removals.{round_removes}
+use Rattle.cache_manager.proofs.TurnTaken.{alone_removes, limit_is, turn_alone, turn_due, turn_none}
+use Rattle.cache_manager.proofs.turning.take_turn.Goals as goal
+
+-- what is said of the objects and the entries of a store, as its methods answer them
+due_here : (laid : Laid) (es : List Entry) (it : Volatile) (copied n : ℕ) → laid ≡ it.objects → es ≡ it.entries → NamesDue (volatile laid es) copied n → NamesDue it copied n
+due_here laid es it copied n objects entries is = subst (λ (k : Volatile). NamesDue k copied n) (λ i. volatile (objects i) (entries i)) is
+
+not_due_here : (laid : Laid) (es : List Entry) (it : Volatile) (copied n : ℕ) → laid ≡ it.objects → es ≡ it.entries → (NamesDue (volatile laid es) copied n → ⊥) → NamesDue it copied n → ⊥
+not_due_here laid es it copied n objects entries none = subst (λ (k : Volatile). NamesDue k copied n → ⊥) (λ i. volatile (objects i) (entries i)) none
+
+least_here : (es : List Entry) (it : Parts) (n : ℕ) → es ≡ it.volatile.entries → IsLeast (NamesMinimal es) n → IsLeast (NamesMinimal it.volatile.entries) n
+least_here es it n same least = subst (λ (l : List Entry). IsLeast (NamesMinimal l) n) same least
+
+-- there is an entry, so the install is of a node
+some_installed : (before after : Parts) (n : ℕ) (install : Install) → IsLeast (NamesMinimal before.volatile.entries) n → TellsParts before after install
+    → (before.log.next ≤ after.log.next) × (length after.volatile.entries + 1 + before.log.next ≤ length before.volatile.entries + after.log.next)
+some_installed before after n install least tells =
+    let some = tells.some (λ clean. both_ways _ (ap (λ (es : List Entry). is_among n (numbers es)) (tells.clean.0 clean)) least.0.1.held) in
+    (omega (arith, tells.numbered), omega (arith, some, tells.numbered, tells.entries))
+
+pub is_due-requires : goal.is_due-requires
+is_due-requires g c = (subst (λ (es : List Entry). IsLeast (NamesMinimal es) c.in-Some.name) (c.graph.ensures ∙ sym c.graph-2.ensures) c.in-Some.ensures.some).0
+
+-- there is nothing to install
+pub returns-in_default-clause-call : goal.returns-in_default-clause-call
+returns-in_default-clause-call g c =
+    let d = g.M.Machine.disk c.args.machine.now in
+    let it = c.args.store.now in
+    logging_none g.O.Oper.meaning d d it it (StopsAt log_limit) Done refl (call_none g.O.Oper.meaning d it Never (g.met.M.Machine.lawful c.args.machine.now) c.requires.unbroken)
+
+pub returns-in_default-clause-takes : goal.returns-in_default-clause-takes
+returns-in_default-clause-takes g c =
+    let meaning = g.O.Oper.meaning in
+    let d = g.M.Machine.disk c.args.machine.now in
+    let it = c.args.store.now.parts in
+    let copied = c.args.copied in
+    let none = sym c.graph.ensures ∙ c.in_default.ensures.none in
+    takes_same meaning d d it it (λ m w used. course [] used Through) (λ m w used. turn_course m copied w used) Done
+    (λ p w shows. sym (turn_none (meaning_in meaning p) copied p d it w shows none (log_length c.args.store.now))) (takes_none meaning d it (g.met.M.Machine.lawful c.args.machine.now))
+
+pub returns-in_default-clause-count : goal.returns-in_default-clause-count
+returns-in_default-clause-count g c = λ p w shows.
+    let m = meaning_in g.O.Oper.meaning p in
+    let none = sym c.graph.ensures ∙ c.in_default.ensures.none in
+    sym (ap (λ (k : Course _). removals k.steps) (turn_none m c.args.copied p (g.M.Machine.disk c.args.machine.now) c.args.store.now.parts w shows none (log_length c.args.store.now)))
+
+pub returns-in_default-clause-tells : goal.returns-in_default-clause-tells
+returns-in_default-clause-tells g c = (sym c.graph.ensures ∙ c.in_default.ensures.none, refl)
+
+pub returns-in_default-clause-logs : goal.returns-in_default-clause-logs
+returns-in_default-clause-logs g c = logs_none c.args.store.now.parts
+
+-- there is no memory
+pub returns-in_err-due-clause-call : goal.returns-in_err-due-clause-call
+returns-in_err-due-clause-call g c =
+    let d = g.M.Machine.disk c.args.machine.now in
+    let it = c.args.store.now in
+    subst (λ (k : Ending). IsLogging g.O.Oper.meaning d d it it (StopsAt log_limit) k) (short_ends c.from_residual.result c.from_residual.ensures.1)
+    (logging_none g.O.Oper.meaning d d it it (StopsAt log_limit) Short refl (call_short g.O.Oper.meaning d d it it 0 Never (call_none g.O.Oper.meaning d it Never (g.met.M.Machine.lawful c.args.machine.now) c.requires.unbroken)))
+
+pub returns-in_err-due-clause-takes : goal.returns-in_err-due-clause-takes
+returns-in_err-due-clause-takes g c =
+    let d = g.M.Machine.disk c.args.machine.now in
+    let it = c.args.store.now.parts in
+    let copied = c.args.copied in
+    subst (λ (k : Ending). Takes g.O.Oper.meaning d d it it (λ m w used. turn_course m copied w used) k) (short_ends c.from_residual.result c.from_residual.ensures.1)
+    (takes_nothing g.O.Oper.meaning d it (g.met.M.Machine.lawful c.args.machine.now) (λ m w used. turn_course m copied w used))
+
+-- a round
+pub returns-in_err-n-clause-call : goal.returns-in_err-n-clause-call
+returns-in_err-n-clause-call g c =
+    let old = g.M.Machine.disk c.args.machine.now in
+    let new = g.M.Machine.disk c.install_round.new.machine in
+    let before = c.args.store.now in
+    let after = c.install_round.new.store in
+    subst (λ (k : Ending). IsLogging g.O.Oper.meaning old new before after (StopsAt log_limit) k) (same_ends c.from_residual-in_err-n.result c.in_err-n.field-0.0 c.from_residual-in_err-n.ensures.1)
+    (logging_none g.O.Oper.meaning old new before after (StopsAt log_limit) _ c.install_round.ensures.next c.in_err-n.ensures.call)
+
+pub returns-in_err-n-clause-takes : goal.returns-in_err-n-clause-takes
+returns-in_err-n-clause-takes g c =
+    let meaning = g.O.Oper.meaning in
+    let old = g.M.Machine.disk c.args.machine.now in
+    let new = g.M.Machine.disk c.install_round.new.machine in
+    let before = c.args.store.now.parts in
+    let after = c.install_round.new.store.parts in
+    let copied = c.args.copied in
+    let used = log_length c.args.store.now in
+    let most = c.objects_within-most.result in
+    let name = c.in-Some.name in
+    let least = least_here c.graph.result.now.entries before name c.graph.ensures c.in-Some.ensures.some in
+    let due = due_here c.objects.result.now c.graph-2.result.now.entries before.volatile copied name c.objects.ensures c.graph-2.ensures (c.in_ok-due.ensures.due c.if-due.true) in
+    subst (λ (k : Ending). Takes meaning old new before after (λ m w used. turn_course m copied w used) k) (same_ends c.from_residual-in_err-n.result c.in_err-n.field-0.0 c.from_residual-in_err-n.ensures.1)
+    (takes_same meaning old new before after (λ m w used. round_course m copied most w used) (λ m w used. turn_course m copied w used) _
+    (λ p w shows. ap (λ (k : ℕ). round_course (meaning_in meaning p) copied k w used) (limit_is meaning g.met.O.Oper.bounded most p c.params.result c.objects_within-most.ensures (c.params.ensures.value ∙ shows.store.params))
+    ∙ sym (turn_due meaning g.met.O.Oper.lawful c.last_blind_write_is_alone.ensures copied old before name least p w shows due used)) c.in_err-n.ensures.takes)
+
+pub returns-then-due-clause-call : goal.returns-then-due-clause-call
+returns-then-due-clause-call g c =
+    logging_none g.O.Oper.meaning (g.M.Machine.disk c.args.machine.now) (g.M.Machine.disk c.install_round.new.machine) c.args.store.now c.install_round.new.store (StopsAt log_limit) Done c.install_round.ensures.next c.in_ok-n.ensures.call
+
+pub returns-then-due-clause-takes : goal.returns-then-due-clause-takes
+returns-then-due-clause-takes g c =
+    let meaning = g.O.Oper.meaning in
+    let old = g.M.Machine.disk c.args.machine.now in
+    let new = g.M.Machine.disk c.install_round.new.machine in
+    let before = c.args.store.now.parts in
+    let after = c.install_round.new.store.parts in
+    let copied = c.args.copied in
+    let used = log_length c.args.store.now in
+    let most = c.objects_within-most.result in
+    let name = c.in-Some.name in
+    let least = least_here c.graph.result.now.entries before name c.graph.ensures c.in-Some.ensures.some in
+    let due = due_here c.objects.result.now c.graph-2.result.now.entries before.volatile copied name c.objects.ensures c.graph-2.ensures (c.in_ok-due.ensures.due c.if-due.true) in
+    takes_same meaning old new before after (λ m w used. round_course m copied most w used) (λ m w used. turn_course m copied w used) Done
+    (λ p w shows. ap (λ (k : ℕ). round_course (meaning_in meaning p) copied k w used) (limit_is meaning g.met.O.Oper.bounded most p c.params.result c.objects_within-most.ensures (c.params.ensures.value ∙ shows.store.params))
+    ∙ sym (turn_due meaning g.met.O.Oper.lawful c.last_blind_write_is_alone.ensures copied old before name least p w shows due used)) c.in_ok-n.ensures.takes
+
+pub returns-then-due-clause-count : goal.returns-then-due-clause-count
+returns-then-due-clause-count g c = λ p w shows.
+    let meaning = g.O.Oper.meaning in
+    let m = meaning_in meaning p in
+    let old = g.M.Machine.disk c.args.machine.now in
+    let before = c.args.store.now.parts in
+    let copied = c.args.copied in
+    let used = log_length c.args.store.now in
+    let most = c.objects_within-most.result in
+    let name = c.in-Some.name in
+    let least = least_here c.graph.result.now.entries before name c.graph.ensures c.in-Some.ensures.some in
+    let due = due_here c.objects.result.now c.graph-2.result.now.entries before.volatile copied name c.objects.ensures c.graph-2.ensures (c.in_ok-due.ensures.due c.if-due.true) in
+    let same = ap (λ (k : ℕ). round_course m copied k w used) (limit_is meaning g.met.O.Oper.bounded most p c.params.result c.objects_within-most.ensures (c.params.ensures.value ∙ shows.store.params))
+    ∙ sym (turn_due meaning g.met.O.Oper.lawful c.last_blind_write_is_alone.ensures copied old before name least p w shows due used) in
+    c.in_ok-n.ensures.count p w shows ∙ sym (round_removes m copied most w) ∙ ap (λ (k : Course _). removals k.steps) same
+
+pub returns-then-due-clause-tells : goal.returns-then-due-clause-tells
+returns-then-due-clause-tells g c =
+    let before = c.args.store.now.parts in
+    let due = due_here c.objects.result.now c.graph-2.result.now.entries before.volatile c.args.copied c.in-Some.name c.objects.ensures c.graph-2.ensures (c.in_ok-due.ensures.due c.if-due.true) in
+    let next = c.install_round.ensures.next in (
+      c.in_ok-n.ensures.some (omega (arith, c.objects_within-most.ensures)) c.in-Some.name due,
+      omega (arith, next),
+      omega (arith, next, c.in_ok-n.ensures.fewer),
+    )
+
+-- an install
+pub returns-in_err-install_one-clause-call : goal.returns-in_err-install_one-clause-call
+returns-in_err-install_one-clause-call g c =
+    let old = g.M.Machine.disk c.args.machine.now in
+    let new = g.M.Machine.disk c.install_one.new.machine in
+    subst (λ (k : Ending). IsLogging g.O.Oper.meaning old new c.args.store.now c.install_one.new.store (StopsAt log_limit) k) (same_ends c.from_residual-in_err-install_one.result c.in_err-install_one.field-0.0 c.from_residual-in_err-install_one.ensures.1)
+    c.in_err-install_one.ensures.call
+
+pub returns-in_err-install_one-clause-takes : goal.returns-in_err-install_one-clause-takes
+returns-in_err-install_one-clause-takes g c =
+    let meaning = g.O.Oper.meaning in
+    let old = g.M.Machine.disk c.args.machine.now in
+    let new = g.M.Machine.disk c.install_one.new.machine in
+    let before = c.args.store.now.parts in
+    let after = c.install_one.new.store.parts in
+    let copied = c.args.copied in
+    let name = c.in-Some.name in
+    let least = least_here c.graph.result.now.entries before name c.graph.ensures c.in-Some.ensures.some in
+    let none = not_due_here c.objects.result.now c.graph-2.result.now.entries before.volatile copied name c.objects.ensures c.graph-2.ensures (c.in_ok-due.ensures.not_due c.if-due.false) in
+    subst (λ (k : Ending). Takes meaning old new before after (λ m w used. turn_course m copied w used) k) (same_ends c.from_residual-in_err-install_one.result c.in_err-install_one.field-0.0 c.from_residual-in_err-install_one.ensures.1)
+    (takes_same meaning old new before after (λ m w used. install_course m copied w used) (λ m w used. turn_course m copied w used) _
+    (λ p w shows. sym (turn_alone meaning g.met.O.Oper.lawful c.last_blind_write_is_alone.ensures copied old before name least p w shows none (log_length c.args.store.now))) c.in_err-install_one.ensures.takes)
+
+pub returns-clause-takes : goal.returns-clause-takes
+returns-clause-takes g c =
+    let meaning = g.O.Oper.meaning in
+    let old = g.M.Machine.disk c.args.machine.now in
+    let new = g.M.Machine.disk c.install_one.new.machine in
+    let before = c.args.store.now.parts in
+    let after = c.install_one.new.store.parts in
+    let copied = c.args.copied in
+    let name = c.in-Some.name in
+    let least = least_here c.graph.result.now.entries before name c.graph.ensures c.in-Some.ensures.some in
+    let none = not_due_here c.objects.result.now c.graph-2.result.now.entries before.volatile copied name c.objects.ensures c.graph-2.ensures (c.in_ok-due.ensures.not_due c.if-due.false) in
+    takes_same meaning old new before after (λ m w used. install_course m copied w used) (λ m w used. turn_course m copied w used) Done
+    (λ p w shows. sym (turn_alone meaning g.met.O.Oper.lawful c.last_blind_write_is_alone.ensures copied old before name least p w shows none (log_length c.args.store.now))) c.in_ok-install_one.ensures.takes
+
+pub returns-clause-count : goal.returns-clause-count
+returns-clause-count g c = λ p w shows.
+    let meaning = g.O.Oper.meaning in
+    let old = g.M.Machine.disk c.args.machine.now in
+    let before = c.args.store.now.parts in
+    let copied = c.args.copied in
+    let name = c.in-Some.name in
+    let least = least_here c.graph.result.now.entries before name c.graph.ensures c.in-Some.ensures.some in
+    let none = not_due_here c.objects.result.now c.graph-2.result.now.entries before.volatile copied name c.objects.ensures c.graph-2.ensures (c.in_ok-due.ensures.not_due c.if-due.false) in
+    sym (alone_removes meaning g.met.O.Oper.lawful c.last_blind_write_is_alone.ensures copied old before name least p w shows none (log_length c.args.store.now) (c.in_ok-install_one.ensures.takes.follows p w shows).0)
+
+pub returns-clause-tells : goal.returns-clause-tells
+returns-clause-tells g c =
+    let before = c.args.store.now.parts in
+    let least = least_here c.graph.result.now.entries before c.in-Some.name c.graph.ensures c.in-Some.ensures.some in
+    let told = some_installed before c.install_one.new.store.parts c.in-Some.name _ least c.in_ok-install_one.ensures.tells in
+    (omega arith, told.0, told.1)
