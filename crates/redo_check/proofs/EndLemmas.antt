@@ -4,7 +4,8 @@ use Rattle.std.specs.Prelude.{⊤}
 use Rattle.std.proofs.lemmas.List.{append-nil}
 use Rattle.disk_model.specs.Disk.{Files, SaysFront}
 use Rattle.disk_model.specs.declared.machine.FileNo.{FileNo}
-use Rattle.redo_check.specs.Checking.{Ends, IsLastLine, IsRestart, IsStopped, SaysLines, SaysNoMore, restart_line}
+use Rattle.redo_check.specs.Checking.{Ends, IsLastLine, IsRestart, SaysLines, SaysNoMore, restart_line}
+use Rattle.tool_output.specs.Found.{IsStopped}
 use Rattle.tool_output.specs.Lines.{damaged, not_a_store, stop_line}
 use Rattle.redo_check.specs.Checking.IsLastLine.{broken, no_store, none_said}
 use Rattle.redo_check.specs.declared.restart.Restart.{Restart}

@@ -1,90 +1,39 @@
 -- What a restart does, and why none may be made.
 use Rattle.std.proofs.Common.{◌≡◌, ◌≤◌, ◌+◌, ◌*◌, ℕ, [], List, map, sym, ap, ◌∙◌, subst, arith}
-use Rattle.std.specs.Prelude.{codes, true, Option, Result, Ok, Err, IfErr, IsErrAnd}
+use Rattle.std.specs.Prelude.{codes, true, Option, Result, Ok, Err, IfErr}
 use Rattle.analysis_pass.specs.Analysis.{PlanView, least_start, table_or}
 use Rattle.disk_model.specs.Disk.{Files}
 use Rattle.disk_model.specs.declared.machine.FileNo.{FileNo}
 use Rattle.disk_model.specs.declared.machine.FileNo.TheVariants.{Objects}
-use Rattle.formats.specs.Bytes.{IsClosedAt}
 use Rattle.formats.specs.FirstFault.{IsDamaged}
-use Rattle.formats.specs.FirstFault.IsFirstFault.{at_late_slot, at_logs, at_objects, at_record}
-use Rattle.formats.specs.Image.{IsRecordFault}
+use Rattle.formats.specs.FirstFault.IsFirstFault.{at_late_slot}
 use Rattle.formats.specs.InForce.{HoldsLog}
 use Rattle.formats.specs.Log.{Header, end_of}
-use Rattle.formats.specs.Objects.{IsObjectsFile, bounds_of}
-use Rattle.formats.specs.Reading.{FailsBy}
+use Rattle.formats.specs.Objects.{bounds_of}
 use Rattle.formats.specs.Records.{HoldsRecordLog, last_check, next_after, payload_of, records_of}
 use Rattle.formats.specs.declared.params.Params.{Params}
-use Rattle.formats.specs.declared.read_err.ReadErr.{ReadErr}
-use Rattle.formats.specs.declared.read_err.ReadErr.TheVariants as reads
 use Rattle.formats.specs.declared.record.Record.{Record}
 use Rattle.log_frames.specs.Laws.{one_in_force}
-use Rattle.log_frames.specs.LogView.{LogView, end_with, used_of}
+use Rattle.log_frames.specs.LogView.{LogView, used_of}
 use Rattle.log_records.specs.CodecLaws.{HasCodes}
-use Rattle.log_records.specs.Loading.{IsLoadFault}
-use Rattle.log_records.specs.Loading.IsLoadFault.{in_blocks, in_record}
 use Rattle.log_records.specs.RecordLog.{IsHeldIn, RecordLogView}
 use Rattle.log_records.specs.Uniqueness.{log_of, one_records}
 use Rattle.op_codec.specs.AllOps.{all_meaning}
-use Rattle.oper_core.specs.Meaning.{IsSmall, Meaning}
+use Rattle.oper_core.specs.Meaning.{Meaning}
 use Rattle.oper_core.specs.declared.bounds.Bounds.{Bounds}
 use Rattle.redo_tables.specs.declared.table.Table.{Table}
 use Rattle.stable_objects.specs.Laws.{start_is_open}
-use Rattle.stable_objects.specs.Reading.{IsDamagedAt, OpensNot}
 use Rattle.stable_objects.specs.SlotLaws.{is_late, late_slot, none_late, place_of_file}
 use Rattle.stable_objects.specs.SlotsView.{AreOf, IsLate, SlotsView, place_of}
-use Rattle.stable_objects.specs.declared.open_err.OpenErr.{OpenErr}
-use Rattle.stable_objects.specs.declared.open_err.OpenErr.TheVariants as opens
-use Rattle.redo_check.specs.Checking.{EndsLog, HasRecords, HasStore, IsLogStopped, IsRestart, IsStopped}
+use Rattle.redo_check.specs.Checking.{EndsLog, HasRecords, IsRestart}
+use Rattle.tool_output.specs.Found.{IsLogStopped, IsStopped}
 use Rattle.redo_check.specs.Files.{IsLogLine}
 use Rattle.redo_check.specs.Files.IsLogLine.{ends as log_ends}
 use Rattle.redo_check.specs.Lines.{line}
-use Rattle.tool_output.specs.Stops.{stop_from_open, stop_from_read}
 use Rattle.redo_check.specs.declared.records.Records.{Records}
 use Rattle.tool_output.specs.declared.stop.Stop.{Stop}
 use Rattle.tool_output.specs.declared.stop.Stop.TheVariants as stops
-
--- why no slots were loaded
-pub unopened : (files : Files) (closed rises : Type 0) (fault : FileNo → ℕ → Type 0) (e : OpenErr) → (closed → IsClosedAt 0 (files Objects)) → ((file : FileNo) (place : ℕ) → fault file place → IsDamaged all_meaning files file place)
-    → OpensNot closed (FailsBy rises fault) e → IsStopped files (stop_from_open e)
-unopened files closed rises fault opens.NotAStore none damaged fails = none fails
-unopened files closed rises fault opens.DiskFault none damaged fails = tt
-unopened files closed rises fault (opens.Damaged file place) none damaged fails = damaged file place fails
-unopened files closed rises fault opens.Memory none damaged fails = tt
-
-pub objects_damaged : (files : Files) (file : FileNo) (place : ℕ) → file ≡ Objects → IsDamagedAt (files Objects) place → IsDamaged all_meaning files file place
-objects_damaged files file place same is = subst (λ (f : FileNo). IsDamaged all_meaning files f place) (sym same) (record { gate = is.gate; fault = at_objects place is.fault })
-
--- the bounds of the slots that were loaded
-pub has_store : (files : Files) (slots : SlotsView) (b : Bounds) → AreOf slots (files Objects) → b ≡ bounds_of slots.params → HasStore files b
-has_store files slots b are same = (
-  subst (λ (p : Params). IsObjectsFile p (files Objects)) (sym are.whole.params) are.whole,
-  same ∙ ap bounds_of (sym are.whole.params),
-)
-
-pub is_small : (files : Files) (b : Bounds) → HasStore files b → IsSmall b
-is_small files b is = record {
-  objects = omega (arith, is.0.in_range.objects, ap (λ (c : Bounds). c.objects) is.1);
-  cap = omega (arith, is.0.in_range.cap, ap (λ (c : Bounds). c.cap) is.1);
-}
-
--- the faults of a load are those of the files
-pub load_damaged : (files : Files) (b : Bounds) → HasStore files b → (file : FileNo) (place : ℕ) → IsLoadFault (all_meaning b) files file place → IsDamaged all_meaning files file place
-load_damaged files b is _ _ (in_blocks file place fault) = record { gate = start_is_open (files Objects) is.0.begins; fault = at_logs file place is.0 fault }
-load_damaged files b is _ _ (in_record active header place in_force has fault) = record {
-  gate = start_is_open (files Objects) is.0.begins;
-  fault = at_record active header place is.0 in_force has (subst (λ (c : Bounds). IsRecordFault (all_meaning c) (files active) place) is.1 fault);
-}
-
-pub log_stopped : (files : Files) (rises : Type 0) (fault : FileNo → ℕ → Type 0) (e : ReadErr) → ((file : FileNo) (place : ℕ) → fault file place → IsDamaged all_meaning files file place) → FailsBy rises fault e → IsLogStopped files (stop_from_read e)
-log_stopped files rises fault reads.DiskFault damaged fails = tt
-log_stopped files rises fault (reads.Damaged file place) damaged fails = damaged file place fails
-log_stopped files rises fault reads.Memory damaged fails = tt
-
--- an error that is handed on
-pub stopped_by : {T E : Type 0} (result : Result T E) (stop : E) (P : E → Type 0) → IsErrAnd result (λ e. e ≡ stop) → P stop → IfErr result P
-stopped_by (Ok value) stop P is holds = tt
-stopped_by (Err e) stop P is holds = subst P (sym is) holds
+use Rattle.tool_output.specs.FoundLaws.{has_store, end_used}
 
 -- why the log may not be restarted, no restart may be made
 more_stopped : (files : Files) (stop : Stop) → IsLogStopped files stop → IsStopped files stop
@@ -97,10 +46,6 @@ more_stopped files stops.Memory is = tt
 pub all_stopped : {T : Type 0} (files : Files) (result : Result T Stop) → IfErr result (IsLogStopped files) → IfErr result (IsStopped files)
 all_stopped files (Ok value) is = tt
 all_stopped files (Err stop) is = more_stopped files stop is
-
--- where nothing waits the log ends at its first closed gate
-pub end_used : (log : LogView) (end : ℕ) → log.pending ≡ [] → log.end ≡ end → used_of log ≡ end
-end_used log end none is = ap (end_with log.end) none ∙ is
 
 -- where the log that was loaded ends
 pub ends_log : (files : Files) (log : LogView) (active : FileNo) (end : ℕ) (payloads : List (List ℕ)) → HoldsLog log.active log.header payloads files → log.end ≡ end_of payloads → log.pending ≡ [] → active ≡ log.active → end ≡ used_of log

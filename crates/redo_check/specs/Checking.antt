@@ -5,11 +5,11 @@ use Rattle.disk_model.specs.Disk.{Files, SaysFront}
 use Rattle.disk_model.specs.declared.machine.FileNo.{FileNo}
 use Rattle.disk_model.specs.declared.machine.FileNo.TheVariants.{Objects}
 use Rattle.formats.specs.Bytes.{IsClosedAt}
-use Rattle.formats.specs.FirstFault.{AreObjectsWhole, IsDamaged}
+use Rattle.formats.specs.FirstFault.{IsDamaged}
 use Rattle.formats.specs.Image.{IsOpenSlot}
 use Rattle.formats.specs.InForce.{HoldsLog}
 use Rattle.formats.specs.Log.{Header, end_of}
-use Rattle.formats.specs.Objects.{bounds_of, identifier_at, params_in, place_in}
+use Rattle.formats.specs.Objects.{identifier_at, place_in}
 use Rattle.formats.specs.Records.{HoldsRecordLog, next_after, payload_of, records_of}
 use Rattle.formats.specs.declared.record.Record.{Record}
 use Rattle.log_records.specs.Loading.{IsLoadFault}
@@ -24,12 +24,7 @@ use Rattle.redo_check.specs.declared.records.Records.{Records}
 use Rattle.redo_check.specs.declared.restart.Restart.{Restart}
 use Rattle.tool_output.specs.declared.status.Status.{Status}
 use Rattle.tool_output.specs.declared.status.Status.TheVariants as statuses
-use Rattle.tool_output.specs.declared.stop.Stop.{Stop}
-use Rattle.tool_output.specs.declared.stop.Stop.TheVariants as stops
-
--- the objects file by itself has no fault, and these are the bounds of its store
-abbrev pub HasStore : Files → Bounds → Type 0
-HasStore files b = AreObjectsWhole files × (b ≡ bounds_of (params_in (files Objects)))
+use Rattle.tool_output.specs.Found.{HasStore}
 
 -- the log in force stands in this file, and ends at this place
 abbrev pub EndsLog : Files → FileNo → ℕ → Type 0
@@ -76,18 +71,6 @@ memory it = min (min ((it.records.next - it.records.start) * 240) (2 ^ 64 - 1) +
 abbrev pub restart_line : Restart → List ℕ
 restart_line it =
     codes "restart from" ++ spaced it.records.start ++ codes " records" ++ spaced (it.records.next - it.records.start) ++ codes " bytes" ++ spaced it.records.end ++ codes " memory" ++ spaced (memory it) ++ codes "\n"
-
--- what the files are where no restart may be made: no store, or damaged at that place
-abbrev pub IsStopped : Files → Stop → Type 0
-IsStopped files stops.NotAStore = IsClosedAt 0 (files Objects)
-IsStopped files (stops.Damaged file place) = IsDamaged all_meaning files file place
-IsStopped files stop = ⊤
-
--- the same where the objects file by itself has no fault: never no store
-abbrev pub IsLogStopped : Files → Stop → Type 0
-IsLogStopped files stops.NotAStore = ⊥
-IsLogStopped files (stops.Damaged file place) = IsDamaged all_meaning files file place
-IsLogStopped files stop = ⊤
 
 -- a status that says what the files are
 abbrev pub HasVerdict : Status → Type 0

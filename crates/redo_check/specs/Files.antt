@@ -7,11 +7,16 @@ use Rattle.disk_model.specs.declared.machine.FileNo.TheVariants.{Objects, LogA, 
 use Rattle.formats.specs.FirstFault.{IsFirstLogFault}
 use Rattle.formats.specs.InForce.{HoldsLog}
 use Rattle.formats.specs.Log.{Header, end_of}
-use Rattle.formats.specs.Objects.{bounds_of, form_in, params_at}
+use Rattle.formats.specs.Objects.{bounds_of, form_in, is_second, is_set, params_at}
 use Rattle.formats.specs.declared.form.Form.{Form}
 use Rattle.oper_core.specs.declared.bounds.Bounds.{Bounds}
 use Rattle.redo_check.specs.Lines.{has_cap, has_count, head_lines, is_placed, line, log_lines, numbers_lines}
 use Rattle.redo_check.specs.Slots.{slots_lines}
+
+-- the version of a file with this header: 1, 2, or 3 where the switch beside N is set; 2 where the header does not say where N
+-- stands
+abbrev pub version_of : List ℕ → List ℕ → ℕ
+version_of head file = if is_second head then (if is_placed head && is_set (form_in head).numbers file then 3 else 2) else 1
 
 -- the numbers where this form has them; and, where N and CAP are within their ranges, the slots
 abbrev pub behind_lines : Form → List ℕ → List ℕ
@@ -21,7 +26,9 @@ behind_lines form file =
 
 -- the lines of an objects file, as far as it says where things stand
 abbrev pub objects_lines : List ℕ → List ℕ
-objects_lines file = head_lines (padded file 0 17) ++ (if is_placed (padded file 0 17) then behind_lines (form_in (padded file 0 17)) file else [])
+objects_lines file =
+    let head = padded file 0 17 in
+    head_lines (version_of head file) head ++ (if is_placed head then behind_lines (form_in head) file else [])
 
 -- the bounds of the store, where these are within their ranges
 abbrev pub bounds_after : Form → List ℕ → Option Bounds

@@ -1,5 +1,5 @@
 -- The lines of checks: each says a file, a place in it, what stands there, and whether that is as it has to be.
-use Rattle.std.specs.Prelude.{ℕ, ◌+◌, ◌*◌, ◌^◌, ◌++◌, ◌&&◌, Bool, true, nat_eq, nat_lt, nat_le, if◌then◌else◌, List, [], ◌∷◌, codes, take, drop}
+use Rattle.std.specs.Prelude.{ℕ, ◌+◌, ◌*◌, ◌^◌, ◌++◌, ◌&&◌, ◌||◌, not, Bool, true, nat_eq, nat_lt, nat_le, if◌then◌else◌, List, [], ◌∷◌, codes, take, drop}
 use Rattle.std.specs.Str.{bytes_eq}
 use Rattle.disk_model.specs.declared.machine.FileNo.{FileNo}
 use Rattle.disk_model.specs.declared.machine.FileNo.TheVariants.{Objects}
@@ -24,26 +24,26 @@ number_line file place what number good = line file place (what ++ spaced number
 -- The objects file: its first 17 bytes.
 
 -- the gate, the magic, and the version
-abbrev pub begin_lines : List ℕ → List ℕ
-begin_lines head =
+abbrev pub begin_lines : ℕ → List ℕ → List ℕ
+begin_lines version head =
     number_line Objects 0 (codes "gate") (byte_at 0 head) (nat_eq (byte_at 0 head) 1) ++ line Objects 1 (codes "magic") (bytes_eq (take 7 (drop 1 head)) (codes "RDOOBJ0"))
-    ++ number_line Objects 8 (codes "version") (if is_second head then 2 else 1) true
+    ++ number_line Objects 8 (codes "version") version true
 
--- version 2: the bounds of the smaller store that was there before
+-- versions 2 and 3: the bounds of the smaller store that was there before
 abbrev pub older_lines : List ℕ → List ℕ
 older_lines head =
     number_line Objects 9 (codes "old N") (number_at 4 9 head) (nat_le (number_at 4 9 head) 4096) ++ number_line Objects 13 (codes "old CAP") (number_at 4 13 head) (nat_le (number_at 4 13 head) 16384)
 
-abbrev pub head_lines : List ℕ → List ℕ
-head_lines head = begin_lines head ++ (if is_second head then older_lines head else [])
+abbrev pub head_lines : ℕ → List ℕ → List ℕ
+head_lines version head = begin_lines version head ++ (if is_second head then older_lines head else [])
 
 -- they say where the store's numbers stand
 abbrev pub is_placed : List ℕ → Bool
 is_placed head = nat_le (form_in head).older.objects 4096 && nat_le (form_in head).older.cap 16384
 
--- The store's numbers: N and CAP are within their ranges, and so is LIMIT.
+-- The store's numbers: N and CAP are within their ranges, and so is LIMIT. The switch beside N is set in no file of version 1.
 abbrev pub has_count : Form → Params → Bool
-has_count form p = nat_le 1 p.objects && nat_le p.objects form.most.objects && nat_le form.older.objects p.objects
+has_count form p = nat_le 1 p.objects && nat_le p.objects form.most.objects && nat_le form.older.objects p.objects && (form.most.more || not p.more)
 
 abbrev pub has_cap : Form → Params → Bool
 has_cap form p = nat_le 16 p.cap && nat_le p.cap form.most.cap && nat_le form.older.cap p.cap

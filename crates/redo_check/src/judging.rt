@@ -8,7 +8,8 @@ ghost use Rattle.log_records.specs.Loading.{IsLoadFault};
 ghost use Rattle.op_codec.specs.AllOps.{all_meaning};
 ghost use Rattle.oper_core.specs.Meaning.{IsSmall};
 ghost use Rattle.stable_objects.specs.SlotsView.{AreOf};
-ghost use Rattle.redo_check.specs.Checking.{EndsLog, HasRecords, IsLogStopped, IsRestart, IsStopped};
+ghost use Rattle.redo_check.specs.Checking.{EndsLog, HasRecords, IsRestart};
+ghost use Rattle.tool_output.specs.Found.{IsLogStopped, IsStopped};
 ghost use Rattle.tool_output.specs.Faults.{CountsStop};
 
 use crate::records::Records;

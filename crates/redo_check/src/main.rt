@@ -22,52 +22,25 @@ mod slots;
 mod text;
 
 use checking::check_store;
-use disk_model::FileMachine;
-use std::fs::{File, TryLockError};
+use disk_model::Machine;
+use std::alloc::Global;
 use std::process::ExitCode;
-use tool_output::Status;
+use tool_output::{Status, Tool, run_tool};
 
-// Says on standard error which call on a file failed, and the system's reason.
-fn tell_fault(rt: HostRuntime, machine: &FileMachine<HostRuntime>) {
-    if let Some(fault) = machine.fault() {
-        let call = fault.call;
-        let path = machine.path(fault.file);
-        let reason = &fault.reason;
-        let _told = eprintln!(rt; "redo_check: cannot {call} {path}: {reason}");
+/// The tool that checks a store.
+struct Check;
+
+impl Tool for Check {
+    fn name() -> &'static str {
+        "redo_check"
+    }
+
+    fn look<M: Machine>(alloc: Global, machine: &mut M) -> Status {
+        check_store(alloc, machine)
     }
 }
 
-// Checks the store while no other program uses it.
-fn check_locked(rt: HostRuntime) -> ExitCode {
-    let Ok(folder) = File::open(&rt, ".") else {
-        return ExitCode::from(72);
-    };
-    match folder.try_lock() {
-        Ok(()) => {
-            let mut machine = FileMachine::new(rt);
-            let status = check_store(rt.alloc(), &mut machine);
-            tell_fault(rt, &machine);
-            ExitCode::from(status.number())
-        }
-        Err(TryLockError::WouldBlock) => {
-            let _told = eprintln!(rt; "redo_check: another program uses the store in this folder");
-            ExitCode::from(71)
-        }
-        Err(TryLockError::Error(_)) => ExitCode::from(72),
-    }
-}
-
-/// Status 0 where all holds; 3 where there is no store, 4 where it is damaged, 5 where the disk fails, 7 where the output does, 8
-/// without memory; 71 where another program uses the store, and 72 where the folder cannot be locked.
+/// Status 0 where all holds; [`run_tool`] has the others.
 fn main(rt: HostRuntime) -> ExitCode {
-    // The first file that is opened takes the number of a standard stream that is closed. These take it before a file of
-    // the store does. Where they cannot be opened nothing is done.
-    let (Ok(_first), Ok(_second), Ok(_third)) = (
-        File::open(&rt, "/dev/null"),
-        File::open(&rt, "/dev/null"),
-        File::open(&rt, "/dev/null"),
-    ) else {
-        return ExitCode::from(Status::DiskFault.number());
-    };
-    check_locked(rt)
+    run_tool::<Check>(rt)
 }

@@ -1,18 +1,19 @@
 // The lines of the objects file.
-ghost use Rattle.std.specs.Prelude.{◌≡◌, ◌++◌, ◌&&◌, ◌≤◌, IfErr, IfNone, IfOk, IfSome, IsTrue, OnOk, false, if◌then◌else◌, length, nat_le, true};
+ghost use Rattle.std.specs.Prelude.{◌≡◌, ◌++◌, ◌&&◌, ◌≤◌, ◌<◌, ◌^◌, IfErr, IfNone, IfOk, IfSome, IsTrue, OnOk, false, length, nat_le, true};
 ghost use Rattle.disk_model.specs.Disk.{Files, Rises, Stays};
 ghost use Rattle.disk_model.specs.declared.machine.FileNo.TheVariants.{Objects};
 ghost use Rattle.formats.specs.Bytes.{number_at};
-ghost use Rattle.formats.specs.Objects.{form_in, params_at, first_form as version_one, second_form as version_two, is_second as says_second};
+ghost use Rattle.formats.specs.Objects.{form_in, is_set, params_at, first_form as version_one, second_form as version_two, is_second as says_second};
 ghost use Rattle.formats.specs.Reading.{FailsBy};
 ghost use Rattle.oper_core.specs.Meaning.{IsSmall};
 ghost use Rattle.stable_objects.specs.Layouts.{IsForm};
 ghost use Rattle.redo_check.specs.Lines.{begin_lines, has_cap as cap_fits, has_count as count_fits, has_limit as limit_fits, head_lines, is_placed, numbers_lines, older_lines};
-ghost use Rattle.redo_check.specs.Files.{behind_lines, bounds_after, bounds_said, objects_lines};
+ghost use Rattle.redo_check.specs.Files.{behind_lines, bounds_after, bounds_said, objects_lines, version_of};
 
 use crate::numbers::{has_magic, is_gate, short_number};
 use crate::slots::push_slots;
 use crate::text::{push_found, push_line};
+use byteorder::{ByteOrder, LittleEndian};
 use disk_model::{FileNo, Machine, read_padded};
 use formats::{Form, Layout, Params, ReadErr};
 use oper_core::{Bounds, Memory};
@@ -21,21 +22,23 @@ use std::alloc::Global;
 /// The gate, the magic, the version, and two numbers of four bytes.
 const HEAD: usize = 17;
 
-/// The byte of version 2.
+/// The byte of versions 2 and 3.
 const SECOND: u8 = b'2';
 
-/// The greatest bounds of a store of version 1, and of version 2.
+/// The greatest bounds of a store of version 1, and of versions 2 and 3.
 const FIRST_MOST: Bounds = Bounds {
     objects: 4096,
     cap: 16384,
+    more: false,
 };
 
 const SECOND_MOST: Bounds = Bounds {
     objects: 65535,
     cap: 1048576,
+    more: true,
 };
 
-/// Whether the header says version 2.
+/// Whether the header says version 2 or 3.
 fn is_second(head: &[u8]) -> bool
     requires { length head.now ≡ 17 }
     ensures { result ≡ says_second head.now }
@@ -43,17 +46,10 @@ fn is_second(head: &[u8]) -> bool
     head[8] == SECOND
 }
 
-fn version_of(head: &[u8]) -> u64
-    requires { length head.now ≡ 17 }
-    ensures { result ≡ if says_second head.now then 2 else 1 }
-{
-    if is_second(head) { 2 } else { 1 }
-}
-
 /// Adds the lines of the gate, the magic and the version.
-fn push_begin(alloc: Global, text: &mut Vec<u8>, head: &[u8]) -> Result<(), Memory>
+fn push_begin(alloc: Global, text: &mut Vec<u8>, head: &[u8], version: u64) -> Result<(), Memory>
     requires { length head.now ≡ 17 }
-    ensures { OnOk result (text.new.items ≡ text.old.items ++ begin_lines head.now) }
+    ensures { OnOk result (text.new.items ≡ text.old.items ++ begin_lines version head.now) }
 {
     let file = FileNo::Objects;
     push_found(
@@ -66,7 +62,7 @@ fn push_begin(alloc: Global, text: &mut Vec<u8>, head: &[u8]) -> Result<(), Memo
         is_gate(head[0]),
     )?;
     push_line(alloc, text, file, 1, b"magic", has_magic(head, b"RDOOBJ0"))?;
-    push_found(alloc, text, file, 8, b"version", version_of(head), true)?;
+    push_found(alloc, text, file, 8, b"version", version, true)?;
     Ok(())
 }
 
@@ -92,12 +88,12 @@ fn push_older(alloc: Global, text: &mut Vec<u8>, head: &[u8]) -> Result<(), Memo
     Ok(())
 }
 
-/// Adds the lines of the header.
-fn push_head(alloc: Global, text: &mut Vec<u8>, head: &[u8]) -> Result<(), Memory>
+/// Adds the lines of the header of a file of this version.
+fn push_head(alloc: Global, text: &mut Vec<u8>, head: &[u8], version: u64) -> Result<(), Memory>
     requires { length head.now ≡ 17 }
-    ensures { OnOk result (text.new.items ≡ text.old.items ++ head_lines head.now) }
+    ensures { OnOk result (text.new.items ≡ text.old.items ++ head_lines version head.now) }
 {
-    push_begin(alloc, text, head)?;
+    push_begin(alloc, text, head, version)?;
     if !is_second(head) {
         return Ok(());
     }
@@ -111,7 +107,11 @@ fn first_form() -> Form
     Form {
         numbers: 9,
         first: 32,
-        older: Bounds { objects: 0, cap: 0 },
+        older: Bounds {
+            objects: 0,
+            cap: 0,
+            more: false,
+        },
         most: FIRST_MOST,
     }
 }
@@ -138,18 +138,19 @@ fn is_older(older: Bounds) -> bool
     older.objects <= FIRST_MOST.objects && older.cap <= FIRST_MOST.cap
 }
 
-/// The bounds of the smaller store that was there before, as version 2 has them.
+/// The bounds of the smaller store that was there before, as versions 2 and 3 have them.
 fn older_of(head: &[u8]) -> Bounds
     requires { length head.now ≡ 17 }
-    ensures { result ≡ record { objects = number_at 4 9 head.now; cap = number_at 4 13 head.now } }
+    ensures { result ≡ record { objects = number_at 4 9 head.now; cap = number_at 4 13 head.now; more = false } }
 {
     Bounds {
         objects: short_number(head, 9),
         cap: short_number(head, 13),
+        more: false,
     }
 }
 
-/// Where things stand in a file of version 2; none where the header does not say it.
+/// Where things stand in a file of version 2 or 3; none where the header does not say it.
 fn larger_form(head: &[u8]) -> Option<Form>
     requires long { length head.now ≡ 17 }
     requires second { says_second head.now ≡ true }
@@ -175,11 +176,43 @@ fn form_of(head: &[u8]) -> Option<Form>
     Some(first_form())
 }
 
+/// Whether the switch of the numbers at this place is set.
+fn read_switch<M: Machine>(machine: &mut M, numbers: u64) -> Result<bool, ReadErr>
+    requires { numbers < 2 ^ 28 }
+    ensures kept { Stays (M.disk machine.old) (M.disk machine.new) }
+    ensures read { (files : Files) → (M.disk machine.new).agrees files → IfOk result (λ set. set ≡ is_set numbers (files Objects)) }
+    ensures cause { IfErr result (FailsBy (Rises (M.disk machine.old).disk_faults (M.disk machine.new).disk_faults) (λ file place. ⊥)) }
+{
+    let mut switch = [0; 1];
+    read_padded(machine, FileNo::Objects, numbers + 3, &mut switch)?;
+    Ok(switch[0] > 0)
+}
+
+/// The version of the file, by its header and the switch beside N.
+fn read_version<M: Machine>(machine: &mut M, head: &[u8]) -> Result<u64, ReadErr>
+    requires { length head.now ≡ 17 }
+    ensures kept { Stays (M.disk machine.old) (M.disk machine.new) }
+    ensures read { (files : Files) → (M.disk machine.new).agrees files → IfOk result (λ version. version ≡ version_of head.now (files Objects)) }
+    ensures cause { IfErr result (FailsBy (Rises (M.disk machine.old).disk_faults (M.disk machine.new).disk_faults) (λ file place. ⊥)) }
+{
+    if !is_second(head) {
+        return Ok(1);
+    }
+    let Some(form) = larger_form(head) else {
+        return Ok(2);
+    };
+    let set = read_switch(machine, form.numbers)?;
+    if set { Ok(3) } else { Ok(2) }
+}
+
 fn has_count(form: Form, p: Params) -> bool
     ensures is { result ≡ count_fits form p }
     ensures within { IsTrue result → (1 ≤ p.objects) × (p.objects ≤ form.most.objects) }
 {
-    1 <= p.objects && p.objects <= form.most.objects && form.older.objects <= p.objects
+    1 <= p.objects
+        && p.objects <= form.most.objects
+        && form.older.objects <= p.objects
+        && (form.most.more || !p.more)
 }
 
 fn has_cap(form: Form, p: Params) -> bool
@@ -210,9 +243,10 @@ fn params_of(bytes: &[u8]) -> Params
     ensures { result ≡ params_at 0 bytes.now }
 {
     Params {
-        objects: short_number(bytes, 0),
+        objects: LittleEndian::read_u24(bytes),
         cap: short_number(bytes, 4),
         limit: short_number(bytes, 8),
+        more: bytes[3] > 0,
     }
 }
 
@@ -296,6 +330,7 @@ fn bounds_behind<M: Machine>(machine: &mut M, form: Form) -> Result<Option<Bound
     Ok(Some(Bounds {
         objects: params.objects,
         cap: params.cap,
+        more: params.more,
     }))
 }
 
@@ -327,7 +362,8 @@ pub fn push_objects<M: Machine>(
 {
     let mut head = [0; HEAD];
     read_padded(machine, FileNo::Objects, 0, &mut head)?;
-    push_head(alloc, text, &head)?;
+    let version = read_version(machine, &head)?;
+    push_head(alloc, text, &head, version)?;
     let Some(form) = form_of(&head) else {
         return Ok(());
     };

@@ -12,7 +12,7 @@ use Rattle.log_frames.specs.Forcing.{with_block}
 use Rattle.log_frames.specs.Payloads.{HasNext, IsInLog, IsNoLog, PayloadReaderView, remaining, untaken}
 use Rattle.op_codec.specs.AllOps.{AllOps}
 use Rattle.oper_core.specs.Meaning.{Meaning}
-use Rattle.redo_log.specs.Faults.{AreUnreadable, FindsNone, IsBroken}
+use Rattle.redo_log.specs.Unreadable.{AreUnreadable, FindsNone, IsBroken}
 use Rattle.tool_output.specs.Faults.{CountsStop, StopsBy}
 use Rattle.redo_log.specs.Fronts.{AreLinesToNone, SaysBlockToNone, SaysNone}
 use Rattle.redo_log.specs.Lines.{begun_lines, blocks_lines, header_words, line, record_lines}

@@ -1,34 +1,25 @@
 -- What is said of the log of a store.
-use Rattle.std.proofs.Common.{◌≡◌, inl, inr, ℕ, List, [], ◌++◌, map, drop, refl, sym, ap, ◌∙◌, subst, append_assoc, arith}
-use Rattle.std.specs.Prelude.{codes, Result, Ok, Err, IfErr, IsErrAnd, IsOk, OnErr, OnOk}
+use Rattle.std.proofs.Common.{◌≡◌, inl, inr, ℕ, List, [], ◌++◌, map, drop, refl, sym, ap, ◌∙◌, subst, append_assoc}
+use Rattle.std.specs.Prelude.{codes, Result, Ok, Err, IfErr, IsOk, OnErr, OnOk}
 use Rattle.std.proofs.lemmas.List.{append-nil}
 use Rattle.std.proofs.lemmas.List.Elements.{All-nil}
 use Rattle.disk_model.specs.Disk.{Disk, Files, SaysFront, Stays}
 use Rattle.disk_model.specs.declared.machine.FileNo.{FileNo}
 use Rattle.disk_model.specs.declared.machine.FileNo.TheVariants.{Objects}
-use Rattle.oper_core.specs.Meaning.{IsSmall, Meaning}
+use Rattle.oper_core.specs.Meaning.{Meaning}
 use Rattle.oper_core.specs.declared.bounds.Bounds.{Bounds}
 use Rattle.op_codec.specs.AllOps.{AllOps, all_meaning}
-use Rattle.formats.specs.Bytes.{IsClosedAt}
-use Rattle.formats.specs.FirstFault.{IsDamaged, IsFirstLogFault, IsFirstObjectsFault}
-use Rattle.formats.specs.Image.{IsRecordFault}
-use Rattle.formats.specs.FirstFault.IsFirstFault.{at_logs, at_objects, at_record}
+use Rattle.formats.specs.FirstFault.{AreObjectsWhole, IsFirstLogFault, IsFirstObjectsFault}
 use Rattle.formats.specs.InForce.{HoldsLog}
 use Rattle.formats.specs.Log.{Header, end_of}
-use Rattle.formats.specs.Objects.{IsObjectsFile, bounds_of, params_in}
+use Rattle.formats.specs.Objects.{bounds_of, params_in}
 use Rattle.formats.specs.Reading.{FailsBy}
 use Rattle.formats.specs.Records.{HoldsRecordLog, IsRecord, payload_of}
 use Rattle.formats.specs.declared.record.Record.{Record}
-use Rattle.formats.specs.declared.params.Params.{Params}
 use Rattle.formats.specs.declared.read_err.ReadErr.{ReadErr}
 use Rattle.formats.specs.declared.read_err.ReadErr.TheVariants as reads
-use Rattle.log_frames.specs.LogView.{LogView, end_with, used_of}
 use Rattle.log_frames.specs.Payloads.{IsInLog, PayloadReaderView}
-use Rattle.log_records.specs.Loading.{IsLoadFault}
-use Rattle.log_records.specs.Loading.IsLoadFault.{in_blocks, in_record}
-use Rattle.stable_objects.specs.Laws.{start_is_open}
-use Rattle.stable_objects.specs.Reading.{IsDamagedAt, OpensNot}
-use Rattle.stable_objects.specs.SlotsView.{AreOf, SlotsView}
+use Rattle.stable_objects.specs.Reading.{OpensNot}
 use Rattle.stable_objects.specs.declared.open_err.OpenErr.{OpenErr}
 use Rattle.stable_objects.specs.declared.open_err.OpenErr.TheVariants as opens
 use Rattle.tool_output.specs.Faults.{StopsBy}
@@ -39,54 +30,14 @@ use Rattle.redo_log.specs.Fronts.AreLinesBefore.{of_logs, of_objects, of_places,
 use Rattle.redo_log.specs.Fronts.AreLogLines.{all_lines, first_lines}
 use Rattle.redo_log.specs.Fronts.IsReport.{no_store, of_damage, of_log}
 use Rattle.redo_log.specs.Lines.{blocks_lines, header_words, line, log_lines, used}
-use Rattle.redo_log.specs.Listing.{ArePlaced, HasStore, IsListed, IsLogStopped, IsStopped, SaysLog}
+use Rattle.redo_log.specs.Listing.{ArePlaced, IsListed, SaysLog}
+use Rattle.tool_output.specs.Found.{HasStore, IsLogStopped, IsStopped}
 use Rattle.redo_log.specs.Reading.{SaysBlocks}
 use Rattle.tool_output.specs.Saying.{OnlySays}
 use Rattle.tool_output.specs.Stops.{stop_from_open, stop_from_read}
 use Rattle.tool_output.specs.declared.stop.Stop.{Stop}
 use Rattle.tool_output.specs.declared.stop.Stop.TheVariants as stops
 use Rattle.tool_output.specs.FrontLaws.{all_said, front_at, front_behind, said_none}
-
--- why no bounds were read
-pub unopened : (files : Files) (closed rises : Type 0) (fault : FileNo → ℕ → Type 0) (e : OpenErr) → (closed → IsClosedAt 0 (files Objects)) → ((file : FileNo) (place : ℕ) → fault file place → IsDamaged all_meaning files file place)
-    → OpensNot closed (FailsBy rises fault) e → IsStopped files (stop_from_open e)
-unopened files closed rises fault opens.NotAStore none broken fails = none fails
-unopened files closed rises fault opens.DiskFault none broken fails = tt
-unopened files closed rises fault (opens.Damaged file place) none broken fails = broken file place fails
-unopened files closed rises fault opens.Memory none broken fails = tt
-
-pub objects_damaged : (files : Files) (file : FileNo) (place : ℕ) → file ≡ Objects → IsDamagedAt (files Objects) place → IsDamaged all_meaning files file place
-objects_damaged files file place same is = subst (λ (f : FileNo). IsDamaged all_meaning files f place) (sym same) (record { gate = is.gate; fault = at_objects place is.fault })
-
--- the bounds that were read
-pub has_store : (files : Files) (slots : SlotsView) (b : Bounds) → AreOf slots (files Objects) → b ≡ bounds_of slots.params → HasStore files b
-has_store files slots b are same = (
-  subst (λ (p : Params). IsObjectsFile p (files Objects)) (sym are.whole.params) are.whole,
-  same ∙ ap bounds_of (sym are.whole.params),
-)
-
-pub is_small : (files : Files) (b : Bounds) → HasStore files b → IsSmall b
-is_small files b is = record {
-  objects = omega (arith, is.0.in_range.objects, ap (λ (c : Bounds). c.objects) is.1);
-  cap = omega (arith, is.0.in_range.cap, ap (λ (c : Bounds). c.cap) is.1);
-}
-
--- the faults of a load are those of the files
-pub load_damaged : (files : Files) (b : Bounds) → HasStore files b → (file : FileNo) (place : ℕ) → IsLoadFault (all_meaning b) files file place → IsDamaged all_meaning files file place
-load_damaged files b is _ _ (in_blocks file place fault) = record { gate = start_is_open (files Objects) is.0.begins; fault = at_logs file place is.0 fault }
-load_damaged files b is _ _ (in_record active header place in_force has fault) = record {
-  gate = start_is_open (files Objects) is.0.begins;
-  fault = at_record active header place is.0 in_force has (subst (λ (c : Bounds). IsRecordFault (all_meaning c) (files active) place) is.1 fault);
-}
-
-pub log_stopped : (files : Files) (rises : Type 0) (fault : FileNo → ℕ → Type 0) (e : ReadErr) → ((file : FileNo) (place : ℕ) → fault file place → IsDamaged all_meaning files file place) → FailsBy rises fault e → IsLogStopped files (stop_from_read e)
-log_stopped files rises fault reads.DiskFault broken fails = tt
-log_stopped files rises fault (reads.Damaged file place) broken fails = broken file place fails
-log_stopped files rises fault reads.Memory broken fails = tt
-
--- where nothing waits the log ends at its first closed gate
-pub end_used : (log : LogView) (end : ℕ) → log.pending ≡ [] → log.end ≡ end → used_of log ≡ end
-end_used log end none is = ap (end_with log.end) none ∙ is
 
 -- the header and the blocks were said
 blocks_at : (m : Meaning AllOps) (active : FileNo) (header : Header) (payloads : List (List ℕ)) (it : PayloadReaderView) (first one two three : List ℕ) → it.file ≡ active
@@ -177,11 +128,6 @@ is_listed files b active header payloads before after store holds says placed =
       said = subst (λ (c : Bounds). after ≡ before ++ log_lines (all_meaning c) active header groups (used (drop (end_of (map (payload_of (all_meaning c)) groups)) (files active)))) same said;
     }
 
--- an error that is handed on
-pub stopped_by : {T : Type 0} (result : Result T Stop) (stop : Stop) (P : Stop → Type 0) → IsErrAnd result (λ e. e ≡ stop) → P stop → IfErr result P
-stopped_by (Ok value) stop P is holds = tt
-stopped_by (Err e) stop P is holds = subst P (sym is) holds
-
 -- the header, the blocks and the end were said, one after the other
 pub log_goes_on : (m : Meaning AllOps) (first one two three four : Disk) (active place : FileNo) (header : Header) (payloads : List (List ℕ)) (it : PayloadReaderView) (end : ℕ) → first.tells_files
     → OnlySays first one → Stays one two → OnlySays two three → one.said ≡ first.said ++ line active 0 33 (header_words header) → it.file ≡ active → place ≡ active → end ≡ end_of payloads
@@ -253,10 +199,10 @@ objects_fault files closed rises fault opens.Memory more fails damage = absurd d
 
 -- the logs have one
 pub logs_fault : (m : Meaning AllOps) (files : Files) (before after : List ℕ) (rises : Type 0) (fault : FileNo → ℕ → Type 0) (e : ReadErr) → ((file : FileNo) (place : ℕ) → fault file place → IsFirstLogFault files file place)
-    → after ≡ before → FailsBy rises fault e → IsDamage (stop_from_read e) → (lines : List ℕ) × AreLinesBefore m files lines × (after ≡ before ++ lines)
-logs_fault m files before after rises fault reads.DiskFault more same fails damage = absurd damage
-logs_fault m files before after rises fault (reads.Damaged file place) more same fails damage = ([], of_logs file place (more file place fails) refl, same ∙ sym (append-nil before))
-logs_fault m files before after rises fault reads.Memory more same fails damage = absurd damage
+    → AreObjectsWhole files → after ≡ before → FailsBy rises fault e → IsDamage (stop_from_read e) → (lines : List ℕ) × AreLinesBefore m files lines × (after ≡ before ++ lines)
+logs_fault m files before after rises fault reads.DiskFault more whole same fails damage = absurd damage
+logs_fault m files before after rises fault (reads.Damaged file place) more whole same fails damage = ([], of_logs file place whole (more file place fails) refl, same ∙ sym (append-nil before))
+logs_fault m files before after rises fault reads.Memory more whole same fails damage = absurd damage
 
 -- a log was said, or a part of it
 part_of : {T : Type 0} (m : Meaning AllOps) (files : Files) (active : FileNo) (header : Header) (payloads : List (List ℕ)) (before after : List ℕ) (said : Result T Stop) → HoldsLog active header payloads files
@@ -296,55 +242,56 @@ log_part m first mid new last active header payloads said told kept run end hold
     (subst (λ (f : Files). SaysLogPart m f mid.said new.said) reads_mid is))
 
 -- a log was said before its damage was told
-before_damage : {T : Type 0} (m : Meaning AllOps) (old new : Disk) (files : Files) (active : FileNo) (header : Header) (payloads : List (List ℕ)) (before after : List ℕ) (said : Result T Stop) (found : FileNo → ℕ → Type 0) → HoldsLog active header payloads files
+before_damage : {T : Type 0} (m : Meaning AllOps) (old new : Disk) (files : Files) (active : FileNo) (header : Header) (payloads : List (List ℕ)) (before after : List ℕ) (said : Result T Stop) (found : FileNo → ℕ → Type 0) → AreObjectsWhole files → HoldsLog active header payloads files
     → ((file : FileNo) (place : ℕ) → found file place → (lines : List ℕ) × AreLinesToNone m active payloads lines × (after ≡ before ++ (line active 0 33 (header_words header) ++ lines)))
     → IfErr said IsDamage → OnOk said (SaysLog m files active header payloads before after) → IfErr said (StopsBy old new found) → (lines : List ℕ) × AreLinesBefore m files lines × (after ≡ before ++ lines)
-before_damage m old new files active header payloads before after (Ok value) found holds more damage all stops_by = (
+before_damage m old new files active header payloads before after (Ok value) found whole holds more damage all stops_by = (
   log_lines m active header all.groups (used (drop (end_of payloads) (files active))),
-  of_places active header all.groups (subst (λ (l : List (List ℕ)). HoldsLog active header l files) all.payloads_are holds) all.in_grammar
+  of_places active header all.groups whole (subst (λ (l : List (List ℕ)). HoldsLog active header l files) all.payloads_are holds) all.in_grammar
       (ap (λ (l : List (List ℕ)). log_lines m active header all.groups (used (drop (end_of l) (files active)))) all.payloads_are),
   all.said,
 )
-before_damage m old new files active header payloads before after (Err stops.NotAStore) found holds more damage all stops_by = absurd damage
-before_damage m old new files active header payloads before after (Err (stops.Damaged file place)) found holds more damage all stops_by =
+before_damage m old new files active header payloads before after (Err stops.NotAStore) found whole holds more damage all stops_by = absurd damage
+before_damage m old new files active header payloads before after (Err (stops.Damaged file place)) found whole holds more damage all stops_by =
     let (lines, are, is) = more file place stops_by in
-    (line active 0 33 (header_words header) ++ lines, of_records active header payloads lines holds are refl, is)
-before_damage m old new files active header payloads before after (Err stops.DiskFault) found holds more damage all stops_by = absurd damage
-before_damage m old new files active header payloads before after (Err stops.SayFault) found holds more damage all stops_by = absurd damage
-before_damage m old new files active header payloads before after (Err stops.Memory) found holds more damage all stops_by = absurd damage
+    (line active 0 33 (header_words header) ++ lines, of_records active header payloads lines whole holds are refl, is)
+before_damage m old new files active header payloads before after (Err stops.DiskFault) found whole holds more damage all stops_by = absurd damage
+before_damage m old new files active header payloads before after (Err stops.SayFault) found whole holds more damage all stops_by = absurd damage
+before_damage m old new files active header payloads before after (Err stops.Memory) found whole holds more damage all stops_by = absurd damage
 
 pub log_damage : {T : Type 0} (m : Meaning AllOps) (first mid new last : Disk) (active : FileNo) (header : Header) (payloads : List (List ℕ)) (said : Result T Stop) → first.tells_files → Stays first mid → OnlySays mid new → Stays new last
-    → HoldsLog active header payloads first.reads → IfErr said IsDamage
+    → AreObjectsWhole first.reads → HoldsLog active header payloads first.reads → IfErr said IsDamage
     → (mid.tells_files → HoldsLog active header payloads mid.reads → OnOk said (SaysLog m mid.reads active header payloads mid.said new.said))
     → IfErr said (StopsBy mid new (λ file place. mid.tells_files → (payloads : List (List ℕ)) → HoldsLog active header payloads mid.reads
     → (lines : List ℕ) × AreLinesToNone m active payloads lines × (new.said ≡ mid.said ++ (line active 0 33 (header_words header) ++ lines))))
     → (lines : List ℕ) × AreLinesBefore m first.reads lines × (last.said ≡ first.said ++ lines)
-log_damage m first mid new last active header payloads said told kept run end holds damage all stops_by =
+log_damage m first mid new last active header payloads said told kept run end whole holds damage all stops_by =
     let told_mid = kept.time.files_told.0 told in
     let told_new = run.time.files_told.0 told_mid in
     let reads_mid : mid.reads ≡ first.reads = kept.reads told in
     let here = subst (λ (f : Files). HoldsLog active header payloads f) (sym reads_mid) holds in
-    let (lines, are, is) = before_damage m mid new mid.reads active header payloads mid.said new.said said _ here (λ file place found. found told_mid payloads here) damage (all told_mid here) stops_by in (
+    let whole_here = subst AreObjectsWhole (sym reads_mid) whole in
+    let (lines, are, is) = before_damage m mid new mid.reads active header payloads mid.said new.said said _ whole_here here (λ file place found. found told_mid payloads here) damage (all told_mid here) stops_by in (
       lines,
       subst (λ (f : Files). AreLinesBefore m f lines) reads_mid are,
       end.said told_new ∙ is ∙ ap (λ (l : List ℕ). l ++ lines) (kept.said told),
     )
 
 -- no last line was said
-pub no_last : (m : Meaning AllOps) (files : Files) (before after : List ℕ) → SaysOfLog m files before after → SaysNoMore m files before after
-no_last m files before after (inl same) = inl same
-no_last m files before after (inr part) = inr (part.text, of_log part.active part.header part.payloads part.log part.lines, part.front)
+pub no_last : (m : Meaning AllOps) (files : Files) (before after : List ℕ) → AreObjectsWhole files → SaysOfLog m files before after → SaysNoMore m files before after
+no_last m files before after whole (inl same) = inl same
+no_last m files before after whole (inr part) = inr (part.text, of_log part.active part.header part.payloads whole part.log part.lines, part.front)
 
 -- the listing of a store stopped, and then the last line was said in part
-pub stopped_part : (m : Meaning AllOps) (files : Files) (before mid after : List ℕ) (stop : Stop) → IsLogStopped files stop → SaysOfLog m files before mid
+pub stopped_part : (m : Meaning AllOps) (files : Files) (before mid after : List ℕ) (stop : Stop) → AreObjectsWhole files → IsLogStopped files stop → SaysOfLog m files before mid
     → (IsDamage stop → (lines : List ℕ) × AreLinesBefore m files lines × (mid ≡ before ++ lines)) → SaysFront (stop_line stop) mid after → SaysNoMore m files before after
-stopped_part m files before mid after stops.NotAStore is part damage front = absurd is
-stopped_part m files before mid after (stops.Damaged file place) is part damage front =
+stopped_part m files before mid after stops.NotAStore whole is part damage front = absurd is
+stopped_part m files before mid after (stops.Damaged file place) whole is part damage front =
     let (lines, are, said) = damage tt in
     inr (lines ++ damaged file place, of_damage lines file place are is refl, front_behind lines (damaged file place) before mid after said front)
-stopped_part m files before mid after stops.DiskFault is part damage front = no_last m files before after (subst (λ (s : List ℕ). SaysOfLog m files before s) (sym (said_none mid after front)) part)
-stopped_part m files before mid after stops.SayFault is part damage front = no_last m files before after (subst (λ (s : List ℕ). SaysOfLog m files before s) (sym (said_none mid after front)) part)
-stopped_part m files before mid after stops.Memory is part damage front = no_last m files before after (subst (λ (s : List ℕ). SaysOfLog m files before s) (sym (said_none mid after front)) part)
+stopped_part m files before mid after stops.DiskFault whole is part damage front = no_last m files before after whole (subst (λ (s : List ℕ). SaysOfLog m files before s) (sym (said_none mid after front)) part)
+stopped_part m files before mid after stops.SayFault whole is part damage front = no_last m files before after whole (subst (λ (s : List ℕ). SaysOfLog m files before s) (sym (said_none mid after front)) part)
+stopped_part m files before mid after stops.Memory whole is part damage front = no_last m files before after whole (subst (λ (s : List ℕ). SaysOfLog m files before s) (sym (said_none mid after front)) part)
 
 -- no store was found, and then the last line was said in part
 pub unopened_part : (m : Meaning AllOps) (files : Files) (before mid after : List ℕ) (stop : Stop) → IsStopped files stop → (IsDamage stop → (place : ℕ) × IsFirstObjectsFault (files Objects) place) → mid ≡ before

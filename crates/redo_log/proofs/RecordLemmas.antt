@@ -16,7 +16,7 @@ use Rattle.formats.specs.declared.record.Record.TheVariants.{Command, Identity, 
 use Rattle.log_frames.specs.Laws.{one_in_force, with_block-some}
 use Rattle.log_records.specs.Codec.{StartsWithRecord}
 use Rattle.log_records.specs.CodecLaws.{HasCodes, same_record}
-use Rattle.redo_log.specs.Faults.{AreReadable, IsUnreadable}
+use Rattle.redo_log.specs.Unreadable.{AreReadable, IsUnreadable}
 
 -- what holds of all of two lists together
 both_parts : {A : Type 0} (P : A → Type 0) (xs ys : List A) → All P (xs ++ ys) → All P xs × All P ys

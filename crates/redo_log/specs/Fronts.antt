@@ -6,13 +6,13 @@ use Rattle.disk_model.specs.declared.machine.FileNo.TheVariants.{Objects}
 use Rattle.oper_core.specs.Meaning.{Meaning}
 use Rattle.op_codec.specs.AllOps.{AllOps, all_meaning}
 use Rattle.formats.specs.Bytes.{IsClosedAt}
-use Rattle.formats.specs.FirstFault.{IsDamaged, IsFirstLogFault, IsFirstObjectsFault}
+use Rattle.formats.specs.FirstFault.{AreObjectsWhole, IsDamaged, IsFirstLogFault, IsFirstObjectsFault}
 use Rattle.formats.specs.InForce.{HoldsLog}
 use Rattle.formats.specs.Log.{Header, end_of}
 use Rattle.formats.specs.Records.{IsRecord, payload_of, records_of}
 use Rattle.formats.specs.declared.record.Record.{Record}
 use Rattle.log_frames.specs.Forcing.{with_block}
-use Rattle.redo_log.specs.Faults.{HasNoRecord, IsUnreadable}
+use Rattle.redo_log.specs.Unreadable.{HasNoRecord, IsUnreadable}
 use Rattle.redo_log.specs.Lines.{begun_lines, blocks_lines, header_words, line, log_lines, record_lines, used}
 use Rattle.tool_output.specs.Lines.{damaged, not_a_store}
 use Rattle.tool_output.specs.declared.stop.Stop.{Stop}
@@ -85,13 +85,14 @@ pub record AreLinesToNone (m : Meaning AllOps) (file : FileNo) (payloads : List 
   pub text_is : text ≡ blocks_lines m file 33 groups ++ begun_lines m file (end_of (map (payload_of m) groups)) (payload_of m is.part ++ is.behind.rest) is.part
 
 -- What is said of damaged files before the damage: nothing, where it is one of the objects file or of a log's header or blocks;
--- all lines of the log, where each record is one by itself; else those of the records before the first bytes that are none.
+-- all lines of the log, where each record is one by itself; else those of the records before the first bytes that are none. Of the
+-- log something is said only where the objects file by itself has no fault.
 pub data AreLinesBefore (m : Meaning AllOps) (files : Files) (text : List ℕ) : Type 0 where
   of_objects : (place : ℕ) → IsFirstObjectsFault (files Objects) place → text ≡ [] → AreLinesBefore m files text
-  of_logs : (file : FileNo) (place : ℕ) → IsFirstLogFault files file place → text ≡ [] → AreLinesBefore m files text
-  of_places : (active : FileNo) (header : Header) (groups : List (List (Record AllOps))) → HoldsLog active header (map (payload_of m) groups) files → All (IsRecord m) (records_of groups)
+  of_logs : (file : FileNo) (place : ℕ) → AreObjectsWhole files → IsFirstLogFault files file place → text ≡ [] → AreLinesBefore m files text
+  of_places : (active : FileNo) (header : Header) (groups : List (List (Record AllOps))) → AreObjectsWhole files → HoldsLog active header (map (payload_of m) groups) files → All (IsRecord m) (records_of groups)
       → text ≡ log_lines m active header groups (used (drop (end_of (map (payload_of m) groups)) (files active))) → AreLinesBefore m files text
-  of_records : (active : FileNo) (header : Header) (payloads : List (List ℕ)) (lines : List ℕ) → HoldsLog active header payloads files → AreLinesToNone m active payloads lines
+  of_records : (active : FileNo) (header : Header) (payloads : List (List ℕ)) (lines : List ℕ) → AreObjectsWhole files → HoldsLog active header payloads files → AreLinesToNone m active payloads lines
       → text ≡ line active 0 33 (header_words header) ++ lines → AreLinesBefore m files text
 
 -- it reports damage
@@ -111,7 +112,7 @@ pub record IsDamageSaid (m : Meaning AllOps) (files : Files) (before after : Lis
 -- what is said of files: that they are no store; lines of the log; or the lines before a damage, and the damage
 pub data IsReport (m : Meaning AllOps) (files : Files) (text : List ℕ) : Type 0 where
   no_store : IsClosedAt 0 (files Objects) → text ≡ not_a_store → IsReport m files text
-  of_log : (active : FileNo) (header : Header) (payloads : List (List ℕ)) → HoldsLog active header payloads files → AreLogLines m files active header payloads text → IsReport m files text
+  of_log : (active : FileNo) (header : Header) (payloads : List (List ℕ)) → AreObjectsWhole files → HoldsLog active header payloads files → AreLogLines m files active header payloads text → IsReport m files text
   of_damage : (lines : List ℕ) (file : FileNo) (place : ℕ) → AreLinesBefore m files lines → IsDamaged all_meaning files file place → text ≡ lines ++ damaged file place → IsReport m files text
 
 -- nothing else was said than a front of it

@@ -1,6 +1,6 @@
 pub mod Words
 pub mod Lines
 pub mod Reading
-pub mod Faults
+pub mod Unreadable
 pub mod Fronts
 pub mod Listing

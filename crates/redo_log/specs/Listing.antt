@@ -1,20 +1,15 @@
 -- What is said of the log of a store.
-use Rattle.std.specs.Prelude.{◌≡◌, ⊤, ℕ, All, List, ◌++◌, drop, map}
+use Rattle.std.specs.Prelude.{◌≡◌, ℕ, All, List, ◌++◌, drop, map}
 use Rattle.disk_model.specs.Disk.{Files}
 use Rattle.disk_model.specs.declared.machine.FileNo.{FileNo}
 use Rattle.disk_model.specs.declared.machine.FileNo.TheVariants.{Objects}
 use Rattle.oper_core.specs.Meaning.{Meaning}
-use Rattle.oper_core.specs.declared.bounds.Bounds.{Bounds}
 use Rattle.op_codec.specs.AllOps.{AllOps, all_meaning}
-use Rattle.formats.specs.Bytes.{IsClosedAt}
-use Rattle.formats.specs.FirstFault.{AreObjectsWhole, IsDamaged}
 use Rattle.formats.specs.InForce.{HoldsLog}
 use Rattle.formats.specs.Log.{Header, end_of}
 use Rattle.formats.specs.Objects.{bounds_of, params_in}
 use Rattle.formats.specs.Records.{HoldsRecordLog, IsRecord, payload_of, records_of}
 use Rattle.formats.specs.declared.record.Record.{Record}
-use Rattle.tool_output.specs.declared.stop.Stop.{Stop}
-use Rattle.tool_output.specs.declared.stop.Stop.TheVariants as stops
 use Rattle.redo_log.specs.Lines.{log_lines, used}
 
 -- what operations mean in the store of these files
@@ -28,22 +23,6 @@ pub record IsListed (files : Files) (before after : List ℕ) : Type 0 where
   pub groups : List (List (Record AllOps))
   pub log : HoldsRecordLog (meaning_of files) active header groups files
   pub said : after ≡ before ++ log_lines (meaning_of files) active header groups (used (drop (end_of (map (payload_of (meaning_of files)) groups)) (files active)))
-
--- what the files are where the lines end early: no store, or damaged at that place
-abbrev pub IsStopped : Files → Stop → Type 0
-IsStopped files stops.NotAStore = IsClosedAt 0 (files Objects)
-IsStopped files (stops.Damaged file place) = IsDamaged all_meaning files file place
-IsStopped files stop = ⊤
-
--- the same of a store: never no store
-abbrev pub IsLogStopped : Files → Stop → Type 0
-IsLogStopped files stops.NotAStore = ⊥
-IsLogStopped files (stops.Damaged file place) = IsDamaged all_meaning files file place
-IsLogStopped files stop = ⊤
-
--- the objects file by itself has no fault, and these are the bounds of its store
-abbrev pub HasStore : Files → Bounds → Type 0
-HasStore files b = AreObjectsWhole files × (b ≡ bounds_of (params_in (files Objects)))
 
 -- records of the grammar that are those of the log in force are right in their places
 abbrev pub ArePlaced : {O : Type 0} → Meaning O → Files → Type 0

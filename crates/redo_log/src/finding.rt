@@ -6,7 +6,7 @@ ghost use Rattle.formats.specs.Records.{record_code};
 ghost use Rattle.log_frames.specs.Payloads.{IsInLog, ahead, remaining};
 ghost use Rattle.log_records.specs.Codec.{StartsWithRecord};
 ghost use Rattle.op_codec.specs.AllOps.{all_meaning};
-ghost use Rattle.redo_log.specs.Faults.{FindsNone, StartsWithNone};
+ghost use Rattle.redo_log.specs.Unreadable.{FindsNone, StartsWithNone};
 ghost use Rattle.tool_output.specs.Faults.{StopsBy};
 
 use disk_model::Machine;

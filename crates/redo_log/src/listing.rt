@@ -11,12 +11,13 @@ ghost use Rattle.formats.specs.Reading.{FailsBy};
 ghost use Rattle.log_records.specs.Loading.{IsLoadFault};
 ghost use Rattle.op_codec.specs.AllOps.{all_meaning};
 ghost use Rattle.oper_core.specs.Meaning.{IsSmall};
-ghost use Rattle.redo_log.specs.Faults.{AreReadable, IsBroken};
+ghost use Rattle.redo_log.specs.Unreadable.{AreReadable, IsBroken};
 ghost use Rattle.tool_output.specs.Faults.{CountsFaults, CountsStop, StopsBy};
 ghost use Rattle.redo_log.specs.Fronts.{AreLinesBefore, AreLinesToNone, AreLogLines, IsDamage, IsDamageSaid, SaysNoMore, SaysOfLog};
 ghost use Rattle.tool_output.specs.Lines.{damaged, not_a_store};
 ghost use Rattle.redo_log.specs.Lines.{header_words, line, used};
-ghost use Rattle.redo_log.specs.Listing.{ArePlaced, HasStore, IsListed, IsLogStopped, IsStopped, SaysLog, meaning_of};
+ghost use Rattle.redo_log.specs.Listing.{ArePlaced, IsListed, SaysLog, meaning_of};
+ghost use Rattle.tool_output.specs.Found.{HasStore, IsLogStopped, IsStopped};
 ghost use Rattle.tool_output.specs.Saying.{OnlySays};
 
 use crate::left::left_behind;
@@ -168,7 +169,7 @@ fn list_log<M: Machine>(alloc: Global, machine: &mut M, b: Bounds) -> Result<(),
     ensures listed { (M.disk machine.old).tells_files → HasStore (M.disk machine.old).reads b
         → OnOk result (IsListed (M.disk machine.old).reads (M.disk machine.old).said (M.disk machine.new).said) }
     ensures cause { (M.disk machine.old).tells_files → HasStore (M.disk machine.old).reads b → IfErr result (IsLogStopped (M.disk machine.old).reads) }
-    ensures damage { (M.disk machine.old).tells_files → IfErr result (λ stop. IsDamage stop → (lines : List ℕ) × AreLinesBefore (all_meaning b) (M.disk machine.old).reads lines
+    ensures damage { (M.disk machine.old).tells_files → HasStore (M.disk machine.old).reads b → IfErr result (λ stop. IsDamage stop → (lines : List ℕ) × AreLinesBefore (all_meaning b) (M.disk machine.old).reads lines
         × ((M.disk machine.new).said ≡ (M.disk machine.old).said ++ lines)) }
     ensures front { (M.disk machine.old).tells_files → SaysOfLog (all_meaning b) (M.disk machine.old).reads (M.disk machine.old).said (M.disk machine.new).said }
     ensures faults { IfErr result (CountsStop (M.disk machine.old) (M.disk machine.new)) }

@@ -17,53 +17,26 @@ mod listing;
 mod saying;
 mod words;
 
-use disk_model::FileMachine;
+use disk_model::Machine;
 use listing::list_store;
-use std::fs::{File, TryLockError};
+use std::alloc::Global;
 use std::process::ExitCode;
-use tool_output::Status;
+use tool_output::{Status, Tool, run_tool};
 
-// Says on standard error which call on a file failed, and the system's reason.
-fn tell_fault(rt: HostRuntime, machine: &FileMachine<HostRuntime>) {
-    if let Some(fault) = machine.fault() {
-        let call = fault.call;
-        let path = machine.path(fault.file);
-        let reason = &fault.reason;
-        let _told = eprintln!(rt; "redo_log: cannot {call} {path}: {reason}");
+/// The tool that lists a log.
+struct List;
+
+impl Tool for List {
+    fn name() -> &'static str {
+        "redo_log"
+    }
+
+    fn look<M: Machine>(alloc: Global, machine: &mut M) -> Status {
+        list_store(alloc, machine)
     }
 }
 
-// Lists the log while no other program uses the store.
-fn list_locked(rt: HostRuntime) -> ExitCode {
-    let Ok(folder) = File::open(&rt, ".") else {
-        return ExitCode::from(72);
-    };
-    match folder.try_lock() {
-        Ok(()) => {
-            let mut machine = FileMachine::new(rt);
-            let status = list_store(rt.alloc(), &mut machine);
-            tell_fault(rt, &machine);
-            ExitCode::from(status.number())
-        }
-        Err(TryLockError::WouldBlock) => {
-            let _told = eprintln!(rt; "redo_log: another program uses the store in this folder");
-            ExitCode::from(71)
-        }
-        Err(TryLockError::Error(_)) => ExitCode::from(72),
-    }
-}
-
-/// Status 0; 3 where there is no store, 4 where it is damaged, 5 where the disk fails, 7 where the output does, 8 without memory; 71
-/// where another program uses the store, and 72 where the folder cannot be locked.
+/// Status 0; [`run_tool`] has the others.
 fn main(rt: HostRuntime) -> ExitCode {
-    // The first file that is opened takes the number of a standard stream that is closed. These take it before a file of
-    // the store does. Where they cannot be opened nothing is done.
-    let (Ok(_first), Ok(_second), Ok(_third)) = (
-        File::open(&rt, "/dev/null"),
-        File::open(&rt, "/dev/null"),
-        File::open(&rt, "/dev/null"),
-    ) else {
-        return ExitCode::from(Status::DiskFault.number());
-    };
-    list_locked(rt)
+    run_tool::<List>(rt)
 }

@@ -4,3 +4,5 @@ pub mod Saying
 pub mod Faults
 pub mod FaultLaws
 pub mod FrontLaws
+pub mod Found
+pub mod FoundLaws

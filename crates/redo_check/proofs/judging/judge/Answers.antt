@@ -4,10 +4,12 @@ use Rattle.disk_model.specs.Disk.{Files}
 use Rattle.disk_model.specs.Moments.{stays_twice, told_agrees}
 use Rattle.disk_model.specs.declared.machine.FileNo.TheVariants.{Objects}
 use Rattle.stable_objects.specs.SlotsView.{AreOf}
-use Rattle.redo_check.specs.Checking.{IsLogStopped, IsRestart, IsStopped}
+use Rattle.redo_check.specs.Checking.{IsRestart}
+use Rattle.tool_output.specs.Found.{IsLogStopped, IsStopped}
 use Rattle.tool_output.specs.Stops.{stop_from_open}
 use Rattle.tool_output.specs.FaultLaws.{counted_later, open_counted}
-use Rattle.redo_check.proofs.JudgeLemmas.{all_stopped, objects_damaged, stopped_by, unopened}
+use Rattle.redo_check.proofs.JudgeLemmas.{all_stopped}
+use Rattle.tool_output.specs.FoundLaws.{objects_damaged, stopped_by, unopened}
 use Rattle.redo_check.proofs.judging.judge.Goals as goal
 
 pub returns-in_err-slots-clause-cause : goal.returns-in_err-slots-clause-cause

@@ -1,10 +1,11 @@
 use Rattle.std.specs.Prelude.{⊤}
 use Rattle.log_records.specs.Loading.{IsLoadFault}
 use Rattle.op_codec.specs.AllOps.{all_meaning}
-use Rattle.redo_check.specs.Checking.{IsLogStopped}
+use Rattle.tool_output.specs.Found.{IsLogStopped}
 use Rattle.tool_output.specs.Stops.{stop_from_read}
 use Rattle.tool_output.specs.FaultLaws.{read_counted}
-use Rattle.redo_check.proofs.JudgeLemmas.{has_store, is_restart, is_small, late_damaged, load_damaged, log_stopped, stopped_by}
+use Rattle.redo_check.proofs.JudgeLemmas.{is_restart, late_damaged}
+use Rattle.tool_output.specs.FoundLaws.{has_store, is_small, load_damaged, log_stopped, stopped_by}
 use Rattle.redo_check.proofs.judging.judge_log.Goals as goal
 
 pub returns-in_err-records-clause-cause : goal.returns-in_err-records-clause-cause

@@ -1,5 +1,6 @@
 use Rattle.tool_output.specs.FaultLaws.{only_counted}
-use Rattle.redo_check.proofs.JudgeLemmas.{ends_log, stopped_by}
+use Rattle.redo_check.proofs.JudgeLemmas.{ends_log}
+use Rattle.tool_output.specs.FoundLaws.{stopped_by}
 use Rattle.redo_check.proofs.judging.log_end.Goals as goal
 
 pub returns-clause-ends : goal.returns-clause-ends

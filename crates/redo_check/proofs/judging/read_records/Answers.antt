@@ -7,7 +7,8 @@ use Rattle.log_records.specs.CodecLaws.{has_codes}
 use Rattle.log_records.specs.Loading.{IsLoadFault}
 use Rattle.log_records.specs.Loading.IsLoadFault.{in_blocks}
 use Rattle.tool_output.specs.FaultLaws.{fails_later, only_counted}
-use Rattle.redo_check.proofs.JudgeLemmas.{has_records, records_found, stopped_by}
+use Rattle.redo_check.proofs.JudgeLemmas.{has_records, records_found}
+use Rattle.tool_output.specs.FoundLaws.{stopped_by}
 use Rattle.redo_check.proofs.judging.read_records.Goals as goal
 
 pub returns-in_err-found-clause-cause : goal.returns-in_err-found-clause-cause

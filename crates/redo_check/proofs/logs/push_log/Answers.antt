@@ -1,7 +1,7 @@
 use Rattle.disk_model.specs.Moments.{agreed_before, stays_twice}
 use Rattle.std.proofs.Common.{refl}
 use Rattle.formats.specs.declared.read_err.ReadErr.TheVariants.{DiskFault}
-use Rattle.redo_check.proofs.JudgeLemmas.{stopped_by}
+use Rattle.tool_output.specs.FoundLaws.{stopped_by}
 use Rattle.tool_output.specs.FaultLaws.{rises_since}
 use Rattle.redo_check.proofs.FileLemmas.{log_said}
 use Rattle.redo_check.proofs.logs.push_log.Goals as goal

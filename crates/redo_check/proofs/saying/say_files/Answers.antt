@@ -2,7 +2,7 @@ use Rattle.std.proofs.Common.{◌++◌, ◌∙◌, inl, inr}
 use Rattle.tool_output.specs.Saying.{says_front, says_nothing, says_then}
 use Rattle.tool_output.specs.Faults.{StopsBy}
 use Rattle.tool_output.specs.Stops.{stop_from_read}
-use Rattle.redo_check.proofs.JudgeLemmas.{stopped_by}
+use Rattle.tool_output.specs.FoundLaws.{stopped_by}
 use Rattle.tool_output.specs.FaultLaws.{read_stops, stops_later}
 use Rattle.tool_output.specs.FrontLaws.{front_at}
 use Rattle.redo_check.proofs.saying.say_files.Goals as goal

@@ -4,7 +4,7 @@ use Rattle.formats.specs.Records.{record_code}
 use Rattle.formats.specs.declared.record.Record.{Record}
 use Rattle.log_records.specs.Codec.{StartsWithRecord}
 use Rattle.op_codec.specs.AllOps.{AllOps, all_meaning}
-use Rattle.redo_log.specs.Faults.{StartsWithNone}
+use Rattle.redo_log.specs.Unreadable.{StartsWithNone}
 use Rattle.tool_output.specs.Stops.{stop_from_read}
 use Rattle.tool_output.specs.FaultLaws.{read_stops, stops_first}
 use Rattle.redo_log.proofs.finding.find_record.Goals as goal

@@ -4,7 +4,7 @@ use Rattle.formats.specs.declared.record.Record.{Record}
 use Rattle.log_frames.specs.Payloads.{HasMore, PayloadReaderView}
 use Rattle.log_records.specs.Codec.{StartsWithRecord}
 use Rattle.op_codec.specs.AllOps.{AllOps, all_meaning}
-use Rattle.redo_log.specs.Faults.{StartsWithNone}
+use Rattle.redo_log.specs.Unreadable.{StartsWithNone}
 use Rattle.redo_log.proofs.finding.search_record.Goals as goal
 
 pub returns-then-not-branch-clause-none : goal.returns-then-not-branch-clause-none

@@ -1,7 +1,7 @@
-use Rattle.redo_log.specs.Listing.{IsLogStopped}
+use Rattle.tool_output.specs.Found.{IsLogStopped}
 use Rattle.tool_output.specs.Stops.{stop_from_read}
 use Rattle.tool_output.specs.FaultLaws.{read_counted}
-use Rattle.redo_log.proofs.ListLemmas.{is_small, load_damaged, log_stopped, stopped_by}
+use Rattle.tool_output.specs.FoundLaws.{is_small, load_damaged, log_stopped, stopped_by}
 use Rattle.redo_log.proofs.listing.check_store.Goals as goal
 
 pub returns-clause-whole : goal.returns-clause-whole

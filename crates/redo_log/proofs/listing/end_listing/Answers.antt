@@ -1,11 +1,11 @@
 use Rattle.std.proofs.Common.{◌≡◌, inl, rules, subst, sym}
 use Rattle.std.specs.Prelude.{Err, IfErr, Result}
 use Rattle.op_codec.specs.AllOps.{all_meaning}
-use Rattle.redo_log.specs.Faults.{IsBroken}
+use Rattle.redo_log.specs.Unreadable.{IsBroken}
 use Rattle.redo_log.specs.Fronts.{IsDamage}
 use Rattle.tool_output.specs.declared.stop.Stop.{Stop}
 use Rattle.tool_output.specs.declared.stop.Stop.TheVariants as stops
-use Rattle.redo_log.proofs.ListLemmas.{stopped_by}
+use Rattle.tool_output.specs.FoundLaws.{stopped_by}
 use Rattle.redo_log.proofs.BrokenLemmas.{if_ok, on_err}
 use Rattle.redo_log.proofs.listing.end_listing.Goals as goal
 

@@ -3,7 +3,7 @@ use Rattle.std.specs.Prelude.{IfErr}
 use Rattle.disk_model.specs.Disk.{Files}
 use Rattle.disk_model.specs.Moments.{told_agrees}
 use Rattle.log_records.specs.Loading.IsLoadFault.{in_blocks}
-use Rattle.redo_log.specs.Listing.{HasStore, IsLogStopped}
+use Rattle.tool_output.specs.Found.{HasStore, IsLogStopped}
 use Rattle.tool_output.specs.Saying.{says_nothing, says_then}
 use Rattle.tool_output.specs.Stops.{stop_from_read}
 use Rattle.op_codec.specs.AllOps.{all_meaning}
@@ -11,7 +11,8 @@ use Rattle.formats.specs.InForce.{HoldsLog}
 use Rattle.formats.specs.Records.{payload_of}
 use Rattle.redo_log.proofs.BrokenLemmas.{end_counted, said_broken}
 use Rattle.tool_output.specs.FaultLaws.{read_counted}
-use Rattle.redo_log.proofs.ListLemmas.{listed, load_damaged, log_damage, log_part, log_stopped, logs_fault, on_ok, stopped_by}
+use Rattle.redo_log.proofs.ListLemmas.{listed, log_damage, log_part, logs_fault, on_ok}
+use Rattle.tool_output.specs.FoundLaws.{load_damaged, log_stopped, stopped_by}
 use Rattle.redo_log.proofs.listing.list_log.Goals as goal
 
 pub returns-in_err-log-clause-runs : goal.returns-in_err-log-clause-runs
@@ -61,20 +62,20 @@ returns-in_err-end_listing-clause-faults g c = stopped_by c.from_residual-in_err
     (end_counted (g.M.Machine.disk c.args.machine.now) (g.M.Machine.disk c.load.new.machine) (g.M.Machine.disk c.say_log-said.new.machine) (g.M.Machine.disk c.end_listing.new.machine) _ c.say_log-said.result c.in_err-end_listing.field-0.0 c.load.ensures.kept.time (says_then (says_nothing c.load.ensures.kept) c.say_log-said.ensures.runs).time c.end_listing.ensures.kept.time c.say_log-said.ensures.cause c.in_err-end_listing.ensures.faults)
 
 pub returns-in_err-log-clause-damage : goal.returns-in_err-log-clause-damage
-returns-in_err-log-clause-damage g c told =
+returns-in_err-log-clause-damage g c told store =
     let first = g.M.Machine.disk c.args.machine.now in
     stopped_by c.from_residual.result (stop_from_read c.in_err-log.field-0.0) _ c.from_residual.ensures.1
-    (logs_fault (all_meaning c.args.b) first.reads first.said (g.M.Machine.disk c.load.new.machine).said _ _ c.in_err-log.field-0.0 (λ file place is. is first.reads (told_agrees c.load.ensures.kept told)) (c.load.ensures.kept.said told) c.in_err-log.ensures.cause)
+    (logs_fault (all_meaning c.args.b) first.reads first.said (g.M.Machine.disk c.load.new.machine).said _ _ c.in_err-log.field-0.0 (λ file place is. is first.reads (told_agrees c.load.ensures.kept told)) store.0 (c.load.ensures.kept.said told) c.in_err-log.ensures.cause)
 
 pub returns-in_err-log-clause-front : goal.returns-in_err-log-clause-front
 returns-in_err-log-clause-front g c told = inl (c.load.ensures.kept.said told)
 
 pub returns-in_err-end_listing-clause-damage : goal.returns-in_err-end_listing-clause-damage
-returns-in_err-end_listing-clause-damage g c told =
+returns-in_err-end_listing-clause-damage g c told store =
     let first = g.M.Machine.disk c.args.machine.now in
     let found = c.in_ok-log.ensures.read first.reads (told_agrees c.load.ensures.kept told) in
     stopped_by c.from_residual-in_err-end_listing.result c.in_err-end_listing.field-0.0 _ c.from_residual-in_err-end_listing.ensures.1
-    (λ damage. log_damage (all_meaning c.args.b) first (g.M.Machine.disk c.load.new.machine) (g.M.Machine.disk c.say_log-said.new.machine) (g.M.Machine.disk c.end_listing.new.machine) c.in_ok-log.log.active c.in_ok-log.log.header found.0 c.say_log-said.result told c.load.ensures.kept c.say_log-said.ensures.runs c.end_listing.ensures.kept found.1
+    (λ damage. log_damage (all_meaning c.args.b) first (g.M.Machine.disk c.load.new.machine) (g.M.Machine.disk c.say_log-said.new.machine) (g.M.Machine.disk c.end_listing.new.machine) c.in_ok-log.log.active c.in_ok-log.log.header found.0 c.say_log-said.result told c.load.ensures.kept c.say_log-said.ensures.runs c.end_listing.ensures.kept store.0 found.1
     (c.in_err-end_listing.ensures.damage damage) (λ told_mid holds. c.say_log-said.ensures.said told_mid found.0 holds found.2 found.3) c.say_log-said.ensures.cause)
 
 pub returns-in_err-end_listing-clause-front : goal.returns-in_err-end_listing-clause-front

@@ -6,7 +6,8 @@ use Rattle.op_codec.specs.AllOps.{all_meaning}
 use Rattle.redo_log.specs.Fronts.{IsDamage, IsDamageSaid, SaysNoMore}
 use Rattle.tool_output.specs.Lines.{damaged, not_a_store}
 use Rattle.redo_log.specs.Fronts.AreLinesBefore.{of_objects}
-use Rattle.redo_log.specs.Listing.{HasStore, IsListed, IsStopped, meaning_of}
+use Rattle.redo_log.specs.Listing.{IsListed, meaning_of}
+use Rattle.tool_output.specs.Found.{HasStore, IsStopped}
 use Rattle.tool_output.specs.Saying.{says_nothing, says_then}
 use Rattle.tool_output.specs.FaultLaws.{faults_later, stopped_counted}
 use Rattle.redo_log.proofs.ListLemmas.{unopened_part}

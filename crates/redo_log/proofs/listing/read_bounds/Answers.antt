@@ -1,8 +1,9 @@
 use Rattle.disk_model.specs.Moments.{told_agrees}
-use Rattle.redo_log.specs.Listing.{IsStopped}
+use Rattle.tool_output.specs.Found.{IsStopped}
 use Rattle.tool_output.specs.Stops.{stop_from_open}
 use Rattle.tool_output.specs.FaultLaws.{open_counted}
-use Rattle.redo_log.proofs.ListLemmas.{has_store, objects_damaged, objects_fault, stopped_by, unopened}
+use Rattle.redo_log.proofs.ListLemmas.{objects_fault}
+use Rattle.tool_output.specs.FoundLaws.{has_store, objects_damaged, stopped_by, unopened}
 use Rattle.redo_log.proofs.listing.read_bounds.Goals as goal
 
 pub returns-clause-whole : goal.returns-clause-whole

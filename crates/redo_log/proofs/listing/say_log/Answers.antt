@@ -6,7 +6,8 @@ use Rattle.tool_output.specs.Stops.{stop_from_read}
 use Rattle.redo_log.proofs.BrokenLemmas.{log_broken}
 use Rattle.tool_output.specs.FaultLaws.{read_stops, stops_first, stops_later}
 use Rattle.tool_output.specs.FrontLaws.{all_said, on_any}
-use Rattle.redo_log.proofs.ListLemmas.{end_used, log_blocks, log_end_part, log_goes_on, log_head}
+use Rattle.redo_log.proofs.ListLemmas.{log_blocks, log_end_part, log_goes_on, log_head}
+use Rattle.tool_output.specs.FoundLaws.{end_used}
 use Rattle.redo_log.proofs.listing.say_log.Goals as goal
 
 pub returns-in_err-payloads-clause-runs : goal.returns-in_err-payloads-clause-runs
