@@ -1,2 +1,3 @@
 pub mod Exchanged
 pub mod Passing
+pub mod Saving

@@ -1,15 +1,18 @@
 -- What the calls on a store in use say beside what the engine's say.
 use Rattle.std.specs.Prelude.{◌≡◌, ◌≤◌, ℕ, List, Option, None, Some, Result, Ok, Err, length, min, take}
-use Rattle.disk_model.specs.Disk.{Disk}
+use Rattle.disk_model.specs.Disk.{Disk, Files}
 use Rattle.formats.specs.declared.params.Params.{Params}
 use Rattle.dirty_cache.specs.Contents.{AreDirty}
 use Rattle.write_graph.specs.Graph.{IsCount, NamesNode}
 use Rattle.op_codec.specs.AllOps.{AllOps, all_meaning}
+use Rattle.explain_core.specs.History.{Member, commands_of}
 use Rattle.explain_core.specs.World.{World}
 use Rattle.running_store.specs.Parts.{Parts}
 use Rattle.stable_objects.specs.declared.open_err.OpenErr.{OpenErr}
 use Rattle.store_engine.specs.Engine.{EngineView, IsStat, ShowsIn, accepted_in, forced_in, used_in}
+use Rattle.store_engine.specs.Store.{Stands, meaning_in}
 use Rattle.store_engine.specs.declared.stat.Stat.{Stat}
+use Rattle.backup_copy.specs.Target.{IsBackup}
 use Rattle.embed.specs.declared.store.Store.{Store}
 
 -- the disk failed in an earlier call: it is answered so again, and nothing is done
@@ -44,3 +47,8 @@ machine_of (Err failure) = failure.1
 abbrev pub opened : {M : Type 0} → Result (Store M) (OpenErr × M) → Result Parts OpenErr
 opened (Ok store) = Ok store.engine.parts
 opened (Err failure) = Err failure.0
+
+-- The files of a backup that was finished stand for the commands of this history, and show just its members, all of them stable: so
+-- the next record has the number that it has in the store.
+abbrev pub AreSaved : Params → List (Member AllOps) → Files → Type 0
+AreSaved p history files = Stands all_meaning p files (commands_of history) × IsBackup (meaning_in all_meaning p) p history files

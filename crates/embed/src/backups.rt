@@ -13,12 +13,12 @@ ghost use Rattle.running_store.specs.Courses.{force_steps};
 ghost use Rattle.stable_objects.specs.Making.{KeepsGate};
 ghost use Rattle.restart.specs.Starts.{OrAtStart};
 ghost use Rattle.store_engine.specs.Engine.{InEachImage, IsAttached, IsEngineRead, ShowsIn, params_of};
-ghost use Rattle.store_engine.specs.Store.{Stands, meaning_in};
+ghost use Rattle.store_engine.specs.Store.{meaning_in};
 ghost use Rattle.backup_copy.specs.Calls.{BeginsNone, CopiesUpTo, CopyFailsBy, FinishFailsBy, ForcesFirst, HasLength, HasStartCause, IsFault, IsQuiet, IsShutOrWhole, IsUntouched, LooksFirst, NoneIn, but_copied, copied_by_finish, copied_by_start};
 ghost use Rattle.backup_copy.specs.Copies.{Copies};
 ghost use Rattle.backup_copy.specs.Length.{backup_length};
 ghost use Rattle.backup_copy.specs.Refusals.{IsRefusedSo, judge_copy, judge_finish, judge_start};
-ghost use Rattle.embed.specs.Embedded.{IsStillBroken};
+ghost use Rattle.embed.specs.Embedded.{AreSaved, IsStillBroken};
 
 use crate::Store;
 use backup_copy::BackupErr;
@@ -80,10 +80,10 @@ impl<M: Machine + Drop> Store<M> {
         ensures forces { self.old.engine.broken ≡ false → IfOk (judge_finish self.old.engine) (λ done. ForcesFirst all_meaning (M.disk self.old.machine) (M.disk self.new.machine) self.old.engine self.new.engine result)
             × (self.new.engine.copied ≡ copied_by_finish self.old.engine.copied result) }
 
-        // The target stands for the commands that the store stands for, and so does whatever a crash leaves of it.
+        // The target stands for the commands that the store stands for, with the history of the store, and so does whatever a crash
+        // leaves of it.
         ensures saved { self.old.engine.broken ≡ false → (p : Params) (w : World Command) → Copies all_meaning p (M.disk self.old.machine) self.old.engine w (T.disk target.old) →
-            IfOk result (λ n. (n ≡ length (commands_of w.history))
-            × ((T.disk target.old).tells_files → InEachImage (T.disk target.new) (λ files. Stands all_meaning p files (commands_of w.history)))) }
+            IfOk result (λ n. (n ≡ length (commands_of w.history)) × ((T.disk target.old).tells_files → InEachImage (T.disk target.new) (AreSaved p w.history))) }
 
         // Until it does its gate is closed.
         ensures moments { self.old.engine.broken ≡ false → (T.disk target.old).tells_moments → (p : Params) (w : World Command) → Copies all_meaning p (M.disk self.old.machine) self.old.engine w (T.disk target.old) →

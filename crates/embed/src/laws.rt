@@ -4,6 +4,7 @@ ghost use Rattle.disk_model.specs.Disk.{Files, In, IsSettled, LeavesOnly, Passes
 ghost use Rattle.disk_model.specs.declared.machine.FileNo.TheVariants.{Objects};
 ghost use Rattle.formats.specs.declared.params.Params.{Params};
 ghost use Rattle.op_codec.specs.AllOps.{AllOps as Command, all_meaning};
+ghost use Rattle.explain_core.specs.History.{Member};
 ghost use Rattle.explain_core.specs.World.{World};
 ghost use Rattle.stable_objects.specs.Making.{KeepsGate};
 ghost use Rattle.restart.specs.Starts.{OrAtStart};
@@ -14,6 +15,7 @@ ghost use Rattle.backup_copy.specs.Copies.{Copies};
 ghost use Rattle.backup_copy.specs.Target.{AreShut};
 ghost use Rattle.write_queue.specs.Memory.{disk_of, waiting_in, IsLeftByFront, LooksTheSame};
 ghost use Rattle.write_queue.specs.declared.queue_mem.QueueMem.{QueueMem};
+ghost use Rattle.embed.specs.Embedded.{AreSaved};
 ghost use Rattle.embed.specs.Real.{IsSinceTaken};
 
 use disk_model::Machine;
@@ -22,7 +24,8 @@ use disk_model::Machine;
 /// that it leaves since the call began (`each`). So what the call says of its moments is true of them: they stand for such a front
 /// of the commands, none that was forced is lost, and no group is split. Where the call opens a store they stand for its commands.
 /// Those of a backup are no store while it is started, have a closed gate while objects are copied, and while it is finished have
-/// that or stand for the commands. Once all calls are made, the real files stand for the commands that each image stands for.
+/// that or stand for the commands. Once all calls are made, the real files stand for the commands that each image stands for, and
+/// those of a backup that was finished show its history.
 /// Nothing is taken within a call: that is the caller's to do.
 pub fn real_files_keep_what_is_forced()
     ensures since { (old new : QueueMem) → waiting_in old ≡ [] → Passes (disk_of old) (disk_of new) → IsSinceTaken old new }
@@ -45,6 +48,8 @@ pub fn real_files_keep_what_is_forced()
         (files : Files) (said : List ℕ) → IsLeftByFront new files said → AreShut files ⊎ Stands all_meaning p files commands }
     ensures made { (p : Params) (m : QueueMem) (commands : List Command) → waiting_in m ≡ [] → InEachImage (disk_of m) (λ files. Stands all_meaning p files commands) →
         (files : Files) (said : List ℕ) → IsLeftByFront m files said → Stands all_meaning p files commands }
+    ensures saved { (p : Params) (m : QueueMem) (history : List (Member Command)) → waiting_in m ≡ [] → InEachImage (disk_of m) (AreSaved p history) →
+        (files : Files) (said : List ℕ) → IsLeftByFront m files said → AreSaved p history files }
 {
     write_queue::fronts_are_what_is_left();
 }

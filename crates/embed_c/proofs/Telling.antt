@@ -3,16 +3,16 @@ use Rattle.std.proofs.Common.{◌≡◌, ℕ, Result, Ok, Err, IfOk, length}
 use Rattle.disk_model.specs.declared.machine.FileNo.TheVariants.{Objects}
 use Rattle.formats.specs.Objects.{BeginsStore}
 use Rattle.formats.specs.declared.params.Params.{Params}
-use Rattle.op_codec.specs.AllOps.{AllOps, all_meaning}
+use Rattle.op_codec.specs.AllOps.{AllOps}
 use Rattle.explain_core.specs.History.{commands_of}
 use Rattle.explain_core.specs.World.{World}
 use Rattle.store_engine.specs.Engine.{InEachImage}
-use Rattle.store_engine.specs.Store.{Stands}
 use Rattle.backup_copy.specs.Calls.{BeginsNone, HasStartCause}
 use Rattle.backup_copy.specs.declared.backup_err.BackupErr.{BackupErr}
 use Rattle.backup_copy.specs.declared.backup_err.BackupErr.TheVariants.{InGroup, InBackup, NoBackup, AlreadyStore, NotCopied, DiskFault, TargetFault, Damaged, LogFull, Memory}
 use Rattle.write_queue.specs.Memory.{disk_of}
 use Rattle.write_queue.specs.declared.queue_mem.QueueMem.{QueueMem}
+use Rattle.embed.specs.Embedded.{AreSaved}
 
 module _ (target : QueueMem) (here there : Type 0) where
   abbrev IfTold : Result (Unit {0}) BackupErr → Type 0
@@ -40,7 +40,7 @@ module _ (target : QueueMem) (here there : Type 0) where
 
 module _ (target target' : QueueMem) (p : Params) (w : World AllOps) where
   abbrev IsSaved : Type 0
-  IsSaved = InEachImage (disk_of target') (λ files. Stands all_meaning p files (commands_of w.history))
+  IsSaved = InEachImage (disk_of target') (AreSaved p w.history)
 
   pub saved : (made : Result ℕ BackupErr) → IfOk made (λ n. (n ≡ length (commands_of w.history)) × ((disk_of target).tells_files → IsSaved)) → IfOk made (λ n. (n ≡ length (commands_of w.history)) × IsSaved)
   saved (Ok n) h = (h.0, h.1 tt)

@@ -38,6 +38,7 @@ number_of_refusal refusals.NodeFull = 40
 number_of_refusal refusals.TooLarge = 41
 number_of_refusal refusals.NotCode = 42
 number_of_refusal refusals.Halted = 43
+number_of_refusal refusals.NoPages = 50
 
 abbrev pub of_exec : ExecErr → Answer
 of_exec (commands.Refused why) = alone (number_of_refusal why)

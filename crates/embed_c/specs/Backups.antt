@@ -14,7 +14,7 @@ use Rattle.stable_objects.specs.Making.{KeepsGate}
 use Rattle.restart.specs.Starts.{OrAtStart}
 use Rattle.op_codec.specs.AllOps.{AllOps as Command, all_meaning}
 use Rattle.store_engine.specs.Engine.{InEachImage, IsAttached, IsEngineRead, ShowsIn, params_of}
-use Rattle.store_engine.specs.Store.{Stands, meaning_in}
+use Rattle.store_engine.specs.Store.{meaning_in}
 use Rattle.backup_copy.specs.Calls.{BeginsNone, CopiesUpTo, CopyFailsBy, FinishFailsBy, ForcesFirst, HasLength, HasStartCause, IsFault, IsQuiet, IsShutOrWhole, IsUntouched, LooksFirst, NoneIn, but_copied, copied_by_finish, copied_by_start}
 use Rattle.backup_copy.specs.Copies.{Copies}
 use Rattle.backup_copy.specs.Length.{backup_length}
@@ -24,7 +24,7 @@ use Rattle.backup_copy.specs.declared.backup_err.BackupErr.TheVariants as backup
 use Rattle.write_queue.specs.Codes.{file_number}
 use Rattle.write_queue.specs.Memory.{LooksTheSame, disk_of, waiting_in}
 use Rattle.write_queue.specs.declared.queue_mem.QueueMem.{QueueMem}
-use Rattle.embed.specs.Embedded.{IsStillBroken}
+use Rattle.embed.specs.Embedded.{AreSaved, IsStillBroken}
 use Rattle.embed.specs.declared.store.Store.{Store}
 use Rattle.embed_c.specs.Answers.{alone, telling}
 use Rattle.embed_c.specs.Calls.{DoesNothing, IsCalled, IsUntaken}
@@ -105,9 +105,9 @@ module _ (target target' : QueueMem) (old new : Store QueueMem) where
     pub refused : IfErr (judge_finish old.engine) (λ why. IsRefusedSo why old.machine new.machine target target' old.engine new.engine made)
     pub forces : IfOk (judge_finish old.engine) (λ done. ForcesFirst all_meaning (disk_of old.machine) (disk_of new.machine) old.engine new.engine made)
     pub copied : new.engine.copied ≡ copied_by_finish old.engine.copied made
-    -- the target stands for the commands that the store stands for, and so does whatever a crash leaves of it
+    -- the target stands for the commands that the store stands for, with its history, and so does whatever a crash leaves of it
     pub saved : (p : Params) (w : World Command) → Copies all_meaning p (disk_of old.machine) old.engine w (disk_of target) →
-        IfOk made (λ n. (n ≡ length (commands_of w.history)) × InEachImage (disk_of target') (λ files. Stands all_meaning p files (commands_of w.history)))
+        IfOk made (λ n. (n ≡ length (commands_of w.history)) × InEachImage (disk_of target') (AreSaved p w.history))
     -- meanwhile a crash leaves none, or that store
     pub moments : (p : Params) (w : World Command) → Copies all_meaning p (disk_of old.machine) old.engine w (disk_of target) →
         LeavesOnly (disk_of target) (disk_of target') (IsShutOrWhole all_meaning p (commands_of w.history) (disk_of target))

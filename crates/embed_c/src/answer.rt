@@ -279,5 +279,6 @@ fn number_of(refusal: Refusal) -> u32
         Refusal::TooLarge => 41,
         Refusal::NotCode => 42,
         Refusal::Halted => 43,
+        Refusal::NoPages => 50,
     }
 }

@@ -7,7 +7,7 @@
 //! to, and [`backing_up::redo_core_target_next`] tells the calls on these.
 #![tactic(auto)]
 
-ghost use Rattle.std.specs.Prelude.{◌≡◌, ◌⊎◌, ◌&&◌, None, Ok, Err, IfErr, drop, nat_le, nat_lt};
+ghost use Rattle.std.specs.Prelude.{◌≡◌, ◌⊎◌, ◌&&◌, None, Ok, Err, IfErr, drop, nat_le, nat_lt, false};
 ghost use Rattle.key_entries.specs.Short.{is_short};
 ghost use Rattle.app_program.specs.declared.program_op.ProgramOp.TheVariants.{Step as StepOp, Feed as FeedOp, Drain as DrainOp};
 ghost use Rattle.app_steps.specs.Steps.{program_step, step_of};
@@ -124,7 +124,7 @@ pub extern "C" fn redo_core_create(
     params: &Numbers,
     detail: &mut Detail,
 ) -> u32
-    ensures { OpensHandle (IsCreated (record { objects = params.now.objects; cap = params.now.cap; limit = params.now.limit }) (handed objects.now log_a.now log_b.now)) (IsUncreated (record { objects = params.now.objects; cap = params.now.cap; limit = params.now.limit }) (handed objects.now log_a.now log_b.now)) (session_of redo.old) (session_of redo.new) detail.new result }
+    ensures { OpensHandle (IsCreated (record { objects = params.now.objects; cap = params.now.cap; limit = params.now.limit; more = false }) (handed objects.now log_a.now log_b.now)) (IsUncreated (record { objects = params.now.objects; cap = params.now.cap; limit = params.now.limit; more = false }) (handed objects.now log_a.now log_b.now)) (session_of redo.old) (session_of redo.new) detail.new result }
 {
     if redo.is_open() {
         return ALREADY_OPEN;
@@ -133,6 +133,7 @@ pub extern "C" fn redo_core_create(
         objects: params.objects,
         cap: params.cap,
         limit: params.limit,
+        more: false,
     };
     let session = Session::create(alloc, objects, log_a, log_b, params);
     opened(alloc, redo, session, detail)

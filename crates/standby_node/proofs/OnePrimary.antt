@@ -203,32 +203,42 @@ module _ {O : Type 0} (m wide : Meaning O) (w : World O) (low : 1 ≤ w.base) (m
 
 -- A primary ships on to a standby with larger numbers or the same.
 module _ {O : Type 0} (meaning : Bounds → Meaning O) (q : Params) (m : Meaning O) (widens : Widens m (meaning_in meaning q)) (objects : m.objects ≤ (meaning_in meaning q).objects) (cap : m.cap ≤ (meaning_in meaning q).cap)
-    (w : World O) (low : 1 ≤ w.base) (may : MayFollow (meaning_in meaning q) (stable_in w)) (first : List (Member O)) (front : IsFront first (stable_in w)) (from : ℕ) (near : from ≤ length first + 1) (bytes more : List ℕ) (it : IsShipped m w from (bytes ++ more))
-    (d : Disk) (s : StandbyView) (b : IsFollowing meaning q first bytes d s)
+    (w : World O) (low : 1 ≤ w.base) (may : MayFollow (meaning_in meaning q) (stable_in w)) (first : List (Member O)) (front : IsFront first (stable_in w)) (from : ℕ) (near : from ≤ length first + 1) (all : List ℕ) (it : IsShipped m w from all)
     (one_record : (bytes : List ℕ) (first second : Record O) → StartsWithRecord (meaning_in meaning q) bytes first → StartsWithRecord (meaning_in meaning q) bytes second → first ≡ second) where
   frames_on : AreFramesOf (meaning_in meaning q) (payloads_from m from it.groups) (blocks_from from it.groups)
   frames_on = shipped m (meaning_in meaning q) widens objects cap it.header.base it.header.base from it.groups it.log.placed
 
-  splits_on : Splits (bytes ++ more) (payloads_from m from it.groups) []
+  splits_on : Splits all (payloads_from m from it.groups) []
   splits_on = record {
     is = it.frames_are ∙ sym (append-nil (frames (payloads_from m from it.groups)));
     whole = whole_from m from it.groups (recursion_from_All IsPayload (map (payload_of m) it.groups) it.log.log.whole);
     unfinished = none_unfinished;
   }
 
-  leads_on : (first_refused (meaning_in meaning q) first (records_of (blocks_from from it.groups)) ≡ None) × (follows (meaning_in meaning q) first (records_of (blocks_from from it.groups)) ≡ stable_in w)
-  leads_on = leads_all m (meaning_in meaning q) w low may first front from near (bytes ++ more) it
+  abbrev LeadsAll : List (Record O) → Type 0
+  LeadsAll records = (first_refused (meaning_in meaning q) first records ≡ None) × (follows (meaning_in meaning q) first records ≡ stable_in w)
 
-  -- so it refuses none of it
-  pub unrefused_on : (e : FollowErr) → HasRefused (meaning_in meaning q) b.world.history s e → IsOfStream e → ⊥
-  unrefused_on e refused stream =
-      not_answered meaning q first bytes more (payloads_from m from it.groups) (blocks_from from it.groups) [] splits_on (λ bad. omega (arith, bad.0)) frames_on leads_on.0 d s b one_record e refused stream
+  leads_on : LeadsAll (records_of (blocks_from from it.groups))
+  leads_on = leads_all m (meaning_in meaning q) w low may first front from near all it
 
-  -- and comes to have all of it, once all of it came
-  pub all_on : more ≡ [] → IsBetweenPieces s → ((bytes : List ℕ) (payloads others : List (List ℕ)) (rest last : List ℕ) → Splits bytes payloads rest → Splits bytes others last → payloads ≡ others) → b.world.history ≡ stable_in w
-  all_on none here apart =
-      let same : bytes ≡ bytes ++ more = sym (append-nil bytes) ∙ ap (λ (l : List ℕ). bytes ++ l) (sym none) in
-      let mine : Splits (bytes ++ more) b.payloads s.frames.kept = record { is = sym same ∙ b.passed.is; whole = b.passed.whole; unfinished = here.unfinished } in
-      let payloads = apart (bytes ++ more) b.payloads (payloads_from m from it.groups) s.frames.kept [] mine splits_on in
-      let groups = one_grouping (meaning_in meaning q) one_record (payloads_from m from it.groups) b.groups (blocks_from from it.groups) (subst (λ (l : List (List ℕ)). AreFramesOf (meaning_in meaning q) l b.groups) payloads b.frames_are) frames_on in
-      all_past meaning q first bytes d s b here.none_done ∙ ap (λ (gs : List (List (Record O))). follows (meaning_in meaning q) first (records_of gs)) groups ∙ leads_on.1
+  -- all frames of it lead to all that is stable
+  pub frames_lead : ((bytes : List ℕ) (payloads others : List (List ℕ)) (rest last : List ℕ) → Splits bytes payloads rest → Splits bytes others last → payloads ≡ others)
+      → (payloads : List (List ℕ)) (groups : List (List (Record O))) (rest : List ℕ) → Splits all payloads rest → AreFramesOf (meaning_in meaning q) payloads groups → LeadsAll (records_of groups)
+  frames_lead apart payloads groups rest mine frames_are =
+      let same = apart all payloads (payloads_from m from it.groups) rest [] mine splits_on in
+      let grouped = one_grouping (meaning_in meaning q) one_record (payloads_from m from it.groups) groups (blocks_from from it.groups) (subst (λ (l : List (List ℕ)). AreFramesOf (meaning_in meaning q) l groups) same frames_are) frames_on in
+      subst (λ (gs : List (List (Record O))). LeadsAll (records_of gs)) (sym grouped) leads_on
+
+  module _ (bytes more : List ℕ) (all_is : all ≡ bytes ++ more) (d : Disk) (s : StandbyView) (b : IsFollowing meaning q first bytes d s) where
+    -- so it refuses none of it
+    pub unrefused_on : (e : FollowErr) → HasRefused (meaning_in meaning q) b.world.history s e → IsOfStream e → ⊥
+    unrefused_on e refused stream =
+        let splits = subst (λ (l : List ℕ). Splits l (payloads_from m from it.groups) []) all_is splits_on in
+        not_answered meaning q first bytes more (payloads_from m from it.groups) (blocks_from from it.groups) [] splits (λ bad. omega (arith, bad.0)) frames_on leads_on.0 d s b one_record e refused stream
+
+    -- and comes to have all of it, once all of it came
+    pub all_on : more ≡ [] → IsBetweenPieces s → ((bytes : List ℕ) (payloads others : List (List ℕ)) (rest last : List ℕ) → Splits bytes payloads rest → Splits bytes others last → payloads ≡ others) → b.world.history ≡ stable_in w
+    all_on none here apart =
+        let same : all ≡ bytes = all_is ∙ ap (λ (l : List ℕ). bytes ++ l) none ∙ append-nil bytes in
+        let mine : Splits all b.payloads s.frames.kept = record { is = same ∙ b.passed.is; whole = b.passed.whole; unfinished = here.unfinished } in
+        all_past meaning q first bytes d s b here.none_done ∙ (frames_lead apart b.payloads b.groups s.frames.kept mine b.frames_are).1

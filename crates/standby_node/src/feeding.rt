@@ -90,6 +90,7 @@ impl<O: Oper> Standby<O> {
         let bounds = Bounds {
             objects: params.objects,
             cap: params.cap,
+            more: params.more,
         };
         let rest = &self.frames.kept()[HEAD + self.done..HEAD + size as usize];
         match decode_shipped::<O>(self.engine.alloc(), bounds, rest)? {

@@ -116,9 +116,10 @@ pub fn a_log_is_shipped<O: Oper, M: Machine>()
         → header.base ≤ from → IsShipped (meaning_in O.meaning p) w from (frames (payloads_from (meaning_in O.meaning p) from groups)) }
 {}
 
-/// However often a primary ships its log, from whichever numbers, and whatever it does in between, a trim too; whatever is lost of
-/// that, comes twice, or in another order: a standby that began with a front of what is stable of the primary has such a front, its
-/// files stand at each moment for commands that the primary's begin with, and it refuses nothing but a number that leaves a gap.
+/// However often a primary ships its log, from whichever numbers, and whatever it does in between, a trim too; whichever of these
+/// ships are lost whole, come twice, or in another order, the last one perhaps in part: a standby that began with a front of what is
+/// stable of the primary has such a front, its files stand at each moment for commands that the primary's begin with, and it refuses
+/// nothing but a number that leaves a gap. Of a ship that loses bytes and goes on behind them nothing is said.
 pub fn one_primary_is_followed<O: Oper, M: Machine>()
     ensures followed { (p q : Params) (w : World O) (first : List (Member O)) (bytes : List ℕ) → IsFedBy O.meaning p q w first bytes
         → (now : M) (standby : StandbyView) → (is : IsFollowing O.meaning q first bytes (M.disk now) standby) → IsFront is.world.history (stable_in w) }
@@ -145,6 +146,10 @@ pub fn a_standby_catches_up<O: Oper, M: Machine>()
         → (now : M) (standby : StandbyView) (e : FollowFailure) → HasRefusedIn O.meaning q first bytes (M.disk now) standby e → IsOfStream e → ⊥ }
     ensures all { (p q : Params) (w : World O) (first : List (Member O)) (bytes : List ℕ) → ShipsOnTo O.meaning p q w first bytes
         → (now : M) (standby : StandbyView) → (is : IsFollowing O.meaning q first bytes (M.disk now) standby) → IsBetweenPieces standby → is.world.history ≡ stable_in w }
+    // So do its frames by themselves: none of their records is refused, and they make all of that of its first history.
+    ensures frames { (p q : Params) (w : World O) (first : List (Member O)) (bytes : List ℕ) → ShipsOnTo O.meaning p q w first bytes → IsSmall (bounds_of q)
+        → (payloads : List (List ℕ)) (groups : List (List (Record O))) → AllByRecursion IsPayload payloads → AreFramesOf (meaning_in O.meaning q) payloads groups → bytes ≡ frames payloads
+        → (first_refused (meaning_in O.meaning q) first (records_of groups) ≡ None) × (follows (meaning_in O.meaning q) first (records_of groups) ≡ stable_in w) }
 {
     explain_core::stable_parts_stand::<O>();
     explain_core::wider_bounds_keep_stable_parts::<O>();

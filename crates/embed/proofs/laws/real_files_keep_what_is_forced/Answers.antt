@@ -69,3 +69,7 @@ all_taken m none = ap (λ (l : List Call). length l) (sym (append-nil (taken_fro
 pub returns-clause-made : goal.returns-clause-made
 returns-clause-made c p m commands none images files said front =
     images.1 tt files said (subst (λ (t : ℕ). (disk_of m).left_since t files said) (all_taken m none) ((c.fronts_are_what_is_left.ensures m files said).1 front))
+
+pub returns-clause-saved : goal.returns-clause-saved
+returns-clause-saved c p m history none images files said front =
+    images.1 tt files said (subst (λ (t : ℕ). (disk_of m).left_since t files said) (all_taken m none) ((c.fronts_are_what_is_left.ensures m files said).1 front))

@@ -1,3 +1,4 @@
+use Rattle.std.proofs.Common.{inl, refl}
 use Rattle.explain_core.specs.World.{run}
 use Rattle.restart.specs.Courses.{dirty_limit, restart_course}
 use Rattle.restart.specs.Opening.{OpensOn}
@@ -5,6 +6,11 @@ use Rattle.store_engine.specs.ImageLaws.{stands_end}
 use Rattle.store_engine.specs.Store.{meaning_in}
 use Rattle.standby_node.proofs.Attached.{follows_from, begins_on, shown_in}
 use Rattle.standby_node.proofs.standby.Standby.attach.Goals as goal
+
+pub invariant_of-result : goal.invariant_of-result
+invariant_of-result g c =
+    let ready = c.in_ok-restart.ensures.ready in
+    (record { group = ready.1; copied = ready.2 }, inl refl)
 
 pub returns-clause-begins : goal.returns-clause-begins
 returns-clause-begins g c p commands opens =
