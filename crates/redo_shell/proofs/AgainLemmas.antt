@@ -10,25 +10,25 @@ use Rattle.command_words.specs.declared.asked.Asked.TheVariants.{Init, Run, Dump
 use Rattle.explain_core.specs.History.{Member}
 use Rattle.restart.specs.Starts.{OrAtStart, from_settled, or_weaker}
 use Rattle.store_engine.specs.Engine.{InEachImage}
-use Rattle.redo_shell.specs.Again.{IsStartRefused, StandsStill}
-use Rattle.redo_shell.specs.Answers.{Moment}
-use Rattle.redo_shell.specs.Calls.{IsCallFor, IsRunOn}
-use Rattle.redo_shell.specs.Courses.{OpeningMoment, RunMoment, TableMoment}
-use Rattle.redo_shell.specs.Dump.{dump_of, DumpMoment}
-use Rattle.redo_shell.specs.Following.{FollowMoment, FollowingMoment, StandbyMoment}
-use Rattle.redo_shell.specs.Run.{MomentSoFar}
-use Rattle.redo_shell.specs.Stages.{Stage, IsFirst}
-use Rattle.redo_shell.specs.Status.{IsCut}
-use Rattle.redo_shell.specs.Shipping.{ShipMoment}
-use Rattle.redo_shell.specs.Store.{Command, Opens, Stands}
+use Rattle.shell_base.specs.Again.{IsStartRefused, StandsStill}
+use Rattle.shell_base.specs.First.{OpeningMoment, TableMoment, Stage, IsFirst}
+use Rattle.shell_base.specs.Status.{IsCut}
+use Rattle.shell_base.specs.Store.{Command, Opens, Stands}
+use Rattle.shell_base.specs.declared.budget.Budget.{Budget}
+use Rattle.shell_base.specs.declared.budget.Budget.TheVariants.{Usual, Least}
+use Rattle.shell_base.specs.declared.status.Status.{Status}
+use Rattle.shell_base.specs.declared.status.Status.TheVariants.{RestartMemory}
+use Rattle.store_words.specs.Dump.{dump_of, DumpMoment}
+use Rattle.store_words.specs.Upgrading.{GrowthMoment, UpgradeMoment}
+use Rattle.standby_words.specs.Following.{FollowMoment, FollowingMoment, StandbyMoment}
+use Rattle.standby_words.specs.Shipping.{ShipMoment}
+use Rattle.script_run.specs.Answers.{Moment}
+use Rattle.script_run.specs.RunCalls.{IsRunOn}
+use Rattle.script_run.specs.Courses.{RunMoment}
+use Rattle.script_run.specs.Run.{MomentSoFar}
+use Rattle.script_run.specs.StartLaws.{complete_from, opens_still, says_from, start_so_far, AreFew}
+use Rattle.redo_shell.specs.Calls.{IsCallFor}
 use Rattle.redo_shell.specs.Twice.{IsCallTwice, IsRunTwice, StepsTwice}
-use Rattle.redo_shell.specs.Upgrading.{GrowthMoment, UpgradeMoment}
-use Rattle.redo_shell.specs.declared.budget.Budget.{Budget}
-use Rattle.redo_shell.specs.declared.budget.Budget.TheVariants.{Usual, Least}
-use Rattle.redo_shell.specs.declared.status.Status.{Status}
-use Rattle.redo_shell.specs.declared.status.Status.TheVariants.{RestartMemory}
-use Rattle.redo_shell.proofs.OpenLemmas.{complete_from, opens_still, says_from, start_so_far}
-use Rattle.redo_shell.proofs.RunLemmas.{AreFew}
 
 -- a call whose restart was refused memory leaves files that stand for the commands as they did
 pub refused_still : (budget : Budget) (asked : Asked) (told : Type 0) (left rest : List ℕ) (p : Params) (commands : List Command) (old mid : Disk) → old.tells_moments → Opens p old commands

@@ -9,33 +9,34 @@ use Rattle.script_lines.specs.Reading.{ReadsOn}
 use Rattle.command_words.specs.Words.{Asks}
 use Rattle.command_words.specs.declared.asked.Asked.{Asked}
 use Rattle.command_words.specs.declared.asked.Asked.TheVariants.{Init, Run, Dump, Demo, Upgrade, Ship, Follow}
-use Rattle.redo_shell.specs.Again.{StandsStill}
+use Rattle.restart.specs.Starts.{OrAtStart, at_start, or_weaker}
+use Rattle.shell_base.specs.Again.{StandsStill}
+use Rattle.shell_base.specs.Judging.{CountsFaults, JudgesFiles, SaysNoStore, SaysDamage}
+use Rattle.shell_base.specs.Keeps.{KeepsFiles}
+use Rattle.shell_base.specs.Status.{IsOfRun, IsOfDump, IsOfInit, IsOfUpgrade, IsOfShip, IsOfFollow, LacksMemory}
+use Rattle.shell_base.specs.Store.{Command, IsWellFormed, Opens, Stands, StandsInEither}
+use Rattle.shell_base.specs.declared.budget.Budget.{Budget}
+use Rattle.shell_base.specs.declared.status.Status.{Status}
+use Rattle.shell_base.specs.declared.status.Status.TheVariants.{Done, Usage, NotAStore, AlreadyStore, Damaged, DiskFault, ReadFault, SayFault, Memory, RestartMemory, TooLong, AlreadyTwo, Smaller, Gone, BadStream, StandbyFull}
+use Rattle.shell_base.specs.KeepLaws.{keeps_once}
+use Rattle.shell_base.specs.RestartLaws.{image_begins}
+use Rattle.store_words.specs.Cut.{JudgesUpgrade, SaysCut}
+use Rattle.store_words.specs.Making.{SaysStore}
+use Rattle.store_words.specs.Upgrading.{UpgradeMoment}
+use Rattle.store_words.specs.Dump.{DumpMoment}
+use Rattle.standby_words.specs.Following.{StandbyMoment, StreamMoment}
+use Rattle.standby_words.specs.FollowingLaws.{standby_moment}
+use Rattle.standby_words.specs.Shipping.{ShipMoment}
+use Rattle.script_run.specs.Saving.{IsBesideRun}
+use Rattle.script_run.specs.StartLaws.{none_backed, AreFew, printed_backed, keeps_none}
 use Rattle.redo_shell.specs.Calls.{IsCallFor, GoesOn}
-use Rattle.redo_shell.specs.Causes.{CountsFaults, IsCutUpgrade, IsUnread, JudgesFiles, JudgesUpgrade, SaysCut, SaysNoStore, SaysDamage, SaysStore, ComesByCause}
+use Rattle.redo_shell.specs.Causes.{IsCutUpgrade, IsUnread, ComesByCause}
 use Rattle.redo_shell.specs.Demo.{IsOfDemo}
 use Rattle.redo_shell.specs.Exactly.{IsFaultless, IsUpgradeEnd, ComesExactly}
-use Rattle.redo_shell.specs.Following.{StandbyMoment, StreamMoment}
-use Rattle.redo_shell.specs.Keeps.{KeepsFiles}
-use Rattle.redo_shell.proofs.FollowingLemmas.{standby_moment}
-use Rattle.redo_shell.specs.Saving.{IsBackupCall, IsBackupFor, IsBesideRun}
+use Rattle.redo_shell.specs.Beside.{IsBackupCall, IsBackupFor}
 use Rattle.redo_shell.specs.Sessions.{AddsNothing, run, init, reads, upgrade, follow}
-use Rattle.redo_shell.specs.Shipping.{ShipMoment}
-use Rattle.redo_shell.specs.Status.{IsOfRun, IsOfDump, IsOfInit, IsOfUpgrade, IsOfShip, IsOfFollow, LacksMemory}
-use Rattle.redo_shell.specs.Store.{Command, IsWellFormed, Opens, Stands, StandsInEither}
-use Rattle.redo_shell.specs.Upgrading.{UpgradeMoment}
-use Rattle.redo_shell.specs.declared.budget.Budget.{Budget}
-use Rattle.redo_shell.specs.declared.status.Status.{Status}
-use Rattle.redo_shell.specs.declared.status.Status.TheVariants.{Done, Usage, NotAStore, AlreadyStore, Damaged, DiskFault, ReadFault, SayFault, Memory, RestartMemory, TooLong, AlreadyTwo, Smaller, BackupFault, Gone, BadStream, StandbyFull}
-use Rattle.restart.specs.Starts.{OrAtStart, at_start, or_weaker}
-use Rattle.redo_shell.specs.Dump.{DumpMoment}
-use Rattle.redo_shell.proofs.KeepLemmas.{keeps_once}
 use Rattle.redo_shell.proofs.DamageLemmas.{HasOneDamage}
 use Rattle.redo_shell.proofs.ExactLemmas.{calm_run, calm_told, calm_dump, calm_shipped, calm_followed, whole_ship, whole_follow, opens_exactly, runs_exactly, makes_exactly}
-use Rattle.redo_shell.proofs.OpenLemmas.{none_backed}
-use Rattle.redo_shell.proofs.RunLemmas.{AreFew}
-use Rattle.redo_shell.proofs.SavedLemmas.{printed_backed}
-use Rattle.redo_shell.proofs.SavingLemmas.{keeps_none}
-use Rattle.redo_shell.proofs.RestartLemmas.{image_begins}
 
 module _ (budget : Budget) (told : Type 0) (left rest : List ℕ) (old new : Disk) (status : Status) where
   -- what was asked is this
@@ -322,7 +323,3 @@ backup_unread few disk old backup = record {
   };
   other = λ none. refl;
 }
-
--- a call that does nothing with it ends with no fault of its disk
-pub beside_none : (backup : Disk) (status : Status) → (status ≡ BackupFault → ⊥) → IsBesideRun backup backup status
-beside_none backup status none = record { time = passes_none backup; fault = λ is. absurd (none is) }

@@ -1,16 +1,15 @@
 -- The first check that fails is said.
-use Rattle.std.proofs.Common.{◌≡◌, ◌≢◌, ◌⊎◌, ⊎_elim, ◌↔◌, ◌++◌, ℕ, ◌∙◌, subst, sym}
+use Rattle.std.proofs.Common.{◌≡◌, ◌↔◌, ◌++◌, ℕ, ◌∙◌}
 use Rattle.disk_model.specs.Disk.{Disk, Files}
 use Rattle.disk_model.specs.declared.machine.FileNo.{FileNo}
 use Rattle.disk_model.specs.declared.machine.FileNo.TheVariants.{Objects}
 use Rattle.op_codec.specs.AllOps.{all_meaning}
 use Rattle.formats.specs.Bytes.{IsOpenAt}
 use Rattle.formats.specs.FirstFault.{IsDamaged}
-use Rattle.redo_shell.specs.Notices.{damaged}
-use Rattle.redo_shell.specs.Status.{IsOfRun, IsOfOpened}
-use Rattle.redo_shell.specs.Store.{IsWellFormed}
-use Rattle.redo_shell.specs.declared.status.Status.{Status}
-use Rattle.redo_shell.specs.declared.status.Status.TheVariants.{Damaged, DiskFault, SayFault, Memory, BackupFault}
+use Rattle.shell_base.specs.Notices.{damaged}
+use Rattle.shell_base.specs.Store.{IsWellFormed}
+use Rattle.shell_base.specs.declared.status.Status.{Status}
+use Rattle.shell_base.specs.declared.status.Status.TheVariants.{Damaged}
 
 -- of damaged files one check fails first, and files that meet their format are not damaged
 pub record HasOneDamage (files : Files) : Type 0 where
@@ -26,16 +25,3 @@ first_said old new status one exactly told file place damage =
     let here = told is in
     let same = one.place here.0 file here.1 place here.2 damage in
     (is, here.4 ∙ (λ i. old.said ++ damaged (same.0 i) (same.1 i)))
-
--- where files break their format the call ends with none of these
-pub no_disk_fault : (status : Status) → (status ≡ Damaged) ⊎ ((status ≡ Memory) ⊎ (status ≡ SayFault)) → status ≡ DiskFault → ⊥
-no_disk_fault status ends is = ⊎_elim (λ (a : status ≡ Damaged). cc (a, is)) (λ (rest : (status ≡ Memory) ⊎ (status ≡ SayFault)). ⊎_elim (λ (a : status ≡ Memory). cc (a, is)) (λ (a : status ≡ SayFault). cc (a, is)) rest) ends
-
-pub no_backup_fault : (status : Status) → (status ≡ Damaged) ⊎ ((status ≡ Memory) ⊎ (status ≡ SayFault)) → status ≡ BackupFault → ⊥
-no_backup_fault status ends is = ⊎_elim (λ (a : status ≡ Damaged). cc (a, is)) (λ (rest : (status ≡ Memory) ⊎ (status ≡ SayFault)). ⊎_elim (λ (a : status ≡ Memory). cc (a, is)) (λ (a : status ≡ SayFault). cc (a, is)) rest) ends
-
-pub damaged_status : (status : Status) → (status ≡ Damaged) ⊎ ((status ≡ Memory) ⊎ (status ≡ SayFault)) → IsOfRun status × IsOfOpened status
-damaged_status status ends = ⊎_elim
-    (λ (a : status ≡ Damaged). (subst IsOfRun (sym a) tt, subst IsOfOpened (sym a) tt))
-    (λ (rest : (status ≡ Memory) ⊎ (status ≡ SayFault)). ⊎_elim (λ (a : status ≡ Memory). (subst IsOfRun (sym a) tt, subst IsOfOpened (sym a) tt)) (λ (a : status ≡ SayFault). (subst IsOfRun (sym a) tt, subst IsOfOpened (sym a) tt)) rest)
-    ends

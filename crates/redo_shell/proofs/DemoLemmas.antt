@@ -10,13 +10,13 @@ use borrow.Author.Tests.{ne_eqb}
 use Rattle.script_lines.specs.Reading.{IsPlain}
 use Rattle.script_lines.specs.Replies.{Reply, ok, value, ran, pairs, forced, bad, refused, bad_tree, tree_full, denied, in_group, no_group, full, end, object_value, command_count, stat, copied, saved, backup_denied, summary, silence, hex_glyph, hex_pair, hex_text, spaced, spaced_pair, numbers_of, text_of, said_line}
 use Rattle.formats.specs.declared.params.Params.{Params}
-use Rattle.redo_shell.specs.Answers.{Answers}
+use Rattle.shell_base.specs.Store.{Command}
+use Rattle.script_run.specs.Answers.{Answers}
+use Rattle.script_run.specs.Groups.{Account}
+use Rattle.script_run.specs.Printed.{texts_of}
+use Rattle.script_run.specs.Replies.{Replies, is_refusing}
+use Rattle.script_run.specs.PrintedLaws.{plain_text}
 use Rattle.redo_shell.specs.Demo.{is_newline, is_refusal, refusal_count}
-use Rattle.redo_shell.specs.Groups.{Account}
-use Rattle.redo_shell.specs.Printed.{texts_of}
-use Rattle.redo_shell.specs.Replies.{Replies, is_refusing}
-use Rattle.redo_shell.specs.Store.{Command}
-use Rattle.redo_shell.proofs.PrintedLemmas.{plain_text}
 
 -- a first line is split off
 split_one : (text rest : List ℕ) → IsPlain text → slice_split is_newline (text ++ 10 ∷ rest) ≡ text ∷ slice_split is_newline rest

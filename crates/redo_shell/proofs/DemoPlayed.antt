@@ -6,13 +6,13 @@ use Rattle.disk_model.specs.Growing.{disk_of}
 use Rattle.disk_model.specs.declared.grow_mem.GrowMem.{GrowMem}
 use Rattle.script_lines.specs.Grammar.{lines_of}
 use Rattle.script_lines.specs.Replies.{said_line}
-use Rattle.redo_shell.specs.Calls.{IsRunCall}
+use Rattle.shell_base.specs.Store.{Command, IsNewStore, Opens}
+use Rattle.shell_base.specs.declared.budget.Budget.TheVariants.{Usual}
+use Rattle.shell_base.specs.declared.status.Status.{Status}
+use Rattle.shell_base.specs.declared.status.Status.TheVariants.{Done, DoneWithRefusals, SayFault, Memory}
+use Rattle.shell_base.specs.KeepLaws.{keeps_once}
+use Rattle.script_run.specs.RunCalls.{IsRunCall}
 use Rattle.redo_shell.specs.Demo.{demo_params, IsPlayed, SaysTotals, IsOfDemo, IsDemo}
-use Rattle.redo_shell.specs.Store.{Command, IsNewStore, Opens}
-use Rattle.redo_shell.specs.declared.budget.Budget.TheVariants.{Usual}
-use Rattle.redo_shell.specs.declared.status.Status.{Status}
-use Rattle.redo_shell.specs.declared.status.Status.TheVariants.{Done, DoneWithRefusals, SayFault, Memory}
-use Rattle.redo_shell.proofs.KeepLemmas.{keeps_once}
 
 -- what was said and added by a run that answered the whole script
 pub played : {told : Type 0} {left rest : List ℕ} {new : Disk} {status : Status} (machine : GrowMem) (last : Disk) (accepted : ℕ) → IsRunCall Usual told left rest (disk_of machine) new status → told → IsNewStore demo_params (disk_of machine).reads → (disk_of machine).said ≡ []

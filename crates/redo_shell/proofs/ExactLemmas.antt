@@ -1,56 +1,30 @@
 -- Statuses from their causes, both ways.
-use Rattle.std.proofs.Common.{◌≡◌, ◌≢◌, ◌⊎◌, inl, inr, ⊎_elim, ◌↔◌, ℕ, refl, sym, subst}
+use Rattle.std.proofs.Common.{List, ℕ, length-append, ap, arith, ◌<◌, ◌≤◌, length, ◌≡◌, ◌≢◌, ◌⊎◌, inl, inr, ⊎_elim, ◌↔◌, refl, sym, subst}
+use Rattle.script_lines.specs.Reading.{ReadsOn}
 use Rattle.std.specs.Prelude.{⊤, ◌^◌, List}
 use Rattle.disk_model.specs.Disk.{Disk, Rises}
 use Rattle.formats.specs.declared.params.Params.{Params}
 use Rattle.op_codec.specs.AllOps.{all_meaning}
 use Rattle.restart.specs.WellFormed.{opens_gate}
-use Rattle.script_lines.specs.Reading.{ReadsOn}
-use Rattle.redo_shell.specs.Calls.{IsRunCall, IsMaking}
-use Rattle.redo_shell.specs.Causes.{CountsFaults, JudgesFiles}
-use Rattle.redo_shell.specs.Store.{Command, IsWellFormed, Opens}
-use Rattle.redo_shell.specs.declared.budget.Budget.{Budget}
-use Rattle.redo_shell.specs.declared.status.Status.{Status}
-use Rattle.redo_shell.specs.declared.status.Status.TheVariants.{Done, DoneWithRefusals, Usage, NotAStore, AlreadyStore, Damaged, DiskFault, ReadFault, SayFault, Memory, RestartMemory, TooLong, AlreadyTwo, Smaller, BackupFault, Gone, BadStream, StandbyFull}
-use Rattle.redo_shell.specs.Following.{IsFollowEnd}
-use Rattle.redo_shell.specs.Shipping.{IsShipEnd}
+use Rattle.shell_base.specs.Judging.{CountsFaults, JudgesFiles}
+use Rattle.shell_base.specs.Store.{Command, IsWellFormed, Opens}
+use Rattle.shell_base.specs.declared.budget.Budget.{Budget}
+use Rattle.shell_base.specs.declared.status.Status.{Status}
+use Rattle.shell_base.specs.declared.status.Status.TheVariants.{Done, DoneWithRefusals, Usage, NotAStore, AlreadyStore, Damaged, DiskFault, ReadFault, SayFault, Memory, RestartMemory, TooLong, BackupFault, Gone, BadStream, StandbyFull}
+use Rattle.shell_base.specs.Status.{IsOfRun, IsOfInit, IsOfDump, IsOfShip, IsOfFollow, IsOfStore, LacksMemory}
+use Rattle.store_words.specs.Making.{IsMaking}
+use Rattle.standby_words.specs.Following.{IsFollowEnd}
+use Rattle.standby_words.specs.Shipping.{IsShipEnd}
+use Rattle.script_run.specs.RunCalls.{IsRunCall}
 use Rattle.redo_shell.specs.Exactly.{IsFaultless, OpensExactly, MakesExactly, RunsExactly}
 use Rattle.redo_shell.proofs.DamageLemmas.{HasOneDamage, first_said}
-use Rattle.redo_shell.proofs.ScriptLemmas.{enough_taken, not_so_few}
-use Rattle.redo_shell.specs.Status.{IsOfRun, IsOfInit, IsOfDump, IsOfShip, IsOfFollow, IsOfStore, IsOfUnopened, LacksMemory}
 
--- where no store was opened the script is not read, and a run or a dump may end so
-pub unopened_reads_none : (status : Status) → IsOfUnopened status → IsOfStore status → ⊥
-unopened_reads_none Done of is = of
-unopened_reads_none DoneWithRefusals of is = of
-unopened_reads_none ReadFault of is = of
-unopened_reads_none TooLong of is = of
-unopened_reads_none AlreadyTwo of is = of
-unopened_reads_none Smaller of is = of
-unopened_reads_none BackupFault of is = of
-unopened_reads_none Gone of is = of
-unopened_reads_none BadStream of is = of
-unopened_reads_none StandbyFull of is = of
-unopened_reads_none status of is = is
+-- where so many bytes were taken off, there were so many
+pub enough_taken : {old new : List ℕ} {n : ℕ} → ReadsOn old new 0 n → n ≤ length old
+enough_taken {old} {new} {n} takes = omega (arith, takes.count, ap (λ (l : List ℕ). length l) takes.front, length-append takes.bytes new)
 
-pub unopened_run : (status : Status) → IsOfUnopened status → IsOfRun status
-unopened_run Usage of = of
-unopened_run AlreadyStore of = of
-unopened_run AlreadyTwo of = of
-unopened_run Smaller of = of
-unopened_run Gone of = of
-unopened_run BadStream of = of
-unopened_run StandbyFull of = of
-unopened_run status of = tt
-
-pub unopened_dump : (status : Status) → IsOfUnopened status → IsOfDump status
-unopened_dump NotAStore of = tt
-unopened_dump Damaged of = tt
-unopened_dump DiskFault of = tt
-unopened_dump SayFault of = tt
-unopened_dump Memory of = tt
-unopened_dump RestartMemory of = tt
-unopened_dump status of = absurd of
+pub not_so_few : {n most : ℕ} → n < most → most ≤ n → ⊥
+not_so_few few enough = omega (arith, few, enough)
 
 -- a call that opens the store, in which no count of faults rises, ends with one of these
 abbrev IsCalm : Status → Type 0
@@ -203,16 +177,6 @@ calm_init AlreadyStore calm of faults = inr refl
 calm_init DiskFault calm of faults = absurd (calm.disk (faults.disk refl))
 calm_init SayFault calm of faults = absurd (calm.output (faults.output refl))
 calm_init status calm of faults = absurd of
-
--- where a store is there already, or the output fails to say so
-pub in_made : (status : Status) → (status ≡ AlreadyStore) ⊎ (status ≡ SayFault) → IsOfInit status
-in_made status ends = ⊎_elim (λ (is : status ≡ AlreadyStore). subst IsOfInit (sym is) tt) (λ (is : status ≡ SayFault). subst IsOfInit (sym is) tt) ends
-
-pub not_made : (status : Status) → (status ≡ AlreadyStore) ⊎ (status ≡ SayFault) → status ≡ Done → ⊥
-not_made status ends done = ⊎_elim (λ (is : status ≡ AlreadyStore). cc (is, done)) (λ (is : status ≡ SayFault). cc (is, done)) ends
-
-pub not_failed : (status : Status) → (status ≡ AlreadyStore) ⊎ (status ≡ SayFault) → status ≡ DiskFault → ⊥
-not_failed status ends fault = ⊎_elim (λ (is : status ≡ AlreadyStore). cc (is, fault)) (λ (is : status ≡ SayFault). cc (is, fault)) ends
 
 -- what a call that opens the store says of the files, both ways
 pub opens_exactly : {old new : Disk} (status : Status) → IsCalm status → HasOneDamage old.reads → JudgesFiles old new status → OpensExactly old new status

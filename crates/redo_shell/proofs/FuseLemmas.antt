@@ -4,8 +4,8 @@ use Rattle.disk_model.specs.Disk.{Files, Disk, LeavesOnly}
 use Rattle.disk_model.specs.Fuse.{disk_through}
 use Rattle.disk_model.specs.declared.fuse.Fuse.{Fuse}
 use Rattle.formats.specs.declared.params.Params.{Params}
-use Rattle.redo_shell.specs.Store.{Command, Opens}
-use Rattle.redo_shell.specs.Keeps.{KeepsFiles}
+use Rattle.shell_base.specs.Store.{Command, Opens}
+use Rattle.shell_base.specs.Keeps.{KeepsFiles}
 use Rattle.redo_shell.specs.Sessions.{Ran, Sizing, Follows, Sessions, start, run, init, reads, upgrade, follow, other}
 
 module _ {M : Type 0} (disk : M → Disk) where

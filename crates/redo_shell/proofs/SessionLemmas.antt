@@ -16,13 +16,13 @@ use Rattle.execution.specs.Judged.Judged.{Passed, Taken, Gap, Differs}
 use Rattle.op_codec.specs.AllOps.{all_meaning}
 use Rattle.store_engine.specs.ImageLaws.{stands_begins}
 use Rattle.script_lines.specs.Replies.{Reply}
-use Rattle.redo_shell.specs.Store.{Command, Stands, StandsInEither, IsNew, IsUpgraded, meaning_in}
-use Rattle.redo_shell.specs.Groups.{account_of}
-use Rattle.redo_shell.specs.Answers.{Said, Begun, Moment}
+use Rattle.shell_base.specs.Store.{Command, Stands, StandsInEither, IsNew, IsUpgraded, meaning_in}
+use Rattle.standby_words.specs.Following.{StreamMoment}
+use Rattle.script_run.specs.Groups.{account_of}
+use Rattle.script_run.specs.Answers.{Said, Begun, Moment}
+use Rattle.script_run.specs.PrintedLaws.{nothing_printed}
+use Rattle.script_run.specs.StoryLaws.{answers_grow, ended_whole, story_start, told_whole}
 use Rattle.redo_shell.specs.Sessions.{Ran, Sizing, by_init, by_upgrade, by_follow, Adds, Grows, Survives, Follows, Sessions, AllSilent, WereAskedFor, WereGrownTo, WereFollowed, IsThere, Arises, none, more, larger, followed, start, run, init, reads, upgrade, follow, other}
-use Rattle.redo_shell.specs.Following.{StreamMoment}
-use Rattle.redo_shell.proofs.PrintedLemmas.{nothing_printed}
-use Rattle.redo_shell.proofs.StoryLemmas.{answers_grow, ended_whole, story_start, told_whole}
 
 -- a story whose begun answer is true is a story
 abbrev untied : {p : Params} {tie : List Command → List ℕ → Reply → Type 0} {commands : List Command} {script : List (List ℕ)} {said : List ℕ} → Said p tie commands script said → Said p (λ ops line reply. ⊤) commands script said

@@ -1,5 +1,5 @@
 -- What a demo does: the generated script is answered on a store of its own, and what was said is counted.
-use Rattle.std.specs.Prelude.{◌≡◌, ◌≢◌, ◌*◌, ◌%◌, ◌^◌, ◌==◌, ◌&&◌, ◌||◌, ⊤, ℕ, Bool, List, [], ◌++◌, codes, length, count_by, sum_by}
+use Rattle.std.specs.Prelude.{◌≡◌, ◌≢◌, ◌*◌, ◌%◌, ◌^◌, ◌==◌, ◌&&◌, ◌||◌, ⊤, ℕ, Bool, List, [], ◌++◌, codes, length, count_by, sum_by, false}
 use Rattle.std.specs.List.{flat_map, starts_with, enumerate_from, slice_split}
 use Rattle.disk_model.specs.Disk.{Disk, Runs, Stays, Same, SaysFront}
 use Rattle.disk_model.specs.Growing.{disk_of}
@@ -9,20 +9,21 @@ use Rattle.script_lines.specs.Grammar.{lines_of}
 use Rattle.script_lines.specs.Replies.{Reply, summary, said_line}
 use Rattle.script_lines.specs.declared.answer.Totals.{Totals}
 use Rattle.script_lines.specs.DemoScript.{script_of}
-use Rattle.redo_shell.specs.declared.budget.Budget.TheVariants.{Usual}
-use Rattle.redo_shell.specs.Store.{Command, IsNewStore}
-use Rattle.redo_shell.specs.Replies.{is_refusing}
-use Rattle.redo_shell.specs.Answers.{Answers}
-use Rattle.redo_shell.specs.Groups.{Account, account_of}
-use Rattle.redo_shell.specs.Keeps.{KeepsFiles}
-use Rattle.redo_shell.specs.Printed.{texts_of}
-use Rattle.redo_shell.specs.Stages.{Stage, IsFirst, AllGoBy}
-use Rattle.redo_shell.specs.declared.status.Status.{Status}
-use Rattle.redo_shell.specs.declared.status.Status.TheVariants.{Done, SayFault, Memory}
+use Rattle.shell_base.specs.declared.budget.Budget.TheVariants.{Usual}
+use Rattle.shell_base.specs.Store.{Command, IsNewStore}
+use Rattle.shell_base.specs.Keeps.{KeepsFiles}
+use Rattle.shell_base.specs.First.{Stage, IsFirst}
+use Rattle.shell_base.specs.declared.status.Status.{Status}
+use Rattle.shell_base.specs.declared.status.Status.TheVariants.{Done, SayFault, Memory}
+use Rattle.script_run.specs.Replies.{is_refusing}
+use Rattle.script_run.specs.Answers.{Answers}
+use Rattle.script_run.specs.Groups.{Account, account_of}
+use Rattle.script_run.specs.Printed.{texts_of}
+use Rattle.script_run.specs.Stages.{AllGoBy}
 
 -- the numbers of its store
 abbrev pub demo_params : Params
-demo_params = record { objects = 16; cap = 64; limit = 536870912 }
+demo_params = record { objects = 16; cap = 64; limit = 536870912; more = false }
 
 -- A script of these lines gets these answers on a new store of these numbers, in memory, and adds these commands. They are
 -- those of the plain map, and go by the stages of the store, from the one that a usual restart makes of it: so `full` comes exactly

@@ -10,14 +10,14 @@ use Rattle.formats.specs.declared.params.Params.{Params}
 use Rattle.op_codec.specs.AllOps.{all_meaning}
 use Rattle.command_words.specs.Words.{Asks}
 use Rattle.command_words.specs.declared.asked.Asked.TheVariants.{Init, Run, Dump, Demo, Upgrade, Ship, Follow}
+use Rattle.shell_base.specs.Notices as notices
+use Rattle.shell_base.specs.Status.{LacksMemory}
+use Rattle.shell_base.specs.Store.{Command, IsWellFormed, Opens}
+use Rattle.shell_base.specs.declared.status.Status.{Status}
+use Rattle.shell_base.specs.declared.status.Status.TheVariants.{Done, DoneWithRefusals, Usage, NotAStore, AlreadyStore, Damaged, TooLong, AlreadyTwo, Smaller}
+use Rattle.standby_words.specs.Following.{IsFollowEnd}
+use Rattle.standby_words.specs.Shipping.{IsShipEnd}
 use Rattle.redo_shell.specs.Causes.{AsksNothing, OrUnread}
-use Rattle.redo_shell.specs.Following.{IsFollowEnd}
-use Rattle.redo_shell.specs.Notices as notices
-use Rattle.redo_shell.specs.Shipping.{IsShipEnd}
-use Rattle.redo_shell.specs.Status.{LacksMemory}
-use Rattle.redo_shell.specs.Store.{Command, IsWellFormed, Opens}
-use Rattle.redo_shell.specs.declared.status.Status.{Status}
-use Rattle.redo_shell.specs.declared.status.Status.TheVariants.{Done, DoneWithRefusals, Usage, NotAStore, AlreadyStore, Damaged, TooLong, AlreadyTwo, Smaller}
 
 -- no count of faults rose, that of the disk, of the output, of the input or of the backup's disk
 pub record IsFaultless (old new : Disk) (reads_before reads_now : ℕ) (before now : Disk) : Type 0 where

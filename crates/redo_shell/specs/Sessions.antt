@@ -6,12 +6,12 @@ use Rattle.formats.specs.Objects.{BeginsStore}
 use Rattle.formats.specs.declared.params.Params.{Params}
 use Rattle.explain_core.specs.History.{Member, commands_of}
 use Rattle.restart.specs.Starts.{OrAtStart}
-use Rattle.redo_shell.specs.Store.{Command, Stands, StandsInEither, Opens, IsNew}
-use Rattle.redo_shell.specs.Groups.{AreWhole, account_before}
-use Rattle.redo_shell.specs.Printed.{SaysForced}
-use Rattle.redo_shell.specs.Answers.{Said, Moment}
-use Rattle.redo_shell.specs.Following.{FollowsFrames, StreamMoment}
-use Rattle.redo_shell.specs.Keeps.{KeepsFiles}
+use Rattle.shell_base.specs.Store.{Command, Stands, StandsInEither, Opens, IsNew}
+use Rattle.shell_base.specs.Keeps.{KeepsFiles}
+use Rattle.standby_words.specs.Following.{FollowsFrames, StreamMoment}
+use Rattle.script_run.specs.Groups.{AreWhole, account_before}
+use Rattle.script_run.specs.Printed.{SaysForced}
+use Rattle.script_run.specs.Answers.{Said, Moment}
 
 -- What was done to a store beside the runs: it was made with these numbers, an upgrade gave it these, or it followed a stream of
 -- these bytes.

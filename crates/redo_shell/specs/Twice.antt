@@ -7,20 +7,20 @@ use Rattle.script_lines.specs.Grammar.{lines_of}
 use Rattle.command_words.specs.declared.asked.Asked.{Asked}
 use Rattle.command_words.specs.declared.asked.Asked.TheVariants.{Init, Run, Dump, Demo, Upgrade, Ship, Follow}
 use Rattle.store_engine.specs.Engine.{InEachImage}
-use Rattle.redo_shell.specs.Again.{StandsStill}
-use Rattle.redo_shell.specs.Answers.{Moment, SaysTruly}
-use Rattle.redo_shell.specs.Courses.{OpeningMoment, RunMoment, TableMoment}
-use Rattle.redo_shell.specs.Dump.{dump_of, DumpMoment}
-use Rattle.redo_shell.specs.Following.{FollowingMoment, StandbyMoment}
-use Rattle.redo_shell.specs.Run.{IsComplete, MomentSoFar}
-use Rattle.redo_shell.specs.Shipping.{ShipMoment}
-use Rattle.redo_shell.specs.Stages.{Stage, IsFirst}
-use Rattle.redo_shell.specs.Status.{IsCut}
-use Rattle.redo_shell.specs.Store.{Command}
-use Rattle.redo_shell.specs.Upgrading.{GrowthMoment, UpgradeMoment}
-use Rattle.redo_shell.specs.declared.budget.Budget.TheVariants.{Least, Usual}
-use Rattle.redo_shell.specs.declared.status.Status.{Status}
-use Rattle.redo_shell.specs.declared.status.Status.TheVariants.{Done, DoneWithRefusals, NotAStore, Damaged, DiskFault, RestartMemory}
+use Rattle.shell_base.specs.Again.{StandsStill}
+use Rattle.shell_base.specs.First.{OpeningMoment, TableMoment, Stage, IsFirst}
+use Rattle.shell_base.specs.Status.{IsCut}
+use Rattle.shell_base.specs.Store.{Command}
+use Rattle.shell_base.specs.declared.budget.Budget.TheVariants.{Least, Usual}
+use Rattle.shell_base.specs.declared.status.Status.{Status}
+use Rattle.shell_base.specs.declared.status.Status.TheVariants.{Done, DoneWithRefusals, NotAStore, Damaged, DiskFault, RestartMemory}
+use Rattle.store_words.specs.Dump.{dump_of, DumpMoment}
+use Rattle.store_words.specs.Upgrading.{GrowthMoment, UpgradeMoment}
+use Rattle.standby_words.specs.Following.{FollowingMoment, StandbyMoment}
+use Rattle.standby_words.specs.Shipping.{ShipMoment}
+use Rattle.script_run.specs.Answers.{Moment, SaysTruly}
+use Rattle.script_run.specs.Courses.{RunMoment}
+use Rattle.script_run.specs.Run.{IsComplete, MomentSoFar}
 
 module _ (p : Params) (commands : List Command) (old mid new : Disk) where
   -- By the courses of both, from each stage that the first restart may make of the files and each that the second one may make of

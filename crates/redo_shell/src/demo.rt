@@ -4,29 +4,26 @@ ghost use Rattle.disk_model.specs.Disk.{Passes};
 ghost use Rattle.disk_model.specs.Growing.{disk_of};
 ghost use Rattle.formats.specs.declared.params.Params.{Params as OfStore};
 ghost use Rattle.script_lines.specs.Grammar.{lines_of};
-ghost use Rattle.redo_shell.specs.Causes.{CountsFaults};
+ghost use Rattle.shell_base.specs.Judging.{CountsFaults};
+ghost use Rattle.shell_base.specs.Store.{Command, IsNewStore, Opens};
 ghost use Rattle.redo_shell.specs.Demo.{demo_params, IsPlayed, AreTotals, SaysTotals, IsDemo};
-ghost use Rattle.redo_shell.specs.Store.{Command, IsNewStore, Opens};
 
-use crate::budget::Budget;
-use crate::init::init;
-use crate::notes::Notes;
-use crate::opening::open_store;
-use crate::run::run;
-use crate::say::end_with;
-use crate::status::Status;
 use crate::tally::{checksum, line_count, refusal_count};
 use disk_model::{GrowMem, Machine, MemSource};
 use formats::Params;
 use oper_core::Memory;
 use script_lines::{Answer, Totals, answer_line, demo_script};
+use script_run::{Notes, run};
+use shell_base::{Budget, Status, end_with, open_store};
 use std::alloc::Global;
+use store_words::init;
 
 /// The numbers of the store that a generated script is run on.
 const PARAMS: Params = Params {
     objects: 16,
     cap: 64,
     limit: 536_870_912,
+    more: false,
 };
 
 /// A machine with a new store. It fails only where memory runs out, as each call of it does.

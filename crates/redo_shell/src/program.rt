@@ -8,31 +8,28 @@ ghost use Rattle.script_lines.specs.Reading.{ReadsOn};
 ghost use Rattle.command_words.specs.Words.{Asks, IsAllowed};
 ghost use Rattle.command_words.specs.declared.asked.Asked.{Asked as AskedFor};
 ghost use Rattle.command_words.specs.declared.asked.Asked.TheVariants.{Run};
-ghost use Rattle.redo_shell.specs.Answers.{Moment};
-ghost use Rattle.redo_shell.specs.Calls.{IsRunCall, IsCallFor, GoesOn};
-ghost use Rattle.redo_shell.specs.Causes.{CountsFaults, OrUnread, ComesByCause};
+ghost use Rattle.shell_base.specs.Judging.{CountsFaults};
+ghost use Rattle.shell_base.specs.Store.{Command, Opens};
+ghost use Rattle.script_run.specs.Answers.{Moment};
+ghost use Rattle.script_run.specs.RunCalls.{IsRunCall};
+ghost use Rattle.script_run.specs.Noted.{none_noted};
+ghost use Rattle.script_run.specs.Saving.{IsBesideRun};
+ghost use Rattle.redo_shell.specs.Calls.{IsCallFor, GoesOn};
+ghost use Rattle.redo_shell.specs.Causes.{OrUnread, ComesByCause};
 ghost use Rattle.redo_shell.specs.Exactly.{IsFaultless, ComesExactly};
-ghost use Rattle.redo_shell.specs.Noted.{IsNotedCall, IsNotedFor, none_noted};
-ghost use Rattle.redo_shell.specs.Saving.{IsBackupCall, IsBackupFor, IsBesideRun};
+ghost use Rattle.redo_shell.specs.Beside.{IsNotedCall, IsNotedFor, IsBackupCall, IsBackupFor};
 ghost use Rattle.redo_shell.specs.Sessions.{AddsNothing};
-ghost use Rattle.redo_shell.specs.Store.{Command, Opens};
 
-use crate::budget::Budget;
 use crate::demo::demo;
-use crate::dump::dump;
-use crate::following::follow;
-use crate::init::init;
-use crate::notes::Notes;
-use crate::run::run;
-use crate::say::end_with;
-use crate::shipping::ship;
-use crate::status::Status;
-use crate::upgrade::upgrade;
 use command_words::{Asked, Unread, read_words, words_ask_one_thing};
 use disk_model::{Machine, Source};
 use op_codec::AllOps;
+use script_run::{Notes, run};
+use shell_base::{Budget, Status, end_with};
+use standby_words::{follow, ship};
 use std::alloc::Global;
 use store_engine::{one_damage, standing_files_meet_their_format};
+use store_words::{dump, init, upgrade};
 
 /// What is printed where the words ask nothing.
 const USAGE: &[u8] =

@@ -1,7 +1,7 @@
 use Rattle.std.proofs.Common.{⊎_elim, refl}
 use Rattle.disk_model.specs.Moments.{stays_here}
+use Rattle.shell_base.specs.KeepLaws.{keeps_none}
 use Rattle.redo_shell.proofs.DemoPlayed.{demo_said}
-use Rattle.redo_shell.proofs.KeepLemmas.{keeps_none}
 use Rattle.redo_shell.proofs.demo.demo.Goals as goal
 
 pub returns-in-Ok-clause-demo : goal.returns-in-Ok-clause-demo

@@ -3,8 +3,8 @@ use Rattle.std.specs.Prelude.{count_by}
 use Rattle.disk_model.specs.Growing.{disk_of}
 use Rattle.script_lines.specs.DemoScript.{script_of}
 use Rattle.script_lines.specs.Grammar.{lines_of}
+use Rattle.script_run.specs.Groups.{account_of}
 use Rattle.redo_shell.specs.Demo.{demo_params, IsPlayed, is_newline, refusal_count, weighed}
-use Rattle.redo_shell.specs.Groups.{account_of}
 use Rattle.redo_shell.proofs.DemoLemmas.{lines_are, refusals_are}
 use Rattle.redo_shell.proofs.demo.totals.Goals as goal
 

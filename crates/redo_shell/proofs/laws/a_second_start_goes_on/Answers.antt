@@ -1,5 +1,5 @@
+use Rattle.shell_base.specs.declared.budget.Budget.TheVariants.{Usual}
 use Rattle.redo_shell.proofs.AgainLemmas.{call_twice, refused_still}
-use Rattle.redo_shell.specs.declared.budget.Budget.TheVariants.{Usual}
 use Rattle.redo_shell.proofs.laws.a_second_start_goes_on.Goals as goal
 
 pub returns-clause-stands : goal.returns-clause-stands

@@ -1,9 +1,10 @@
 use Rattle.std.proofs.Common.{refl, sym, subst}
 use Rattle.command_words.specs.Words.{IsAllowed}
+use Rattle.shell_base.specs.Status.{IsOfDump, IsOfFollow, IsOfInit, IsOfShip, IsOfUpgrade}
+use Rattle.script_run.specs.StartLaws.{beside_none}
 use Rattle.redo_shell.specs.Demo.{IsOfDemo}
-use Rattle.redo_shell.specs.Status.{IsOfDump, IsOfFollow, IsOfInit, IsOfShip, IsOfUpgrade}
-use Rattle.redo_shell.proofs.CallLemmas.{backup_for, beside_none, call_for}
-use Rattle.redo_shell.proofs.NotedLemmas.{noted_for}
+use Rattle.redo_shell.proofs.CallLemmas.{backup_for, call_for}
+use Rattle.redo_shell.proofs.BesideLemmas.{noted_for}
 use Rattle.redo_shell.proofs.program.serve.Goals as goal
 
 pub init-requires : goal.init-requires

@@ -2,12 +2,12 @@ use Rattle.std.proofs.Common.{⊎_elim, inl, inr, subst, sym, refl, map, string_
 use Rattle.disk_model.specs.Moments.{stays_here}
 use Rattle.command_words.specs.Refusals.{IsRefusal}
 use Rattle.command_words.specs.declared.asked.Asked.TheVariants.{Run}
+use Rattle.shell_base.specs.declared.status.Status.TheVariants.{Memory}
+use Rattle.shell_base.specs.KeepLaws.{keeps_once}
 use Rattle.redo_shell.proofs.CallLemmas.{call_adds_nothing, backup_called, backup_idle, backup_unread, call_for, call_caused, call_exactly, call_goes_on, unread_goes_on}
 use Rattle.redo_shell.specs.Causes.{IsUnread}
-use Rattle.redo_shell.specs.declared.status.Status.TheVariants.{Memory}
 use Rattle.redo_shell.proofs.ExactLemmas.{IsOfUsage, usage_ends}
-use Rattle.redo_shell.proofs.KeepLemmas.{keeps_once}
-use Rattle.redo_shell.proofs.NotedLemmas.{noted_called, none_called}
+use Rattle.redo_shell.proofs.BesideLemmas.{noted_called, none_called}
 use Rattle.redo_shell.proofs.program.top.Goals as goal
 
 pub serve-requires : goal.serve-requires

@@ -1,0 +1,195 @@
+-- The courses of installs, drains, checkpoints and trims: what may stop them, what they log, and that they add no command.
+use Rattle.std.proofs.Common.{◌≡◌, ◌∙◌, ap, refl, ℕ, zero, suc, ◌+◌, ◌<◌, arith, Bool, true, false, List, [], ◌∷◌, ◌++◌}
+use Rattle.std.specs.Prelude.{◌^◌, ◌&&◌, nat_lt, nat_le, if◌then◌else◌}
+use Rattle.std.proofs.lemmas.Bool.{cond_both}
+use Rattle.std.proofs.lemmas.Bool.Decides.{nat_tests}
+use Rattle.oper_core.specs.Meaning.{Meaning}
+use Rattle.explain_core.specs.History.Member.{Command as Logged_command}
+use Rattle.explain_core.specs.Turns.{count_below, dirty_in}
+use Rattle.explain_core.specs.World.{World, Step, run, end_of}
+use Rattle.explain_core.specs.World.Step.{Append, Begin, Block_gate, Header_gate}
+use Rattle.running_store.specs.Courses.{Course, course, is_through, and_then, waits, buffered, grown, force_steps, force_course, room_steps, placed, cached_length, identity_length, identity_steps}
+use Rattle.cache_manager.specs.InstallCourses.{identity_course, identities, must_log, others, finish_steps, rounds, has_members, install_course, round_limit, round_course, is_next_due, drain_turn, drains, logged_by, logged_in}
+use Rattle.running_store.specs.Courses.Stop.{Through, Full, At_end}
+use Rattle.running_store.specs.CourseLaws.{behind_both}
+use Rattle.running_store.specs.Running.{AreUpkeep}
+use Rattle.running_store.specs.Rewrites.{check_length, new_base, rewrite_course, trimmed, trimmed_file}
+use Rattle.running_store.specs.Commands.{command_length}
+use Rattle.cache_manager.specs.Upkeep.{upkeep_append, upkeep_either, upkeep_then, upkeep_force, upkeep_room, upkeep_install, upkeep_drain}
+use Rattle.formats.specs.Limits.{numbers_end}
+use Rattle.checkpointing.specs.Courses.{check_course, check_steps, checkpoint_course, logged_course, trim_course}
+use Rattle.execution.specs.Courses.{append_course, needed, unplaced_steps}
+use Rattle.script_lines.specs.Grammar.{Request}
+use Rattle.script_lines.specs.declared.line.Line.TheVariants.{Install as install, Drain as drain, Checkpoint as checkpoint, Trim as trim}
+use Rattle.store_engine.specs.Calls.{begin_course}
+use Rattle.shell_base.specs.Store.{Command}
+use Rattle.script_run.specs.Replies.{IsOver, IsUpkeep}
+use Rattle.script_run.specs.Found.{MayStop}
+use Rattle.script_run.specs.Stages.{upkeep_course}
+
+both_none : (xs ys : List ℕ) → xs ++ ys ≡ [] → (xs ≡ []) × (ys ≡ [])
+both_none [] ys none = (refl, none)
+both_none (x ∷ xs) ys none = absurd cc
+
+-- what may stop one or the other may stop both
+stop_either : (r : Request) (b : Bool) (c e : Course Command) → MayStop r c.stop → MayStop r e.stop → MayStop r (if b then c else e).stop
+stop_either r b c e first second = cond_both b c e (λ (c : Course Command). MayStop r c.stop) (λ is. first) (λ is. second)
+
+module _ (m : Meaning Command) where
+  stop_then : (r : Request) (w : World Command) (first : Course Command) (next : World Command → ℕ → Course Command) → MayStop r first.stop → ((v : World Command) (used : ℕ) → MayStop r (next v used).stop) → MayStop r (and_then m w first next).stop
+  stop_then r w first next a b =
+      let second = next (run m w first.steps) first.used in
+      behind_both (λ (c : Course Command). MayStop r c.stop) first second first.stop (λ on. b (run m w first.steps) first.used) (λ ends. a)
+
+  -- of a request that takes numbers
+  module _ (r : Request) (takes : (number : ℕ) → MayStop r (At_end number)) (over : (used need limit : ℕ) → limit < used + need → IsOver r used need limit) where
+    stop_placed : (w : World Command) (used n : ℕ) (steps : List (Step Command)) → MayStop r (placed m w used (2 ^ 48) n true steps).stop
+    stop_placed w used n steps =
+        stop_either r (nat_lt (2 ^ 48) (grown m w used n)) (course (force_steps m w) used (Full used (n + 5) (2 ^ 48)))
+        (if true && nat_le (2 ^ 62) (end_of w) then course (force_steps m w) used (At_end (end_of w)) else course steps (grown m w used n) Through) (refl, over used (n + 5) (2 ^ 48))
+        (stop_either r (true && nat_le (2 ^ 62) (end_of w)) (course (force_steps m w) used (At_end (end_of w))) (course steps (grown m w used n) Through) (takes (end_of w)) tt)
+
+    stop_identity : (x : ℕ) (w : World Command) (used : ℕ) → MayStop r (identity_course m x w used).stop
+    stop_identity x w used =
+        let n = identity_length (cached_length m w x) in
+        stop_then r w (course (room_steps m w n) used Through) (λ v used. placed m v used (2 ^ 48) n true (identity_steps m x v)) tt (λ v used. stop_placed v used n (identity_steps m x v))
+
+    stop_identities : (objects : List ℕ) (w : World Command) (used : ℕ) → MayStop r (identities m objects w used).stop
+    stop_identities [] w used = tt
+    stop_identities (x ∷ objects) w used = stop_then r w (identity_course m x w used) (λ v used. identities m objects v used) (stop_identity x w used) (λ v used. stop_identities objects v used)
+
+    stop_rounds : (copies n : ℕ) (w : World Command) (used : ℕ) → MayStop r (rounds m copies n w used).stop
+    stop_rounds copies zero w used = tt
+    stop_rounds copies (suc n) w used =
+        stop_either r (must_log m copies w) (and_then m w (identities m (others m copies w) w used) (λ v used. rounds m copies n v used)) (course (finish_steps m w) used Through)
+        (stop_then r w (identities m (others m copies w) w used) (λ v used. rounds m copies n v used) (stop_identities (others m copies w) w used) (λ v used. stop_rounds copies n v used)) tt
+
+    stop_install : (copies : ℕ) (w : World Command) (used : ℕ) → MayStop r (install_course m copies w used).stop
+    stop_install copies w used = stop_either r (has_members m w) (rounds m copies m.objects w used) (course [] used Through) (stop_rounds copies m.objects w used) tt
+
+    stop_turn : (copies : ℕ) (w : World Command) (used : ℕ) → MayStop r (drain_turn m copies w used).stop
+    stop_turn copies w used =
+        stop_either r (is_next_due m copies w) (round_course m copies (round_limit m) w used) (rounds m copies m.objects w used) tt (stop_rounds copies m.objects w used)
+
+    stop_drains : (copies n : ℕ) (w : World Command) (used : ℕ) → MayStop r (drains m copies n w used).stop
+    stop_drains copies zero w used = tt
+    stop_drains copies (suc n) w used =
+        stop_either r (has_members m w) (and_then m w (drain_turn m copies w used) (λ v used. drains m copies n v used)) (course [] used Through)
+        (stop_then r w (drain_turn m copies w used) (λ v used. drains m copies n v used) (stop_turn copies w used) (λ v used. stop_drains copies n v used)) tt
+
+  stop_check : (w : World Command) (used : ℕ) → MayStop checkpoint (check_course m w used).stop
+  stop_check w used =
+      let n = check_length m w in
+      stop_then checkpoint w (course (room_steps m w n) used Through) (logged_course m) tt
+      (λ v used.
+      let k = check_length m v in
+      stop_either checkpoint (nat_lt (2 ^ 48) (grown m v used k)) (course [] used (Full used (k + 5) (2 ^ 48))) (course check_steps (grown m v used k) Through) (refl, λ over. over) tt)
+
+  stop_checkpoint : (w : World Command) (used : ℕ) → MayStop checkpoint (checkpoint_course m w used).stop
+  stop_checkpoint w used =
+      let c = check_course m w used in
+      stop_either checkpoint (is_through c.stop) c (course (c.steps ++ force_steps m (run m w c.steps)) c.used c.stop) (stop_check w used) (stop_check w used)
+
+  stop_trim : (epoch : ℕ) (w : World Command) (used : ℕ) → MayStop trim (trim_course m epoch w used).stop
+  stop_trim epoch w used =
+      cond_both (nat_le numbers_end epoch) _ _ (λ (c : Course Command). MayStop trim c.stop) (λ worn. tt)
+      (λ left. stop_then trim w (force_course m w used) (rewrite_course m) tt
+      (λ v used. cond_both (nat_lt (2 ^ 48) (trimmed_file m v)) _ _ (λ (c : Course Command). MayStop trim c.stop)
+      (λ over. let high : 2 ^ 48 < trimmed_file m v = grind (arith, nat_tests, over) in (refl, λ more. high)) (λ fits. tt)))
+
+  -- what may stop a request's course
+  pub may_stop : (epoch copies : ℕ) (r : Request) → IsUpkeep r → (w : World Command) (used : ℕ) → MayStop r (upkeep_course epoch copies r m w used).stop
+  may_stop epoch copies install is w used = stop_install install (λ n. tt) (λ a b c more. more) copies w used
+  may_stop epoch copies drain is w used = stop_drains drain (λ n. tt) (λ a b c more. more) copies (count_below (end_of w) w.graph + dirty_in m w) w used
+  may_stop epoch copies checkpoint is w used = stop_checkpoint w used
+  may_stop epoch copies trim is w used = stop_trim epoch w used
+  may_stop epoch copies r is w used = absurd is
+
+  upkeep_check : (w : World Command) (used : ℕ) → AreUpkeep (check_course m w used).steps
+  upkeep_check w used =
+      let n = check_length m w in
+      upkeep_then m w (course (room_steps m w n) used Through) (logged_course m) (upkeep_room m w n)
+      (λ v used.
+      let k = check_length m v in
+      upkeep_either m (nat_lt (2 ^ 48) (grown m v used k)) (course [] used (Full used (k + 5) (2 ^ 48))) (course check_steps (grown m v used k) Through) tt (tt, (tt, tt)))
+
+  upkeep_checkpoint : (w : World Command) (used : ℕ) → AreUpkeep (checkpoint_course m w used).steps
+  upkeep_checkpoint w used =
+      let c = check_course m w used in
+      upkeep_either m (is_through c.stop) c (course (c.steps ++ force_steps m (run m w c.steps)) c.used c.stop) (upkeep_check w used)
+      (upkeep_append m c.steps (force_steps m (run m w c.steps)) (upkeep_check w used) (upkeep_force m (run m w c.steps)))
+
+  upkeep_trim : (epoch : ℕ) (w : World Command) (used : ℕ) → AreUpkeep (trim_course m epoch w used).steps
+  upkeep_trim epoch w used =
+      cond_both (nat_le numbers_end epoch) _ _ (λ (c : Course Command). AreUpkeep c.steps) (λ worn. tt)
+      (λ left. upkeep_then m w (force_course m w used) (rewrite_course m) (upkeep_force m w)
+      (λ v used. upkeep_either m (nat_lt (2 ^ 48) (trimmed_file m v)) (course [] used (Full used (trimmed_file m v) (2 ^ 48))) (course (Header_gate (new_base m v) ∷ []) (trimmed m v) Through) tt (tt, tt)))
+
+  -- it adds no command
+  pub are_upkeep : (epoch copies : ℕ) (r : Request) → IsUpkeep r → (w : World Command) (used : ℕ) → AreUpkeep (upkeep_course epoch copies r m w used).steps
+  are_upkeep epoch copies install is w used = upkeep_install m copies w used
+  are_upkeep epoch copies drain is w used = upkeep_drain m copies w used
+  are_upkeep epoch copies checkpoint is w used = upkeep_checkpoint w used
+  are_upkeep epoch copies trim is w used = upkeep_trim epoch w used
+  are_upkeep epoch copies r is w used = absurd is
+
+  -- steps that log no identity write
+  logged_append : (xs ys : List (Step Command)) → logged_in xs ≡ [] → logged_in ys ≡ [] → logged_in (xs ++ ys) ≡ []
+  logged_append [] ys first second = second
+  logged_append (x ∷ xs) ys first second =
+      let none = both_none (logged_by x) (logged_in xs) first in
+      ap (λ (l : List ℕ). l ++ logged_in (xs ++ ys)) none.0 ∙ logged_append xs ys none.1 second
+
+  logged_if : (b : Bool) (xs ys : List (Step Command)) → logged_in xs ≡ [] → logged_in ys ≡ [] → logged_in (if b then xs else ys) ≡ []
+  logged_if b xs ys first second = cond_both b xs ys (λ (l : List (Step Command)). logged_in l ≡ []) (λ is. first) (λ is. second)
+
+  logged_either : (b : Bool) (c e : Course Command) → logged_in c.steps ≡ [] → logged_in e.steps ≡ [] → logged_in (if b then c else e).steps ≡ []
+  logged_either b c e first second = cond_both b c e (λ (c : Course Command). logged_in c.steps ≡ []) (λ is. first) (λ is. second)
+
+  logged_then : (w : World Command) (first : Course Command) (next : World Command → ℕ → Course Command) → logged_in first.steps ≡ [] → ((v : World Command) (used : ℕ) → logged_in (next v used).steps ≡ []) → logged_in (and_then m w first next).steps ≡ []
+  logged_then w first next a b =
+      let second = next (run m w first.steps) first.used in
+      behind_both (λ (c : Course Command). logged_in c.steps ≡ []) first second first.stop (λ on. logged_append first.steps second.steps a (b (run m w first.steps) first.used)) (λ ends. a)
+
+  pub logged_force : (w : World Command) → logged_in (force_steps m w) ≡ []
+  logged_force w = logged_if (waits m w) (Block_gate ∷ []) [] refl refl
+
+  logged_room : (w : World Command) (n : ℕ) → logged_in (room_steps m w n) ≡ []
+  logged_room w n = logged_if (nat_lt (2 ^ 30) (buffered m w + n)) (force_steps m w) [] (logged_force w) refl
+
+  logged_unplaced : (grouped : Bool) (w : World Command) → logged_in (unplaced_steps m grouped w) ≡ []
+  logged_unplaced true w = refl
+  logged_unplaced false w = logged_force w
+
+  pub logged_command : (grouped : Bool) (limit : ℕ) (op : Command) (w : World Command) (used : ℕ) → logged_in (append_course m grouped limit op w used).steps ≡ []
+  logged_command grouped limit op w used =
+      let n = command_length m op in
+      let without = unplaced_steps m grouped w in
+      let none = logged_unplaced grouped w in
+      let appended = course (Append (Logged_command op) ∷ []) (grown m w used n) Through in
+      let last = course without used (At_end (end_of w)) in
+      logged_either (nat_lt limit (grown m w used n)) (course without used (Full used (needed m grouped w n) limit)) (if nat_le (2 ^ 62) (end_of w) then last else appended) none
+      (logged_either (nat_le (2 ^ 62) (end_of w)) last appended none refl)
+
+  pub logged_begin : (w : World Command) (used : ℕ) → logged_in (begin_course m w used).steps ≡ []
+  logged_begin w used = logged_append (force_steps m w) (Begin ∷ []) (logged_force w) refl
+
+  logged_check : (w : World Command) (used : ℕ) → logged_in (check_course m w used).steps ≡ []
+  logged_check w used =
+      let n = check_length m w in
+      logged_then w (course (room_steps m w n) used Through) (logged_course m) (logged_room w n)
+      (λ v used.
+      let k = check_length m v in
+      logged_either (nat_lt (2 ^ 48) (grown m v used k)) (course [] used (Full used (k + 5) (2 ^ 48))) (course check_steps (grown m v used k) Through) refl refl)
+
+  pub logged_checkpoint : (w : World Command) (used : ℕ) → logged_in (checkpoint_course m w used).steps ≡ []
+  logged_checkpoint w used =
+      let c = check_course m w used in
+      logged_either (is_through c.stop) c (course (c.steps ++ force_steps m (run m w c.steps)) c.used c.stop) (logged_check w used)
+      (logged_append c.steps (force_steps m (run m w c.steps)) (logged_check w used) (logged_force (run m w c.steps)))
+
+  pub logged_trim : (epoch : ℕ) (w : World Command) (used : ℕ) → logged_in (trim_course m epoch w used).steps ≡ []
+  logged_trim epoch w used =
+      cond_both (nat_le numbers_end epoch) _ _ (λ (c : Course Command). logged_in c.steps ≡ []) (λ worn. refl)
+      (λ left. logged_then w (force_course m w used) (rewrite_course m) (logged_force w)
+      (λ v used. logged_either (nat_lt (2 ^ 48) (trimmed_file m v)) (course [] used (Full used (trimmed_file m v) (2 ^ 48))) (course (Header_gate (new_base m v) ∷ []) (trimmed m v) Through) refl refl))

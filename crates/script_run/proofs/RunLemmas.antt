@@ -1,0 +1,707 @@
+-- How a run's moments go on from line to line.
+use Rattle.std.proofs.Common.{◌≡◌, ◌≢◌, ◌⊎◌, inl, inr, ⊎_elim, ◌≤◌, ◌<◌, ◌++◌, ◌+◌, ◌||◌, ◌↔◌, List, ℕ, [], ◌∷◌, length, take, length-append, append_assoc, refl, ap, ◌∙◌, sym, subst, arith, Bool, true, false, Contains, Option, None, Result, Ok, Err, IfOk, OnOk, OnErr, IsErr}
+use Rattle.std.specs.Prelude.{⊤}
+use Rattle.std.proofs.lemmas.List.{append-nil, take_all}
+use Rattle.std.proofs.lemmas.List.Folds.{list_any-append}
+use Rattle.std.specs.List.{flat_map, list_any}
+use Rattle.disk_model.specs.Disk.{Files, Disk, IsDisk, Passes, Runs, Same, SaysFront, LeavesOnly}
+use Rattle.disk_model.specs.Moments.{passes_none, first_call, runs_on, started, weaker}
+use Rattle.disk_model.specs.Silent.{IsSilent as IsQuiet}
+use Rattle.formats.specs.Image.{EndsAt}
+use Rattle.formats.specs.declared.params.Params.{Params}
+use Rattle.explain_core.specs.History.{commands_of}
+use Rattle.explain_core.specs.World.{World, run}
+use Rattle.standing.specs.Moments.{ShowsSome, TakesSome}
+use Rattle.standing.specs.Standing.{FilesShow}
+use Rattle.running_store.specs.Courses.{course}
+use Rattle.running_store.specs.Courses.Stop.{Through}
+use Rattle.running_store.specs.Forced.{files_shown}
+use Rattle.oper_core.specs.declared.refusal.Refusal.TheVariants.{NoObject}
+use Rattle.oper_core.specs.Meaning.{Meaning}
+use Rattle.script_lines.specs.Grammar.{Request, AsksFor}
+use Rattle.script_lines.specs.declared.line.Line.TheVariants.{Get as get, Skip as skip}
+use Rattle.script_lines.specs.Replies.{Reply, value, forced, refused, silence, said_line}
+use Rattle.op_codec.specs.AllOps.{all_meaning}
+use Rattle.store_engine.specs.Engine.{EngineView, IsAfterIn, accepted_in, forced_in, used_in}
+use Rattle.store_engine.specs.Grouping.{ungrouped}
+use Rattle.shell_base.specs.Store.{Command, meaning_in, state_of, Stands, Holds, Kept, Between}
+use Rattle.shell_base.specs.First.{Stage, stage_of}
+use Rattle.shell_base.specs.Status.{IsCut, status_after}
+use Rattle.shell_base.specs.declared.status.Status.{Status}
+use Rattle.shell_base.specs.declared.status.Status.TheVariants.{DoneWithRefusals}
+use Rattle.shell_base.specs.declared.stop.Stop.{Stop}
+use Rattle.shell_base.specs.HoldLaws.{holds_as, holds_stays, holds_between, told_by}
+use Rattle.script_run.specs.Groups.{AreWhole, Regroups, account_of, open_in, waiting}
+use Rattle.script_run.specs.Made.{IsFront}
+use Rattle.script_run.specs.Replies.{Replies, IsTrueIn, is_refusing}
+use Rattle.script_run.specs.Stages.{IsQuestion, Ends, GoesBy, Leads, AllGoBy, finish_course}
+use Rattle.script_run.specs.Answers.{IsSilent, Moment, TrueWithin, SaysTruly, with_begun, with_line}
+use Rattle.script_run.specs.Courses.{IsAtWork, StageMoment}
+use Rattle.script_run.specs.Run.{IsTrueSaying, IsTrueSoFar, IsAnswered, IsPartly, Working, During, LineMoment, LineStage, StageSoFar, MomentSoFar, Going, IsComplete, IsAnswerFound, Answering, IsRun}
+use Rattle.script_run.proofs.GroupLemmas.{AsksOnce, after_whole, none_open, whole_ended, whole_late}
+use Rattle.script_run.proofs.MomentLemmas.{Works, found_steps, images_show, worked_none, works_at_once, works_line}
+use Rattle.script_run.proofs.TrueLemmas.{truly_on, truly_quiet, line_behind, found_truly}
+use Rattle.script_run.specs.StoryLaws.{AreEven, after_commands, after_within, answers_even, ended_whole, next_in, goes_by_more, told_goes, told_truly, said_longer, Story, story_more, story_end, said_more, spoken_more, told_whole, told_silent, told_partly}
+use Rattle.script_run.specs.StartLaws.{AreFew, moment_of, moment_at, first_moment}
+
+-- the story so far
+abbrev story_of : {p : Params} {first : Stage} {start now : Disk} {engine : EngineView} {commands : List Command} {script todo : List (List ℕ)} {refusing : Bool}
+    → (g : Going p first start now engine commands script todo refusing) → Story p commands script todo g.replies g.waits g.account
+story_of g = record { lines = g.lines; script_is = g.script_is; answers = g.answers }
+
+-- what a moment between these has of the account splits no group
+whole_at : {p : Params} {first : Stage} {start now : Disk} {engine : EngineView} {commands : List Command} {script todo : List (List ℕ)} {refusing : Bool} (g : Going p first start now engine commands script todo refusing) (kept : ℕ)
+    → (kept ≡ forced_in engine) ⊎ ((engine.group ≡ None) × (length g.account.commands ≤ kept)) → AreWhole kept g.account
+whole_at {engine = engine} g kept which = ⊎_elim
+    (λ (same : kept ≡ forced_in engine). subst (λ (k : ℕ). AreWhole k g.account) (sym same) g.whole)
+    (λ (late : (engine.group ≡ None) × (length g.account.commands ≤ kept)). whole_late kept g.account late.1 g.ends_within (g.group ∙ none_open g.holds.shows late.0))
+    which
+
+-- while the engine works, the story is that of the lines before, with some first commands of the next
+working_moment : AreFew → {p : Params} {first : Stage} {start now : Disk} {engine : EngineView} {commands : List Command} {script todo : List (List ℕ)} {refusing : Bool} (line : List ℕ)
+    (g : Going p first start now engine commands script (line ∷ todo) refusing) → (f : Files) (s : List ℕ) → Working p now engine g.account.commands line f s → MomentSoFar p commands script start.said f s
+working_moment few {p} {first} {start} {now} {engine} {commands} {script} {todo} line g f s w =
+    let b = w.between in
+    let c = g.account.commands in
+    let silent : IsSilent p c (line ∷ todo) w.added = ⊎_elim (λ (none : w.added ≡ []). inl none) (λ (front : IsFront p c line w.added). inr (line, todo, refl, front)) w.front in
+    moment_of few start.said (flat_map said_line g.replies) f s b.kept (told_silent (IsTrueIn p f) w.added (story_of g) silent) (b.quiet ∙ g.said_is) (omega (arith, g.all_before, b.enough))
+    b.within (whole_at g b.kept b.which) b.stands (λ n has. omega (arith, g.acked n has, b.enough))
+
+-- while an answer is said, it has begun, or is whole
+during_moment : AreFew → {p : Params} {first : Stage} {start now : Disk} {engine : EngineView} {commands : List Command} {script todo : List (List ℕ)} {refusing : Bool} (line : List ℕ)
+    (g : Going p first start now engine commands script (line ∷ todo) refusing) → (f : Files) (s : List ℕ) → During p now engine g.account.group g.account.commands line f s → MomentSoFar p commands script start.said f s
+during_moment few {p} {first} {start} {now} {engine} {commands} {script} line g f s d =
+    moment_of few start.said (flat_map said_line g.replies ++ take d.count (said_line d.reply)) f s d.kept
+    (told_partly (IsTrueIn p f) line d.reply d.added d.count (story_of g) d.replies d.tied)
+    (d.said_is ∙ ap (λ (l : List ℕ). l ++ take d.count (said_line d.reply)) g.said_is ∙ append_assoc start.said (flat_map said_line g.replies) _)
+    (omega (arith, g.all_before, d.enough)) d.within (whole_at g d.kept d.which) d.stands
+    (λ n has. ⊎_elim (λ (h : Contains g.replies (forced n)). omega (arith, g.acked n h, d.enough)) (λ (h : d.reply ≡ forced n). d.acked n h) (spoken_more g.replies d.reply n has))
+
+line_moment : AreFew → {p : Params} {first : Stage} {start now : Disk} {engine : EngineView} {commands : List Command} {script todo : List (List ℕ)} {refusing : Bool} (line : List ℕ)
+    (g : Going p first start now engine commands script (line ∷ todo) refusing) → (f : Files) (s : List ℕ) → LineMoment p now engine (open_in g.holds.world) g.account.commands line f s → MomentSoFar p commands script start.said f s
+line_moment few {p} {now = now} {engine = engine} line g f s here = ⊎_elim (working_moment few line g f s)
+    (λ (d : During p now engine (open_in g.holds.world) g.account.commands line f s). during_moment few line g f s (subst (λ (o : Option ℕ). During p now engine o g.account.commands line f s) (sym g.group) d)) here
+
+-- while the group is closed and the log forced, the story is that of all lines
+finish_moment : AreFew → {p : Params} {first : Stage} {start now : Disk} {engine : EngineView} {commands : List Command} {script : List (List ℕ)} {refusing : Bool}
+    (g : Going p first start now engine commands script [] refusing) → (f : Files) (s : List ℕ) → Between p now None (forced_in engine) (length g.account.commands) g.account.commands f s → Moment p commands script start.said f s
+finish_moment few {p} {first} {start} {now} {engine} {commands} {script} g f s b =
+    let c = g.account.commands in
+    let all : c ++ [] ≡ c = append-nil c in
+    moment_at few start.said (flat_map said_line g.replies) f s b.kept (record {
+      lines = g.lines;
+      todo = [];
+      replies = g.replies;
+      waits = g.waits;
+      account = g.account;
+      part = [];
+      added = [];
+      script_is = g.script_is;
+      said_is = sym (append-nil (flat_map said_line g.replies));
+      answers = g.answers;
+      work = inl (refl, inl refl);
+    }) (b.quiet ∙ g.said_is) (omega (arith, g.all_before, b.enough)) (omega (arith, b.within, ap length all))
+    (⊎_elim (λ (same : b.kept ≡ forced_in engine). ended_whole b.kept [] g.account (subst (λ (k : ℕ). AreWhole k g.account) (sym same) g.whole))
+    (whole_ended b.kept g.account g.ends_within) b.which)
+    (subst (λ (l : List Command). Stands p f (take b.kept l)) (sym all) b.stands) (λ n has. omega (arith, g.acked n has, b.enough))
+
+some_left : (line : List ℕ) (todo : List (List ℕ)) → line ∷ todo ≡ [] → ⊥
+some_left line todo none = cc
+
+-- what is done while a line is answered is a moment of the stages
+stage_line : {p : Params} {first : Stage} {start now : Disk} {engine : EngineView} {commands : List Command} {script todo : List (List ℕ)} {refusing : Bool} (line : List ℕ)
+    (g : Going p first start now engine commands script (line ∷ todo) refusing) → (f : Files) (s : List ℕ) → LineStage p (stage_of engine g.holds.world) now.said line f s → StageSoFar p first script start.said f s
+stage_line {p} {first} {start} {now} {engine} {commands} {script} {todo} line g f s (inl b) = record {
+  is = record {
+    lines = g.lines;
+    todo = line ∷ todo;
+    replies = g.replies;
+    part = [];
+    stage = stage_of engine g.holds.world;
+    script_is = g.script_is;
+    said_is = b.silent ∙ g.said_is ∙ sym (append-nil (start.said ++ flat_map said_line g.replies));
+    goes = g.goes;
+    work = inl (refl, record { its = b.holds.its; due = b.holds.due; shows = b.holds.shows });
+  };
+  waiting = λ none. absurd (some_left line todo none);
+}
+stage_line {p} {first} {start} {now} {engine} {commands} {script} {todo} line g f s (inr b) = record {
+  is = record {
+    lines = g.lines;
+    todo = line ∷ todo;
+    replies = g.replies;
+    part = b.0;
+    stage = stage_of engine g.holds.world;
+    script_is = g.script_is;
+    said_is = b.1 ∙ ap (λ (l : List ℕ). l ++ b.0) g.said_is;
+    goes = g.goes;
+    work = inr (line, todo, refl, b.2);
+  };
+  waiting = λ none. absurd (some_left line todo none);
+}
+
+courses_more : {p : Params} {first : Stage} {start now new : Disk} {engine after : EngineView} {commands : List Command} {script todo : List (List ℕ)} {refusing : Bool} {result : Result Bool Stop} (line : List ℕ)
+    (g : Going p first start now engine commands script (line ∷ todo) refusing) → Passes start now → Answering p now new engine after g.holds.world g.account.commands line result
+    → start.tells_moments → LeavesOnly start new (StageSoFar p first script start.said)
+courses_more {p} {first} {start} {now} {new} {engine} {after} {commands} {script} {todo} {refusing} {result} line g time a told =
+    runs_on start now new (StageSoFar p first script start.said) (g.steps told)
+    (weaker now new (LineStage p (stage_of engine g.holds.world) now.said line) (StageSoFar p first script start.said) (a.steps (time.moments_told.0 told)) (stage_line line g))
+
+-- so far is a moment
+told_so_far : {p : Params} {first : Stage} {start now : Disk} {script : List (List ℕ)} → LeavesOnly start now (StageSoFar p first script start.said) → LeavesOnly start now (StageMoment p first script start.said)
+told_so_far {p} {first} {start} {now} {script} leaves = weaker start now (StageSoFar p first script start.said) (StageMoment p first script start.said) leaves (λ f s m. m.is)
+
+-- the end of an open group and the force after the last line
+stage_finish : {p : Params} {first : Stage} {start now : Disk} {engine : EngineView} {commands : List Command} {script : List (List ℕ)} {refusing : Bool} (g : Going p first start now engine commands script [] refusing)
+    → (f : Files) (s : List ℕ) → IsQuiet (ShowsSome (meaning_in p) p g.holds.world (finish_course (meaning_in p) g.holds.world (used_in engine)).steps) now.said f s → StageMoment p first script start.said f s
+stage_finish {p} {first} {start} {now} {engine} {commands} {script} g f s b = record {
+  lines = g.lines;
+  todo = [];
+  replies = g.replies;
+  part = [];
+  stage = stage_of engine g.holds.world;
+  script_is = g.script_is;
+  said_is = b.silent ∙ g.said_is ∙ sym (append-nil (start.said ++ flat_map said_line g.replies));
+  goes = g.goes;
+  work = inl (refl, record { its = finish_course (meaning_in p) g.holds.world (used_in engine); due = refl; shows = b.holds });
+}
+
+-- at the start nothing is done
+abbrev pub stage_start : {p : Params} {start : Disk} {engine : EngineView} {commands : List Command} (script : List (List ℕ)) → IsDisk start → (holds : Holds p start engine commands) → start.tells_moments → (f : Files) (s : List ℕ) → start.left_since start.clock f s
+    → StageSoFar p (stage_of engine holds.world) script start.said f s
+stage_start {p} {start} {engine} {commands} script lawful holds told f s left =
+    let shows : FilesShow (meaning_in p) p f holds.world = images_show holds.shows told f s left in
+    record {
+      is = record {
+        lines = [];
+        todo = script;
+        replies = [];
+        part = [];
+        stage = stage_of engine holds.world;
+        script_is = refl;
+        said_is = lawful.said_now told f s left ∙ sym (append-nil start.said) ∙ sym (append-nil (start.said ++ []));
+        goes = refl;
+        work = inl (refl, worked_none p (stage_of engine holds.world) script f shows);
+      };
+      waiting = λ none. (refl, shows);
+    }
+
+-- one line more is to come
+work_longer : (p : Params) (stage : Stage) (line part : List ℕ) (f : Files) (todo : List (List ℕ)) → (todo ≡ [] → (part ≡ []) × FilesShow (meaning_in p) p f stage.world) → IsAtWork p stage todo part f → IsAtWork p stage (todo ++ line ∷ []) part f
+work_longer p stage line part f [] waits work = inl ((waits refl).0, worked_none p stage (line ∷ []) f (waits refl).1)
+work_longer p stage line part f (next ∷ rest) waits (inl work) = inl (work.0, record { its = work.1.its; due = work.1.due; shows = work.1.shows })
+work_longer p stage line part f (next ∷ rest) waits (inr work) = inr (work.0, work.1 ++ line ∷ [], ap (λ (l : List (List ℕ)). l ++ line ∷ []) work.2, work.3)
+
+pub stage_longer : {p : Params} {first : Stage} {script : List (List ℕ)} {before : List ℕ} (line : List ℕ) (f : Files) (s : List ℕ) → StageSoFar p first script before f s → StageSoFar p first (script ++ line ∷ []) before f s
+stage_longer {p} line f s m = record {
+  is = record {
+    lines = m.is.lines;
+    todo = m.is.todo ++ line ∷ [];
+    replies = m.is.replies;
+    part = m.is.part;
+    stage = m.is.stage;
+    script_is = ap (λ (l : List (List ℕ)). l ++ line ∷ []) m.is.script_is ∙ append_assoc m.is.lines m.is.todo (line ∷ []);
+    said_is = m.is.said_is;
+    goes = m.is.goes;
+    work = work_longer p m.is.stage line m.is.part f m.is.todo m.waiting m.is.work;
+  };
+  waiting = λ none. absurd (omega (arith, ap (λ (l : List (List ℕ)). length l) none, length-append m.is.todo (line ∷ [])));
+}
+
+-- the moments of a run, one line further
+moments_more : AreFew → {p : Params} {first : Stage} {start now new : Disk} {engine after : EngineView} {commands : List Command} {script todo : List (List ℕ)} {refusing : Bool} {result : Result Bool Stop} (line : List ℕ)
+    (g : Going p first start now engine commands script (line ∷ todo) refusing) → Passes start now → Answering p now new engine after g.holds.world g.account.commands line result
+    → start.tells_moments → LeavesOnly start new (MomentSoFar p commands script start.said)
+moments_more few {p} {first} {start} {now} {new} {engine} {after} {commands} {script} {todo} {refusing} {result} line g time a told =
+    runs_on start now new (MomentSoFar p commands script start.said) (g.images told)
+    (weaker now new (LineMoment p now engine (open_in g.holds.world) g.account.commands line) (MomentSoFar p commands script start.said) (a.images (time.moments_told.0 told)) (line_moment few line g))
+
+-- a moment so far is a moment
+moments_so_far : {p : Params} {start now : Disk} {commands : List Command} {script : List (List ℕ)} → LeavesOnly start now (MomentSoFar p commands script start.said) → LeavesOnly start now (Moment p commands script start.said)
+moments_so_far {p} {start} {now} {commands} {script} leaves = weaker start now (MomentSoFar p commands script start.said) (Moment p commands script start.said) leaves (λ f s m. m.is)
+
+acked_more : (replies : List Reply) (reply : Reply) (least kept : ℕ) → ((n : ℕ) → Contains replies (forced n) → n ≤ least) → least ≤ kept
+    → ((n : ℕ) → reply ≡ forced n → n ≤ kept) → (n : ℕ) → Contains (replies ++ reply ∷ []) (forced n) → n ≤ kept
+acked_more replies reply least kept before le here n has =
+    ⊎_elim (λ (h : Contains replies (forced n)). omega (arith, before n h, le)) (λ (h : reply ≡ forced n). here n h) (spoken_more replies reply n has)
+
+kind_more : (refusing kind : Bool) (replies : List Reply) (reply : Reply) → refusing ≡ list_any is_refusing replies → kind ≡ is_refusing reply → (refusing || kind) ≡ list_any is_refusing (replies ++ reply ∷ [])
+kind_more refusing kind replies reply before here = grind (arith, before, here, list_any-append is_refusing replies (reply ∷ []))
+
+-- there are as many answers as lines
+even_of : {p : Params} {first : Stage} {start now : Disk} {engine : EngineView} {commands : List Command} {script todo : List (List ℕ)} {refusing : Bool}
+    (g : Going p first start now engine commands script todo refusing) → AreEven g.lines g.replies g.waits
+even_of {p} {commands = commands} g = answers_even p (account_of commands) g.lines g.replies g.waits g.account g.answers
+
+-- what is replied, by the group of the account
+abbrev replies_in : {p : Params} {first : Stage} {start now : Disk} {engine : EngineView} {commands : List Command} {script todo : List (List ℕ)} {refusing : Bool} (g : Going p first start now engine commands script todo refusing) (line : List ℕ) (reply : Reply) (added : List Command)
+    → Replies p (open_in g.holds.world) g.account.commands line reply added → Replies p g.account.group g.account.commands line reply added
+replies_in {p} g line reply added replies = subst (λ (o : Option ℕ). Replies p o g.account.commands line reply added) (sym g.group) replies
+
+abbrev truly_in : {p : Params} {first : Stage} {start now : Disk} {engine : EngineView} {commands : List Command} {script todo : List (List ℕ)} {refusing : Bool} (g : Going p first start now engine commands script todo refusing) (old new : Disk) (line : List ℕ) (reply : Reply) (added : List Command)
+    → LeavesOnly old new (IsTrueSaying p old.said (waiting (open_in g.holds.world) (g.account.commands ++ added)) line reply) → LeavesOnly old new (IsTrueSaying p old.said (waiting g.account.group (g.account.commands ++ added)) line reply)
+truly_in {p} g old new line reply added truly = subst (λ (o : Option ℕ). LeavesOnly old new (IsTrueSaying p old.said (waiting o (g.account.commands ++ added)) line reply)) (sym g.group) truly
+
+-- The run is one line further, which was answered.
+pub record GoneOn {p : Params} {first : Stage} {start now new : Disk} {engine after : EngineView} {commands : List Command} {script todo : List (List ℕ)} {refusing kind : Bool} (line : List ℕ) (g : Going p first start now engine commands script (line ∷ todo) refusing)
+    (whole : IsAnswered p now new engine after g.holds.world g.account.commands line kind) : Type 0 where
+  pub later : Going p first start new after commands script todo (refusing || kind)
+  pub lines_are : later.lines ≡ g.lines ++ line ∷ []
+  pub replies_are : later.replies ≡ g.replies ++ whole.reply ∷ []
+  pub commands_are : later.account.commands ≡ g.account.commands ++ whole.added
+  pub world_is : later.holds.world ≡ whole.kept.holds.world
+
+pub gone_on : AreFew → AsksOnce → {p : Params} {first : Stage} {start now new : Disk} {engine after : EngineView} {commands : List Command} {script todo : List (List ℕ)} {refusing kind : Bool} {result : Result Bool Stop} (line : List ℕ)
+    (g : Going p first start now engine commands script (line ∷ todo) refusing) → Passes start now → Answering p now new engine after g.holds.world g.account.commands line result
+    → (whole : IsAnswered p now new engine after g.holds.world g.account.commands line kind) → GoneOn line g whole
+gone_on few once {p} {first} {start} {now} {new} {engine} {after} {commands} {script} {todo} {refusing} {kind} {result} line g time a whole =
+    let a0 = g.account in
+    let reply = whole.reply in
+    let added = whole.added in
+    let replies = replies_in g line reply added whole.replies in
+    let next = next_in a0 line reply added (open_in whole.kept.holds.world) (subst (λ (o : Option ℕ). Regroups line reply a0.commands o (open_in whole.kept.holds.world)) (sym g.group) whole.regroups) in
+    let b = next.account in
+    let commands_are : b.commands ≡ a0.commands ++ added = after_commands a0 line reply added b next.after in
+    let story = story_more line reply added b (story_of g) replies next.after in
+    let ops = waiting a0.group (a0.commands ++ added) in
+    let which : (forced_in after ≡ forced_in engine) ⊎ ((engine.group ≡ None) × (length a0.commands ≤ forced_in after)) = ⊎_elim (λ (same : forced_in after ≡ forced_in engine). inl same)
+    (λ (later : (engine.group ≡ None) × (accepted_in engine ≤ forced_in after)). inr (later.0, omega (arith, later.1, g.holds.says.accepted))) whole.kept.which in
+    record {
+      later = record {
+        lines = story.lines;
+        replies = g.replies ++ reply ∷ [];
+        waits = g.waits ++ ops ∷ [];
+        account = b;
+        script_is = story.script_is;
+        said_is = whole.said ∙ ap (λ (l : List ℕ). l ++ said_line reply) g.said_is ∙ append_assoc start.said (flat_map said_line g.replies) (said_line reply)
+            ∙ ap (λ (l : List ℕ). start.said ++ l) (sym (said_more g.replies reply));
+        answers = story.answers;
+        holds = holds_as (sym commands_are) whole.kept.holds;
+        group = next.group_is;
+        whole = after_whole once p (forced_in after) a0 line reply added b replies next.after (whole_at g (forced_in after) which) whole.kept.holds.says.forced;
+        ends_within = after_within a0 line reply added b next.after g.ends_within;
+        all_before = omega (arith, g.all_before, whole.kept.rising);
+        acked = acked_more g.replies reply (forced_in engine) (forced_in after) g.acked whole.kept.rising whole.acked;
+        kind = kind_more refusing kind g.replies reply g.kind whole.kind;
+        images = moments_more few line g time a;
+        truly = λ told. subst (λ (l : List ℕ). LeavesOnly start new (IsTrueSoFar p start.said story.lines (g.replies ++ reply ∷ []) (g.waits ++ ops ∷ []) l)) (sym whole.said)
+            (truly_on ops line reply (even_of g) (g.truly told) g.said_is (truly_in g now new line reply added (whole.truly (time.moments_told.0 told))));
+        goes = goes_by_more p first (stage_of engine g.holds.world) (stage_of after whole.kept.holds.world) g.lines g.replies line reply g.goes whole.leads;
+        steps = courses_more line g time a;
+      };
+      lines_are = refl;
+      replies_are = refl;
+      commands_are = commands_are;
+      world_is = refl;
+    }
+
+pub goes_on : AreFew → AsksOnce → {p : Params} {first : Stage} {start now new : Disk} {engine after : EngineView} {commands : List Command} {script todo : List (List ℕ)} {refusing kind : Bool} {result : Result Bool Stop} (line : List ℕ)
+    (g : Going p first start now engine commands script (line ∷ todo) refusing) → Passes start now → result ≡ Ok kind → Answering p now new engine after g.holds.world g.account.commands line result
+    → Going p first start new after commands script todo (refusing || kind)
+goes_on few once {p} {first} {start} {now} {new} {engine} {after} line g time is a =
+    (gone_on few once line g time a (subst (λ (r : Result Bool Stop). IfOk r (IsAnswered p now new engine after g.holds.world g.account.commands line)) is a.whole)).later
+
+-- a store is open: nothing is said, and the whole script is still to be answered
+abbrev pub opened : AreFew → {p : Params} {start : Disk} {engine : EngineView} {commands : List Command} (script : List (List ℕ)) → IsDisk start → (holds : Holds p start engine commands)
+    → forced_in engine ≡ length commands → engine.group ≡ None → Going p (stage_of engine holds.world) start start engine commands script script false
+opened few {p} {start} {engine} {commands} script lawful holds all alone = record {
+  lines = [];
+  replies = [];
+  waits = [];
+  account = account_of commands;
+  script_is = refl;
+  said_is = sym (append-nil start.said);
+  answers = refl;
+  holds = holds;
+  group = sym (none_open holds.shows alone);
+  whole = record { closed = tt; group = tt };
+  ends_within = tt;
+  all_before = omega (arith, all);
+  acked = λ n has. absurd (omega (arith, has.1));
+  kind = refl;
+  images = λ told. weaker start start (Between p start engine.group (forced_in engine) (length commands) commands) (MomentSoFar p commands script start.said) (holds_between lawful holds told)
+      (λ f s b. first_moment few script f s (subst (λ (n : ℕ). Between p start engine.group n (length commands) commands f s) all b));
+  truly = λ told. weaker start start (Between p start engine.group (forced_in engine) (length commands) commands) (IsTrueSoFar p start.said [] [] [] start.said) (holds_between lawful holds told)
+      (λ f s b. record { true_within = tt; no_longer = omega (arith, ap length b.quiet) });
+  goes = refl;
+  steps = λ told. started start (StageSoFar p (stage_of engine holds.world) script start.said) (stage_start script lawful holds told);
+}
+
+-- What a run said is the answers to these lines, the last one begun or whole, with these commands after them all; the lines that
+-- were taken begin with these and the next ones.
+pub record IsTold (p : Params) (first : Stage) (commands : List Command) (script : List (List ℕ)) (start new : Disk) (lines : List (List ℕ)) (replies : List Reply) (every : List Command) (next : List (List ℕ)) : Type 0 where
+  pub truly : SaysTruly p first commands script start new
+  pub lines_are : with_line truly.says.story.lines truly.says.story.work ≡ lines
+  pub replies_are : with_begun truly.says.story.replies truly.says.story.work ≡ replies
+  pub all : truly.says.story.account.commands ++ truly.says.story.added ≡ every
+  pub rest : List (List ℕ)
+  pub taken_are : with_line truly.says.story.lines truly.says.story.work ++ take 1 truly.says.story.todo ≡ (lines ++ next) ++ rest
+
+-- what a run says that ends between two lines
+told_so_far_by : {p : Params} {first : Stage} {start now : Disk} {engine : EngineView} {commands : List Command} {script todo : List (List ℕ)} {refusing : Bool} {new : Disk} (next rest : List (List ℕ)) → take 1 todo ≡ next ++ rest
+    → (g : Going p first start now engine commands script todo refusing) → new.said ≡ now.said → (start.tells_moments → LeavesOnly start new (TrueWithin p start.said g.lines g.replies g.waits))
+    → IsTold p first commands script start new g.lines g.replies g.account.commands next
+told_so_far_by {p} {first} {start} {now} {engine} {new = new} next rest is g quiet truly = let all = told_whole (λ ops line reply. ⊤) (story_of g) in record {
+  truly = record {
+    says = record { bytes = flat_map said_line g.replies; since = quiet ∙ g.said_is; story = all.story };
+    truly = λ told. told_truly start new start.said all (truly told);
+    last = stage_of engine g.holds.world;
+    goes = told_goes first (stage_of engine g.holds.world) all g.goes;
+  };
+  lines_are = all.lines_are;
+  replies_are = all.with_last;
+  all = all.all;
+  rest = rest;
+  taken_are = ap (λ (l : List (List ℕ)). g.lines ++ l) is ∙ sym (append_assoc g.lines next rest);
+}
+
+pub told_here : {p : Params} {first : Stage} {start now : Disk} {engine : EngineView} {commands : List Command} {script todo : List (List ℕ)} {refusing : Bool}
+    → (g : Going p first start now engine commands script todo refusing) → IsTold p first commands script start now g.lines g.replies g.account.commands []
+told_here {p} {start = start} {now = now} {todo = todo} g =
+    told_so_far_by [] (take 1 todo) refl g refl (λ told. weaker start now (IsTrueSoFar p start.said g.lines g.replies g.waits now.said) (TrueWithin p start.said g.lines g.replies g.waits) (g.truly told) (λ files said t. t.true_within))
+
+-- a run that ends between two lines
+pub ends_here : {p : Params} {first : Stage} {start now : Disk} {engine : EngineView} {commands : List Command} {script todo : List (List ℕ)} {refusing : Bool} {status : Status}
+    → Going p first start now engine commands script todo refusing → IsRun p first start now commands script status
+ends_here g = record {
+  says = (told_here g).truly;
+  images = λ told. moments_so_far (g.images told);
+  steps = λ told. told_so_far (g.steps told);
+  unclosed = λ cut told. g.images told;
+}
+
+-- one that ends while a line is answered, of which nothing is said, or a beginning of its answer
+module _ {p : Params} {first : Stage} {start now new : Disk} {engine after : EngineView} {commands : List Command} {script todo : List (List ℕ)} {refusing : Bool} {result : Result Bool Stop} (line : List ℕ)
+    (g : Going p first start now engine commands script (line ∷ todo) refusing) (time : Passes start now) (a : Answering p now new engine after g.holds.world g.account.commands line result) where
+  pub told_quiet : new.said ≡ now.said → IsTold p first commands script start new g.lines g.replies g.account.commands (line ∷ [])
+  told_quiet quiet = told_so_far_by (line ∷ []) [] refl g quiet (λ told. truly_quiet (even_of g) (g.truly told) g.said_is (a.images (time.moments_told.0 told)) line_behind)
+
+  pub told_begun : (part : IsPartly p now new (stage_of engine g.holds.world) g.account.commands line) → IsTold p first commands script start new (g.lines ++ line ∷ []) (g.replies ++ part.reply ∷ []) (g.account.commands ++ part.added) []
+  told_begun part =
+      let a0 = g.account in
+      let ops = waiting a0.group (a0.commands ++ part.added) in
+      let told_part = told_partly (λ ops line reply. ⊤) line part.reply part.added part.count (story_of g) (replies_in g line part.reply part.added part.replies) tt in
+      record {
+        truly = record {
+          says = record {
+            bytes = flat_map said_line g.replies ++ take part.count (said_line part.reply);
+            since = part.said_is ∙ ap (λ (l : List ℕ). l ++ take part.count (said_line part.reply)) g.said_is ∙ append_assoc start.said (flat_map said_line g.replies) _;
+            story = told_part.story;
+          };
+          truly = λ told. told_truly start new start.said told_part
+              (weaker start new (IsTrueSoFar p start.said (g.lines ++ line ∷ []) (g.replies ++ part.reply ∷ []) (g.waits ++ ops ∷ []) (now.said ++ said_line part.reply))
+              (TrueWithin p start.said (g.lines ++ line ∷ []) (g.replies ++ part.reply ∷ []) (g.waits ++ ops ∷ []))
+              (truly_on ops line part.reply (even_of g) (g.truly told) g.said_is (truly_in g now new line part.reply part.added (part.truly (time.moments_told.0 told)))) (λ files said t. t.true_within));
+          last = part.after;
+          goes = told_goes first part.after told_part (goes_by_more p first (stage_of engine g.holds.world) part.after g.lines g.replies line part.reply g.goes part.leads);
+        };
+        lines_are = told_part.lines_are;
+        replies_are = told_part.with_last;
+        all = told_part.all;
+        rest = take 1 told_part.story.todo;
+        taken_are = ap (λ (l : List (List ℕ)). l ++ take 1 told_part.story.todo) (told_part.lines_are ∙ sym (append-nil (g.lines ++ line ∷ [])));
+      }
+
+pub ends_in_line : AreFew → {p : Params} {first : Stage} {start now new : Disk} {engine after : EngineView} {commands : List Command} {script todo : List (List ℕ)} {refusing : Bool} {result : Result Bool Stop} {stop : Stop} {status : Status} (line : List ℕ)
+    (g : Going p first start now engine commands script (line ∷ todo) refusing) → Passes start now → result ≡ Err stop → Answering p now new engine after g.holds.world g.account.commands line result → IsRun p first start new commands script status
+ends_in_line few {p} {first} {start} {now} {new} {engine} {after} {commands} {script} {todo} {refusing} {result} {stop} line g time is a = record {
+  says = ⊎_elim
+      (λ (quiet : new.said ≡ now.said). (told_quiet line g time a quiet).truly)
+      (λ (part : IsPartly p now new (stage_of engine g.holds.world) g.account.commands line). (told_begun line g time a part).truly)
+      (subst (λ (r : Result Bool Stop). OnErr r ((new.said ≡ now.said) ⊎ IsPartly p now new (stage_of engine g.holds.world) g.account.commands line)) is a.partly);
+  images = λ told. moments_so_far (moments_more few line g time a told);
+  steps = λ told. told_so_far (courses_more line g time a told);
+  unclosed = λ cut told. moments_more few line g time a told;
+}
+
+-- one that ends in the last force, or after it
+pub told_finish : {p : Params} {first : Stage} {start now new : Disk} {engine : EngineView} {commands : List Command} {script : List (List ℕ)} {refusing : Bool} (g : Going p first start now engine commands script [] refusing) → Passes start now → new.said ≡ now.said
+    → (now.tells_moments → LeavesOnly now new (Between p now None (forced_in engine) (length g.account.commands) g.account.commands)) → IsTold p first commands script start new g.lines g.replies g.account.commands []
+told_finish g time quiet images = told_so_far_by [] [] refl g quiet (λ told. truly_quiet (even_of g) (g.truly told) g.said_is (images (time.moments_told.0 told)) (λ files said b. omega (arith, ap length b.quiet)))
+
+pub ends_in_finish : AreFew → {p : Params} {first : Stage} {start now new : Disk} {engine : EngineView} {commands : List Command} {script : List (List ℕ)} {refusing : Bool} {status : Status} → (IsCut status → ⊥)
+    → (g : Going p first start now engine commands script [] refusing) → Passes start now → new.said ≡ now.said
+    → (now.tells_moments → LeavesOnly now new (Between p now None (forced_in engine) (length g.account.commands) g.account.commands))
+    → (now.tells_moments → TakesSome (meaning_in p) p now new g.holds.world (finish_course (meaning_in p) g.holds.world (used_in engine)).steps) → IsRun p first start new commands script status
+ends_in_finish few {p} {first} {start} {now} {new} {engine} {commands} {script} uncut g time quiet images takes = record {
+  says = (told_finish g time quiet images).truly;
+  images = λ told. runs_on start now new (Moment p commands script start.said) (moments_so_far (g.images told))
+      (weaker now new (Between p now None (forced_in engine) (length g.account.commands) g.account.commands) (Moment p commands script start.said) (images (time.moments_told.0 told)) (finish_moment few g));
+  steps = λ told. runs_on start now new (StageMoment p first script start.said) (told_so_far (g.steps told))
+      (weaker now new (IsQuiet (ShowsSome (meaning_in p) p g.holds.world (finish_course (meaning_in p) g.holds.world (used_in engine)).steps) now.said) (StageMoment p first script start.said) (takes (time.moments_told.0 told)) (stage_finish g));
+  unclosed = λ cut told. absurd (uncut cut);
+}
+
+tells : (refusing any : Bool) → refusing ≡ any → (status_after (Ok refusing) ≡ DoneWithRefusals) ↔ (any ≡ true)
+tells true any is = (λ e. sym is, λ e. refl)
+tells false any is = (λ e. cc, λ e. cc (e, is))
+
+-- the end of a whole run
+pub completes : {p : Params} {first : Stage} {start now new : Disk} {engine after : EngineView} {commands : List Command} {script : List (List ℕ)} {refusing : Bool}
+    (g : Going p first start now engine commands script [] refusing) → new.said ≡ now.said → forced_in after ≡ length g.account.commands → Holds p new after g.account.commands
+    → after.parts.log.log.pending ≡ [] → IsAfterIn all_meaning p new after g.holds.world (finish_course (meaning_in p) g.holds.world (used_in engine))
+    → IsComplete p first start new commands script (status_after (Ok refusing))
+completes {p} {first} {start} {now} {new} {engine} {after} {commands} {script} {refusing} g quiet all holds emptied taken =
+    let c = g.account.commands in
+    let whole : take (forced_in after) c ≡ c = take_all (forced_in after) c (omega (arith, all)) in
+    let images = holds.says.images in
+    record {
+      replies = g.replies;
+      waits = g.waits;
+      account = g.account;
+      answers = story_end (story_of g) refl;
+      said_is = quiet ∙ g.said_is;
+      stands = (
+        subst (λ (l : List Command). Stands p new.reads l) whole images.0,
+        λ told f s left. subst (λ (l : List Command). Stands p f l) whole (images.1 told f s left),
+      );
+      settled = holds.shows.shows.log.keeps.settled;
+      refusals = tells refusing (list_any is_refusing g.replies) g.kind;
+      last = stage_of engine g.holds.world;
+      shows = files_shown (meaning_in p) p new after.parts (ungrouped (run (meaning_in p) g.holds.world (finish_course (meaning_in p) g.holds.world (used_in engine)).steps)) taken.shows.shows;
+      ends_last = subst (λ (n : ℕ). EndsAt new.reads n) taken.used (holds.says.none_waits emptied).1.0;
+      goes = subst (λ (l : List (List ℕ)). AllGoBy p first l g.replies (stage_of engine g.holds.world)) (sym (g.script_is ∙ append-nil g.lines)) g.goes;
+    }
+
+-- the lines that are left
+pub goes_to : {p : Params} {first : Stage} {start now : Disk} {engine : EngineView} {commands : List Command} {script todo : List (List ℕ)} {refusing : Bool} (rest : List (List ℕ))
+    → Going p first start now engine commands script todo refusing → todo ≡ rest → Going p first start now engine commands script rest refusing
+goes_to {p} {first} {start} {now} {engine} {commands} {script} {todo} {refusing} rest g is = subst (λ (l : List (List ℕ)). Going p first start now engine commands script l refusing) is g
+
+-- a moment at which no command was added
+abbrev pub works_quietly : {p : Params} {old : Disk} {before : EngineView} {commands : List Command} {line : List ℕ} {f : Files} {s : List ℕ} → Between p old before.group (forced_in before) (length commands) commands f s
+    → Working p old before commands line f s
+works_quietly {p} {old} {before} {commands} {line} {f} {s} b = record {
+  added = [];
+  front = inl refl;
+  between = subst (λ (l : List Command). Between p old before.group (forced_in before) (length commands) l f s) (sym (append-nil commands)) b;
+}
+
+pub works_none : {p : Params} {old mid : Disk} {before : EngineView} {commands : List Command} {line : List ℕ} → (old.tells_moments → LeavesOnly old mid (Between p old before.group (forced_in before) (length commands) commands))
+    → old.tells_moments → LeavesOnly old mid (Working p old before commands line)
+works_none {p} {old} {mid} {before} {commands} {line} images told =
+    weaker old mid (Between p old before.group (forced_in before) (length commands) commands) (Working p old before commands line) (images told) (λ f s b. works_quietly b)
+
+-- the moments while the answer is found and said
+pub found_images : {p : Params} {old mid new : Disk} {before after : EngineView} {w : World Command} {commands : List Command} {line : List ℕ} {reply : Reply} → accepted_in before ≡ length commands
+    → (old.tells_moments → LeavesOnly old mid (Working p old before commands line)) → Passes old mid → IsAnswerFound p old mid before after w commands line reply
+    → Runs Same (SaysFront (said_line reply)) mid new → old.tells_moments → LeavesOnly old new (LineMoment p old before (open_in w) commands line)
+found_images {p} {old} {mid} {new} {before} {after} {w} {commands} {line} {reply} was images time found say told =
+    runs_on old mid new (LineMoment p old before (open_in w) commands line)
+    (weaker old mid (Working p old before commands line) (LineMoment p old before (open_in w) commands line) (images told) (λ f s b. inl b))
+    (first_call mid new (LineMoment p old before (open_in w) commands line) told_now say.time during)
+  where
+    told_now : mid.tells_moments
+    told_now = time.moments_told.0 told
+
+    during : (f : Files) (s : List ℕ) → new.left_since mid.clock f s → LineMoment p old before (open_in w) commands line f s
+    during f s left =
+        let from = say.crash told_now f s left in
+        inr (record {
+          reply = reply;
+          added = found.added;
+          replies = found.replies;
+          tied = subst (λ (x : Files). IsTrueIn p x (waiting (open_in w) (commands ++ found.added)) line reply) (sym from.0.2) (found.tied.1 told_now from.0.0 mid.said from.0.1);
+          count = from.1.0;
+          said_is = from.1.2 ∙ ap (λ (l : List ℕ). l ++ take from.1.0 (said_line reply)) found.quiet;
+          kept = forced_in after;
+          enough = found.kept.rising;
+          within = found.kept.holds.says.forced;
+          which = ⊎_elim (λ (same : forced_in after ≡ forced_in before). inl same) (λ (later : (before.group ≡ None) × (accepted_in before ≤ forced_in after)). inr (later.0, omega (arith, later.1, was))) found.kept.which;
+          stands = subst (λ (x : Files). Stands p x (take (forced_in after) (commands ++ found.added))) (sym from.0.2) (found.kept.holds.says.images.1 told_now from.0.0 mid.said from.0.1);
+          acked = found.acked;
+        })
+
+-- the answer that was found has been said, or a beginning of it
+abbrev pub found_partly : {p : Params} {old mid new : Disk} {before after : EngineView} {w : World Command} {commands : List Command} {line : List ℕ} {reply : Reply}
+    → (old.tells_moments → LeavesOnly old mid (Working p old before commands line)) → Passes old mid → IsAnswerFound p old mid before after w commands line reply
+    → Runs Same (SaysFront (said_line reply)) mid new → IsPartly p old new (stage_of before w) commands line
+found_partly {after = after} {reply = reply} images time found say = let front = say.said (told_by found.kept.holds) in record {
+  reply = reply;
+  added = found.added;
+  replies = found.replies;
+  count = front.0;
+  said_is = front.2 ∙ ap (λ (l : List ℕ). l ++ take front.0 (said_line reply)) found.quiet;
+  truly = found_truly images time found say;
+  after = stage_of after found.kept.holds.world;
+  leads = found.leads;
+}
+
+abbrev pub found_said : {p : Params} {old mid new : Disk} {before after : EngineView} {w : World Command} {commands : List Command} {line : List ℕ} {reply : Reply} (result : Result Bool Stop) → accepted_in before ≡ length commands
+    → (old.tells_moments → LeavesOnly old mid (Working p old before commands line)) → Works p old mid (stage_of before w) line → Passes old mid → IsAnswerFound p old mid before after w commands line reply
+    → Runs Same (SaysFront (said_line reply)) mid new → (mid.tells_files → OnOk result (new.said ≡ mid.said ++ said_line reply)) → IfOk result (λ kind. kind ≡ is_refusing reply)
+    → Answering p old new before after w commands line result
+found_said {reply = reply} (Ok kind) was images works time found say all is = record {
+  whole = record {
+    reply = reply;
+    added = found.added;
+    replies = found.replies;
+    said = all (told_by found.kept.holds) ∙ ap (λ (l : List ℕ). l ++ said_line reply) found.quiet;
+    kept = record { holds = holds_stays say found.kept.holds; rising = found.kept.rising; which = found.kept.which };
+    regroups = found.regroups;
+    acked = found.acked;
+    kind = is;
+    truly = found_truly images time found say;
+    leads = found.leads;
+  };
+  partly = tt;
+  images = found_images was images time found say;
+  steps = found_steps works time found say;
+}
+found_said (Err stop) was images works time found say all is = record {
+  whole = tt;
+  partly = inr (found_partly images time found say);
+  images = found_images was images time found say;
+  steps = found_steps works time found say;
+}
+
+-- nothing was said of the answer
+pub stops_before : {p : Params} {old new : Disk} {before after : EngineView} {w : World Command} {commands : List Command} {line : List ℕ} (result : Result Bool Stop) → IsErr result
+    → (old.tells_moments → LeavesOnly old new (Working p old before commands line)) → Works p old new (stage_of before w) line → new.said ≡ old.said → Answering p old new before after w commands line result
+stops_before (Ok kind) is images works quiet = absurd (cc is)
+stops_before {p} {old} {new} {before} {after} {w} {commands} {line} (Err stop) is images works quiet = record {
+  whole = tt;
+  partly = inl quiet;
+  images = λ told. weaker old new (Working p old before commands line) (LineMoment p old before (open_in w) commands line) (images told) (λ f s b. inl b);
+  steps = works_line works;
+}
+
+abbrev pub kept_nil : {p : Params} {d : Disk} {before engine : EngineView} {commands : List Command} → Kept p before d engine commands → Kept p before d engine (commands ++ [])
+kept_nil {commands = commands} kept = record { holds = holds_as (sym (append-nil commands)) kept.holds; rising = kept.rising; which = kept.which }
+
+-- an engine of which nothing was asked
+abbrev pub kept_still : {p : Params} {d : Disk} {engine : EngineView} {commands : List Command} → Holds p d engine commands → Kept p engine d engine commands
+kept_still holds = record { holds = holds; rising = omega arith; which = inl refl }
+
+-- a line leads to a stage with the commands that it adds
+pub leads_on : {p : Params} {old new : Stage} {line : List ℕ} (commands added : List Command) (reply : Reply) → commands_of old.world.history ≡ commands → commands_of new.world.history ≡ commands ++ added
+    → Replies p (open_in old.world) commands line reply added → GoesBy p old line reply new → Leads p old line reply new
+leads_on {p} {old} {new} {line} commands added reply was now replies goes = record {
+  added = added;
+  replies = subst (λ (l : List Command). Replies p (open_in old.world) l line reply added) (sym was) replies;
+  commands_are = subst (λ (l : List Command). commands_of new.world.history ≡ l ++ added) (sym was) now;
+  goes = goes;
+}
+
+-- what is answered where objects were read at most: no group begins or ends
+pub found_read : {p : Params} {old mid : Disk} {before after : EngineView} {w : World Command} {commands : List Command} {line : List ℕ} (reply : Reply) → Replies p (open_in w) commands line reply []
+    → ((f : Files) → IsTrueIn p f (waiting (open_in w) (commands ++ [])) line reply) → ((group : Option ℕ) → Regroups line reply commands group group)
+    → ((n : ℕ) → reply ≢ forced n) → ((s : Stage) → GoesBy p s line reply s) → commands_of w.history ≡ commands → mid.said ≡ old.said → (kept : Kept p before mid after commands) → stage_of after kept.holds.world ≡ stage_of before w
+    → IsAnswerFound p old mid before after w commands line reply
+found_read {p} {old} {mid} {before} {after} {w} {commands} {line} reply replies tied regroups other goes was quiet kept same = record {
+  added = [];
+  replies = replies;
+  quiet = quiet;
+  kept = kept_nil kept;
+  regroups = subst (λ (s : Stage). Regroups line reply commands (open_in w) (open_in s.world)) (sym same) (regroups (open_in w));
+  tied = (tied mid.reads, λ told f s left. tied f);
+  acked = λ n is. absurd (other n is);
+  leads = leads_on commands [] reply was (kept.holds.commands_are ∙ sym (append-nil commands)) replies (subst (λ (s : Stage). GoesBy p (stage_of before w) line reply s) (sym same) (goes (stage_of before w)));
+}
+
+-- what is answered without a call
+pub found_at_once : {p : Params} {d : Disk} {engine : EngineView} {commands : List Command} {line : List ℕ} (reply : Reply) → (holds : Holds p d engine commands)
+    → Replies p (open_in holds.world) commands line reply [] → ((f : Files) → IsTrueIn p f (waiting (open_in holds.world) (commands ++ [])) line reply) → ((group : Option ℕ) → Regroups line reply commands group group)
+    → ((n : ℕ) → reply ≢ forced n) → ((s : Stage) → GoesBy p s line reply s) → IsAnswerFound p d d engine engine holds.world commands line reply
+found_at_once reply holds replies tied regroups other goes = found_read reply replies tied regroups other goes holds.commands_are refl (kept_still holds) refl
+
+pub run_nothing : (m : Meaning Command) (w : World Command) → run m w [] ≡ w
+unfolding run
+run_nothing m w = refl
+
+pub none_more : (n : ℕ) → n ≡ n + 0
+none_more n = omega arith
+
+-- a line that asks for values changes nothing
+pub asks_values : (p : Params) (s : Stage) (line : List ℕ) (request : Request) → IsQuestion request → AsksFor line request → Ends p s line Through s
+asks_values p s line request question asks = (
+  course [] s.used Through,
+  inr (inr (request, question, asks, refl)),
+  refl,
+  λ i. record { world = sym (run_nothing (meaning_in p) s.world) i; used = s.used; identities = none_more s.identities i; copied = s.copied },
+)
+
+-- the value that was fetched
+pub found_value : {p : Params} {old mid : Disk} {before after : EngineView} {w : World Command} {commands : List Command} {line : List ℕ} (object : ℕ) (bytes : List ℕ) → AsksFor line (get object) → object < p.objects
+    → bytes ≡ state_of p commands object → commands_of w.history ≡ commands → mid.said ≡ old.said → (kept : Kept p before mid after commands) → stage_of after kept.holds.world ≡ stage_of before w → IsAnswerFound p old mid before after w commands line (value bytes)
+found_value object bytes asks there is was quiet kept same = found_read (value bytes) (inl (object, asks, there, is), refl) (λ f. tt) (λ group. refl) (λ n e. cc) (λ s. refl) was quiet kept same
+
+-- or there is no such object
+pub found_none : {p : Params} {old mid : Disk} {before after : EngineView} {w : World Command} {commands : List Command} {line : List ℕ} (object : ℕ) → AsksFor line (get object) → p.objects ≤ object
+    → commands_of w.history ≡ commands → mid.said ≡ old.said → (kept : Kept p before mid after commands) → stage_of after kept.holds.world ≡ stage_of before w → IsAnswerFound p old mid before after w commands line (refused NoObject)
+found_none {p} {line = line} object asks past was quiet kept same =
+    found_read (refused NoObject) (inr (inl (object, asks, past, refl), refl)) (λ f. tt) (λ group. refl) (λ n e. cc) (λ s. asks_values p s line (get object) tt asks) was quiet kept same
+
+-- it is said where it is found
+pub said_at_once : {p : Params} {d new : Disk} {engine : EngineView} {commands : List Command} {line : List ℕ} {reply : Reply} (result : Result Bool Stop)
+    → IsDisk d → (holds : Holds p d engine commands) → IsAnswerFound p d d engine engine holds.world commands line reply
+    → Runs Same (SaysFront (said_line reply)) d new → (d.tells_files → OnOk result (new.said ≡ d.said ++ said_line reply)) → IfOk result (λ kind. kind ≡ is_refusing reply)
+    → Answering p d new engine engine holds.world commands line result
+said_at_once {d = d} {line = line} result lawful holds found say all is = found_said result holds.says.accepted (works_none (holds_between lawful holds)) (works_at_once line lawful holds) (passes_none d) found say all is
+
+-- a line that is skipped
+pub skipped : {p : Params} {d : Disk} {engine : EngineView} {commands : List Command} {line : List ℕ} → IsDisk d → (holds : Holds p d engine commands) → AsksFor line skip
+    → Answering p d d engine engine holds.world commands line (Ok false)
+skipped {p} {d} {engine} {commands} {line} lawful holds asks = record {
+  whole = record {
+    reply = silence;
+    added = [];
+    replies = (asks, refl);
+    said = sym (append-nil d.said);
+    kept = kept_nil (kept_still holds);
+    regroups = refl;
+    acked = λ n is. cc;
+    kind = refl;
+    leads = leads_on commands [] silence holds.commands_are (holds.commands_are ∙ sym (append-nil commands)) (asks, refl) refl;
+    truly = λ told. weaker d d (Between p d engine.group (forced_in engine) (length commands) commands) (IsTrueSaying p d.said (waiting (open_in holds.world) (commands ++ [])) line silence) (holds_between lawful holds told)
+        (λ files said b. record {
+          true_in = λ e. tt;
+          no_shorter = omega (arith, ap length b.quiet);
+          no_longer = omega (arith, ap length b.quiet, length-append d.said []);
+        });
+  };
+  partly = tt;
+  images = λ told. weaker d d (Between p d engine.group (forced_in engine) (length commands) commands) (LineMoment p d engine (open_in holds.world) commands line) (holds_between lawful holds told) (λ f s b. inl (works_quietly b));
+  steps = works_line (works_at_once line lawful holds);
+}
+
+-- a moment of a run that has one line more to answer, at which no group counts as closed yet
+pub moment_longer : {p : Params} {commands : List Command} {script : List (List ℕ)} {before : List ℕ} (more : List (List ℕ)) (f : Files) (s : List ℕ) → MomentSoFar p commands script before f s → MomentSoFar p commands (script ++ more) before f s
+moment_longer more f s so_far = let m = so_far.is in record {
+  is = record {
+    bytes = m.bytes;
+    since = m.since;
+    story = said_longer more m.story;
+    kept = m.kept;
+    all_before = m.all_before;
+    no_more = m.no_more;
+    whole = ended_whole m.kept (m.story.todo ++ more) m.story.account so_far.unclosed;
+    stands = m.stands;
+    acked = m.acked;
+  };
+  unclosed = so_far.unclosed;
+}
+
+-- a run that has answered all its lines has one more
+abbrev pub with_next : {p : Params} {first : Stage} {start now : Disk} {engine : EngineView} {commands : List Command} {script : List (List ℕ)} {refusing : Bool} (line : List ℕ)
+    → Going p first start now engine commands script [] refusing → Going p first start now engine commands (script ++ line ∷ []) (line ∷ []) refusing
+with_next {p} {first} {start} {now} {engine} {commands} {script} line g = record {
+  lines = g.lines;
+  replies = g.replies;
+  waits = g.waits;
+  account = g.account;
+  script_is = ap (λ (l : List (List ℕ)). l ++ line ∷ []) (g.script_is ∙ append-nil g.lines);
+  said_is = g.said_is;
+  answers = g.answers;
+  holds = g.holds;
+  group = g.group;
+  whole = g.whole;
+  ends_within = g.ends_within;
+  all_before = g.all_before;
+  acked = g.acked;
+  kind = g.kind;
+  images = λ told. weaker start now (MomentSoFar p commands script start.said) (MomentSoFar p commands (script ++ line ∷ []) start.said) (g.images told) (moment_longer (line ∷ []));
+  truly = g.truly;
+  goes = g.goes;
+  steps = λ told. weaker start now (StageSoFar p first script start.said) (StageSoFar p first (script ++ line ∷ []) start.said) (g.steps told) (stage_longer line);
+}

@@ -1,0 +1,68 @@
+-- What is done at each moment of a call, by the courses of the restart and of the lines.
+use Rattle.std.specs.Prelude.{◌≡◌, ◌⊎◌, ◌++◌, ⊤, ℕ, List, [], ◌∷◌, take, None}
+use Rattle.std.specs.List.{flat_map}
+use Rattle.disk_model.specs.Disk.{Files, Disk}
+use Rattle.formats.specs.declared.params.Params.{Params}
+use Rattle.standing.specs.Moments.{ShowsSome}
+use Rattle.standing.specs.Standing.{FilesShow}
+use Rattle.running_store.specs.Courses.{Course, course, force_course}
+use Rattle.running_store.specs.Courses.Stop.{Through}
+use Rattle.script_lines.specs.Grammar.{Request, AsksFor}
+use Rattle.script_lines.specs.declared.line.Line.TheVariants.{Force as force, BackupStart as bstart, BackupFinish as bfinish}
+use Rattle.script_lines.specs.Replies.{Reply, said_line}
+use Rattle.shell_base.specs.declared.budget.Budget.{Budget}
+use Rattle.shell_base.specs.Store.{Command, meaning_in}
+use Rattle.shell_base.specs.First.{Stage, IsFirst, OpeningMoment}
+use Rattle.script_run.specs.Stages.{HasCourse, Leads, AllGoBy, finish_course}
+
+-- the log is forced for such a request
+abbrev pub IsForcing : Request → Type 0
+IsForcing force = ⊤
+IsForcing bstart = ⊤
+IsForcing bfinish = ⊤
+IsForcing request = ⊥
+
+-- What may be done for the next of these lines before anything is said of it: the course that the line has the engine take,
+-- a force for `force`, and as a backup starts and ends, where no group is open, and after the last line the end of an open
+-- group and a force; nothing may be done for any line.
+abbrev pub IsCourseDue : Params → Stage → List (List ℕ) → Course Command → Type 0
+IsCourseDue p s [] c = c ≡ finish_course (meaning_in p) s.world s.used
+IsCourseDue p s (line ∷ lines) c = HasCourse p s line c ⊎ (((request : Request) × IsForcing request × AsksFor line request × (s.world.group ≡ None) × (c ≡ force_course (meaning_in p) s.world s.used)) ⊎ (c ≡ course [] s.used Through))
+
+-- the image shows the world after some first steps of what is due, none or all among them
+pub record IsWorkedOn (p : Params) (s : Stage) (todo : List (List ℕ)) (files : Files) : Type 0 where
+  pub its : Course Command
+  pub due : IsCourseDue p s todo its
+  pub shows : ShowsSome (meaning_in p) p s.world its.steps files
+
+-- an answer to the line is being said, and the image shows the world that it leads to
+pub record IsBeingSaid (p : Params) (s : Stage) (line part : List ℕ) (files : Files) : Type 0 where
+  pub reply : Reply
+  pub after : Stage
+  pub leads : Leads p s line reply after
+  pub count : ℕ
+  pub begun : part ≡ take count (said_line reply)
+  pub shows : FilesShow (meaning_in p) p files after.world
+
+-- nothing is said of the next line, or an answer to it is being said
+abbrev pub IsAtWork : Params → Stage → List (List ℕ) → List ℕ → Files → Type 0
+IsAtWork p s todo part files = ((part ≡ []) × IsWorkedOn p s todo files) ⊎ ((line : List ℕ) × (rest : List (List ℕ)) × (todo ≡ line ∷ rest) × IsBeingSaid p s line part files)
+
+-- The bytes said after `before` are whole answers to the first lines of the script, by which the stages go from the first
+-- on, and perhaps a part of the next answer. Before its first byte the image shows the world after some first steps of what
+-- is due for the next line, from then on the world that the answer leads to.
+pub record StageMoment (p : Params) (first : Stage) (script : List (List ℕ)) (before : List ℕ) (files : Files) (said : List ℕ) : Type 0 where
+  pub lines : List (List ℕ)
+  pub todo : List (List ℕ)
+  pub replies : List Reply
+  pub part : List ℕ
+  pub stage : Stage
+  pub script_is : script ≡ lines ++ todo
+  pub said_is : said ≡ before ++ flat_map said_line replies ++ part
+  pub goes : AllGoBy p first lines replies stage
+  pub work : IsAtWork p stage todo part files
+
+module _ (budget : Budget) (p : Params) (commands : List Command) (old : Disk) (first : Stage) (is : IsFirst budget p commands old first) where
+  -- a moment of a run of a script
+  abbrev pub RunMoment : List (List ℕ) → Files → List ℕ → Type 0
+  RunMoment script files said = OpeningMoment budget p commands old first is files said ⊎ StageMoment p first script old.said files said

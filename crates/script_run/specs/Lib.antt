@@ -1,0 +1,16 @@
+pub mod Groups
+pub mod Made
+pub mod Replies
+pub mod Work
+pub mod Noted
+pub mod Printed
+pub mod Stages
+pub mod Courses
+pub mod Answers
+pub mod Found
+pub mod Run
+pub mod Saving
+pub mod PrintedLaws
+pub mod RunCalls
+pub mod StartLaws
+pub mod StoryLaws

@@ -1,0 +1,152 @@
+-- What the plain map makes of a line that asks for commands, or for pairs of a tree or a hash file.
+use Rattle.std.specs.Prelude.{◌≡◌, ◌++◌, ℕ, zero, suc, map, nat_le, if◌then◌else◌, List, [], ◌∷◌, take, Option, None, Some, Result, Ok, Err}
+use Rattle.oper_core.specs.State.{State}
+use Rattle.oper_core.specs.declared.refusal.Refusal.{Refusal}
+use Rattle.oper_core.specs.declared.refusal.Refusal.TheVariants as refusals
+use Rattle.formats.specs.Objects.{bounds_of}
+use Rattle.formats.specs.declared.params.Params.{Params}
+use Rattle.app_steps.specs.Steps.{program_step, step_of, steps, steps_accepted}
+use Rattle.logical_btree.specs.Walk.{Pair}
+use Rattle.logical_btree.specs.Plan.{TreePlan, delete_plan, get_answer, insert_plan, range_answer}
+use Rattle.tree_client.specs.Answers.{made_of}
+use Rattle.op_codec.specs.AllOps.{hash}
+use Rattle.call_plans.specs.Plan as of_calls
+use Rattle.range_calls.specs.Answers as of_ranges
+use Rattle.hash_file.specs.Plan.{HashPlan}
+use Rattle.hash_file.specs.Plan as of_hash
+use Rattle.hash_file.specs.declared.refusal.HashRefusal.{HashRefusal}
+use Rattle.hash_file.specs.declared.refusal.HashRefusal.TheVariants as hash_refusals
+use Rattle.script_lines.specs.declared.denial.Denial.TheVariants as denials
+use Rattle.logical_btree.specs.declared.refusal.TreeRefusal.{TreeRefusal}
+use Rattle.logical_btree.specs.declared.refusal.TreeRefusal.TheVariants.{NoObject, BadTree, TreeFull, NoKey}
+use Rattle.script_lines.specs.Grammar.{Request, AsksFor}
+use Rattle.script_lines.specs.declared.line.Line.TheVariants.{Run as run, AppRun as arun, ProgramRun as prun, TreeInsert as tinsert, TreeDelete as tdelete, TreeGet as tget, TreeRange as trange, HashPut as hset, HashGet as hget, HashDelete as hdel}
+use Rattle.script_lines.specs.Replies.{Reply, ok, value, ran, pairs_reply, refused, bad_tree, tree_full, denied}
+use Rattle.shell_base.specs.Store.{Command, refusal_after, state_of}
+
+-- commands, one after the other, and the answer where the log takes all of them
+pub record Made : Type 0 where
+  pub ops : List Command
+  pub reply : Reply
+
+abbrev pub made : List Command → Reply → Made
+made ops reply = record { ops = ops; reply = reply }
+
+-- a command, unless it is refused
+abbrev pub one_unless : Command → Option Refusal → Made
+one_unless op None = made (op ∷ []) ok
+one_unless op (Some why) = made [] (refused why)
+
+abbrev pub one_made : Params → List Command → Command → Made
+one_made p commands op = one_unless op (refusal_after p commands op)
+
+-- so many of at most n steps were done, where the first is not refused, or in a way that ends a run
+abbrev pub run_reply : ℕ → ℕ → Option Refusal → Reply
+run_reply zero k refusal = ran k
+run_reply (suc n) k None = ran k
+run_reply (suc n) k (Some refusals.Halted) = ran k
+run_reply (suc n) k (Some refusals.NoInput) = ran k
+run_reply (suc n) k (Some refusals.TooLarge) = ran k
+run_reply (suc n) k (Some why) = refused why
+
+-- as many of this step of an application as are accepted one after the other, at most n
+abbrev pub run_made : Params → List Command → Command → ℕ → Made
+run_made p commands step n = made (steps p commands step n) (run_reply n (steps_accepted p commands step n) (refusal_after p commands step))
+
+-- why a call on a tree is refused
+abbrev pub tree_reply : TreeRefusal → Reply
+tree_reply NoObject = refused refusals.NoObject
+tree_reply (BadTree object) = bad_tree
+tree_reply (TreeFull need free) = tree_full
+tree_reply NoKey = refused refusals.NoKey
+
+abbrev pub end_reply : Option TreeRefusal → Reply
+end_reply None = ok
+end_reply (Some why) = tree_reply why
+
+-- a plan's own answer, or, where it has commands and a value has no room for a node, that none of them is accepted
+abbrev pub plan_reply : {O : Type 0} → ℕ → List O → Reply → Reply
+plan_reply cap [] planned = planned
+plan_reply cap (op ∷ ops) planned = if nat_le 1024 cap then planned else refused refusals.TooLarge
+
+-- the commands of a call on a tree, and its own refusal at their end, if it is refused
+abbrev pub plan_made : Params → TreePlan → Made
+plan_made p plan = made (made_of p.cap plan.commands) (plan_reply p.cap plan.commands (end_reply plan.refusal))
+
+-- the commands of a call on a range of objects, and its own refusal at their end, if it is refused
+abbrev pub call_end : {R : Type 0} → (R → Reply) → Option R → Reply
+call_end reply None = ok
+call_end reply (Some why) = reply why
+
+abbrev pub call_made : {O R : Type 0} → (O → Command) → (R → Reply) → Params → of_calls.Plan O R → Made
+call_made command reply p plan = made (of_ranges.made_of p.cap (map command plan.commands)) (plan_reply p.cap plan.commands (call_end reply plan.refusal))
+
+-- why a call on a hash file is refused
+abbrev pub hash_reply : HashRefusal → Reply
+hash_reply hash_refusals.NoObject = refused refusals.NoObject
+hash_reply (hash_refusals.BadHash object) = denied denials.BadHash
+hash_reply (hash_refusals.HashFull object) = denied denials.HashFull
+hash_reply (hash_refusals.NoRoom free) = denied denials.NoRoom
+hash_reply hash_refusals.NoKey = refused refusals.NoKey
+
+abbrev pub hash_made : Params → HashPlan → Made
+hash_made p plan = call_made hash hash_reply p plan
+
+-- what a request for commands makes after these
+abbrev pub made_by : Params → List Command → Request → Option Made
+made_by p commands (run op) = Some (one_made p commands op)
+made_by p commands (arun app n) = Some (run_made p commands (step_of app) n)
+made_by p commands (prun app code n) = Some (run_made p commands (program_step app code) n)
+made_by p commands (tinsert lo hi key bytes) = Some (plan_made p (insert_plan (bounds_of p) lo hi (state_of p commands) key bytes))
+made_by p commands (tdelete lo hi key) = Some (plan_made p (delete_plan (bounds_of p) lo hi (state_of p commands) key))
+made_by p commands (hset lo hi key bytes) = Some (hash_made p (of_hash.put_plan (bounds_of p) lo hi (state_of p commands) key bytes))
+made_by p commands (hdel lo hi key) = Some (hash_made p (of_hash.delete_plan (bounds_of p) lo hi (state_of p commands) key))
+made_by p commands request = None
+
+-- After the commands the line asks for these commands, and has this answer where the log takes all of them.
+pub record AsksMade (p : Params) (commands : List Command) (line : List ℕ) (it : Made) : Type 0 where
+  pub request : Request
+  pub asks : AsksFor line request
+  pub makes : made_by p commands request ≡ Some it
+
+-- these are some first commands of those that the line asks for
+pub record IsFront (p : Params) (commands : List Command) (line : List ℕ) (front : List Command) : Type 0 where
+  pub it : Made
+  pub asks : AsksMade p commands line it
+  pub count : ℕ
+  pub first : front ≡ take count it.ops
+
+-- after these commands the line asks for one more
+pub record AsksBehind (p : Params) (commands : List Command) (line : List ℕ) (front : List Command) (op : Command) : Type 0 where
+  pub it : Made
+  pub asks : AsksMade p commands line it
+  pub rest : List Command
+  pub next : it.ops ≡ front ++ op ∷ rest
+
+-- the value of a key, or no bytes where it is not there
+abbrev pub found_reply : Result (Option (List ℕ)) TreeRefusal → Reply
+found_reply (Ok None) = value []
+found_reply (Ok (Some bytes)) = value bytes
+found_reply (Err why) = tree_reply why
+
+abbrev pub range_reply : Result (List Pair) TreeRefusal → Reply
+range_reply (Ok found) = pairs_reply found
+range_reply (Err why) = tree_reply why
+
+abbrev pub hash_found : Result (Option (List ℕ)) HashRefusal → Reply
+hash_found (Ok None) = value []
+hash_found (Ok (Some bytes)) = value bytes
+hash_found (Err why) = hash_reply why
+
+-- the answer to a request for pairs of a tree or a hash file
+abbrev pub tree_answer : Params → State → Request → Option Reply
+tree_answer p s (tget lo hi key) = Some (found_reply (get_answer (bounds_of p) lo hi s key))
+tree_answer p s (trange lo hi from to) = Some (range_reply (range_answer (bounds_of p) lo hi s from to))
+tree_answer p s (hget lo hi key) = Some (hash_found (of_hash.get_answer (bounds_of p) lo hi s key))
+tree_answer p s request = None
+
+-- After the commands the line asks for pairs of a tree or a hash file, and this is the answer.
+pub record AsksTree (p : Params) (commands : List Command) (line : List ℕ) (reply : Reply) : Type 0 where
+  pub request : Request
+  pub asks : AsksFor line request
+  pub answers : tree_answer p (state_of p commands) request ≡ Some reply

@@ -1,0 +1,158 @@
+-- What the answers of a run go by: the world that engine and files show, the length of the log, and how far a backup is.
+use Rattle.std.specs.Prelude.{◌≡◌, ◌⊎◌, ◌+◌, ◌^◌, ◌++◌, ◌<◌, ◌≤◌, ⊤, ℕ, IsTrue, List, [], ◌∷◌, length, min, take, Option, None, Some}
+use Rattle.std.specs.Option.{is_some}
+use Rattle.oper_core.specs.Meaning.{Meaning}
+use Rattle.formats.specs.declared.params.Params.{Params}
+use Rattle.explain_core.specs.History.{commands_of}
+use Rattle.explain_core.specs.Turns.{count_below, dirty_in}
+use Rattle.explain_core.specs.World.{World, Step, run, end_of}
+use Rattle.explain_core.specs.World.Step.{End}
+use Rattle.running_store.specs.Courses.{Course, Stop, course, force_course, force_steps}
+use Rattle.cache_manager.specs.InstallCourses.{logged_in, install_course, drain_course}
+use Rattle.running_store.specs.Courses.Stop.{Through, Full, At_end, Worn}
+use Rattle.op_codec.specs.AllOps.{all_meaning}
+use Rattle.script_lines.specs.Grammar.{Request, AsksFor}
+use Rattle.script_lines.specs.declared.line.Line.TheVariants.{Get as get, TreeGet as tget, TreeRange as trange, HashGet as hget, Install as install, Drain as drain, Checkpoint as checkpoint, Trim as trim, Begin as begin_group, End as end_group, BackupStart as bstart, BackupCopy as bcopy, BackupFinish as bfinish}
+use Rattle.script_lines.specs.Replies.{Reply, ok, ran, forced, refused, bad_tree, tree_full, denied, full, end, stat, copied, saved, backup_denied}
+use Rattle.script_lines.specs.declared.backup_denial.BackupDenial.{BackupDenial}
+use Rattle.script_lines.specs.declared.backup_denial.BackupDenial.TheVariants.{InBackup, NoBackup, AlreadyStore, NotCopied}
+use Rattle.script_lines.specs.declared.answer.StatLine.{StatLine}
+use Rattle.checkpointing.specs.Courses.{checkpoint_course, trim_course}
+use Rattle.store_engine.specs.Calls.{begin_course, end_course}
+use Rattle.store_engine.specs.Engine.{is_name, so_far}
+use Rattle.backup_copy.specs.Length.{backup_length}
+use Rattle.store_engine.specs.Lists.{commands_course}
+use Rattle.shell_base.specs.Store.{Command, meaning_in}
+use Rattle.shell_base.specs.First.{Stage}
+use Rattle.script_run.specs.Made.{Made, AsksMade}
+use Rattle.script_run.specs.Groups.{open_in}
+use Rattle.script_run.specs.Replies.{Replies, IsGranted}
+
+-- the stage after a course
+abbrev pub stage_after : Params → Stage → Course Command → Stage
+stage_after p s c = record { world = run (meaning_in p) s.world c.steps; used = c.used; identities = s.identities + length (logged_in c.steps); copied = s.copied }
+
+-- the stage with so many objects copied, or none while no backup is made
+abbrev pub with_copied : Option ℕ → Stage → Stage
+with_copied copies s = record { world = s.world; used = s.used; identities = s.identities; copied = copies }
+
+-- What is done for a request that adds no command, in a world with a log of a length; this is the epoch of the log in force,
+-- and so many objects are copied.
+abbrev pub upkeep_course : ℕ → ℕ → Request → Meaning Command → World Command → ℕ → Course Command
+upkeep_course epoch copies install m w used = install_course m copies w used
+upkeep_course epoch copies drain m w used = drain_course m copies w used
+upkeep_course epoch copies checkpoint m w used = checkpoint_course m w used
+upkeep_course epoch copies trim m w used = trim_course m epoch w used
+upkeep_course epoch copies begin_group m w used = begin_course m w used
+upkeep_course epoch copies end_group m w used = end_course m w used
+upkeep_course epoch copies request m w used = course [] used Through
+
+-- such a request may be done beside a backup: a trim may not, and the start of one takes its own course
+abbrev pub IsBesideBackup : Option ℕ → Request → Type 0
+IsBesideBackup copies trim = copies ≡ None
+IsBesideBackup copies bstart = ⊥
+IsBesideBackup copies request = ⊤
+
+-- a request for values changes nothing
+abbrev pub IsQuestion : Request → Type 0
+IsQuestion (get object) = ⊤
+IsQuestion (tget lo hi key) = ⊤
+IsQuestion (trange lo hi from to) = ⊤
+IsQuestion (hget lo hi key) = ⊤
+IsQuestion request = ⊥
+
+-- what is done behind the last line: the open group is closed, if there is one, and the log is forced
+abbrev pub closing_steps : Option ℕ → List (Step Command)
+closing_steps None = []
+closing_steps (Some n) = End ∷ []
+
+abbrev pub finish_course : Meaning Command → World Command → ℕ → Course Command
+finish_course m w used = course (closing_steps w.group ++ force_steps m w) used Through
+
+-- The line has the engine take this course: that of the commands that it asks for, one after the other, that of an install, a
+-- drain, a checkpoint or a trim, or of the beginning or the end of a group, where the open group and a backup allow it; or none,
+-- where it asks for values.
+abbrev pub HasCourse : Params → Stage → List ℕ → Course Command → Type 0
+HasCourse p s line c = ((it : Made) × AsksMade p (commands_of s.world.history) line it × (c ≡ commands_course (meaning_in p) p.limit it.ops s.world s.used))
+    ⊎ (((request : Request) × (epoch : ℕ) × IsGranted (open_in s.world) request × IsBesideBackup s.copied request × AsksFor line request × (c ≡ upkeep_course epoch (so_far s.copied) request (meaning_in p) s.world s.used))
+    ⊎ ((request : Request) × IsQuestion request × AsksFor line request × (c ≡ course [] s.used Through)))
+
+-- the course ends so, and leads from the old stage to the new one
+abbrev pub Ends : Params → Stage → List ℕ → Stop → Stage → Type 0
+Ends p old line stop new = (c : Course Command) × HasCourse p old line c × (c.stop ≡ stop) × (new ≡ stage_after p old c)
+
+-- the counts that are told of a stage: of its graph, its cache and its log, and of the commands that are forced and accepted
+pub record IsCounted (p : Params) (s : Stage) (counts : StatLine) : Type 0 where
+  pub nodes : counts.nodes ≡ count_below (end_of s.world) (is_name all_meaning p s.world)
+  pub dirty : counts.dirty ≡ dirty_in (meaning_in p) s.world
+  pub uninstalled : counts.uninstalled ≡ count_below (end_of s.world) s.world.graph
+  pub forced : counts.forced ≡ length (commands_of (take s.world.forced s.world.history))
+  pub accepted : counts.accepted ≡ length (commands_of s.world.history)
+  pub used : counts.used ≡ s.used
+  pub identities : counts.identities ≡ s.identities
+
+-- the stage after a force
+abbrev pub forced_stage : Params → Stage → Stage
+forced_stage p s = stage_after p s (force_course (meaning_in p) s.world s.used)
+
+-- a backup starts after a force, where none is made: nothing is copied yet
+abbrev pub StartsBackup : Stage → List ℕ → Stage → Stage → Type 0
+StartsBackup old line mid new = AsksFor line bstart × (old.copied ≡ None) × (new ≡ with_copied (Some 0) mid)
+
+-- of so many objects so many more are copied, or all that are left
+abbrev pub CopiesMore : ℕ → Stage → List ℕ → ℕ → Stage → Type 0
+CopiesMore objects old line now new = (before count : ℕ) × AsksFor line (bcopy count) × (old.copied ≡ Some before) × (now ≡ min (before + count) objects) × (new ≡ with_copied (Some now) old)
+
+-- so many bytes has the log of a backup that is taken in this stage
+abbrev pub backup_bytes : Params → Stage → ℕ
+backup_bytes p s = backup_length (meaning_in p) s.world
+
+-- The log of a backup, all of whose objects are copied, would be too long after a force: the store's own log has so many bytes
+-- then, and the backup's so many. It goes on.
+abbrev pub IsBackupFull : Params → Stage → List ℕ → ℕ → ℕ → Stage → Stage → Type 0
+IsBackupFull p old line used need mid new = AsksFor line bfinish × (old.copied ≡ Some p.objects) × (used ≡ mid.used) × (need ≡ backup_bytes p mid) × (new ≡ mid)
+
+-- one whose log has room ends after a force
+abbrev pub EndsBackup : Params → Stage → Stage → Stage → Type 0
+EndsBackup p old mid new = (old.copied ≡ Some p.objects) × (backup_bytes p mid ≤ 2 ^ 48) × (new ≡ with_copied None mid)
+
+-- a line is refused so where so many objects are copied, of so many, or where no backup is made
+abbrev pub IsDeniedAt : ℕ → Option ℕ → BackupDenial → Type 0
+IsDeniedAt objects copies InBackup = IsTrue (is_some copies)
+IsDeniedAt objects copies NoBackup = copies ≡ None
+IsDeniedAt objects copies AlreadyStore = copies ≡ None
+IsDeniedAt objects copies NotCopied = (n : ℕ) × (copies ≡ Some n) × (n < objects)
+
+-- What an answer says of the old stage, and the new one: where nothing stops the course it is `ok`, `ran` or a refusal, `full`
+-- comes where its next record or log has no room, with these numbers, and `end` where no number is left for a record, or no
+-- epoch for a log; `forced` comes after a force; `stat` counts. A backup starts with an `ok` too, `copied` says how far it is,
+-- it ends with `saved`, after a force, where its log has at most 2^48 bytes, and its lines are denied by how far it is. No other answer changes anything.
+abbrev pub GoesBy : Params → Stage → List ℕ → Reply → Stage → Type 0
+GoesBy p old line ok new = Ends p old line Through new ⊎ StartsBackup old line (forced_stage p old) new
+GoesBy p old line (ran k) new = Ends p old line Through new
+GoesBy p old line (refused why) new = Ends p old line Through new
+GoesBy p old line bad_tree new = Ends p old line Through new
+GoesBy p old line tree_full new = Ends p old line Through new
+GoesBy p old line (denied why) new = Ends p old line Through new
+GoesBy p old line (full used need limit) new = Ends p old line (Full used need limit) new ⊎ IsBackupFull p old line used need (forced_stage p old) new
+GoesBy p old line (end number) new = Ends p old line (At_end number) new ⊎ Ends p old line (Worn number) new
+GoesBy p old line (forced n) new = new ≡ forced_stage p old
+GoesBy p old line (stat counts) new = IsCounted p old counts × (new ≡ old)
+GoesBy p old line (copied now) new = CopiesMore p.objects old line now new
+GoesBy p old line (saved n) new = EndsBackup p old (forced_stage p old) new
+GoesBy p old line (backup_denied why) new = IsDeniedAt p.objects old.copied why × (new ≡ old)
+GoesBy p old line reply new = new ≡ old
+
+-- A line asked in the old stage gets this answer, goes by it to the new stage, and adds commands to those of the world.
+pub record Leads (p : Params) (old : Stage) (line : List ℕ) (reply : Reply) (new : Stage) : Type 0 where
+  pub added : List Command
+  pub replies : Replies p (open_in old.world) (commands_of old.world.history) line reply added
+  pub commands_are : commands_of new.world.history ≡ commands_of old.world.history ++ added
+  pub goes : GoesBy p old line reply new
+
+-- the answers to all these lines, one after the other, from the first stage to the last
+abbrev pub AllGoBy : Params → Stage → List (List ℕ) → List Reply → Stage → Type 0
+AllGoBy p first [] [] last = last ≡ first
+AllGoBy p first (line ∷ lines) (reply ∷ replies) last = (mid : Stage) × Leads p first line reply mid × AllGoBy p mid lines replies last
+AllGoBy p first [] (reply ∷ replies) last = ⊥
+AllGoBy p first (line ∷ lines) [] last = ⊥

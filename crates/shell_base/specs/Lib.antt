@@ -1,0 +1,15 @@
+pub mod Store
+pub mod Open
+pub mod Again
+pub mod Status
+pub mod Notices
+pub mod Keeps
+pub mod FetchLaws
+pub mod First
+pub mod HoldLaws
+pub mod Judging
+pub mod KeepLaws
+pub mod OpeningLaws
+pub mod RestartLaws
+pub mod StopLaws
+pub mod Stops

@@ -1,0 +1,2 @@
+pub mod ShippingLemmas
+pub mod FollowingLemmas

@@ -1,0 +1,3 @@
+pub mod Shipping
+pub mod Following
+pub mod FollowingLaws

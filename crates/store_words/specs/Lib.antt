@@ -1,0 +1,4 @@
+pub mod Dump
+pub mod Upgrading
+pub mod Cut
+pub mod Making
