@@ -12,9 +12,8 @@ alike() {
 }
 
 cells Line >lines
-section LINES | sed -n '/^\.TP/{n;s/^\.BI* //;s/  */ /g;p}' >lines.page
+"$top/docs/forms" --check
 redo run --help | sed -n '/^Lines:/,/^$/s/^  //p' | tr ',' '\n' | sed 's/^ *//; /^#/d; /^$/d' >lines.help
-alike "lines of the manual page" SCRIPT lines redo.1 lines.page
 alike "lines of the help" SCRIPT lines --help lines.help
 sed -n 's/^    Form("\([a-z][^"]*\)".*/\1/p' "$top/capi/shell/forms.py" >lines.shell
 alike "lines of the shell" SCRIPT lines shell/forms.py lines.shell
