@@ -4,7 +4,7 @@
 //! The one contract is that of `draw_script`: the text says exactly the edges that `install_order` defines over the
 //! commands' entries, each with its kind, and all nodes with their numbers and flush sets; and why there is none: the first line
 //! that is refused, an input that is too long, or a fault of the input that was counted. It depends on `write_graph`,
-//! which finds the nodes, on `install_order` and `oper_core`, on `op_meaning`, which knows what an operation reads and
+//! which finds the nodes, on `install_order` and `oper_core`, on `op_codec`, which knows what an operation reads and
 //! writes, on the grammar and the reader of `script_lines`, and on the standard input of `disk_model`.
 #![tactic(auto)]
 

@@ -8,7 +8,8 @@
 //! after the other, as bytes. A command's code may be made before it is added, which then takes no memory. Below it stands
 //! the codec: a record is decoded exactly where the bytes begin with the code of one in the grammar, and no code is another's
 //! beginning. The crate depends on log_frames, whose blocks hold the records, on formats, whose grammar this is, on
-//! redo_tables for the tables, and on oper_core for the operations.
+//! redo_tables for the tables, on oper_core for the operations, on the machines of disk_model, and on byteorder for the numbers
+//! in the bytes.
 #![tactic(auto)]
 
 mod block_reader;

@@ -2,8 +2,8 @@
 //! those on nodes of a B-tree, those on interpreted applications, and those on hash files.
 //!
 //! The one contract is that of the trait `Oper`, which [`Sum`] meets for any two families that share no tag: each operation
-//! means what its family says, and bytes begin with the code of at most one. It depends on oper_core, op_meaning,
-//! btree_ops, app_program and hash_ops.
+//! means what its family says, and bytes begin with the code of at most one. It depends on oper_core, on the
+//! families op_meaning, btree_ops, app_program and hash_ops, and on op_rows and key_entries, of which these are made.
 #![tactic(auto)]
 
 mod all_ops;

@@ -6,8 +6,7 @@
 //! break their format. Where the disk, the output or memory fails it has said a front of that. One record is in memory at a time.
 //! It depends on tool_output, which says text and the last line, on stable_objects for the bounds of the store, on log_frames, whose
 //! reader gives the payloads, on log_records, which decodes the records and checks them, on op_codec and the families of operations,
-//! whose words these are, on the hexadecimal of script_lines, on redo_tables for the starts of a check, and on formats, oper_core and
-//! the machine of disk_model.
+//! whose words these are, on the hexadecimal of script_lines, and on formats, oper_core and the machine of disk_model.
 #![tactic(auto)]
 
 mod finding;
