@@ -1,4 +1,4 @@
--- The least of a table's next number and its redo starts is where the redo of a world with that table starts.
+-- The least of a table's next LSN and its redo starts is where the redo of a world with that table starts.
 use Rattle.std.proofs.Common.{◌≡◌, ℕ, zero, suc, ◌<◌, ◌≤◌, List, [], ◌∷◌, get_or, map, ap, inl, inr, arith}
 use Rattle.std.specs.Prelude.{All}
 use Rattle.std.specs.List.Sorted.{IsStrictlyIncreasing}
@@ -7,13 +7,13 @@ use Rattle.std.proofs.lemmas.Bool.{cases_eq}
 use Rattle.std.proofs.lemmas.Bool.Decides.{eqb_tells}
 use Rattle.std.proofs.lemmas.List.Elements.{All-head, All-tail}
 use Rattle.std.proofs.lemmas.List.{get_or_default}
-use Rattle.redo_tables.specs.RedoStarts.{start_or, redo_from}
-use Rattle.redo_tables.specs.declared.table.Table.{Table}
+use Rattle.dirty_page_table.specs.RedoStarts.{start_or, redo_from}
+use Rattle.dirty_page_table.specs.declared.table.DirtyPageTable.{DirtyPageTable}
 use Rattle.explain_core.specs.World.{least_of, start_of}
 use Rattle.analysis_pass.specs.Analysis.{least_start}
 use Rattle.analysis_pass.proofs.Objects.{start_at}
 
--- it is no later than the next number, nor than the start of any object
+-- it is no later than the next LSN, nor than the start of any object
 least_start-next : (next : ℕ) (starts : List (ℕ × ℕ)) → least_start next starts ≤ next
 least_start-next next [] = omega arith
 least_start-next next (s ∷ starts) = omega (arith, min-le_right s.1 (least_start next starts), least_start-next next starts)
@@ -47,7 +47,7 @@ least_of-bound : (f : ℕ → ℕ) (n one k : ℕ) → k ≤ one → ((x : ℕ) 
 least_of-bound f zero one k le each = le
 least_of-bound f (suc n) one k le each = le-min (each n) (least_of-bound f n one k le each)
 
-pub least_start-is : (objects : ℕ) (table : Table) → IsStrictlyIncreasing (map (λ s. s.0) table.starts) → All (λ s. s.0 < objects) table.starts
+pub least_start-is : (objects : ℕ) (table : DirtyPageTable) → IsStrictlyIncreasing (map (λ s. s.0) table.starts) → All (λ s. s.0 < objects) table.starts
     → least_start table.next table.starts ≡ start_of objects (record { redo_from = redo_from table; next = table.next })
 least_start-is objects table rising there =
     let f : ℕ → ℕ = λ x. start_or table.next table.starts x in
@@ -62,7 +62,7 @@ least_start-is objects table rising there =
     )) in
     omega (arith, one, other)
 
--- where no object has a start of its own, it is the next number
+-- where no object has a start of its own, it is the next LSN
 pub least_start-none : (objects next : ℕ) → next ≡ least_of (λ x. next) objects next
 least_start-none objects next =
     omega (arith, least_of-one (λ x. next) objects next, least_of-bound (λ x. next) objects next next (omega arith) (λ x. omega arith))

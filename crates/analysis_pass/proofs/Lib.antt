@@ -1,4 +1,4 @@
 mod Lasts
 mod Objects
 mod Least
-mod Checks
+mod Checkpoints

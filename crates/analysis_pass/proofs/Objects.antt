@@ -9,7 +9,7 @@ use Rattle.std.proofs.lemmas.Cmp.{ranked}
 use Rattle.std.proofs.lemmas.List.{get_or-map, length-map}
 use Rattle.std.proofs.lemmas.List.Kept.{AllPairs-from_increasing}
 use Rattle.std.proofs.lemmas.List.Sorted.{IsNonDecreasingBy-from_default}
-use Rattle.redo_tables.specs.RedoStarts.{start_or}
+use Rattle.dirty_page_table.specs.RedoStarts.{start_or}
 
 -- the object at a place
 abbrev object_at : List (ℕ × ℕ) → ℕ → ℕ

@@ -4,18 +4,18 @@ ghost use Rattle.std.specs.List.Sorted.{IsStrictlyIncreasing};
 ghost use Rattle.analysis_pass.specs.Analysis.{table_or, least_start};
 
 use crate::Plan;
-use redo_tables::{Starts, Table};
+use dirty_page_table::{DirtyPageTable, Starts};
 use std::alloc::Global;
 
-/// The plan of a redo that goes by this table, which is that of the log's last check; where none is given, by one that
-/// starts every object at this base, the log's. The redo starts at the least of the table's next number and its redo starts.
-pub fn analyse(alloc: Global, base: u64, last: Option<Table>) -> Plan
+/// The plan of a redo that goes by this table, which is that of the log's last checkpoint; where none is given, by one that
+/// starts every object at this base, the log's. The redo starts at the least of the table's next LSN and its redo starts.
+pub fn analyse(alloc: Global, base: u64, last: Option<DirtyPageTable>) -> Plan
     ensures table { result.table ≡ table_or base last }
     ensures start { result.start ≡ least_start result.table.next result.table.starts }
 {
     let table = match last {
         Some(table) => table,
-        None => Table {
+        None => DirtyPageTable {
             next: base,
             starts: Starts::new(Vec::new(alloc)),
         },

@@ -1,8 +1,8 @@
 //! Where a redo starts.
 //!
-//! The one contract is [`analyse`]. It does not read a log: it is given the table of the log's last check, which is that of
+//! The one contract is [`analyse`]. It does not read a log: it is given the table of the log's last checkpoint, which is that of
 //! its plan, or none, and then the plan starts every object at the log's base. The redo starts at the least of the plan's
-//! next number and its redo starts. The crate depends on redo_tables for the tables, on formats and oper_core for what the
+//! next LSN and its redo starts. The crate depends on dirty_page_table for the tables, on formats and oper_core for what the
 //! records of a log are, and on explain_core, whose redo starts there too.
 #![tactic(auto)]
 

@@ -1,15 +1,15 @@
 ghost use Rattle.std.specs.Prelude.{◌≡◌, map};
 ghost use Rattle.std.specs.List.Sorted.{IsStrictlyIncreasing};
-ghost use Rattle.redo_tables.specs.RedoStarts.{start_or, redo_from as starts_from};
+ghost use Rattle.dirty_page_table.specs.RedoStarts.{start_or, redo_from as starts_from};
 
-use redo_tables::Table;
+use dirty_page_table::DirtyPageTable;
 use std::marker::Model;
 
-/// Where a redo starts, and from which number on it applies what the records write to each object.
+/// Where a redo starts, and from which LSN on it applies what the records write to each object.
 #[derive(Drop)]
 pub struct Plan {
     pub(crate) start: u64,
-    pub(crate) table: Table,
+    pub(crate) table: DirtyPageTable,
 
     // Where this is set, the objects of the table rise, so one is found by binary search.
     pub(crate) rises: bool,
@@ -28,7 +28,7 @@ impl Model for Plan {
 }
 
 impl Plan {
-    /// The number of the first record that the redo tests.
+    /// The LSN of the first record that the redo tests.
     pub fn start(&self) -> u64
         ensures { result ≡ self.now.start }
     {
@@ -36,13 +36,13 @@ impl Plan {
     }
 
     /// The table by which the redo goes.
-    pub fn table(&self) -> &Table
+    pub fn table(&self) -> &DirtyPageTable
         ensures { result.now ≡ self.now.table }
     {
         &self.table
     }
 
-    /// The number from which the redo applies what the records write to this object. Where the table's objects rise, as
+    /// The LSN from which the redo applies what the records write to this object. Where the table's objects rise, as
     /// in every check of a whole log, it is found by binary search, else pair by pair.
     pub fn redo_from(&self, object: u32) -> u64
         ensures { result ≡ starts_from self.now.table object }
@@ -50,7 +50,7 @@ impl Plan {
         if self.rises {
             search(self.table.starts.as_slice(), object, self.table.next)
         } else {
-            redo_tables::redo_from(&self.table, object)
+            dirty_page_table::redo_from(&self.table, object)
         }
     }
 }

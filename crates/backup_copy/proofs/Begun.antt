@@ -58,7 +58,7 @@ module _ {O : Type 0} (meaning : Bounds → Meaning O) (p : Params) (w : World O
   pub begun : (new : Disk) (between after : EngineView) (t : Disk) (q : Params) → ((b : Bounds) (w : World O) (cells : ℕ → Cell) → IsCopied (meaning b) w 0 cells) → ShowsIn meaning p new between forced_world → after ≡ record between { copied = Some 0 }
       → q ≡ p → (t.tells_files → (cells : ℕ → Cell) → IsPartCopy q 0 cells t) → Copies meaning p new after forced_world t
   begun new between after t q none shows is same target =
-      let cells : ℕ → Cell = λ x. record { id = 0; value = [] } in
+      let cells : ℕ → Cell = λ x. record { lsn = 0; value = [] } in
       record {
         shows = subst (λ (e : EngineView). ShowsIn meaning p new e forced_world) (sym is) (shows_copied meaning p new between forced_world shows (Some 0));
         done = 0;

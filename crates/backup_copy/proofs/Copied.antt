@@ -10,7 +10,7 @@ use Rattle.oper_core.specs.declared.bounds.Bounds.{Bounds}
 use Rattle.formats.specs.Log.{new_header}
 use Rattle.formats.specs.Objects.{bounds_of}
 use Rattle.formats.specs.declared.params.Params.{Params}
-use Rattle.log_frames.specs.Laws.{log_stays}
+use Rattle.log_blocks.specs.Laws.{log_stays}
 use Rattle.stable_objects.specs.GateLaws.{kept_closed}
 use Rattle.stable_objects.specs.Making.{KeepsGate}
 use Rattle.explain_core.specs.Backup.{IsCopied, with_next}
@@ -43,7 +43,7 @@ part_after p n more cells now old new tells run part target =
 
 -- the pair of the next object was put
 abbrev pub PutsNext : Params → Disk → Disk → ℕ → ℕ → List ℕ → Type 0
-PutsNext p t t' object id value = (cells : ℕ → Cell) → cells object ≡ record { id = id; value = value } → MayPut id value → IsTarget p object cells (t.reads Objects) → IsTarget p (object + 1) cells (t'.reads Objects)
+PutsNext p t t' object lsn value = (cells : ℕ → Cell) → cells object ≡ record { lsn = lsn; value = value } → MayPut lsn value → IsTarget p object cells (t.reads Objects) → IsTarget p (object + 1) cells (t'.reads Objects)
 
 module _ {O : Type 0} (meaning : Bounds → Meaning O) (p : Params) where
   -- the copy of the slots has one more
@@ -60,11 +60,11 @@ module _ {O : Type 0} (meaning : Bounds → Meaning O) (p : Params) where
     next_below : (x : ℕ) → x < object → cells x ≡ next_cells x
     next_below x less = sym (cond-false (nat_eq x object) (w.slots x) (cells x) (ne_eqb x object (λ same. omega (arith, less, same))))
 
-  module _ (old mid : Disk) (before between after : EngineView) (w : World O) (t t' : Disk) (object id : ℕ) (value : List ℕ) where
+  module _ (old mid : Disk) (before between after : EngineView) (w : World O) (t t' : Disk) (object lsn : ℕ) (value : List ℕ) where
     -- its pair was read and put, and it is counted
-    pub copied_next : CopiesMore → object < p.objects → before.copied ≡ Some object → w.slots object ≡ record { id = id; value = value } → ShowsIn meaning p mid between w → after ≡ record between { copied = Some (object + 1) }
+    pub copied_next : CopiesMore → object < p.objects → before.copied ≡ Some object → w.slots object ≡ record { lsn = lsn; value = value } → ShowsIn meaning p mid between w → after ≡ record between { copied = Some (object + 1) }
         → Runs (In Objects KeepsGate) Same t t'
-        → (t.tells_files → PutsNext p t t' object id value)
+        → (t.tells_files → PutsNext p t t' object lsn value)
         → Copies meaning p old before w t → Copies meaning p mid after w t'
     copied_next more below next pair shows after_is run put is =
         let here : is.done ≡ object = ap so_far (sym is.so_far ∙ next) in
@@ -81,7 +81,7 @@ module _ {O : Type 0} (meaning : Bounds → Meaning O) (p : Params) where
               let part = subst (λ (n : ℕ). IsPartCopy p n is.cells t) here (is.target tells) in
               let before_it = target_still p object is.cells (next_cells w is.cells object) (t.reads Objects) (next_below w is.cells object) part.objects in
               part_after p object (object + 1) is.cells (next_cells w is.cells object) t t' tells run part
-              (put tells (next_cells w is.cells object) (next_at w is.cells object ∙ pair) (shown_may meaning p mid between w shows object id value below pair) before_it);
+              (put tells (next_cells w is.cells object) (next_at w is.cells object ∙ pair) (shown_may meaning p mid between w shows object lsn value below pair) before_it);
         }
 
   -- where no object more was copied

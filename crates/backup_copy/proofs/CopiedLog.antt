@@ -9,12 +9,12 @@ use Rattle.formats.specs.Records.{AreRecords, payload_of}
 use Rattle.formats.specs.declared.params.Params.{Params}
 use Rattle.formats.specs.declared.record.Record.{Record}
 use Rattle.formats.specs.declared.record.Record.TheVariants as logged
-use Rattle.log_frames.specs.Rewriting.{file_length}
-use Rattle.log_records.specs.LogCopy.{CopyFails, IsCopyLength, IsCopyWithin, IsTooLong, copied_groups, copied_length, or_check}
+use Rattle.log_blocks.specs.Rewriting.{file_length}
+use Rattle.log_records.specs.LogCopy.{CopyFails, IsCopyLength, IsCopyWithin, IsTooLong, copied_groups, copied_length, or_checkpoint}
 use Rattle.log_records.specs.Loading.{IsTailFault}
 use Rattle.log_records.specs.RecordLaws.{AreRecords-front}
 use Rattle.log_records.specs.RecordLog.{Keeps}
-use Rattle.log_records.specs.Rewriting.{in_full_blocks, numbered_from}
+use Rattle.log_records.specs.Rewriting.{in_full_blocks, from_lsn}
 use Rattle.log_records.specs.declared.copy_err.CopyErr.{CopyErr}
 use Rattle.log_records.specs.declared.copy_err.CopyErr.TheVariants as of_copy
 use Rattle.explain_core.specs.History.{Member}
@@ -60,18 +60,18 @@ pub refused_told : {T : Type 0} (r : Result T CopyErr) (Told Q : Type 0) → (To
 refused_told (Ok value) Told Q so = tt
 refused_told (Err e) Told Q so = λ other told. so told other
 
--- the numbered records of a log are those of its members
-numbered_members : {O : Type 0} (m : Meaning O) (base next : ℕ) (records : List (Record O)) → base ≤ next → AreRecords m base next records → numbered_from base records ≡ records_from next (members_of records)
-numbered_members m base next [] low are = refl
-numbered_members {O} m base next (logged.Command number op ∷ records) low are =
-    let rest = numbered_members m base (next + 1) records (omega (arith, low)) are.2 in
-    cond-true (nat_le base number) (logged.Command number op ∷ numbered_from base records) (numbered_from base records) (le-leb base number (omega (arith, low, are.1.0)))
+-- the records with an LSN of a log are those of its members
+from_lsn_members : {O : Type 0} (m : Meaning O) (base next : ℕ) (records : List (Record O)) → base ≤ next → AreRecords m base next records → from_lsn base records ≡ records_from next (members_of records)
+from_lsn_members m base next [] low are = refl
+from_lsn_members {O} m base next (logged.Command lsn op ∷ records) low are =
+    let rest = from_lsn_members m base (next + 1) records (omega (arith, low)) are.2 in
+    cond-true (nat_le base lsn) (logged.Command lsn op ∷ from_lsn base records) (from_lsn base records) (le-leb base lsn (omega (arith, low, are.1.0)))
     ∙ (λ i. logged.Command (are.1.0 i) op ∷ rest i)
-numbered_members {O} m base next (logged.Identity number x value ∷ records) low are =
-    let rest = numbered_members m base (next + 1) records (omega (arith, low)) are.2 in
-    cond-true (nat_le base number) (logged.Identity number x value ∷ numbered_from base records) (numbered_from base records) (le-leb base number (omega (arith, low, are.1.0)))
+from_lsn_members {O} m base next (logged.Identity lsn x value ∷ records) low are =
+    let rest = from_lsn_members m base (next + 1) records (omega (arith, low)) are.2 in
+    cond-true (nat_le base lsn) (logged.Identity lsn x value ∷ from_lsn base records) (from_lsn base records) (le-leb base lsn (omega (arith, low, are.1.0)))
     ∙ (λ i. logged.Identity (are.1.0 i) x value ∷ rest i)
-numbered_members m base next (logged.Check table ∷ records) low are = numbered_members m base next records low are.2
+from_lsn_members m base next (logged.Checkpoint table ∷ records) low are = from_lsn_members m base next records low are.2
 
 module _ {O : Type 0} (meaning : Bounds → Meaning O) (old new : Disk) (rises target_rises : Type 0) where
   -- why the copy of the log of these parts fails
@@ -102,10 +102,10 @@ module _ {O : Type 0} (meaning : Bounds → Meaning O) (old new : Disk) (rises t
         let placed : AreRecords m w.base w.base stable = subst (λ (k : ℕ). AreRecords m k k stable) shows.shows.log.base
         (subst (λ (b : Bounds). AreRecords (meaning b) it.log.header.base it.log.header.base stable) shows.shows.bounds
         (AreRecords-front (meaning it.bounds) it.log.header.base it.log.header.base stable shows.shows.log.pending keeps.placed)) in
-        let records = numbered_members m w.base w.base stable (omega arith) placed ∙ ap (λ (l : List (Member O)). records_from w.base l) shows.shows.log.forced in
+        let records = from_lsn_members m w.base w.base stable (omega arith) placed ∙ ap (λ (l : List (Member O)). records_from w.base l) shows.shows.log.forced in
         ap (λ (b : Bounds). copied_length (meaning b) it.log stable) shows.shows.bounds
         ∙ ap (λ (k : ℕ). file_length (map (payload_of m) (copied_groups m k stable))) shows.shows.log.base
-        ∙ ap (λ (l : List (Record O)). file_length (map (payload_of m) (in_full_blocks m (or_check w.base l)))) records
+        ∙ ap (λ (l : List (Record O)). file_length (map (payload_of m) (in_full_blocks m (or_checkpoint w.base l)))) records
 
     fails_long : (cause : CopyErr) → LogFails before.parts cause → TellsLength (backup_length (meaning_in meaning p) w) (backup_from_copy cause)
     fails_long (of_copy.LogFull used need limit) fails = fails.need_is shows.shows.told shows.shows.log.stable shows.shows.log.pending keeps ∙ long_so

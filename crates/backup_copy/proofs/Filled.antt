@@ -20,34 +20,34 @@ target_still p n cells others file same is = record {
   layout = is.layout;
 }
 
-module _ (p : Params) (object id : ℕ) (value : List ℕ) (cells : ℕ → Cell) (pair : cells object ≡ record { id = id; value = value }) (below : object < p.objects) (may : MayPut id value) where
+module _ (p : Params) (object lsn : ℕ) (value : List ℕ) (cells : ℕ → Cell) (pair : cells object ≡ record { lsn = lsn; value = value }) (below : object < p.objects) (may : MayPut lsn value) where
   -- an object without a pair is passed over
   pub put_none : (file : List ℕ)
-      → (IsFilledTo p object cells (opened file) → object < p.objects → cells object ≡ record { id = 0; value = [] } → IsFilledTo p (object + 1) cells (opened file))
-      → id ≡ 0 → IsTarget p object cells file → IsTarget p (object + 1) cells file
+      → (IsFilledTo p object cells (opened file) → object < p.objects → cells object ≡ record { lsn = 0; value = [] } → IsFilledTo p (object + 1) cells (opened file))
+      → lsn ≡ 0 → IsTarget p object cells file → IsTarget p (object + 1) cells file
   put_none file passed none is = record {
     closed = is.closed;
-    filled = passed is.filled below (pair ∙ (λ i. record { id = none i; value = may.1 none i }));
+    filled = passed is.filled below (pair ∙ (λ i. record { lsn = none i; value = may.1 none i }));
     layout = is.layout;
   }
 
   -- the pair of another is put
   pub put_one : (old new : List ℕ)
-      → (IsFilledTo p object cells (opened old) → object < p.objects → 1 ≤ (cells object).id → (cells object).id < 2 ^ 62 → length (cells object).value ≤ p.cap
-      → IsPut (place_in (opened old) object 0) (cells object).id (cells object).value (opened old) (opened new) → IsFilledTo p (object + 1) cells (opened new) × (layout_in (opened new) ≡ layout_in (opened old)))
-      → ((at byte place id : ℕ) (value old new : List ℕ) → at < place → at < length old → IsPut place id value old new → IsPut place id value (written_over at (byte ∷ []) old) (written_over at (byte ∷ []) new))
+      → (IsFilledTo p object cells (opened old) → object < p.objects → 1 ≤ (cells object).lsn → (cells object).lsn < 2 ^ 62 → length (cells object).value ≤ p.cap
+      → IsPut (place_in (opened old) object 0) (cells object).lsn (cells object).value (opened old) (opened new) → IsFilledTo p (object + 1) cells (opened new) × (layout_in (opened new) ≡ layout_in (opened old)))
+      → ((at byte place lsn : ℕ) (value old new : List ℕ) → at < place → at < length old → IsPut place lsn value old new → IsPut place lsn value (written_over at (byte ∷ []) old) (written_over at (byte ∷ []) new))
       → ((file : List ℕ) → opened file ≡ written_over 0 (1 ∷ []) file)
-      → length value ≤ p.cap → id ≢ 0 → IsLayout (new_layout p) → KeepsGate old new → IsPut (slot_place (new_layout p) object 0) id value old new
+      → length value ≤ p.cap → lsn ≢ 0 → IsLayout (new_layout p) → KeepsGate old new → IsPut (slot_place (new_layout p) object 0) lsn value old new
       → IsTarget p object cells old → IsTarget p (object + 1) cells new
   put_one old new filled later gate short some layout keeps put is =
       let place = slot_place (new_layout p) object 0 in
-      let behind : IsPut place id value (opened old) (opened new) =
-      subst (λ (l : List ℕ). IsPut place id value l (opened new)) (sym (gate old))
-      (subst (λ (l : List ℕ). IsPut place id value (written_over 0 (1 ∷ []) old) l) (sym (gate new)) (later 0 1 place id value old new (omega (arith, layout.behind)) is.closed.some put)) in
-      let here : IsPut (place_in (opened old) object 0) id value (opened old) (opened new) =
-      subst (λ (l : Layout). IsPut (slot_place l object 0) id value (opened old) (opened new)) (sym is.layout) behind in
-      let as_cell : IsPut (place_in (opened old) object 0) (cells object).id (cells object).value (opened old) (opened new) =
-      subst (λ (c : Cell). IsPut (place_in (opened old) object 0) c.id c.value (opened old) (opened new)) (sym pair) here in
-      let id_is = ap (λ (c : Cell). c.id) pair in
-      let done = filled is.filled below (omega (arith, some, id_is)) (omega (arith, may.0, id_is)) (subst (λ (c : Cell). length c.value ≤ p.cap) (sym pair) short) as_cell in
+      let behind : IsPut place lsn value (opened old) (opened new) =
+      subst (λ (l : List ℕ). IsPut place lsn value l (opened new)) (sym (gate old))
+      (subst (λ (l : List ℕ). IsPut place lsn value (written_over 0 (1 ∷ []) old) l) (sym (gate new)) (later 0 1 place lsn value old new (omega (arith, layout.behind)) is.closed.some put)) in
+      let here : IsPut (place_in (opened old) object 0) lsn value (opened old) (opened new) =
+      subst (λ (l : Layout). IsPut (slot_place l object 0) lsn value (opened old) (opened new)) (sym is.layout) behind in
+      let as_cell : IsPut (place_in (opened old) object 0) (cells object).lsn (cells object).value (opened old) (opened new) =
+      subst (λ (c : Cell). IsPut (place_in (opened old) object 0) c.lsn c.value (opened old) (opened new)) (sym pair) here in
+      let lsn_is = ap (λ (c : Cell). c.lsn) pair in
+      let done = filled is.filled below (omega (arith, some, lsn_is)) (omega (arith, may.0, lsn_is)) (subst (λ (c : Cell). length c.value ≤ p.cap) (sym pair) short) as_cell in
       record { closed = kept_closed old new keeps is.closed; filled = done.0; layout = done.1 ∙ is.layout }

@@ -7,8 +7,8 @@ use Rattle.oper_core.specs.Cell.{Cell}
 use Rattle.formats.specs.Log.{new_header}
 use Rattle.formats.specs.Objects.{BeginsStore}
 use Rattle.formats.specs.declared.params.Params.{Params}
-use Rattle.log_frames.specs.Creating.{LogsAlone, IsNewLog}
-use Rattle.log_frames.specs.Laws.{log_stays}
+use Rattle.log_blocks.specs.Creating.{LogsAlone, IsNewLog}
+use Rattle.log_blocks.specs.Laws.{log_stays}
 use Rattle.stable_objects.specs.Filling.{IsFilledTo}
 use Rattle.stable_objects.specs.GateLaws.{closed_begins, kept_closed, torn_begins}
 use Rattle.stable_objects.specs.Making.{IsClosedFile, IsLaidOut, IsNewFile, KeepsGate, opened}

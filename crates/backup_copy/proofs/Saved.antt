@@ -15,7 +15,7 @@ use Rattle.formats.specs.Objects.{IsObjectsFile, bounds_of, cell_of}
 use Rattle.formats.specs.Records.{HoldsRecordLog, records_of}
 use Rattle.formats.specs.declared.params.Params.{Params}
 use Rattle.formats.specs.declared.record.Record.{Record}
-use Rattle.log_frames.specs.Creating.{IsNewLog}
+use Rattle.log_blocks.specs.Creating.{IsNewLog}
 use Rattle.stable_objects.specs.Making.{IsClosedFile, opened}
 use Rattle.explain_core.specs.Backup.{IsCopied, backup_of, copy_of, installed_in_copy}
 use Rattle.explain_core.specs.History.{Member, commands_of}
@@ -39,14 +39,14 @@ log_opened m LogA header groups files log = record { in_force = record { a_log =
 log_opened m LogB header groups files log = record { in_force = record { a_log = log.in_force.a_log; other = log.in_force.other }; log = log.log }
 
 -- the slots of a part copy that has all objects
-all_cells : (p : Params) (file : List ℕ) (copied : ℕ) (cells slots : ℕ → Cell) → copied ≡ p.objects → ((x : ℕ) → x < copied → x < p.objects → cell_of x file ≡ cells x) → ((x : ℕ) → p.objects ≤ x → slots x ≡ record { id = 0; value = [] })
+all_cells : (p : Params) (file : List ℕ) (copied : ℕ) (cells slots : ℕ → Cell) → copied ≡ p.objects → ((x : ℕ) → x < copied → x < p.objects → cell_of x file ≡ cells x) → ((x : ℕ) → p.objects ≤ x → slots x ≡ record { lsn = 0; value = [] })
     → (x : ℕ) → stored p file x ≡ backup_of copied cells slots x
 all_cells p file copied cells slots all held none x = elim (cases_lt x p.objects) [
   | inl below ↦
-      cond-true (nat_lt x p.objects) (cell_of x file) (record { id = 0; value = [] }) (lt-ltb x p.objects below) ∙ held x (omega (arith, all, below)) below
+      cond-true (nat_lt x p.objects) (cell_of x file) (record { lsn = 0; value = [] }) (lt-ltb x p.objects below) ∙ held x (omega (arith, all, below)) below
       ∙ sym (cond-true (nat_lt x copied) (cells x) (slots x) (lt-ltb x copied (omega (arith, all, below))))
   | inr past ↦
-      cond-false (nat_lt x p.objects) (cell_of x file) (record { id = 0; value = [] }) (le-ltb x p.objects past) ∙ sym (none x past)
+      cond-false (nat_lt x p.objects) (cell_of x file) (record { lsn = 0; value = [] }) (le-ltb x p.objects past) ∙ sym (none x past)
       ∙ sym (cond-false (nat_lt x copied) (cells x) (slots x) (le-ltb x copied (omega (arith, all, past))))
 ]
 
@@ -54,7 +54,7 @@ module _ {O : Type 0} (meaning : Bounds → Meaning O) (p : Params) where
   abbrev m : Meaning O
   m = meaning_in meaning p
 
-  -- the copy of a world's slots, with its log and these checks, may be what is stable of its stable history
+  -- the copy of a world's slots, with its log and these checkpoints, may be what is stable of its stable history
   abbrev pub CopyIsStable : (World O → List Starts) → Type 0
   CopyIsStable tables = (w : World O) (copied : ℕ) (cells : ℕ → Cell) → IsSound m w → IsCopied m w copied cells
       → IsStableOf m (copy_of w copied cells (tables w)) (take w.forced w.history) (installed_in_copy m w copied cells)
@@ -72,8 +72,8 @@ module _ {O : Type 0} (meaning : Bounds → Meaning O) (p : Params) where
       → (log : HoldsLogOf m w files) → HoldsStable m p (open_files files) (copy_of (ungrouped w) copied cells (tables_in (records_of log.groups)))
   opened_holds d engine w t files copied cells shows all part same log =
       let filled = part.objects.filled in
-      let none : (x : ℕ) → p.objects ≤ x → w.slots x ≡ record { id = 0; value = [] } = λ x past.
-      sym (shows.shows.store.slots x) ∙ cond-false (nat_lt x p.objects) (cell_of x (d.reads Objects)) (record { id = 0; value = [] }) (le-ltb x p.objects past) in
+      let none : (x : ℕ) → p.objects ≤ x → w.slots x ≡ record { lsn = 0; value = [] } = λ x past.
+      sym (shows.shows.store.slots x) ∙ cond-false (nat_lt x p.objects) (cell_of x (d.reads Objects)) (record { lsn = 0; value = [] }) (le-ltb x p.objects past) in
       record {
         objects = subst (λ (l : List ℕ). IsObjectsFile p (opened l)) (sym same) filled.whole;
         cells = λ x. ap (λ (l : List ℕ). stored p (opened l) x) same ∙ all_cells p (opened (t.reads Objects)) copied cells w.slots all (λ x less below. filled.held x less below) none x;
@@ -90,7 +90,7 @@ module _ {O : Type 0} (meaning : Bounds → Meaning O) (p : Params) where
   -- so it stands for the commands, by the history
   pub opened_stands : (d : Disk) (engine : EngineView) (w : World O) (t : Disk) (files : Files) (copied : ℕ) (cells : ℕ → Cell) → CopyIsStable (λ w. []) → CopyIsStable (λ w. plan_of [] w.base ∷ []) → ShowsIn meaning p d engine w
       → IsCopied m (ungrouped w) copied cells → copied ≡ p.objects → IsPartCopy p copied cells t → files Objects ≡ t.reads Objects → HoldsLogOf m w files → StandsBy (take w.forced w.history) (open_files files)
-  opened_stands d engine w t files copied cells unchecked checked shows is all part same log =
+  opened_stands d engine w t files copied cells unchecked checkpointed shows is all part same log =
       let sound = shows.shows.running.sound in
       let installed = installed_in_copy m (ungrouped w) copied cells in
       let is_stable : List Starts → Type 0 = λ tables. IsStableOf m (copy_of (ungrouped w) copied cells tables) (take w.forced w.history) installed in (
@@ -99,7 +99,7 @@ module _ {O : Type 0} (meaning : Bounds → Meaning O) (p : Params) where
           holds = opened_holds d engine w t files copied cells shows all part same log;
           history = take w.forced w.history;
           installed = installed;
-          stable = ⊎_elim (λ none. subst is_stable (sym none) (unchecked (ungrouped w) copied cells sound is)) (λ one. subst is_stable (sym one) (checked (ungrouped w) copied cells sound is)) log.tables;
+          stable = ⊎_elim (λ none. subst is_stable (sym none) (unchecked (ungrouped w) copied cells sound is)) (λ one. subst is_stable (sym one) (checkpointed (ungrouped w) copied cells sound is)) log.tables;
           commands_are = refl;
         },
         refl,

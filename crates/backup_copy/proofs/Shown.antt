@@ -20,4 +20,4 @@ module _ {O : Type 0} (meaning : Bounds → Meaning O) (p : Params) (d : Disk) (
 
   -- how many objects are copied is no part of the world
   pub shows_copied : (copied : Option ℕ) → ShowsIn meaning p d (record engine { copied = copied }) w
-  shows_copied copied = record { unbroken = shows.unbroken; sound = shows.sound; group = shows.group; shows = shows.shows; no_check = shows.no_check }
+  shows_copied copied = record { unbroken = shows.unbroken; sound = shows.sound; group = shows.group; shows = shows.shows; no_checkpoint = shows.no_checkpoint }

@@ -10,7 +10,7 @@ use Rattle.explain_core.specs.History.{Member}
 use Rattle.explain_core.specs.Sound.{IsSound}
 use Rattle.explain_core.specs.World.{World}
 use Rattle.standing.specs.Standing.{FilesShow}
-use Rattle.log_frames.specs.Creating.{IsNewLog}
+use Rattle.log_blocks.specs.Creating.{IsNewLog}
 use Rattle.stable_objects.specs.Filling.{IsFilledTo}
 use Rattle.stable_objects.specs.Layouts.{new_layout}
 use Rattle.stable_objects.specs.Making.{IsClosedFile, opened}
@@ -34,9 +34,9 @@ pub record IsPartCopy (p : Params) (copied : ℕ) (cells : ℕ → Cell) (t : Di
   pub log : IsNewLog t.reads
   pub settled : IsSettledIn LogA t
 
--- a slot may have this pair: the number of a record, or the identifier 0 without bytes, which is no pair
+-- a slot may have this pair: the LSN of a record, or the LSN 0 without bytes, which is no pair
 abbrev pub MayPut : ℕ → List ℕ → Type 0
-MayPut id value = (id < 2 ^ 62) × (id ≡ 0 → value ≡ [])
+MayPut lsn value = (lsn < 2 ^ 62) × (lsn ≡ 0 → value ≡ [])
 
 -- the files with the objects gate open
 abbrev pub open_files : Files → Files
@@ -49,7 +49,7 @@ abbrev pub IsShutOrOpened : Disk → Files → List ℕ → Type 0
 IsShutOrOpened old files said = (AreShut files ⊎ (files ≡ open_files old.reads)) × (said ≡ old.said)
 
 -- The files are a backup of a store with this history: they show a sound world that has just these members, identity writes among
--- them, all of them stable. So the next record has the number that it has in the store.
+-- them, all of them stable. So the next record has the LSN that it has in the store.
 pub record IsBackup {O : Type 0} (m : Meaning O) (p : Params) (history : List (Member O)) (files : Files) : Type 0 where
   pub world : World O
   pub shows : FilesShow m p files world

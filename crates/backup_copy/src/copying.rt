@@ -22,28 +22,28 @@ use oper_core::Oper;
 use stable_objects::Slots;
 use store_engine::Engine;
 
-// Puts the pair of the next object into the target; one with the identifier 0 has no slot.
+// Puts the pair of the next object into the target; one with the LSN 0 has no slot.
 fn put_pair<T: Machine>(
     target: &mut T,
     params: Params,
     object: u32,
-    id: u64,
+    lsn: u64,
     bytes: &[u8],
 ) -> Result<(), Failed>
     requires range { IsInRange params }
     requires below { object < params.objects }
     requires short { length bytes.now ≤ params.cap }
     ensures runs { Runs (In Objects KeepsGate) Same (T.disk target.old) (T.disk target.new) }
-    ensures put { (T.disk target.old).tells_files → (cells : ℕ → Cell) → cells object ≡ record { id = id; value = bytes.now } → MayPut id bytes.now →
+    ensures put { (T.disk target.old).tells_files → (cells : ℕ → Cell) → cells object ≡ record { lsn = lsn; value = bytes.now } → MayPut lsn bytes.now →
         IsTarget params object cells ((T.disk target.old).reads Objects) → OnOk result (IsTarget params (object + 1) cells ((T.disk target.new).reads Objects)) }
     ensures cause { IsErr result → Rises (T.disk target.old).disk_faults (T.disk target.new).disk_faults }
 {
     stable_objects::a_file_is_filled();
     stable_objects::a_byte_is_written_later();
-    if id == 0 {
+    if lsn == 0 {
         return Ok(());
     }
-    Slots::put_first(target, Slots::new_layout(params), object, id, bytes)?;
+    Slots::put_first(target, Slots::new_layout(params), object, lsn, bytes)?;
     Ok(())
 }
 
@@ -69,8 +69,8 @@ fn copy_next<O: Oper, M: Machine, T: Machine>(
         (Rises (T.disk target.old).disk_faults (T.disk target.new).disk_faults)) }
 {
     explain_core::copying_goes_on::<O>();
-    let id = engine.held(machine, object, bytes)?;
-    match put_pair(target, engine.params(), object, id, bytes) {
+    let lsn = engine.held(machine, object, bytes)?;
+    match put_pair(target, engine.params(), object, lsn, bytes) {
         Ok(()) => {
             engine.set_copied(Some(object + 1));
             Ok(())

@@ -100,7 +100,7 @@ pub fn finish<O: Oper, M: Machine, T: Machine>(
     ensures saved { (p : Numbers) (w : World O) → Copies O.meaning p (M.disk machine.old) engine.old w (T.disk target.old) → IfOk result (λ n. (n ≡ length (commands_of w.history))
         × ((T.disk target.old).tells_files → InEachImage (T.disk target.new) (λ files. Stands O.meaning p files (commands_of w.history)))) }
 
-    // Their history is that of the world, so the next record of the target has the number that it has in the store.
+    // Their history is that of the world, so the next record of the target has the LSN that it has in the store.
     ensures shows { (T.disk target.old).tells_files → (p : Numbers) (w : World O) → Copies O.meaning p (M.disk machine.old) engine.old w (T.disk target.old) →
         OnOk result (InEachImage (T.disk target.new) (IsBackup (meaning_in O.meaning p) p w.history)) }
 

@@ -10,15 +10,15 @@ use Rattle.oper_core.specs.Meaning.{Meaning}
 use Rattle.oper_core.specs.State.{is_among}
 use Rattle.formats.specs.declared.params.Params.{Params}
 use Rattle.install_order.specs.declared.entry.Entry.{Entry}
-use Rattle.write_graph.specs.Graph.{numbers}
+use Rattle.write_graph.specs.Graph.{lsns}
 use Rattle.explain_core.specs.CountLaws.{count_same, count_more}
 use Rattle.explain_core.specs.History.{Member}
 use Rattle.explain_core.specs.History.Member.{Command, Identity}
 use Rattle.explain_core.specs.Sound.{IsSound}
 use Rattle.explain_core.specs.Turns.{count_below}
 use Rattle.explain_core.specs.World.{World, Step, step, run, end_of}
-use Rattle.explain_core.specs.World.Step.{Begin, End, Append, Block_gate, Check, Slot_gate, Removal, Header_gate, Replay, Crash}
-use Rattle.running_store.specs.Appended.{next_number}
+use Rattle.explain_core.specs.World.Step.{Begin, End, Append, Block_gate, Checkpoint, Slot_gate, Removal, Header_gate, Replay, Crash}
+use Rattle.running_store.specs.Appended.{next_lsn}
 use Rattle.cache_manager.specs.InstallCourses.{logged_by, logged_in, members_removed, members_removed_by}
 use Rattle.running_store.specs.Parts.{Parts, Shows}
 use Rattle.running_store.specs.Running.{AreUpkeep, IsUpkeep}
@@ -35,7 +35,7 @@ count_parts (suc n) p q = omega (arith, count_parts n p q, here (p n) (q n))
     here true false = refl
     here false b = refl
 
--- the numbers of a list, counted
+-- the LSNs of a list, counted
 pub count_listed : (n : ℕ) (xs : List ℕ) → AreApart xs → ((y : ℕ) → IsTrue (is_among y xs) → y < n) → count_below n (λ k. is_among k xs) ≡ length xs
 count_listed n [] apart low = count_nothing n
   where
@@ -98,7 +98,7 @@ module _ {O : Type 0} (m : Meaning O) where
         count = omega (arith, count, more, top);
       }
   balanced_step w Block_gate is below = unchanged w Block_gate (step m w Block_gate) refl refl refl refl below
-  balanced_step w Check is below = unchanged w Check (step m w Check) refl refl refl refl below
+  balanced_step w Checkpoint is below = unchanged w Checkpoint (step m w Checkpoint) refl refl refl refl below
   balanced_step w (Slot_gate node x) is below = unchanged w (Slot_gate node x) (step m w (Slot_gate node x)) refl refl refl refl below
   balanced_step w (Removal node) is below = record {
     below = λ n there. below n (and_parts (w.graph n) (not (node n)) there).0;
@@ -119,23 +119,23 @@ module _ {O : Type 0} (m : Meaning O) where
       record { below = rest.below; ends = omega (arith, first.ends, rest.ends, all); count = omega (arith, first.count, rest.count, all) }
 
   -- as many members as entries
-  pub members_counted : (p : Params) (d : Disk) (it : Parts) (w : World O) → Shows m p d it w → IsStrictlyIncreasing (numbers it.volatile.entries) → count_below (end_of w) w.graph ≡ length it.volatile.entries
+  pub members_counted : (p : Params) (d : Disk) (it : Parts) (w : World O) → Shows m p d it w → IsStrictlyIncreasing (lsns it.volatile.entries) → count_below (end_of w) w.graph ≡ length it.volatile.entries
   members_counted p d it w shows rising =
       let members = shows.store.members in
       let below = sound_below w shows.running.sound in
-      count_same (end_of w) w.graph (λ n. is_among n (numbers it.volatile.entries)) (λ n lt. sym (members n))
-      ∙ count_listed (end_of w) (numbers it.volatile.entries) (rises_apart (numbers it.volatile.entries) (rises_from_increasing (numbers it.volatile.entries) rising)) (λ y there. below y (sym (members y) ∙ there))
-      ∙ length-map it.volatile.entries (λ (e : Entry). e.number)
+      count_same (end_of w) w.graph (λ n. is_among n (lsns it.volatile.entries)) (λ n lt. sym (members n))
+      ∙ count_listed (end_of w) (lsns it.volatile.entries) (rises_apart (lsns it.volatile.entries) (rises_from_increasing (lsns it.volatile.entries) rising)) (λ y there. below y (sym (members y) ∙ there))
+      ∙ length-map it.volatile.entries (λ (e : Entry). e.lsn)
 
   -- what calls log and remove in all, as the parts say it that show the worlds before and after
   pub told_counts : (p : Params) (old new : Disk) (before after : Parts) (w : World O) (steps : List (Step O)) → Shows m p old before w → Shows m p new after (run m w steps) → AreUpkeep steps
-      → IsStrictlyIncreasing (numbers before.volatile.entries) → IsStrictlyIncreasing (numbers after.volatile.entries) → (ops identities : ℕ) → after.log.next ≡ before.log.next + identities
+      → IsStrictlyIncreasing (lsns before.volatile.entries) → IsStrictlyIncreasing (lsns after.volatile.entries) → (ops identities : ℕ) → after.log.next ≡ before.log.next + identities
       → length after.volatile.entries + ops ≡ length before.volatile.entries + identities → (ops ≡ members_removed m w steps) × (identities ≡ length (logged_in steps))
   told_counts p old new before after w steps shows done are first last ops identities next entries =
       let all = balanced w steps are (sound_below w shows.running.sound) in
       let counted = members_counted p old before w shows first in
       let left = members_counted p new after (run m w steps) done last in
-      let number = next_number m p old before w shows in
-      let later = next_number m p new after (run m w steps) done in
-      let same : identities ≡ length (logged_in steps) = omega (arith, number, later, all.ends, next) in
+      let lsn = next_lsn m p old before w shows in
+      let later = next_lsn m p new after (run m w steps) done in
+      let same : identities ≡ length (logged_in steps) = omega (arith, lsn, later, all.ends, next) in
       (omega (arith, all.count, counted, left, entries, same), same)

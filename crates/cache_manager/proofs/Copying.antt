@@ -7,7 +7,7 @@ use Rattle.oper_core.specs.Meaning.{Meaning, IsLawful}
 use Rattle.install_order.specs.Order.{IsNode}
 use Rattle.oper_core.specs.State.{is_among}
 use Rattle.explain_core.specs.Backup.{AreBeside, IsIdentityAt, IsOneIdentity}
-use Rattle.explain_core.specs.History.{Member, numbered}
+use Rattle.explain_core.specs.History.{Member, with_lsn}
 use Rattle.explain_core.specs.History.Member.{Command, Identity}
 use Rattle.explain_core.specs.RoundGates.{Gate, gate_step, gates_of}
 use Rattle.explain_core.specs.Rounds.{object_at, round_gates}
@@ -62,12 +62,12 @@ module _ {O : Type 0} (m : Meaning O) (copied : ℕ) where
     -- a node that flushes a copied object which is not stale is one identity write
     fresh_identity : (w : World O) → IsSound m w → (node : ℕ → Bool) → IsNode (graph_access m w) node → (x : ℕ) → work_of m w node x → IsFalse (is_stale m copied w x) → x < copied → IsOneIdentity w node
     fresh_identity w sound node is_node x due fresh low =
-        let made : IsTrue (is_identity_at w.history (w.cache x).id) = elim (cases_Bool (is_identity_at w.history (w.cache x).id)) [
+        let made : IsTrue (is_identity_at w.history (w.cache x).lsn) = elim (cases_Bool (is_identity_at w.history (w.cache x).lsn)) [
           | inl yes_made ↦ yes_made
           | inr none ↦ absurd (both_ways _ fresh (and_from (nat_lt x copied) _ (lt-ltb x copied low) (not_from_false _ none)))
         ] in
-        let one = identity_gives (numbered w.history (w.cache x).id) made in
-        ((w.cache x).id, one.0, all_the_node m lawful w sound x due.1 node alone is_node made due, (one.1, one.2))
+        let one = identity_gives (with_lsn w.history (w.cache x).lsn) made in
+        ((w.cache x).lsn, one.0, all_the_node m lawful w sound x due.1 node alone is_node made due, (one.1, one.2))
 
     -- so is one that may be finished
     one_identity : (w : World O) (c : ℕ) → IsRunning m w → IsTrue (w.graph c) → IsFalse (must_log m copied w) → (x : ℕ) → IsTrue (is_among x (work m w)) → x < copied → IsOneIdentity w (next_node m w)

@@ -8,7 +8,7 @@ use Rattle.oper_core.specs.State.{is_among}
 use Rattle.install_order.specs.Entries.{accesses}
 use Rattle.install_order.specs.Order.{NoEdgeInto}
 use Rattle.install_order.specs.declared.entry.Entry.{Entry}
-use Rattle.write_graph.specs.Graph.{IsNodeNamed, numbers}
+use Rattle.write_graph.specs.Graph.{IsNodeNamed, lsns}
 use Rattle.dirty_cache.specs.Contents.{AreDirty}
 use Rattle.running_store.specs.Among.{all_among}
 use Rattle.running_store.specs.Flushed.{DirtiesNone}
@@ -51,7 +51,7 @@ logs_flushed before after objects next entries flushed = record {
 }
 
 -- a minimal node was taken out
-pub logs_removal : (before after : Parts) (node : ℕ → Bool) → NoEdgeInto (accesses before.volatile.entries) node → after.volatile.entries ≡ filter (λ e. not (node e.number)) before.volatile.entries → after.log.next ≡ before.log.next
+pub logs_removal : (before after : Parts) (node : ℕ → Bool) → NoEdgeInto (accesses before.volatile.entries) node → after.volatile.entries ≡ filter (λ e. not (node e.lsn)) before.volatile.entries → after.log.next ≡ before.log.next
     → DirtiesNone before.volatile.objects after.volatile.objects → LogsDirty before after
 logs_removal before after node no_edge entries next dirty = record {
   rising = omega (arith, next);
@@ -59,17 +59,17 @@ logs_removal before after node no_edge entries next dirty = record {
   identities = λ first from are. subst (λ (es : List Entry). AreIdentitiesFrom first es) (sym entries) (left_identities before.volatile.entries node first are);
   older = λ first objects from are all.
       let same = ap (λ (es : List Entry). count_older first es objects) entries in
-      let fewer = fewer_pass (is_older first (filter (λ e. not (node e.number)) before.volatile.entries)) (is_older first before.volatile.entries) objects (left_older before.volatile.entries node no_edge first) in
+      let fewer = fewer_pass (is_older first (filter (λ e. not (node e.lsn)) before.volatile.entries)) (is_older first before.volatile.entries) objects (left_older before.volatile.entries node no_edge first) in
       omega (arith, next, same, fewer);
 }
 
 -- some of what a node has to flush was logged that may not be finished yet
 pub logs_round : AreAlone → (before after : Parts) (n copied : ℕ) (node : ℕ → Bool) → IsNodeNamed before.volatile.entries n node → (work : List ℕ) → IsWork before.volatile node work
-    → (1 < length work) ⊎ HasCopied before.volatile.entries n copied work → All (λ k. k < before.log.next) (numbers before.volatile.entries) → DirtiesNone before.volatile.objects after.volatile.objects
+    → (1 < length work) ⊎ HasCopied before.volatile.entries n copied work → All (λ k. k < before.log.next) (lsns before.volatile.entries) → DirtiesNone before.volatile.objects after.volatile.objects
     → HasLogged work before after → LogsDirty before after
 logs_round alone before after n copied node named work is must above dirty logged =
     let entries = before.volatile.entries in
-    let below : (k : ℕ) → IsTrue (is_among k (numbers entries)) → k < before.log.next = λ k there. all_among (λ k. k < before.log.next) (numbers entries) k above there in
+    let below : (k : ℕ) → IsTrue (is_among k (lsns entries)) → k < before.log.next = λ k there. all_among (λ k. k < before.log.next) (lsns entries) k above there in
     let apart = rises_apart logged.objects (rises_from_increasing logged.objects logged.rising) in
     let next = logged.next in
     record {
@@ -87,14 +87,14 @@ logs_round alone before after n copied node named work is must above dirty logge
     }
 
 -- so at most as many are logged as were dirty
-pub logs_few : (before after : Parts) → LogsDirty before after → All (λ k. k < before.log.next) (numbers before.volatile.entries) → (objects : List ℕ) → AreDirty before.volatile.objects.cache objects → after.log.next ≤ before.log.next + length objects
+pub logs_few : (before after : Parts) → LogsDirty before after → All (λ k. k < before.log.next) (lsns before.volatile.entries) → (objects : List ℕ) → AreDirty before.volatile.objects.cache objects → after.log.next ≤ before.log.next + length objects
 logs_few before after logs above objects dirty =
     let first = before.log.next in
     let entries = before.volatile.entries in
-    let none : (n : ℕ) → first ≤ n → (p : Entry → Bool) → IsTrue (list_any (λ e. (e.number == n) && p e) entries) → ⊥ = λ n from p there.
-    let f = found (λ e. (e.number == n) && p e) entries there in
-    let same = eqb-true f.0.number n (and_parts (f.0.number == n) (p f.0) f.1).0 in
-    let low = all_among (λ k. k < first) (numbers entries) f.0.number above f.3 in
+    let none : (n : ℕ) → first ≤ n → (p : Entry → Bool) → IsTrue (list_any (λ e. (e.lsn == n) && p e) entries) → ⊥ = λ n from p there.
+    let f = found (λ e. (e.lsn == n) && p e) entries there in
+    let same = eqb-true f.0.lsn n (and_parts (f.0.lsn == n) (p f.0) f.1).0 in
+    let low = all_among (λ k. k < first) (lsns entries) f.0.lsn above f.3 in
     omega (arith, from, same, low) in
     let are : AreIdentitiesFrom first entries = λ n from. record {
       blind = λ x. false_from_ne_true _ (none n from (λ e. is_among x e.reads));

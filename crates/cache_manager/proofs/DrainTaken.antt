@@ -11,9 +11,9 @@ use Rattle.oper_core.specs.State.{is_among}
 use Rattle.oper_core.specs.declared.bounds.Bounds.{Bounds}
 use Rattle.formats.specs.Objects.{bounds_of}
 use Rattle.formats.specs.declared.params.Params.{Params}
-use Rattle.log_frames.specs.LogView.{used_of}
+use Rattle.log_blocks.specs.LogView.{used_of}
 use Rattle.install_order.specs.declared.entry.Entry.{Entry}
-use Rattle.write_graph.specs.Graph.{numbers}
+use Rattle.write_graph.specs.Graph.{lsns}
 use Rattle.dirty_cache.specs.Contents.{is_dirty}
 use Rattle.explain_core.specs.World.{World, run}
 use Rattle.running_store.specs.Among.{all_among}
@@ -64,12 +64,12 @@ module _ {O : Type 0} (meaning : Bounds → Meaning O) (lawful : (b : Bounds) �
 -- and nothing is dirty
 pub all_clean : {O : Type 0} (m : Meaning O) (p : Params) (now : Disk) (here : Parts) (v : World O) → Shows m p now here v → here.volatile.entries ≡ [] → (x : ℕ) → is_dirty here.volatile.objects.cache x ≡ false
 all_clean m p now here v shows none x = elim (cases_Bool (is_dirty here.volatile.objects.cache x)) [
-  | inl dirty ↦ absurd (both_ways _ (ap (λ (es : List Entry). is_among (v.cache x).id (numbers es)) none) (shows.store.members (v.cache x).id ∙ (shows.running.sound.dirty x (shows.store.dirty x dirty)).1))
+  | inl dirty ↦ absurd (both_ways _ (ap (λ (es : List Entry). is_among (v.cache x).lsn (lsns es)) none) (shows.store.members (v.cache x).lsn ∙ (shows.running.sound.dirty x (shows.store.dirty x dirty)).1))
   | inr clean ↦ clean
 ]
 
--- there are fewer entries than numbers below the next
-pub few_entries : (n : ℕ) (entries : List Entry) → IsStrictlyIncreasing (numbers entries) → All (λ k. k < n) (numbers entries) → length entries ≤ n
+-- there are fewer entries than LSNs below the next
+pub few_entries : (n : ℕ) (entries : List Entry) → IsStrictlyIncreasing (lsns entries) → All (λ k. k < n) (lsns entries) → length entries ≤ n
 few_entries n entries rising below =
-    let counted = count_listed n (numbers entries) (rises_apart (numbers entries) (rises_from_increasing (numbers entries) rising)) (λ y there. all_among (λ k. k < n) (numbers entries) y below there) in
-    omega (arith, counted, count_at_most n (λ k. is_among k (numbers entries)), length-map entries (λ (e : Entry). e.number))
+    let counted = count_listed n (lsns entries) (rises_apart (lsns entries) (rises_from_increasing (lsns entries) rising)) (λ y there. all_among (λ k. k < n) (lsns entries) y below there) in
+    omega (arith, counted, count_at_most n (λ k. is_among k (lsns entries)), length-map entries (λ (e : Entry). e.lsn))

@@ -53,7 +53,7 @@ module _ (it : Volatile) (copied n : ℕ) (minimal : NamesMinimal it.entries n) 
     first_due o first = let same = first ∙ one_first work few in (due_for o same, due_none o same)
 
 module _ (it : Volatile) (copied : ℕ) where
-  -- those from a greater number on are those from a lesser one, where none is between
+  -- those from a greater LSN on are those from a lesser one, where none is between
   pub round_behind : (most from next : ℕ) (names objects : List ℕ) → from ≤ next → ((k : ℕ) → from ≤ k → k < next → NamesDue it copied k → ⊥) → IsRoundFrom it copied most next names objects → IsRoundFrom it copied most from names objects
   round_behind most from next [] [] low none is = elim is [
     | inl full ↦ inl full

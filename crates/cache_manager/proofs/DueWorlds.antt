@@ -188,7 +188,7 @@ module _ {O : Type 0} (m : Meaning O) (lawful : IsLawful m) (alone : AreAlone) (
         work = λ s other. subst (λ (t : ℕ → Bool). IsWork it t (x ∷ [])) (sym (only s other)) work;
         fresh = λ y first low s other.
             let e : y ≡ x = some_is y (sym first) in
-            let made : IsTrue (is_identity_at w.history (w.cache x).id) = elim (cases_Bool (is_identity_at w.history (w.cache x).id)) [
+            let made : IsTrue (is_identity_at w.history (w.cache x).lsn) = elim (cases_Bool (is_identity_at w.history (w.cache x).lsn)) [
               | inl there ↦ there
               | inr none ↦ absurd (both_ways _ (not-true _ due.flushes) (and_from (nat_lt x copied) _ (lt-ltb x copied (omega (arith, low, e))) (not_from_false _ none)))
             ] in

@@ -43,10 +43,10 @@ module _ {O : Type 0} (m : Meaning O) where
       either true = tally_force w
       either false = tally_none m w [] refl (λ y is. is)
 
-  tally_placed : (w : World O) (used limit n : ℕ) (numbered : Bool) (steps : List (Step O)) → Tally m w steps → Tally m w (placed m w used limit n numbered steps).steps
-  tally_placed w used limit n numbered steps tally =
-      tally_if m w (nat_lt limit (grown m w used n)) (course (force_steps m w) used (Full used (n + 5) limit)) (if numbered && nat_le (2 ^ 62) (end_of w) then course (force_steps m w) used (At_end (end_of w)) else course steps (grown m w used n) Through) (λ full. tally_force w)
-      (λ fits. tally_if m w (numbered && nat_le (2 ^ 62) (end_of w)) (course (force_steps m w) used (At_end (end_of w))) (course steps (grown m w used n) Through) (λ at_end. tally_force w) (λ free. tally))
+  tally_placed : (w : World O) (used limit n : ℕ) (with_lsn : Bool) (steps : List (Step O)) → Tally m w steps → Tally m w (placed m w used limit n with_lsn steps).steps
+  tally_placed w used limit n with_lsn steps tally =
+      tally_if m w (nat_lt limit (grown m w used n)) (course (force_steps m w) used (Full used (n + 5) limit)) (if with_lsn && nat_le (2 ^ 62) (end_of w) then course (force_steps m w) used (At_end (end_of w)) else course steps (grown m w used n) Through) (λ full. tally_force w)
+      (λ fits. tally_if m w (with_lsn && nat_le (2 ^ 62) (end_of w)) (course (force_steps m w) used (At_end (end_of w))) (course steps (grown m w used n) Through) (λ at_end. tally_force w) (λ free. tally))
 
   -- an identity write of an object that may be logged
   tally_append_one : (w : World O) (x : ℕ) → IsSound m w → x < m.objects → IsTrue (is_plain w x) → Tally m w (identity_steps m x w)

@@ -89,12 +89,12 @@ module _ {O : Type 0} (m : Meaning O) where
           (goes_none w used P (so w.forced w.tables w.pending is))
     ]
 
-    -- a record, where it has room and a number
-    pub placed_goes : (w : World O) (used limit n : ℕ) (numbered : Bool) (steps : List (Step O)) (P : World O → Type 0) → IsRunning m w
-        → AreAllowed m w steps → P (run m w steps) → Goes m w (placed m w used limit n numbered steps) P
-    placed_goes w used limit n numbered steps P is may there =
-        goes_if w (nat_lt limit (grown m w used n)) (course (force_steps m w) used (Full used (n + 5) limit)) (if numbered && nat_le (2 ^ 62) (end_of w) then course (force_steps m w) used (At_end (end_of w)) else course steps (grown m w used n) Through) P
+    -- a record, where it has room and an LSN
+    pub placed_goes : (w : World O) (used limit n : ℕ) (with_lsn : Bool) (steps : List (Step O)) (P : World O → Type 0) → IsRunning m w
+        → AreAllowed m w steps → P (run m w steps) → Goes m w (placed m w used limit n with_lsn steps) P
+    placed_goes w used limit n with_lsn steps P is may there =
+        goes_if w (nat_lt limit (grown m w used n)) (course (force_steps m w) used (Full used (n + 5) limit)) (if with_lsn && nat_le (2 ^ 62) (end_of w) then course (force_steps m w) used (At_end (end_of w)) else course steps (grown m w used n) Through) P
         (λ full. stopped w (course (force_steps m w) used (Full used (n + 5) limit)) P refl (force_allowed w is))
-        (λ fits. goes_if w (numbered && nat_le (2 ^ 62) (end_of w)) (course (force_steps m w) used (At_end (end_of w))) (course steps (grown m w used n) Through) P
+        (λ fits. goes_if w (with_lsn && nat_le (2 ^ 62) (end_of w)) (course (force_steps m w) used (At_end (end_of w))) (course steps (grown m w used n) Through) P
         (λ at_end. stopped w (course (force_steps m w) used (At_end (end_of w))) P refl (force_allowed w is))
         (λ free. record { allowed = may; through = λ e. there }))

@@ -6,11 +6,11 @@ use Rattle.disk_model.specs.Disk.{Disk}
 use Rattle.oper_core.specs.Meaning.{Meaning}
 use Rattle.oper_core.specs.declared.bounds.Bounds.{Bounds}
 use Rattle.formats.specs.declared.params.Params.{Params}
-use Rattle.log_frames.specs.LogView.{used_of, growth_of}
+use Rattle.log_blocks.specs.LogView.{used_of, growth_of}
 use Rattle.log_records.specs.RecordLog.{RecordLogView}
 use Rattle.dirty_cache.specs.Contents.{is_dirty}
 use Rattle.explain_core.specs.World.{World, Step, end_of}
-use Rattle.running_store.specs.Appended.{next_number}
+use Rattle.running_store.specs.Appended.{next_lsn}
 use Rattle.running_store.specs.Courses.{Course, Stop, and_then, cached_length, course, force_course, force_steps, grown, identity_length, identity_steps, placed, room_steps, written_course}
 use Rattle.cache_manager.specs.InstallCourses.{identity_course}
 use Rattle.running_store.specs.Courses.Stop.{Through, Full, At_end}
@@ -45,21 +45,21 @@ module _ {O : Type 0} (m : Meaning O) (p : Params) (d : Disk) (it : Parts) (w : 
   placed_fits : HasRecordPlace it.log n → placed m w used log_limit n true steps ≡ course steps (grown m w used n) Through
   placed_fits place =
       let over : nat_lt log_limit (grown m w used n) ≡ false = le-ltb log_limit (grown m w used n) (omega (arith, place.fits, same)) in
-      let past : nat_le (2 ^ 62) (end_of w) ≡ false = lt-leb (2 ^ 62) (end_of w) (omega (arith, place.number, next_number m p d it w shows)) in
+      let past : nat_le (2 ^ 62) (end_of w) ≡ false = lt-leb (2 ^ 62) (end_of w) (omega (arith, place.lsn, next_lsn m p d it w shows)) in
       cond-false (nat_lt log_limit (grown m w used n)) _ _ over ∙ cond-false (nat_le (2 ^ 62) (end_of w)) _ _ past
 
   -- the log has no room for it
   placed_full : log_limit < long → placed m w used log_limit n true steps ≡ course (force_steps m w) used (Full used (n + 5) log_limit)
   placed_full over = cond-true (nat_lt log_limit (grown m w used n)) _ _ (lt-ltb log_limit (grown m w used n) (omega (arith, over, same)))
 
-  -- no number is left for it
+  -- no LSN is left for it
   placed_end : long ≤ log_limit → 2 ^ 62 ≤ it.log.next → placed m w used log_limit n true steps ≡ course (force_steps m w) used (At_end it.log.next)
   placed_end fits last =
-      let number = next_number m p d it w shows in
+      let lsn = next_lsn m p d it w shows in
       let over : nat_lt log_limit (grown m w used n) ≡ false = le-ltb log_limit (grown m w used n) (omega (arith, fits, same)) in
       cond-false (nat_lt log_limit (grown m w used n)) _ _ over
-      ∙ cond-true (nat_le (2 ^ 62) (end_of w)) _ _ (le-leb (2 ^ 62) (end_of w) (omega (arith, last, number)))
-      ∙ ap (λ (k : ℕ). course (force_steps m w) used (At_end k)) (sym number)
+      ∙ cond-true (nat_le (2 ^ 62) (end_of w)) _ _ (le-leb (2 ^ 62) (end_of w) (omega (arith, last, lsn)))
+      ∙ ap (λ (k : ℕ). course (force_steps m w) used (At_end k)) (sym lsn)
 
 -- An identity write of x, whose record has n bytes: room is made for it, and it goes to its place.
 module _ {O : Type 0} (meaning : Bounds → Meaning O) (x n : ℕ) where
@@ -100,7 +100,7 @@ module _ {O : Type 0} (meaning : Bounds → Meaning O) (x n : ℕ) where
             λ forced low. (sym (ap (λ (r : RecordLogView). used_of r.log) forced), ap (λ (r : RecordLogView). r.log.pending) forced, omega (arith, lacks.0, growth_low here.log.log.pending n), refl),
             λ p w shows. sym (placed_full (meaning_in meaning p) p mid here w shows n (identity_steps (meaning_in meaning p) x w) lacks.0),
           )
-          by_cause (LsnEnd number) lacks = (
+          by_cause (LsnEnd lsn) lacks = (
             At_end here.log.next,
             λ i. Stopped (At_end (sym lacks.2 i)),
             λ forced low. (sym (ap (λ (r : RecordLogView). r.next) forced), ap (λ (r : RecordLogView). r.log.pending) forced, omega (arith, lacks.1, low)),

@@ -125,9 +125,9 @@ module _ {O : Type 0} (m : Meaning O) (copied : ℕ) (lawful : IsLawful m) (keep
       let empty : (n : ℕ) → IsFalse (w.graph n) = λ n. false_from_ne_true _ (λ there. both_ways _ none (some-from (end_of w) w.graph n (below m lawful w is.sound n there) there)) in
       record {
         empty = empty;
-        clean = λ x. elim (cases_eq (w.slots x).id (w.cache x).id) [
+        clean = λ x. elim (cases_eq (w.slots x).lsn (w.cache x).lsn) [
           | inl same ↦ same
-          | inr dirty ↦ absurd (both_ways _ (empty (w.cache x).id) (is.sound.dirty x dirty).1)
+          | inr dirty ↦ absurd (both_ways _ (empty (w.cache x).lsn) (is.sound.dirty x dirty).1)
         ];
       }
 

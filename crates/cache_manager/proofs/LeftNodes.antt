@@ -7,7 +7,7 @@ use Rattle.oper_core.specs.State.{is_among}
 use Rattle.install_order.specs.declared.entry.Entry.{Entry}
 use Rattle.install_order.specs.Entries.{accesses}
 use Rattle.install_order.specs.Order.{Access, IsMinimal, NoEdgeInto, within}
-use Rattle.write_graph.specs.Graph.{IsNodeNamed, numbers}
+use Rattle.write_graph.specs.Graph.{IsNodeNamed, lsns}
 use Rattle.explain_core.specs.RoundGates.{one_node}
 use Rattle.explain_core.specs.RoundRemovals.{stays_minimal}
 use Rattle.cache_manager.proofs.Older.{any_filter, filter_any, found}
@@ -18,38 +18,38 @@ bools_same b c to from = elim (cases_Bool b) [
   | inr off ↦ off ∙ sym (false_from_ne_true c (λ there. both_ways _ off (from there)))
 ]
 
-numbers_any : (n : ℕ) (entries : List Entry) → is_among n (numbers entries) ≡ list_any (λ e. n == e.number) entries
+numbers_any : (n : ℕ) (entries : List Entry) → is_among n (lsns entries) ≡ list_any (λ e. n == e.lsn) entries
 numbers_any n [] = refl
-numbers_any n (e ∷ entries) = ap (λ (b : Bool). (n == e.number) || b) (numbers_any n entries)
+numbers_any n (e ∷ entries) = ap (λ (b : Bool). (n == e.lsn) || b) (numbers_any n entries)
 
 module _ (entries : List Entry) (node : ℕ → Bool) where
   abbrev stays : Entry → Bool
-  stays e = not (node e.number)
+  stays e = not (node e.lsn)
 
   abbrev left : List Entry
   left = filter stays entries
 
-  -- of what has one number all stays, or nothing
-  left_any : (n : ℕ) (w : Entry → Bool) → ((e : Entry) → IsTrue (w e) → e.number ≡ n) → list_any w left ≡ (not (node n) && list_any w entries)
-  left_any n w numbered = bools_same (list_any w left) (not (node n) && list_any w entries)
+  -- of what has one LSN all stays, or nothing
+  left_any : (n : ℕ) (w : Entry → Bool) → ((e : Entry) → IsTrue (w e) → e.lsn ≡ n) → list_any w left ≡ (not (node n) && list_any w entries)
+  left_any n w with_lsn = bools_same (list_any w left) (not (node n) && list_any w entries)
       (λ there.
       let r = found (λ e. stays e && w e) entries (any_filter stays w entries there) in
       let u = and_parts (stays r.0) (w r.0) r.1 in
-      and_from (not (node n)) (list_any w entries) (subst (λ (k : ℕ). IsTrue (not (node k))) (numbered r.0 u.1) u.0) (r.2 w u.1))
+      and_from (not (node n)) (list_any w entries) (subst (λ (k : ℕ). IsTrue (not (node k))) (with_lsn r.0 u.1) u.0) (r.2 w u.1))
       (λ both.
       let u = and_parts (not (node n)) (list_any w entries) both in
       let f = found w entries u.1 in
-      filter_any stays w entries (f.2 (λ e. stays e && w e) (and_from (stays f.0) (w f.0) (subst (λ (k : ℕ). IsTrue (not (node k))) (sym (numbered f.0 f.1)) u.0) f.1)))
+      filter_any stays w entries (f.2 (λ e. stays e && w e) (and_from (stays f.0) (w f.0) (subst (λ (k : ℕ). IsTrue (not (node k))) (sym (with_lsn f.0 f.1)) u.0) f.1)))
 
-  left_at : (f : Entry → Bool) (n : ℕ) → list_any (λ e. (e.number == n) && f e) left ≡ (not (node n) && list_any (λ e. (e.number == n) && f e) entries)
-  left_at f n = left_any n (λ e. (e.number == n) && f e) (λ e is. eqb-true e.number n (and_parts (e.number == n) (f e) is).0)
+  left_at : (f : Entry → Bool) (n : ℕ) → list_any (λ e. (e.lsn == n) && f e) left ≡ (not (node n) && list_any (λ e. (e.lsn == n) && f e) entries)
+  left_at f n = left_any n (λ e. (e.lsn == n) && f e) (λ e is. eqb-true e.lsn n (and_parts (e.lsn == n) (f e) is).0)
 
   left_access : accesses left ≡ within (λ n. not (node n)) (accesses entries)
   left_access = λ i. record { reads = λ n x. left_at (λ e. is_among x e.reads) n i; writes = λ n x. left_at (λ e. is_among x e.writes) n i }
 
-  left_number : (n : ℕ) → is_among n (numbers left) ≡ (not (node n) && is_among n (numbers entries))
+  left_number : (n : ℕ) → is_among n (lsns left) ≡ (not (node n) && is_among n (lsns entries))
   left_number n =
-      numbers_any n left ∙ left_any n (λ e. n == e.number) (λ e is. sym (eqb-true n e.number is)) ∙ ap (λ (b : Bool). not (node n) && b) (sym (numbers_any n entries))
+      numbers_any n left ∙ left_any n (λ e. n == e.lsn) (λ e is. sym (eqb-true n e.lsn is)) ∙ ap (λ (b : Bool). not (node n) && b) (sym (numbers_any n entries))
 
   -- two nodes of different names have no member in common
   pub named_apart : (n k : ℕ) (other : ℕ → Bool) → IsNodeNamed entries n node → IsNodeNamed entries k other → (k ≡ n → ⊥) → (z : ℕ) → IsTrue (node z) → IsTrue (other z) → ⊥
@@ -67,6 +67,6 @@ module _ (entries : List Entry) (node : ℕ → Bool) where
       let out : (z : ℕ) → IsTrue (other z) → IsTrue (not (node z)) = λ z there. not_from_false _ (false_from_ne_true _ (λ on. named_apart n k other named is apart z on there)) in
       let minimal : IsMinimal (within (λ z. not (node z)) a) other = stays_minimal a (λ z. true) node none other (is.is_node, no_edge) out in
       let here : IsMinimal (accesses left) other = subst (λ (b : Access). IsMinimal b other) (sym left_access) minimal in (
-        record { held = left_number k ∙ and_from (not (node k)) (is_among k (numbers entries)) (out k is.is_name.0) is.held; is_node = here.0; is_name = is.is_name },
+        record { held = left_number k ∙ and_from (not (node k)) (is_among k (lsns entries)) (out k is.is_name.0) is.held; is_node = here.0; is_name = is.is_name },
         here.1,
       )

@@ -8,13 +8,13 @@ use Rattle.install_order.specs.declared.entry.Entry.{Entry}
 use Rattle.install_order.specs.Entries.{accesses}
 use Rattle.install_order.specs.Order.{Access, IsNode, NoEdgeInto}
 use Rattle.install_order.specs.NodeLaws.{some-from, some-gives}
-use Rattle.write_graph.specs.Graph.{numbers, IsNodeNamed, NamesMinimal, IsLeast}
+use Rattle.write_graph.specs.Graph.{lsns, IsNodeNamed, NamesMinimal, IsLeast}
 use Rattle.explain_core.specs.Sound.{IsSound}
 use Rattle.explain_core.specs.World.{World, end_of, graph_access}
 use Rattle.cache_manager.specs.InstallCourses.{has_members}
 use Rattle.cache_manager.proofs.Next.{IsNext, below}
 
-module _ {O : Type 0} (m : Meaning O) (w : World O) (node : ℕ → Bool) (entries : List Entry) (members : (n : ℕ) → is_among n (numbers entries) ≡ w.graph n) (same : accesses entries ≡ graph_access m w) (next : IsNext m w node) where
+module _ {O : Type 0} (m : Meaning O) (w : World O) (node : ℕ → Bool) (entries : List Entry) (members : (n : ℕ) → is_among n (lsns entries) ≡ w.graph n) (same : accesses entries ≡ graph_access m w) (next : IsNext m w node) where
   -- the entries have the next node
   pub next_named : IsNodeNamed entries next.name node
   next_named = record {
@@ -40,13 +40,13 @@ module _ {O : Type 0} (m : Meaning O) (w : World O) (node : ℕ → Bool) (entri
   least_named n least = subst (λ (k : ℕ). IsNodeNamed entries k node) (sym (least_is_next n least)) next_named
 
 -- there are entries exactly where the graph has members
-module _ {O : Type 0} (m : Meaning O) (w : World O) (entries : List Entry) (members : (n : ℕ) → is_among n (numbers entries) ≡ w.graph n) where
+module _ {O : Type 0} (m : Meaning O) (w : World O) (entries : List Entry) (members : (n : ℕ) → is_among n (lsns entries) ≡ w.graph n) where
   pub no_members : entries ≡ [] → IsFalse (has_members m w)
   no_members none = false_from_ne_true _ (λ some.
       let one = some-gives (end_of w) w.graph some in
-      both_ways _ (ap (λ (es : List Entry). is_among one.0 (numbers es)) none) (members one.0 ∙ one.2))
+      both_ways _ (ap (λ (es : List Entry). is_among one.0 (lsns es)) none) (members one.0 ∙ one.2))
 
-  pub some_members : IsLawful m → IsSound m w → (n : ℕ) → IsTrue (is_among n (numbers entries)) → IsTrue (has_members m w)
+  pub some_members : IsLawful m → IsSound m w → (n : ℕ) → IsTrue (is_among n (lsns entries)) → IsTrue (has_members m w)
   some_members lawful sound n there =
       let member : IsTrue (w.graph n) = sym (members n) ∙ there in
       some-from (end_of w) w.graph n (below m lawful w sound n member) member

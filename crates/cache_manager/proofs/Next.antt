@@ -33,7 +33,7 @@ module _ {O : Type 0} (m : Meaning O) (lawful : IsLawful m) (w : World O) (sound
   pub is_within : IsWithin a m.objects end
   is_within = graph-within m lawful w sound
 
-  -- the members of the graph have numbers of the history
+  -- the members of the graph have LSNs of the history
   pub below : (n : ℕ) → IsTrue (w.graph n) → n < end
   below n there = omega (arith, (sound.graph n there).1, sound.next.1)
 

@@ -42,7 +42,7 @@ unfolding run
 run_first m w g gates = refl
 
 -- what is left of the entries has the other nodes
-module _ (entries later : List Entry) (n : ℕ) (node : ℕ → Bool) (named : IsNodeNamed entries n node) (none : NoEdgeInto (accesses entries) node) (left : later ≡ filter (λ e. not (node e.number)) entries) where
+module _ (entries later : List Entry) (n : ℕ) (node : ℕ → Bool) (named : IsNodeNamed entries n node) (none : NoEdgeInto (accesses entries) node) (left : later ≡ filter (λ e. not (node e.lsn)) entries) where
   not_first : (k : ℕ) (names : List ℕ) → IsFalse (is_among n (k ∷ names)) → k ≡ n → ⊥
   not_first k names apart same = both_ways _ (or_parts (n == k) (is_among n names) apart).0 (eq-eqb n k (sym same))
 
@@ -105,7 +105,7 @@ module _ {O : Type 0} (meaning : Bounds → Meaning O) (old mid : Disk) (before 
   module _ (call : IsCall meaning old mid before here 0 Never Done)
       (shown : (p : Params) (w : World O) (node : ℕ → Bool) → VolatileShows (meaning_in meaning p) p old before.parts.volatile w → IsNodeNamed before.parts.volatile.entries n node
       → AreAllowed (meaning_in meaning p) w (removal_steps (meaning_in meaning p) node []) → VolatileShows (meaning_in meaning p) p mid here.parts.volatile (run (meaning_in meaning p) w (removal_steps (meaning_in meaning p) node [])))
-      (left : (node : ℕ → Bool) → IsNodeNamed before.parts.volatile.entries n node → (here.parts.volatile.entries ≡ filter (λ e. not (node e.number)) before.parts.volatile.entries) × (length here.parts.volatile.entries < length before.parts.volatile.entries))
+      (left : (node : ℕ → Bool) → IsNodeNamed before.parts.volatile.entries n node → (here.parts.volatile.entries ≡ filter (λ e. not (node e.lsn)) before.parts.volatile.entries) × (length here.parts.volatile.entries < length before.parts.volatile.entries))
       (dirty : DirtiesNone before.parts.volatile.objects here.parts.volatile.objects) where
     abbrev one : NamesMinimal before.parts.volatile.entries n
     one = minimal.0

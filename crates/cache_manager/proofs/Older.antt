@@ -10,22 +10,22 @@ use Rattle.install_order.specs.declared.entry.Entry.{Entry}
 use Rattle.install_order.specs.Entries.{accesses}
 use Rattle.install_order.specs.Order.{NoEdgeInto}
 use Rattle.install_order.specs.Order.Edge.{Write_write}
-use Rattle.write_graph.specs.Graph.{numbers}
+use Rattle.write_graph.specs.Graph.{lsns}
 use Rattle.cache_manager.specs.LogsDirty.{AreIdentitiesFrom, IsIdentityAt, count_older, identity_entries, is_older}
 use Rattle.cache_manager.proofs.Lists.{AreApart}
 use Rattle.cache_manager.proofs.Tally.{among_append}
 
 -- an entry of the list that passes the test
 abbrev pub Found : (Entry → Bool) → List Entry → Type 0
-Found p entries = (e : Entry) × IsTrue (p e) × ((q : Entry → Bool) → IsTrue (q e) → IsTrue (list_any q entries)) × IsTrue (is_among e.number (numbers entries))
+Found p entries = (e : Entry) × IsTrue (p e) × ((q : Entry → Bool) → IsTrue (q e) → IsTrue (list_any q entries)) × IsTrue (is_among e.lsn (lsns entries))
 
 pub found : (p : Entry → Bool) (entries : List Entry) → IsTrue (list_any p entries) → Found p entries
 found p [] there = absurd (both_ways _ refl there)
 found p (e ∷ entries) there = elim (or_cases (p e) (list_any p entries) there) [
-  | inl here ↦ (e, here, λ q is. or_left (q e) (list_any q entries) is, or_left (e.number == e.number) (is_among e.number (numbers entries)) (eq-eqb e.number e.number refl))
+  | inl here ↦ (e, here, λ q is. or_left (q e) (list_any q entries) is, or_left (e.lsn == e.lsn) (is_among e.lsn (lsns entries)) (eq-eqb e.lsn e.lsn refl))
   | inr later ↦
       let r = found p entries later in
-      (r.0, r.1, λ q is. or_right (q e) (list_any q entries) (r.2 q is), or_right (r.0.number == e.number) (is_among r.0.number (numbers entries)) r.3)
+      (r.0, r.1, λ q is. or_right (q e) (list_any q entries) (r.2 q is), or_right (r.0.lsn == e.lsn) (is_among r.0.lsn (lsns entries)) r.3)
 ]
 
 -- a test on a filtered list
@@ -56,14 +56,14 @@ filter_any keep p (e ∷ entries) there = elim (or_cases (keep e && p e) (list_a
 abbrev pub writes : ℕ → Entry → Bool
 writes x e = is_among x e.writes
 
--- from this number on
+-- from this LSN on
 abbrev pub writes_late : ℕ → ℕ → Entry → Bool
-writes_late first x e = nat_le first e.number && is_among x e.writes
+writes_late first x e = nat_le first e.lsn && is_among x e.writes
 
 -- A node is taken out of the entries.
 module _ (entries : List Entry) (node : ℕ → Bool) where
   abbrev stays : Entry → Bool
-  stays e = not (node e.number)
+  stays e = not (node e.lsn)
 
   abbrev left : List Entry
   left = filter stays entries
@@ -75,16 +75,16 @@ module _ (entries : List Entry) (node : ℕ → Bool) where
   left_identities first are = λ n from.
       let is = are n from in
       record {
-        blind = λ x. false_from_ne_true _ (λ read. both_ways _ (is.blind x) (left_was (λ e. (e.number == n) && is_among x e.reads) read));
-        one = λ x y wrote also. is.one x y (left_was (λ e. (e.number == n) && is_among x e.writes) wrote) (left_was (λ e. (e.number == n) && is_among y e.writes) also);
+        blind = λ x. false_from_ne_true _ (λ read. both_ways _ (is.blind x) (left_was (λ e. (e.lsn == n) && is_among x e.reads) read));
+        one = λ x y wrote also. is.one x y (left_was (λ e. (e.lsn == n) && is_among x e.writes) wrote) (left_was (λ e. (e.lsn == n) && is_among y e.writes) also);
         flag = λ x wrote.
-            let w : Entry → Bool = λ e. (e.number == n) && is_among x e.writes in
-            let flagged : Entry → Bool = λ e. (e.number == n) && e.identity in
+            let w : Entry → Bool = λ e. (e.lsn == n) && is_among x e.writes in
+            let flagged : Entry → Bool = λ e. (e.lsn == n) && e.identity in
             let r = found (λ e. stays e && w e) entries (any_filter stays w entries wrote) in
             let u = and_parts (stays r.0) (w r.0) r.1 in
-            let kept : IsTrue (not (node n)) = subst (λ (k : ℕ). IsTrue (not (node k))) (eqb-true r.0.number n (and_parts (r.0.number == n) (is_among x r.0.writes) u.1).0) u.0 in
+            let kept : IsTrue (not (node n)) = subst (λ (k : ℕ). IsTrue (not (node k))) (eqb-true r.0.lsn n (and_parts (r.0.lsn == n) (is_among x r.0.writes) u.1).0) u.0 in
             let f = found flagged entries (is.flag x (left_was w wrote)) in
-            let same = eqb-true f.0.number n (and_parts (f.0.number == n) f.0.identity f.1).0 in
+            let same = eqb-true f.0.lsn n (and_parts (f.0.lsn == n) f.0.identity f.1).0 in
             filter_any stays flagged entries (f.2 (λ e. stays e && flagged e) (and_from (stays f.0) (flagged f.0) (subst (λ (k : ℕ). IsTrue (not (node k))) (sym same) kept) f.1));
       }
 
@@ -98,23 +98,23 @@ module _ (entries : List Entry) (node : ℕ → Bool) where
       let kept = and_parts (stays e.0) (writes x e.0) e.1 in
       and_from (list_any (writes x) entries) (not (list_any late entries)) (e.2 (writes x) kept.1) (not_from_false _ (false_from_ne_true _ (λ there.
       let f = found late entries there in
-      let v = and_parts (nat_le first f.0.number) (is_among x f.0.writes) f.1 in
-      elim (cases_Bool (node f.0.number)) [
+      let v = and_parts (nat_le first f.0.lsn) (is_among x f.0.writes) f.1 in
+      elim (cases_Bool (node f.0.lsn)) [
         | inl gone ↦
-            let before : e.0.number < f.0.number = elim (cases_lt e.0.number first) [
-              | inl lt ↦ let low = leb-true first f.0.number v.0 in omega (arith, lt, low)
-              | inr from ↦ absurd (both_ways _ none (filter_any stays late entries (e.2 (λ k. stays k && late k) (and_from (stays e.0) (late e.0) kept.0 (and_from (nat_le first e.0.number) (is_among x e.0.writes) (le-leb first e.0.number from) kept.1)))))
+            let before : e.0.lsn < f.0.lsn = elim (cases_lt e.0.lsn first) [
+              | inl lt ↦ let low = leb-true first f.0.lsn v.0 in omega (arith, lt, low)
+              | inr from ↦ absurd (both_ways _ none (filter_any stays late entries (e.2 (λ k. stays k && late k) (and_from (stays e.0) (late e.0) kept.0 (and_from (nat_le first e.0.lsn) (is_among x e.0.writes) (le-leb first e.0.lsn from) kept.1)))))
             ] in
-            no_edge e.0.number f.0.number (not-true _ kept.0) gone
-            (Write_write x before (e.2 (λ k. (k.number == e.0.number) && is_among x k.writes) (and_from (e.0.number == e.0.number) (is_among x e.0.writes) (eq-eqb e.0.number e.0.number refl) kept.1))
-            (f.2 (λ k. (k.number == f.0.number) && is_among x k.writes) (and_from (f.0.number == f.0.number) (is_among x f.0.writes) (eq-eqb f.0.number f.0.number refl) v.1)))
+            no_edge e.0.lsn f.0.lsn (not-true _ kept.0) gone
+            (Write_write x before (e.2 (λ k. (k.lsn == e.0.lsn) && is_among x k.writes) (and_from (e.0.lsn == e.0.lsn) (is_among x e.0.writes) (eq-eqb e.0.lsn e.0.lsn refl) kept.1))
+            (f.2 (λ k. (k.lsn == f.0.lsn) && is_among x k.writes) (and_from (f.0.lsn == f.0.lsn) (is_among x f.0.writes) (eq-eqb f.0.lsn f.0.lsn refl) v.1)))
         | inr held ↦ both_ways _ none (filter_any stays late entries (f.2 (λ k. stays k && late k) (and_from (stays f.0) (late f.0) (not_from_false _ held) f.1)))
       ])))
 
 -- An identity write is logged.
-module _ (entries : List Entry) (n x : ℕ) (below : (k : ℕ) → IsTrue (is_among k (numbers entries)) → k < n) where
+module _ (entries : List Entry) (n x : ℕ) (below : (k : ℕ) → IsTrue (is_among k (lsns entries)) → k < n) where
   abbrev logged : Entry
-  logged = record { number = n; reads = []; writes = x ∷ []; identity = true }
+  logged = record { lsn = n; reads = []; writes = x ∷ []; identity = true }
 
   abbrev pub with_one : List Entry
   with_one = entries ++ logged ∷ []
@@ -134,23 +134,23 @@ module _ (entries : List Entry) (n x : ℕ) (below : (k : ℕ) → IsTrue (is_am
   only : (y : ℕ) → IsTrue (is_among y (x ∷ [])) → y ≡ x
   only y there = elim (or_cases (y == x) false there) [ inl here ↦ eqb-true y x here | inr none ↦ absurd (both_ways _ refl none) ]
 
-  -- no entry had the number
-  not_before : (p : Entry → Bool) → IsTrue (list_any (λ e. (e.number == n) && p e) entries) → ⊥
+  -- no entry had the LSN
+  not_before : (p : Entry → Bool) → IsTrue (list_any (λ e. (e.lsn == n) && p e) entries) → ⊥
   not_before p there =
-      let f = found (λ e. (e.number == n) && p e) entries there in
-      let same = eqb-true f.0.number n (and_parts (f.0.number == n) (p f.0) f.1).0 in
-      let low = below f.0.number f.3 in
+      let f = found (λ e. (e.lsn == n) && p e) entries there in
+      let same = eqb-true f.0.lsn n (and_parts (f.0.lsn == n) (p f.0) f.1).0 in
+      let low = below f.0.lsn f.3 in
       omega (arith, same, low)
 
-  here_alone : (y : ℕ) → IsTrue (list_any (λ e. (e.number == n) && is_among y e.writes) with_one) → y ≡ x
-  here_alone y wrote = elim (split (λ e. (e.number == n) && is_among y e.writes) wrote) [
+  here_alone : (y : ℕ) → IsTrue (list_any (λ e. (e.lsn == n) && is_among y e.writes) with_one) → y ≡ x
+  here_alone y wrote = elim (split (λ e. (e.lsn == n) && is_among y e.writes) wrote) [
     | inl old ↦ absurd (not_before (writes y) old)
     | inr made ↦ only y (and_parts (n == n) (is_among y (x ∷ [])) made).1
   ]
 
   -- what has another number was there
-  was_other : (k : ℕ) (p : Entry → Bool) → (k ≡ n → ⊥) → IsTrue (list_any (λ e. (e.number == k) && p e) with_one) → IsTrue (list_any (λ e. (e.number == k) && p e) entries)
-  was_other k p other there = elim (split (λ e. (e.number == k) && p e) there) [
+  was_other : (k : ℕ) (p : Entry → Bool) → (k ≡ n → ⊥) → IsTrue (list_any (λ e. (e.lsn == k) && p e) with_one) → IsTrue (list_any (λ e. (e.lsn == k) && p e) entries)
+  was_other k p other there = elim (split (λ e. (e.lsn == k) && p e) there) [
     | inl old ↦ old
     | inr made ↦ absurd (other (sym (eqb-true n k (and_parts (n == k) (p logged) made).0)))
   ]
@@ -158,12 +158,12 @@ module _ (entries : List Entry) (n x : ℕ) (below : (k : ℕ) → IsTrue (is_am
   pub one_identities : (first : ℕ) → AreIdentitiesFrom first entries → AreIdentitiesFrom first with_one
   one_identities first are = λ k from. elim (cases_eq n k) [
     | inl here ↦ subst (λ (k : ℕ). IsIdentityAt with_one k) here (record {
-      blind = λ y. false_from_ne_true _ (λ read. elim (split (λ e. (e.number == n) && is_among y e.reads) read) [
+      blind = λ y. false_from_ne_true _ (λ read. elim (split (λ e. (e.lsn == n) && is_among y e.reads) read) [
         | inl old ↦ not_before (λ e. is_among y e.reads) old
         | inr made ↦ both_ways _ refl (and_parts (n == n) false made).1
       ]);
       one = λ y z wrote also. here_alone z also ∙ sym (here_alone y wrote);
-      flag = λ y wrote. new (λ e. (e.number == n) && e.identity) (and_from (n == n) true (eq-eqb n n refl) refl);
+      flag = λ y wrote. new (λ e. (e.lsn == n) && e.identity) (and_from (n == n) true (eq-eqb n n refl) refl);
     })
     | inr ne ↦
         let is = are k from in
@@ -171,7 +171,7 @@ module _ (entries : List Entry) (n x : ℕ) (below : (k : ℕ) → IsTrue (is_am
         record {
           blind = λ y. false_from_ne_true _ (λ read. both_ways _ (is.blind y) (was_other k (λ e. is_among y e.reads) other read));
           one = λ y z wrote also. is.one y z (was_other k (writes y) other wrote) (was_other k (writes z) other also);
-          flag = λ y wrote. was (λ e. (e.number == k) && e.identity) (is.flag y (was_other k (writes y) other wrote));
+          flag = λ y wrote. was (λ e. (e.lsn == k) && e.identity) (is.flag y (was_other k (writes y) other wrote));
         }
   ]
 
@@ -197,8 +197,8 @@ module _ (entries : List Entry) (n x : ℕ) (below : (k : ℕ) → IsTrue (is_am
           | inr made ↦ other (only y (and_parts (nat_le first n) (is_among y (x ∷ [])) made).1)
         ])))
 
-  pub one_below : (k : ℕ) → IsTrue (is_among k (numbers with_one)) → k < suc n
-  one_below k there = elim (among_append k (numbers entries) (n ∷ []) (subst (λ (l : List ℕ). IsTrue (is_among k l)) (map-append (λ (e : Entry). e.number) entries (logged ∷ [])) there)) [
+  pub one_below : (k : ℕ) → IsTrue (is_among k (lsns with_one)) → k < suc n
+  one_below k there = elim (among_append k (lsns entries) (n ∷ []) (subst (λ (l : List ℕ). IsTrue (is_among k l)) (map-append (λ (e : Entry). e.lsn) entries (logged ∷ [])) there)) [
     | inl old ↦ let low = below k old in omega (arith, low)
     | inr made ↦ elim (or_cases (k == n) false made) [ inl here ↦ let e = eqb-true k n here in omega (arith, e) | inr none ↦ absurd (both_ways _ refl none) ]
   ]
@@ -247,7 +247,7 @@ one_less_passes p q (y ∷ objects) x so there out held = elim (or_cases (x == y
 ]
 
 -- Identity writes of different objects that older entries write are logged: so many fewer are written by those alone.
-pub all_logged : (objects logs : List ℕ) (first n : ℕ) (entries : List Entry) → first ≤ n → ((k : ℕ) → IsTrue (is_among k (numbers entries)) → k < n) → AreIdentitiesFrom first entries → AreApart logs
+pub all_logged : (objects logs : List ℕ) (first n : ℕ) (entries : List Entry) → first ≤ n → ((k : ℕ) → IsTrue (is_among k (lsns entries)) → k < n) → AreIdentitiesFrom first entries → AreApart logs
     → ((x : ℕ) → IsTrue (is_among x logs) → IsTrue (is_older first entries x) × IsTrue (is_among x objects))
     → AreIdentitiesFrom first (entries ++ identity_entries n logs) × (length logs + count_older first (entries ++ identity_entries n logs) objects ≤ count_older first entries objects)
 all_logged objects [] first n entries from below are apart each =

@@ -25,10 +25,10 @@ module _ (alone : AreAlone) (it : Volatile) (first n copied : ℕ) (are : AreIde
     from : first ≤ writer
     from =
         let f = found (writes_late first x) it.entries late in
-        let v = and_parts (nat_le first f.0.number) (is_among x f.0.writes) f.1 in
-        let low = leb-true first f.0.number v.0 in
-        elim (cases_lt writer f.0.number) [
-          | inl lt ↦ absurd (both_ways _ (due.0.2.1 f.0.number lt) (f.2 (λ k. (k.number == f.0.number) && is_among x k.writes) (and_from (f.0.number == f.0.number) (is_among x f.0.writes) (eq-eqb f.0.number f.0.number refl) v.1)))
+        let v = and_parts (nat_le first f.0.lsn) (is_among x f.0.writes) f.1 in
+        let low = leb-true first f.0.lsn v.0 in
+        elim (cases_lt writer f.0.lsn) [
+          | inl lt ↦ absurd (both_ways _ (due.0.2.1 f.0.lsn lt) (f.2 (λ k. (k.lsn == f.0.lsn) && is_among x k.writes) (and_from (f.0.lsn == f.0.lsn) (is_among x f.0.writes) (eq-eqb f.0.lsn f.0.lsn refl) v.1)))
           | inr ge ↦ omega (arith, low, ge)
         ]
 
@@ -50,11 +50,11 @@ module _ (alone : AreAlone) (it : Volatile) (first n copied : ℕ) (are : AreIde
       | inl many ↦ let few = few_listed (HasToFlush it node) work is (λ y z one two. same_object y one ∙ sym (same_object z two)) in omega (arith, many, few)
       | inr has ↦
           let here : n ≡ writer = all_of_it n named.is_name.0 in
-          has.3 node named (subst (λ (k : ℕ). IsTrue (list_any (λ e. (e.number == k) && e.identity) it.entries)) (sym here) ((are writer from).flag x due.0.2.0), λ p there. all_of_it p there ∙ sym here)
+          has.3 node named (subst (λ (k : ℕ). IsTrue (list_any (λ e. (e.lsn == k) && e.identity) it.entries)) (sym here) ((are writer from).flag x due.0.2.0), λ p there. all_of_it p there ∙ sym here)
     ]
 
   pub work_older : (x : ℕ) → IsTrue (is_among x work) → IsTrue (is_older first it.entries x)
   work_older x there =
       let due = (is.exactly x).0 there in
-      let f = found (λ e. (e.number == due.0.0) && is_among x e.writes) it.entries due.0.2.0 in
-      and_from (list_any (writes x) it.entries) _ (f.2 (writes x) (and_parts (f.0.number == due.0.0) (is_among x f.0.writes) f.1).1) (not_from_false _ (false_from_ne_true _ (not_late x due)))
+      let f = found (λ e. (e.lsn == due.0.0) && is_among x e.writes) it.entries due.0.2.0 in
+      and_from (list_any (writes x) it.entries) _ (f.2 (writes x) (and_parts (f.0.lsn == due.0.0) (is_among x f.0.writes) f.1).1) (not_from_false _ (false_from_ne_true _ (not_late x due)))

@@ -8,7 +8,7 @@ use Rattle.oper_core.specs.State.{is_among}
 use Rattle.oper_core.specs.Meaning.{Meaning}
 use Rattle.explain_core.specs.CountLaws.{count_same, count_more}
 use Rattle.explain_core.specs.GraphLaws.{no-writes}
-use Rattle.explain_core.specs.History.{Member, numbered}
+use Rattle.explain_core.specs.History.{Member, with_lsn}
 use Rattle.explain_core.specs.History.Member.{Identity}
 use Rattle.explain_core.specs.Sound.{IsSound}
 use Rattle.explain_core.specs.Turns.{count_below, is_dirty_in, dirty_in}
@@ -19,7 +19,7 @@ use Rattle.cache_manager.proofs.Counts.{count_le, count_less}
 
 -- x is dirty, and the last to write it is no identity write
 abbrev pub is_plain : {O : Type 0} → World O → ℕ → Bool
-is_plain w x = is_dirty_in w x && not (is_identity_some (numbered w.history (w.cache x).id))
+is_plain w x = is_dirty_in w x && not (is_identity_some (with_lsn w.history (w.cache x).lsn))
 
 -- so many objects are so
 abbrev pub plain_in : {O : Type 0} → Meaning O → World O → ℕ
@@ -41,21 +41,21 @@ last_at : {X : Type 0} (h : List X) (x : X) → slice_get (h ++ x ∷ []) (lengt
 last_at [] x = refl
 last_at (y ∷ h) x = last_at h x
 
-numbered_front : {O : Type 0} (h t : List (Member O)) (n : ℕ) → n ≤ length h → numbered (h ++ t) n ≡ numbered h n
-numbered_front h t zero le = refl
-numbered_front h t (suc n) le = front_at h t n (omega (arith, le))
+with_lsn_front : {O : Type 0} (h t : List (Member O)) (n : ℕ) → n ≤ length h → with_lsn (h ++ t) n ≡ with_lsn h n
+with_lsn_front h t zero le = refl
+with_lsn_front h t (suc n) le = front_at h t n (omega (arith, le))
 
-numbered_last : {O : Type 0} (h : List (Member O)) (member : Member O) → numbered (h ++ member ∷ []) (length h + 1) ≡ Some member
-numbered_last h member =
+with_lsn_last : {O : Type 0} (h : List (Member O)) (member : Member O) → with_lsn (h ++ member ∷ []) (length h + 1) ≡ Some member
+with_lsn_last h member =
     let e : length h + 1 ≡ suc (length h) = omega arith in
-    ap (numbered (h ++ member ∷ [])) e ∙ last_at h member
+    ap (with_lsn (h ++ member ∷ [])) e ∙ last_at h member
 
 -- the version in the cache is one of the history
-cached_within : {O : Type 0} (m : Meaning O) (w : World O) → IsSound m w → (x : ℕ) → (w.cache x).id ≤ length w.history
-cached_within m w sound x = elim (cases_lt (length w.history) (w.cache x).id) [
+cached_within : {O : Type 0} (m : Meaning O) (w : World O) → IsSound m w → (x : ℕ) → (w.cache x).lsn ≤ length w.history
+cached_within m w sound x = elim (cases_lt (length w.history) (w.cache x).lsn) [
   | inl past ↦ elim (sound.cache.origin x) [
     | inl none ↦ omega (arith, none.0)
-    | inr wrote ↦ absurd (both_ways _ (no-writes m w.history (w.cache x).id x past) wrote.1)
+    | inr wrote ↦ absurd (both_ways _ (no-writes m w.history (w.cache x).lsn x past) wrote.1)
   ]
   | inr within ↦ within
 ]
@@ -72,23 +72,23 @@ module _ {O : Type 0} (m : Meaning O) (w : World O) (sound : IsSound m w) (x : �
   unfolding step
   other_cell y other = cond-false (is_among y (x ∷ [])) _ (w.cache y) (or_from (y == x) false (ne_eqb y x other) refl)
 
-  own_id : (logged.cache x).id ≡ end_of w
+  own_lsn : (logged.cache x).lsn ≡ end_of w
   unfolding step
-  own_id = ap (λ (c : Cell). c.id) (cond-true (is_among x (x ∷ [])) _ (w.cache x) (or_left (x == x) false (eq-eqb x x refl)))
+  own_lsn = ap (λ (c : Cell). c.lsn) (cond-true (is_among x (x ∷ [])) _ (w.cache x) (or_left (x == x) false (eq-eqb x x refl)))
 
   -- other objects are as before
   pub others_plain : (y : ℕ) → (y ≡ x → ⊥) → is_plain logged y ≡ is_plain w y
   unfolding step
   others_plain y other =
-      ap (λ (c : Cell). not ((w.slots y).id == c.id) && not (is_identity_some (numbered (w.history ++ member ∷ []) c.id))) (other_cell y other)
-      ∙ ap (λ (o : Option (Member O)). is_dirty_in w y && not (is_identity_some o)) (numbered_front w.history (member ∷ []) (w.cache y).id (cached_within m w sound y))
+      ap (λ (c : Cell). not ((w.slots y).lsn == c.lsn) && not (is_identity_some (with_lsn (w.history ++ member ∷ []) c.lsn))) (other_cell y other)
+      ∙ ap (λ (o : Option (Member O)). is_dirty_in w y && not (is_identity_some o)) (with_lsn_front w.history (member ∷ []) (w.cache y).lsn (cached_within m w sound y))
 
   -- x is plain no more
   pub not_plain : IsFalse (is_plain logged x)
   unfolding step
   not_plain =
       and_right (is_dirty_in logged x) _
-      (ap (λ (n : ℕ). not (is_identity_some (numbered (w.history ++ member ∷ []) n))) own_id ∙ ap (λ (o : Option (Member O)). not (is_identity_some o)) (numbered_last w.history member))
+      (ap (λ (n : ℕ). not (is_identity_some (with_lsn (w.history ++ member ∷ []) n))) own_lsn ∙ ap (λ (o : Option (Member O)). not (is_identity_some o)) (with_lsn_last w.history member))
 
   pub one_plain_less : x < m.objects → IsTrue (is_plain w x) → plain_in m w ≡ suc (plain_in m logged)
   one_plain_less lt was =
@@ -119,8 +119,8 @@ slot_plain m w node x y is =
     elim (cases_eq y x) [
       | inl here ↦
           let slot : v.slots y ≡ w.cache y = cond-true (y == x) (w.cache x) (w.slots y) (eq-eqb y x here) ∙ sym (ap w.cache here) in
-          absurd (both_ways _ (not_from_true _ (eq-eqb _ _ (ap (λ (c : Cell). c.id) slot))) (and_parts (is_dirty_in v y) _ is).0)
-      | inr other ↦ ap (λ (c : Cell). not (c.id == (w.cache y).id) && not (is_identity_some (numbered w.history (w.cache y).id))) (sym (cond-false (y == x) (w.cache x) (w.slots y) (ne_eqb y x other))) ∙ is
+          absurd (both_ways _ (not_from_true _ (eq-eqb _ _ (ap (λ (c : Cell). c.lsn) slot))) (and_parts (is_dirty_in v y) _ is).0)
+      | inr other ↦ ap (λ (c : Cell). not (c.lsn == (w.cache y).lsn) && not (is_identity_some (with_lsn w.history (w.cache y).lsn))) (sym (cond-false (y == x) (w.cache x) (w.slots y) (ne_eqb y x other))) ∙ is
     ]
 
 -- so it leaves no more to do, and a removal leaves less

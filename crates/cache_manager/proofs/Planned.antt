@@ -62,7 +62,7 @@ found_at [] k x found = cc
 found_at (y ∷ xs) zero x found = let is : Some y ≡ Some x = found in (omega arith, cc is)
 found_at (y ∷ xs) (suc k) x found = let r = found_at xs k x found in (omega (arith, r.0), r.1)
 
--- rising numbers, by places, rise
+-- rising LSNs, by places, rise
 pub rises_from_increasing : (xs : List ℕ) → IsStrictlyIncreasing xs → Rises xs
 rises_from_increasing [] up = tt
 rises_from_increasing (x ∷ xs) up =

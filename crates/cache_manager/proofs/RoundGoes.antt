@@ -29,8 +29,8 @@ module _ {O : Type 0} (m : Meaning O) where
   gate_removable w g may = (
     may.0,
     λ y later. elim (cases_eq y g.object) [
-      | inl here ↦ later.1 (ap (λ (c : Cell). c.id) (cond-true (y == g.object) (w.cache g.object) (w.slots y) (eq-eqb y g.object here)) ∙ ap (λ (z : ℕ). (w.cache z).id) (sym here))
-      | inr other ↦ other (may.2 y (later.0, λ same. later.1 (ap (λ (c : Cell). c.id) (cond-false (y == g.object) (w.cache g.object) (w.slots y) (ne_eqb y g.object other)) ∙ same)))
+      | inl here ↦ later.1 (ap (λ (c : Cell). c.lsn) (cond-true (y == g.object) (w.cache g.object) (w.slots y) (eq-eqb y g.object here)) ∙ ap (λ (z : ℕ). (w.cache z).lsn) (sym here))
+      | inr other ↦ other (may.2 y (later.0, λ same. later.1 (ap (λ (c : Cell). c.lsn) (cond-false (y == g.object) (w.cache g.object) (w.slots y) (ne_eqb y g.object other)) ∙ same)))
     ],
   )
 
@@ -40,8 +40,8 @@ module _ {O : Type 0} (m : Meaning O) where
   still_removable w h node may = (
     may.0,
     λ y later. elim (cases_eq y h.object) [
-      | inl here ↦ later.1 (ap (λ (c : Cell). c.id) (cond-true (y == h.object) (w.cache h.object) (w.slots y) (eq-eqb y h.object here)) ∙ ap (λ (z : ℕ). (w.cache z).id) (sym here))
-      | inr other ↦ may.1 y (later.0, λ same. later.1 (ap (λ (c : Cell). c.id) (cond-false (y == h.object) (w.cache h.object) (w.slots y) (ne_eqb y h.object other)) ∙ same))
+      | inl here ↦ later.1 (ap (λ (c : Cell). c.lsn) (cond-true (y == h.object) (w.cache h.object) (w.slots y) (eq-eqb y h.object here)) ∙ ap (λ (z : ℕ). (w.cache z).lsn) (sym here))
+      | inr other ↦ may.1 y (later.0, λ same. later.1 (ap (λ (c : Cell). c.lsn) (cond-false (y == h.object) (w.cache h.object) (w.slots y) (ne_eqb y h.object other)) ∙ same))
     ],
   )
 

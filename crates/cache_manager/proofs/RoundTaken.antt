@@ -11,7 +11,7 @@ use Rattle.oper_core.specs.State.{is_among}
 use Rattle.oper_core.specs.declared.bounds.Bounds.{Bounds}
 use Rattle.formats.specs.Objects.{bounds_of}
 use Rattle.formats.specs.declared.params.Params.{Params}
-use Rattle.log_frames.specs.LogView.{used_of}
+use Rattle.log_blocks.specs.LogView.{used_of}
 use Rattle.log_records.specs.RecordLog.{RecordLogView}
 use Rattle.install_order.specs.declared.entry.Entry.{Entry}
 use Rattle.dirty_cache.specs.Contents.{is_dirty}

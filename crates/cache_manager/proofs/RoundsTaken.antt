@@ -8,7 +8,7 @@ use Rattle.oper_core.specs.Meaning.{Meaning, IsLawful, IsSmall}
 use Rattle.oper_core.specs.declared.bounds.Bounds.{Bounds}
 use Rattle.formats.specs.Objects.{bounds_of}
 use Rattle.formats.specs.declared.params.Params.{Params}
-use Rattle.log_frames.specs.LogView.{used_of}
+use Rattle.log_blocks.specs.LogView.{used_of}
 use Rattle.install_order.specs.declared.entry.Entry.{Entry}
 use Rattle.write_graph.specs.Graph.{IsLeast, IsNodeNamed, NamesMinimal}
 use Rattle.explain_core.specs.World.{World, run}

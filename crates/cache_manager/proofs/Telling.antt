@@ -6,9 +6,9 @@ use Rattle.oper_core.specs.Meaning.{Meaning}
 use Rattle.oper_core.specs.State.{is_among}
 use Rattle.oper_core.specs.declared.bounds.Bounds.{Bounds}
 use Rattle.formats.specs.declared.params.Params.{Params}
-use Rattle.log_frames.specs.LogView.{used_of}
+use Rattle.log_blocks.specs.LogView.{used_of}
 use Rattle.install_order.specs.declared.entry.Entry.{Entry}
-use Rattle.write_graph.specs.Graph.{numbers}
+use Rattle.write_graph.specs.Graph.{lsns}
 use Rattle.explain_core.specs.World.{World, Step}
 use Rattle.cache_manager.specs.InstallCourses.{flushed_in, install_course}
 use Rattle.running_store.specs.Kept.{IsLonger}
@@ -26,7 +26,7 @@ no_items (x ∷ xs) none = absurd (omega (arith, none))
 
 -- a node was installed
 pub told_done : {O : Type 0} (meaning : Bounds → Meaning O) (copied : ℕ) (old new : Disk) (before after : Parts) → Takes meaning old new before after (λ m w used. install_course m copied w used) Done
-    → IsStrictlyIncreasing (numbers before.volatile.entries) → IsStrictlyIncreasing (numbers after.volatile.entries) → (ops : ℕ) (flushed : Option ℕ) (identities : ℕ)
+    → IsStrictlyIncreasing (lsns before.volatile.entries) → IsStrictlyIncreasing (lsns after.volatile.entries) → (ops : ℕ) (flushed : Option ℕ) (identities : ℕ)
     → after.log.next ≡ before.log.next + identities → length after.volatile.entries + ops ≡ length before.volatile.entries + identities
     → (p : Params) (w : World O) → Shows (meaning_in meaning p) p old before w → flushed_in (install_course (meaning_in meaning p) copied w (used_of before.log.log)).steps ≡ listed flushed
     → IsInstall (meaning_in meaning p) w (install_course (meaning_in meaning p) copied w (used_of before.log.log)).steps (Installed ops flushed identities)
@@ -42,7 +42,7 @@ module _ (before after : Parts) (n : ℕ) (longer : IsLonger n before after) (no
   none_before = let empty = ap (λ (es : List Entry). length es) none in no_items before.volatile.entries (omega (arith, empty, longer.entries))
 
   pub told_none : {O : Type 0} (m : Meaning O) (p : Params) (d : Disk) (w : World O) (steps : List (Step O)) → Shows m p d before w → IsInstall m w steps Clean
-  told_none m p d w steps shows = λ n. sym (shows.store.members n) ∙ ap (λ (es : List Entry). is_among n (numbers es)) none_before
+  told_none m p d w steps shows = λ n. sym (shows.store.members n) ∙ ap (λ (es : List Entry). is_among n (lsns es)) none_before
 
   pub tells_none : TellsParts before after Clean
   tells_none =
@@ -50,6 +50,6 @@ module _ (before after : Parts) (n : ℕ) (longer : IsLonger n before after) (no
       record {
         clean = (λ e. none_before, λ e. refl);
         some = λ no. absurd (no refl);
-        numbered = omega (arith, empty, longer.entries, longer.next);
+        with_lsn = omega (arith, empty, longer.entries, longer.next);
         entries = omega (arith, empty, longer.entries);
       }

@@ -27,7 +27,7 @@ work_listed it node all work listed is =
       );
     })
 
--- a list of at most one number has no two
+-- a list of at most one LSN has no two
 pub one_among : (xs : List ℕ) (x y : ℕ) → length xs ≤ 1 → IsTrue (is_among x xs) → IsTrue (is_among y xs) → x ≡ y
 one_among [] x y few first second = absurd (both_ways _ refl first)
 one_among (z ∷ []) x y few first second = here x first ∙ sym (here y second)
@@ -36,7 +36,7 @@ one_among (z ∷ []) x y few first second = here x first ∙ sym (here y second)
     here k is = elim (or_cases (k == z) false is) [ inl e ↦ eqb-true k z e | inr none ↦ absurd (both_ways _ refl none) ]
 one_among (z ∷ u ∷ xs) x y few first second = absurd (omega (arith, few))
 
--- a rising list of numbers of which there is at most one
+-- a rising list of LSNs of which there is at most one
 pub few_listed : (P : ℕ → Type 0) (xs : List ℕ) → Lists P xs → ((x y : ℕ) → P x → P y → x ≡ y) → length xs ≤ 1
 few_listed P [] listed few = omega arith
 few_listed P (x ∷ []) listed few = omega arith
@@ -82,7 +82,7 @@ pub thin_none : (it : Volatile) (entries : List Entry) (from : ℕ) → entries 
 thin_none it entries from same passed none n thin =
     none n (passed n thin) (subst (λ (es : List Entry). NamesMinimal es n) (sym same) (thin.0, thin.1.named, thin.1.no_edge))
 
--- what holds of each number among them holds of all
+-- what holds of each LSN among them holds of all
 pub among_all : (P : ℕ → Type 0) (xs : List ℕ) → ((x : ℕ) → IsTrue (is_among x xs) → P x) → All P xs
 among_all P [] each = All-nil P
 among_all P (x ∷ xs) each =

@@ -60,13 +60,13 @@ module _ {O : Type 0} (m : Meaning O) (lawful : IsLawful m) (p : Params) (file :
   pub due_gives : (node : ℕ → Bool) (x : ℕ) → HasToFlush it node x → work_of m w node x
   due_gives node x due = (
     subst (λ (b : Access). flush_set_of b node x) shows.accesses due.0,
-    λ same. both_ways _ (ap not (eq-eqb (w.slots x).id (w.cache x).id same)) (sym (dirty_shown m p file it w shows x) ∙ due.1),
+    λ same. both_ways _ (ap not (eq-eqb (w.slots x).lsn (w.cache x).lsn same)) (sym (dirty_shown m p file it w shows x) ∙ due.1),
   )
 
   pub due_from : (node : ℕ → Bool) (x : ℕ) → work_of m w node x → HasToFlush it node x
   due_from node x work = (
     subst (λ (b : Access). flush_set_of b node x) (sym shows.accesses) work.0,
-    dirty_shown m p file it w shows x ∙ ap not (ne_eqb (w.slots x).id (w.cache x).id work.1),
+    dirty_shown m p file it w shows x ∙ ap not (ne_eqb (w.slots x).lsn (w.cache x).lsn work.1),
   )
 
   module _ (n : ℕ) (node : ℕ → Bool) (named : IsNodeNamed it.entries n node) where

@@ -9,7 +9,7 @@ use Rattle.install_order.specs.Order.{Access, IsNode, IsLastBlindWrite}
 use Rattle.install_order.specs.Computed.{IsWithin, is_flushed}
 use Rattle.install_order.specs.NodeLaws.{flushed-iff}
 use Rattle.explain_core.specs.GraphLaws.{graph-within}
-use Rattle.explain_core.specs.History.{Member, numbered, reads_some, writes_some, accesses_of}
+use Rattle.explain_core.specs.History.{Member, with_lsn, reads_some, writes_some, accesses_of}
 use Rattle.explain_core.specs.History.Member.{Command, Identity}
 use Rattle.explain_core.specs.Sound.{IsSound}
 use Rattle.explain_core.specs.Turns.{is_dirty_in, has_work}
@@ -66,9 +66,9 @@ module _ {O : Type 0} (m : Meaning O) (lawful : IsLawful m) (w : World O) (sound
   listed_apart = apart_filter (has_work m w (next_node m w)) (counted 0 m.objects) (apart_counted 0 m.objects)
 
   -- the version in the cache of a dirty object is the last that the graph's members write
-  module _ (x : ℕ) (dirty : (w.slots x).id ≡ (w.cache x).id → ⊥) where
+  module _ (x : ℕ) (dirty : (w.slots x).lsn ≡ (w.cache x).lsn → ⊥) where
     abbrev n : ℕ
-    n = (w.cache x).id
+    n = (w.cache x).lsn
 
     wrote : IsTrue ((accesses_of m w.history).writes n x)
     wrote = elim (sound.cache.origin x) [
@@ -79,10 +79,10 @@ module _ {O : Type 0} (m : Meaning O) (lawful : IsLawful m) (w : World O) (sound
     writes : IsTrue (a.writes n x)
     writes = and_from (w.graph n) _ (sound.dirty x dirty).1 wrote
 
-    blind : IsTrue (is_identity_some (numbered w.history n)) → IsLastBlindWrite a x n
+    blind : IsTrue (is_identity_some (with_lsn w.history n)) → IsLastBlindWrite a x n
     blind is = record {
-      reads = λ y. and_right (w.graph n) _ (reads_none m (numbered w.history n) is y);
-      only = λ y also. writes_one m (numbered w.history n) is x y wrote (and_parts (w.graph n) _ also).1;
+      reads = λ y. and_right (w.graph n) _ (reads_none m (with_lsn w.history n) is y);
+      only = λ y also. writes_one m (with_lsn w.history n) is x y wrote (and_parts (w.graph n) _ also).1;
       last = λ p later. false_from_ne_true _ (λ also. let u = and_parts (w.graph p) _ also in absurd (omega (arith, later, (sound.dirty x dirty).2 p u.0 u.1)));
     }
 
@@ -96,14 +96,14 @@ module _ {O : Type 0} (m : Meaning O) (lawful : IsLawful m) (w : World O) (sound
           omega (arith, from, low)
     ]
 
-    pub all_the_work : (node : ℕ → Bool) → AreAlone → IsNode a node → IsTrue (is_identity_some (numbered w.history n)) → work_of m w node x → (y : ℕ) → work_of m w node y → y ≡ x
+    pub all_the_work : (node : ℕ → Bool) → AreAlone → IsNode a node → IsTrue (is_identity_some (with_lsn w.history n)) → work_of m w node x → (y : ℕ) → work_of m w node y → y ≡ x
     all_the_work node alone is_node is due y other =
         let here : IsTrue (node n) = subst (λ (k : ℕ). IsTrue (node k)) (cached_is_last node due) due.0.1 in
         let same : other.0.0 ≡ n = alone a x n other.0.0 node (blind is) is_node here other.0.1 in
         (blind is).only y (subst (λ (k : ℕ). IsTrue (a.writes k y)) same other.0.2.0)
 
     -- where an identity write made it, that is all of the node
-    pub all_the_node : (node : ℕ → Bool) → AreAlone → IsNode a node → IsTrue (is_identity_some (numbered w.history n)) → work_of m w node x → (p : ℕ) → IsTrue (node p) → p ≡ n
+    pub all_the_node : (node : ℕ → Bool) → AreAlone → IsNode a node → IsTrue (is_identity_some (with_lsn w.history n)) → work_of m w node x → (p : ℕ) → IsTrue (node p) → p ≡ n
     all_the_node node alone is_node is due p there =
         let here : IsTrue (node n) = subst (λ (k : ℕ). IsTrue (node k)) (cached_is_last node due) due.0.1 in
         alone a x n p node (blind is) is_node here there

@@ -12,7 +12,7 @@ use Rattle.cache_manager.specs.declared.install_err.InstallErr.TheVariants.{LogF
 -- how a call ended that answers so
 abbrev pub ending_of_error : InstallErr → Ending
 ending_of_error (LogFull used need limit) = Stopped (Full used need limit)
-ending_of_error (LsnEnd number) = Stopped (At_end number)
+ending_of_error (LsnEnd lsn) = Stopped (At_end lsn)
 ending_of_error Memory = Short
 ending_of_error DiskFault = Failed
 
@@ -37,6 +37,6 @@ same_ends r e is = at_err (λ k. ending_of_error e ≡ ending_of k) r e is refl
 -- and nothing comes after it
 pub err_cuts : (e : InstallErr) → IsCut (ending_of_error e)
 err_cuts (LogFull used need limit) = refl
-err_cuts (LsnEnd number) = refl
+err_cuts (LsnEnd lsn) = refl
 err_cuts DiskFault = tt
 err_cuts Memory = tt

@@ -81,7 +81,7 @@ module _ {O : Type 0} (m : Meaning O) where
   module _ (copied : ℕ) where
     -- an object is copied, and its version in the cache is of a command
     abbrev pub is_stale : World O → ℕ → Bool
-    is_stale w x = nat_lt x copied && not (is_identity_at w.history (w.cache x).id)
+    is_stale w x = nat_lt x copied && not (is_identity_at w.history (w.cache x).lsn)
 
     -- the next node may not be finished yet: it has two or more objects to flush, or one that is copied, whose version is of
     -- a command

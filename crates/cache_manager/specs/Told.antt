@@ -25,11 +25,11 @@ abbrev pub identities_of : Install → ℕ
 identities_of Clean = 0
 identities_of (Installed ops flushed identities) = identities
 
--- What it tells on every machine: the graph had no entry, or some entries left it; so many records have numbers.
+-- What it tells on every machine: the graph had no entry, or some entries left it; so many records have LSNs.
 pub record TellsParts (before after : Parts) (install : Install) : Type 0 where
   pub clean : (install ≡ Clean) ↔ (before.volatile.entries ≡ [])
   pub some : (install ≡ Clean → ⊥) → 0 < ops_of install
-  pub numbered : after.log.next ≡ before.log.next + identities_of install
+  pub with_lsn : after.log.next ≡ before.log.next + identities_of install
   pub entries : length after.volatile.entries + ops_of install ≡ length before.volatile.entries + identities_of install
 
 -- What a turn of a drain tells on every machine: so many nodes were installed, unless the graph had no entry. Each of them had an

@@ -1,6 +1,6 @@
 // Which nodes are installed together.
 ghost use Rattle.std.specs.Prelude.{◌<◌, ◌^◌, All, IfNone, IfOk, IfSome, OnOk};
-ghost use Rattle.write_graph.specs.Graph.{NamesMinimal, numbers};
+ghost use Rattle.write_graph.specs.Graph.{NamesMinimal, lsns};
 ghost use Rattle.running_store.specs.Parts.{volatile};
 ghost use Rattle.cache_manager.specs.DueNodes.{IsConsidered, IsDueFor, IsRoundFrom, NamesDue};
 
@@ -66,7 +66,7 @@ pub(crate) fn choose_round(
     copied: u32,
     most: usize,
 ) -> Result<Round, Memory>
-    requires low { All (λ n. n < 2 ^ 62) (numbers graph.now.entries) }
+    requires low { All (λ n. n < 2 ^ 62) (lsns graph.now.entries) }
     ensures { IfOk result (λ round. IsRoundFrom (volatile objects.now graph.now.entries) copied most 0 round.names.items round.objects.items) }
 {
     let mut names = Vec::new(alloc);

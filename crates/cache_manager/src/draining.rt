@@ -42,7 +42,7 @@ pub fn drain<O: Oper, M: Machine>(
     explain_core::every_run_keeps::<O>();
     explain_core::a_round_may_be_taken::<O>();
     install_order::last_blind_write_is_alone();
-    // Called for their clauses: the numbers of the graph rise, and are below the next, which is 2^62 at most.
+    // Called for their clauses: the LSNs of the graph rise, and are below the next, which is 2^62 at most.
     let _params = store.params();
     let _held = store.graph().len();
     let mut count = 0;

@@ -13,7 +13,7 @@ ghost use Rattle.cache_manager.specs.RecordPlace.{HasRecordPlace, LacksRecordPla
 
 use crate::InstallErr;
 use disk_model::Machine;
-use formats::{BLOCK_HEAD, IDENTITY_HEAD, MAX_LOG, NUMBERS_END};
+use formats::{BLOCK_HEAD, IDENTITY_HEAD, LSN_END, MAX_LOG};
 use log_records::RecordLog;
 use oper_core::Oper;
 use running_store::Store;
@@ -33,9 +33,9 @@ fn refusal<O: Oper>(log: &RecordLog<O>, n: u64) -> Option<InstallErr>
             limit: MAX_LOG,
         });
     }
-    let number = log.next();
-    if number >= NUMBERS_END {
-        return Some(InstallErr::LsnEnd { number });
+    let lsn = log.next();
+    if lsn >= LSN_END {
+        return Some(InstallErr::LsnEnd { lsn });
     }
     None
 }
@@ -55,7 +55,7 @@ pub(crate) fn log_identity<O: Oper, M: Machine>(
     ensures entries { OnOk result (store.new.parts.volatile.entries ≡ store.old.parts.volatile.entries ++ identity_entries (next_of store.old) (x ∷ [])) }
 {
     explain_core::append_keeps::<O>();
-    // Called for its clause: the next number is 2^62 at most.
+    // Called for its clause: the next LSN is 2^62 at most.
     let _params = store.params();
     let n = IDENTITY_HEAD as u64 + store.objects().value(x).len() as u64;
     store.make_block_room(machine, n)?;

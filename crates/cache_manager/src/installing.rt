@@ -33,7 +33,7 @@ pub fn install_thin<O: Oper, M: Machine>(
     ensures fewer { IfOk result (λ some. IsTrue some → length store.new.parts.volatile.entries < length store.old.parts.volatile.entries) }
     ensures memory { IsErrOf result StoreErr.Memory → (machine.new ≡ machine.old) × (store.new ≡ store.old) }
 {
-    // Called for its clause: the numbers of the graph are below 2^62.
+    // Called for its clause: the LSNs of the graph are below 2^62.
     let _params = store.params();
     let Some(thin) = least_thin(store.objects(), store.graph())? else {
         return Ok(false);

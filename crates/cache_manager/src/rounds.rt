@@ -2,7 +2,7 @@
 ghost use Rattle.std.specs.Prelude.{◌≡◌, ◌≤◌, ◌<◌, ◌+◌, ℕ, Bool, false, length, take, OnOk, IfOk};
 ghost use Rattle.std.specs.List.Sorted.{IsStrictlyIncreasing};
 ghost use Rattle.formats.specs.declared.params.Params.{Params as Numbers};
-ghost use Rattle.write_graph.specs.Graph.{IsLeast, IsNodeNamed, NamesMinimal, numbers};
+ghost use Rattle.write_graph.specs.Graph.{IsLeast, IsNodeNamed, NamesMinimal, lsns};
 ghost use Rattle.explain_core.specs.World.{World};
 ghost use Rattle.running_store.specs.Calls.{IsCall, Never, ending_of_force};
 ghost use Rattle.running_store.specs.Courses.{course};
@@ -43,7 +43,7 @@ pub(crate) fn finish_next<O: Oper, M: Machine>(
     ensures takes { Takes O.meaning (M.disk machine.old) (M.disk machine.new) store.old.parts store.new.parts (λ m w used. course (finish_steps m w) used Through) (ending_of_force result) }
     ensures next { next_of store.new ≡ next_of store.old }
     ensures ops { IfOk result (λ ops. (0 < ops) × (length store.old.parts.volatile.entries ≡ length store.new.parts.volatile.entries + ops)) }
-    ensures rising { OnOk result (IsStrictlyIncreasing (numbers store.new.parts.volatile.entries)) }
+    ensures rising { OnOk result (IsStrictlyIncreasing (lsns store.new.parts.volatile.entries)) }
     ensures logs { OnOk result (LogsDirty store.old.parts store.new.parts) }
 {
     explain_core::every_run_keeps::<O>();
@@ -84,11 +84,11 @@ pub fn install_one<O: Oper, M: Machine>(
 {
     explain_core::every_run_keeps::<O>();
     install_order::last_blind_write_is_alone();
-    // Called for its clause: the numbers of the graph rise.
+    // Called for its clause: the LSNs of the graph rise.
     let _held = store.graph().len();
     let first = store.log().next();
     while let Some(name) = store.graph().minimal() {
-        // Called for its clause: the next number is 2^62 at most.
+        // Called for its clause: the next LSN is 2^62 at most.
         let _params = store.params();
         let work = work_of(store.objects(), store.graph(), name)?;
         let due = work.as_slice();

@@ -1,6 +1,6 @@
 // The thin node of the least name.
 ghost use Rattle.std.specs.Prelude.{◌<◌, ◌^◌, ℕ, Bool, All, IfOk, IfSome, IfNone};
-ghost use Rattle.write_graph.specs.Graph.{numbers, IsNodeNamed, NamesNode};
+ghost use Rattle.write_graph.specs.Graph.{lsns, IsNodeNamed, NamesNode};
 ghost use Rattle.running_store.specs.Parts.{volatile};
 ghost use Rattle.cache_manager.specs.Thin.{IsLeastThin, IsWork, NamesThin};
 
@@ -31,7 +31,7 @@ pub(crate) fn work_of(objects: &Objects, graph: &WriteGraph, n: NodeNo) -> Resul
 
 /// The thin node of the least name, if there is one.
 pub(crate) fn least_thin(objects: &Objects, graph: &WriteGraph) -> Result<Option<Thin>, Memory>
-    requires low { All (λ n. n < 2 ^ 62) (numbers graph.now.entries) }
+    requires low { All (λ n. n < 2 ^ 62) (lsns graph.now.entries) }
     ensures some { IfOk result (λ found. IfSome found (λ thin. IsLeastThin (volatile objects.now graph.now.entries) thin.name thin.work.items)) }
     ensures none { IfOk result (λ found. IfNone found ((n : ℕ) → NamesThin (volatile objects.now graph.now.entries) n → ⊥)) }
 {

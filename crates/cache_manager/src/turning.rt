@@ -52,7 +52,7 @@ pub(crate) fn install_round<O: Oper, M: Machine>(
     explain_core::every_run_keeps::<O>();
     explain_core::a_round_may_be_taken::<O>();
     install_order::last_blind_write_is_alone();
-    // Called for its clause: the numbers of the graph are below 2^62.
+    // Called for its clause: the LSNs of the graph are below 2^62.
     let _params = store.params();
     let round = choose_round(store.alloc(), store.objects(), store.graph(), copied, most)?;
     store.flush_round(machine, round.objects.as_slice())?;
@@ -61,7 +61,7 @@ pub(crate) fn install_round<O: Oper, M: Machine>(
 }
 
 /// Whether a minimal node has one object to flush, and may be finished beside a copy of the slots that has the objects below a
-/// number.
+/// LSN.
 fn is_due(objects: &Objects, graph: &WriteGraph, n: NodeNo, copied: u32) -> Result<bool, Memory>
     requires { NamesMinimal graph.now.entries n }
     ensures due { IfOk result (λ is. IsTrue is → NamesDue (volatile objects.now graph.now.entries) copied n) }

@@ -1,24 +1,24 @@
--- The steps of a checkpoint, of a restart's check and of a trim may be taken, and add no command.
+-- The steps of a checkpoint, of that of a restart and of a trim may be taken, and add no command.
 use Rattle.std.proofs.Common.{◌≡◌, sym, subst, ℕ, List, [], ◌∷◌, ◌++◌, length, refl, arith, inl, inr, ◌⊎◌, ⊎_elim}
 use Rattle.std.specs.Prelude.{⊤, nat_lt, nat_le, ◌^◌, ◌+◌}
 use Rattle.std.proofs.lemmas.Bool.{cases_Bool, or_parts, ltb-false, cond_both, cond-true, cond-false}
 use Rattle.oper_core.specs.Meaning.{Meaning}
 use Rattle.explain_core.specs.RunLaws.{allowed-append}
 use Rattle.explain_core.specs.World.{World, Step, step, run, IsLive, NoGroup, AreAllowed}
-use Rattle.explain_core.specs.World.Step.{Block_gate, Check, Header_gate}
+use Rattle.explain_core.specs.World.Step.{Block_gate, Checkpoint, Header_gate}
 use Rattle.running_store.specs.Courses.{Course, course, and_then, buffered, force_course, force_steps, grown, is_through, room_steps, waits}
 use Rattle.running_store.specs.Courses.Stop.{Through, Full, Worn}
-use Rattle.formats.specs.Limits.{log_limit, numbers_end}
+use Rattle.formats.specs.Limits.{log_limit, lsn_end}
 use Rattle.running_store.specs.Running.{AreUpkeep, IsRunning, KeepsSound, MayBeTaken, may_be_taken, running_after}
 use Rattle.running_store.specs.RewriteLaws.{gate_allowed}
-use Rattle.running_store.specs.Rewrites.{check_length, new_base, rewrite_course, trimmed, trimmed_file}
+use Rattle.running_store.specs.Rewrites.{checkpoint_length, new_base, rewrite_course, trimmed, trimmed_file}
 use Rattle.cache_manager.specs.Upkeep.{upkeep_append}
-use Rattle.checkpointing.specs.Courses.{check_course, check_steps, checkpoint_course, closing_course, logged_course, trim_course}
+use Rattle.checkpointing.specs.Courses.{taking_course, checkpoint_steps, checkpoint_course, closing_course, logged_course, trim_course}
 
 -- steps on the log alone, which may be taken wherever calls are made
 abbrev ArePlain : {O : Type 0} → List (Step O) → Type 0
 ArePlain [] = ⊤
-ArePlain (s ∷ steps) = ((s ≡ Block_gate) ⊎ (s ≡ Check)) × ArePlain steps
+ArePlain (s ∷ steps) = ((s ≡ Block_gate) ⊎ (s ≡ Checkpoint)) × ArePlain steps
 
 module _ {O : Type 0} (m : Meaning O) where
   plain_allowed : (w : World O) (steps : List (Step O)) → ArePlain steps → IsLive w → NoGroup w → AreAllowed m w steps
@@ -26,7 +26,7 @@ module _ {O : Type 0} (m : Meaning O) where
   plain_allowed w [] are live alone = tt
   plain_allowed w (s ∷ steps) are live alone =
       let P : Step O → Type 0 = λ t. AreAllowed m w (t ∷ steps) in
-      ⊎_elim (λ is. subst P (sym is) ((live, alone), plain_allowed (step m w Block_gate) steps are.1 live alone)) (λ is. subst P (sym is) ((live, alone), plain_allowed (step m w Check) steps are.1 live alone)) are.0
+      ⊎_elim (λ is. subst P (sym is) ((live, alone), plain_allowed (step m w Block_gate) steps are.1 live alone)) (λ is. subst P (sym is) ((live, alone), plain_allowed (step m w Checkpoint) steps are.1 live alone)) are.0
 
   plain_upkeep : (steps : List (Step O)) → ArePlain steps → AreUpkeep steps
   plain_upkeep [] are = tt
@@ -45,21 +45,21 @@ module _ {O : Type 0} (m : Meaning O) where
 
   plain_logged : (w : World O) (used : ℕ) → ArePlain (logged_course m w used).steps
   plain_logged w used =
-      let n = check_length m w in
-      cond_both (nat_lt log_limit (grown m w used n)) (course [] used (Full used (n + 5) log_limit)) (course check_steps (grown m w used n) Through) (λ (c : Course O). ArePlain c.steps) (λ full. tt) (λ fits. (inr refl, (inl refl, tt)))
+      let n = checkpoint_length m w in
+      cond_both (nat_lt log_limit (grown m w used n)) (course [] used (Full used (n + 5) log_limit)) (course checkpoint_steps (grown m w used n) Through) (λ (c : Course O). ArePlain c.steps) (λ full. tt) (λ fits. (inr refl, (inl refl, tt)))
 
-  plain_check : (w : World O) (used : ℕ) → ArePlain (check_course m w used).steps
-  plain_check w used =
-      let first : Course O = course (room_steps m w (check_length m w)) used Through in
+  plain_taking : (w : World O) (used : ℕ) → ArePlain (taking_course m w used).steps
+  plain_taking w used =
+      let first : Course O = course (room_steps m w (checkpoint_length m w)) used Through in
       let second = logged_course m (run m w first.steps) used in
-      plain_append first.steps second.steps (plain_room w (check_length m w)) (plain_logged (run m w first.steps) used)
+      plain_append first.steps second.steps (plain_room w (checkpoint_length m w)) (plain_logged (run m w first.steps) used)
 
   plain_checkpoint : (w : World O) (used : ℕ) → ArePlain (checkpoint_course m w used).steps
   plain_checkpoint w used =
-      let c = check_course m w used in
+      let c = taking_course m w used in
       let v = run m w c.steps in
-      cond_both (is_through c.stop) c (course (c.steps ++ force_steps m v) c.used c.stop) (λ (c : Course O). ArePlain c.steps) (λ through. plain_check w used)
-      (λ stopped. plain_append c.steps (force_steps m v) (plain_check w used) (plain_force v))
+      cond_both (is_through c.stop) c (course (c.steps ++ force_steps m v) c.used c.stop) (λ (c : Course O). ArePlain c.steps) (λ through. plain_taking w used)
+      (λ stopped. plain_append c.steps (force_steps m v) (plain_taking w used) (plain_force v))
 
   module _ (keeps : KeepsSound m) (w : World O) (is : IsRunning m w) where
     plain_taken : (steps : List (Step O)) → ArePlain steps → MayBeTaken m w steps
@@ -69,7 +69,7 @@ module _ {O : Type 0} (m : Meaning O) where
     checkpoint_taken used = plain_taken (checkpoint_course m w used).steps (plain_checkpoint w used)
 
     pub closing_taken : (used : ℕ) → MayBeTaken m w (closing_course m w used).steps
-    closing_taken used = plain_taken (closing_course m w used).steps (plain_check w used)
+    closing_taken used = plain_taken (closing_course m w used).steps (plain_taking w used)
 
     -- after a force all is stable
     forced_all : (run m w (force_steps m w)).forced ≡ length (run m w (force_steps m w)).history
@@ -100,7 +100,7 @@ module _ {O : Type 0} (m : Meaning O) where
     pub trim_taken : (epoch used : ℕ) → MayBeTaken m w (trim_course m epoch w used).steps
     trim_taken epoch used =
         let rest = rewrite_course m v used in
-        cond_both (nat_le numbers_end epoch) (course [] used (Worn epoch)) (and_then m w (force_course m w used) (λ v used. rewrite_course m v used)) (λ (c : Course O). MayBeTaken m w c.steps)
+        cond_both (nat_le lsn_end epoch) (course [] used (Worn epoch)) (and_then m w (force_course m w used) (λ v used. rewrite_course m v used)) (λ (c : Course O). MayBeTaken m w c.steps)
         (λ worn. plain_taken [] tt)
         (λ early. may_be_taken m w (force_steps m w ++ rest.steps) keeps is (upkeep_append m (force_steps m w) rest.steps (plain_upkeep (force_steps m w) (plain_force w)) (rewrite_upkeep used))
         (allowed-append m w (force_steps m w) rest.steps (plain_allowed w (force_steps m w) (plain_force w) is.live is.alone) (rewrite_allowed used)))

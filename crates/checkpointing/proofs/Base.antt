@@ -1,4 +1,4 @@
--- The least of a check's starts and of its next number is where a trim lets the log begin.
+-- The least of a checkpoint's starts and of its next LSN is where a trim lets the log begin.
 use Rattle.std.proofs.Common.{◌≡◌, sym, subst, ℕ, zero, suc, ◌<◌, ◌≤◌, List, [], ◌∷◌, length, map, refl, arith, inl, inr, Option, Some}
 use Rattle.std.specs.Prelude.{All, IsTrue, IfSome, ◌==◌, slice_get}
 use Rattle.std.proofs.lemmas.Bool.{both_ways, cases_lt, and_parts, and_from, or_cases, or_left, eqb-true, eq-eqb}

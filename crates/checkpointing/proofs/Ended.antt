@@ -2,12 +2,12 @@
 use Rattle.std.proofs.Common.{◌≡◌, ◌∙◌, sym, subst, ap, inr, ⊎_elim, refl, arith, ℕ}
 use Rattle.std.specs.Prelude.{⊤, Result, Ok, Err, IsErrAnd}
 use Rattle.disk_model.specs.Disk.{Disk}
-use Rattle.redo_tables.specs.declared.table.Table.{Table}
+use Rattle.dirty_page_table.specs.declared.table.DirtyPageTable.{DirtyPageTable}
 use Rattle.log_records.specs.RecordLog.{RecordLogView}
 use Rattle.oper_core.specs.Meaning.{Meaning}
 use Rattle.oper_core.specs.declared.bounds.Bounds.{Bounds}
 use Rattle.running_store.specs.Calls.{IsCall, IsFailed, IsForce, IsRoomMade, Never, call_as, ending_of_store}
-use Rattle.running_store.specs.Checks.{HasChecked}
+use Rattle.running_store.specs.Checkpoints.{HasCheckpointed}
 use Rattle.running_store.specs.Courses.{Stop}
 use Rattle.running_store.specs.Rewrites.{HasRewritten}
 use Rattle.running_store.specs.StoreView.{StoreView}
@@ -15,15 +15,15 @@ use Rattle.running_store.specs.Taking.{Ending}
 use Rattle.running_store.specs.Taking.Ending.{Done, Stopped, Short, Failed}
 use Rattle.running_store.specs.declared.store_err.StoreErr.{StoreErr}
 use Rattle.running_store.specs.declared.store_err.StoreErr.TheVariants as of_store
-use Rattle.checkpointing.specs.Left.{EndsAs, KeepsCounts, ending_of_check}
-use Rattle.checkpointing.specs.declared.check_err.CheckErr.{CheckErr}
+use Rattle.checkpointing.specs.Left.{EndsAs, KeepsCounts, ending_of_checkpoint}
+use Rattle.checkpointing.specs.declared.checkpoint_err.CheckpointErr.{CheckpointErr}
 
 -- an error that is handed on ends a checkpoint as it ended the call below
-pub check_ends : {T : Type 0} (r : Result T CheckErr) (e : StoreErr) → IsErrAnd r (λ k. EndsAs e k) → ending_of_store {T = Unit {0}} (Err e) ≡ ending_of_check r
-check_ends (Ok value) e is = absurd is
-check_ends (Err k) e is = sym is
+pub checkpoint_ends : {T : Type 0} (r : Result T CheckpointErr) (e : StoreErr) → IsErrAnd r (λ k. EndsAs e k) → ending_of_store {T = Unit {0}} (Err e) ≡ ending_of_checkpoint r
+checkpoint_ends (Ok value) e is = absurd is
+checkpoint_ends (Err k) e is = sym is
 
--- no error of a check says that it was stopped
+-- no error of a checkpoint says that it was stopped
 pub unstopped : (e : StoreErr) (stop : Stop) → ending_of_store {T = Unit {0}} (Err e) ≡ Stopped stop → ⊥
 unstopped of_store.DiskFault stop is = cc
 unstopped of_store.Memory stop is = cc
@@ -72,13 +72,13 @@ module _ (before after : StoreView) where
   }
   counts_roomed (Err e) is = record { next = ap (λ (s : StoreView). s.parts.log.next) is; accepted = ap (λ (s : StoreView). s.parts.log.accepted) is; same = ap (λ (s : StoreView). s.parts.volatile) is }
 
-  pub counts_checked : {O T E : Type 0} (meaning : Bounds → Meaning O) (table : Table) (r : Result T E) → HasChecked meaning before after table r → KeepsCounts before.parts after.parts
-  counts_checked meaning table (Ok value) is = record {
+  pub counts_checkpointed : {O T E : Type 0} (meaning : Bounds → Meaning O) (table : DirtyPageTable) (r : Result T E) → HasCheckpointed meaning before after table r → KeepsCounts before.parts after.parts
+  counts_checkpointed meaning table (Ok value) is = record {
     next = ap (λ (l : RecordLogView). l.next) is.log;
     accepted = omega (arith, ap (λ (l : RecordLogView). l.accepted) is.log);
     same = ap (λ (s : StoreView). s.parts.volatile) is.same;
   }
-  counts_checked meaning table (Err e) is = record { next = ap (λ p. p.log.next) is.roomed; accepted = ap (λ p. p.log.accepted) is.roomed; same = ap (λ p. p.volatile) is.roomed }
+  counts_checkpointed meaning table (Err e) is = record { next = ap (λ p. p.log.next) is.roomed; accepted = ap (λ p. p.log.accepted) is.roomed; same = ap (λ p. p.volatile) is.roomed }
 
   pub counts_rewritten : {T E : Type 0} (base : ℕ) (r : Result T E) → HasRewritten before after base r → KeepsCounts before.parts after.parts
   counts_rewritten base (Ok value) is = record { next = is.next; accepted = is.accepted; same = ap (λ (s : StoreView). s.parts.volatile) is.same }

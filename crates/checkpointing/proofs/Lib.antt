@@ -1,6 +1,6 @@
 mod Ended
 mod Starts
-mod CheckLogs
+mod CheckpointLogs
 mod Closing
 mod Base
 mod Trimmed

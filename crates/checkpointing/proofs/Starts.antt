@@ -1,4 +1,4 @@
--- Of the redo starts of a graph those are kept that a check may have; where the store shows a world, these are all.
+-- Of the redo starts of a graph those are kept that a checkpoint may have; where the store shows a world, these are all.
 use Rattle.std.proofs.Common.{◌≡◌, ◌∙◌, subst, ap, ℕ, zero, suc, ◌+◌, ◌*◌, ◌<◌, ◌≤◌, Bool, true, List, [], ◌∷◌, ◌++◌, length, map, get_or, refl, arith, inl, inr, length-append}
 use Rattle.std.specs.Prelude.{All, IsTrue, ◌^◌, ◌&&◌, ◌==◌, nat_lt, nat_le}
 use Rattle.std.specs.List.{filter, AllPairs, flat_map}
@@ -11,22 +11,22 @@ use Rattle.byteorder.specs.Endian.{little_bytes}
 use Rattle.oper_core.specs.LittleEndian.{length-little_bytes}
 use Rattle.oper_core.specs.Meaning.{Meaning, IsLawful}
 use Rattle.oper_core.specs.State.{is_among}
-use Rattle.redo_tables.specs.Codec.{start_code}
-use Rattle.redo_tables.specs.declared.table.Table.{Table}
+use Rattle.dirty_page_table.specs.Codec.{start_code}
+use Rattle.dirty_page_table.specs.declared.table.DirtyPageTable.{DirtyPageTable}
 use Rattle.formats.specs.Records.{record_code}
-use Rattle.formats.specs.declared.record.Record.TheVariants.{Check as Logged_check}
+use Rattle.formats.specs.declared.record.Record.TheVariants.{Checkpoint as Logged_checkpoint}
 use Rattle.install_order.specs.Entries.{accesses, writes_at}
 use Rattle.install_order.specs.Order.{Access}
 use Rattle.install_order.specs.declared.entry.Entry.{Entry}
-use Rattle.write_graph.specs.Graph.{Lists, IsLeast, numbers}
+use Rattle.write_graph.specs.Graph.{Lists, IsLeast, lsns}
 use Rattle.write_graph.specs.Objects.{IsWriter, IsWritten}
 use Rattle.explain_core.specs.GraphLaws.{graph-within}
 use Rattle.explain_core.specs.Sound.{IsSound}
 use Rattle.explain_core.specs.World.{World, graph_access}
 use Rattle.running_store.specs.Buffered.{start_bytes}
-use Rattle.running_store.specs.Checks.{IsCheckHere}
+use Rattle.running_store.specs.Checkpoints.{IsCheckpointHere}
 use Rattle.log_records.specs.RecordLog.{RecordLogView}
-use Rattle.checkpointing.specs.Checks.{is_in_log}
+use Rattle.checkpointing.specs.Checkpoints.{is_in_log}
 
 -- the objects of starts
 abbrev pub firsts : List (ℕ × ℕ) → List ℕ
@@ -63,7 +63,7 @@ all_kept f (s ∷ starts) all =
     cond-true (f s) (s ∷ filter f starts) (filter f starts) (All-head (λ (s : ℕ × ℕ). f s ≡ true) s starts all)
     ∙ ap (λ (l : List (ℕ × ℕ)). s ∷ l) (all_kept f starts (All-tail (λ (s : ℕ × ℕ). f s ≡ true) s starts all))
 
--- rising numbers are at least their places
+-- rising LSNs are at least their places
 place_low : (xs : List ℕ) → IsStrictlyIncreasing xs → (k : ℕ) → k < length xs → k ≤ get_or xs k 0
 place_low xs rising zero lt = omega arith
 place_low xs rising (suc k) lt =
@@ -72,7 +72,7 @@ place_low xs rising (suc k) lt =
     let step = subst (λ (n : ℕ). get_or xs k 0 < get_or xs n 0) e (rising k (omega (arith, lt))) in
     omega (arith, low, step)
 
--- so there are no more than numbers below their bound
+-- so there are no more than LSNs below their bound
 few_below : (n : ℕ) (xs : List ℕ) → IsStrictlyIncreasing xs → All (λ x. x < n) xs → length xs ≤ n
 few_below n [] rising below = omega arith
 few_below n (x ∷ xs) rising below =
@@ -86,28 +86,28 @@ firsts_below n (s ∷ starts) all =
     All-cons (λ x. x < n) s.0 (firsts starts) (All-head (λ (s : ℕ × ℕ). s.0 < n) s starts all) (firsts_below n starts (All-tail (λ (s : ℕ × ℕ). s.0 < n) s starts all))
 
 -- a writer is an entry
-writer_below : (next : ℕ) (entries : List Entry) (n x : ℕ) → IsTrue (writes_at entries n x) → All (λ k. k < next) (numbers entries) → n < next
+writer_below : (next : ℕ) (entries : List Entry) (n x : ℕ) → IsTrue (writes_at entries n x) → All (λ k. k < next) (lsns entries) → n < next
 writer_below next [] n x writes all = absurd (both_ways _ refl writes)
-writer_below next (e ∷ entries) n x writes all = elim (or_cases ((e.number == n) && is_among x e.writes) (writes_at entries n x) writes) [
+writer_below next (e ∷ entries) n x writes all = elim (or_cases ((e.lsn == n) && is_among x e.writes) (writes_at entries n x) writes) [
   | inl here ↦
-      let same = eqb-true e.number n (and_parts (e.number == n) (is_among x e.writes) here).0 in
-      omega (arith, same, All-head (λ k. k < next) e.number (numbers entries) all)
-  | inr more ↦ writer_below next entries n x more (All-tail (λ k. k < next) e.number (numbers entries) all)
+      let same = eqb-true e.lsn n (and_parts (e.lsn == n) (is_among x e.writes) here).0 in
+      omega (arith, same, All-head (λ k. k < next) e.lsn (lsns entries) all)
+  | inr more ↦ writer_below next entries n x more (All-tail (λ k. k < next) e.lsn (lsns entries) all)
 ]
 
 in_log : (objects base : ℕ) (s : ℕ × ℕ) → is_in_log objects base s ≡ true → (s.0 < objects) × (base ≤ s.1)
 in_log objects base s is = let parts = and_parts (nat_lt s.0 objects) (nat_le base s.1) is in (ltb-true s.0 objects parts.0, leb-true base s.1 parts.1)
 
--- a check of the starts that are kept is right in its place
+-- a checkpoint of the starts that are kept is right in its place
 module _ {O : Type 0} (m : Meaning O) (log : RecordLogView) (entries : List Entry) (objects : ℕ) (starts : List (ℕ × ℕ)) (there : m.objects ≡ objects) (short : objects ≤ 65535) (low : log.next ≤ 2 ^ 62) (ahead : log.log.header.base ≤ log.next)
-    (above : All (λ n. n < log.next) (numbers entries)) (lists : Lists (IsWritten (accesses entries)) (firsts starts)) (least : All (λ s. IsLeast (IsWriter (accesses entries) s.0) s.1) starts) where
+    (above : All (λ n. n < log.next) (lsns entries)) (lists : Lists (IsWritten (accesses entries)) (firsts starts)) (least : All (λ s. IsLeast (IsWriter (accesses entries) s.0) s.1) starts) where
   abbrev base : ℕ
   base = log.log.header.base
 
   abbrev kept : List (ℕ × ℕ)
   kept = filter (is_in_log objects base) starts
 
-  abbrev table : Table
+  abbrev table : DirtyPageTable
   table = record { next = log.next; starts = kept }
 
   rises : IsStrictlyIncreasing (firsts kept)
@@ -129,7 +129,7 @@ module _ {O : Type 0} (m : Meaning O) (log : RecordLogView) (entries : List Entr
   count : length kept ≤ 65535
   count = omega (arith, few_below m.objects (firsts kept) rises (firsts_below m.objects kept below), length-map kept (λ (s : ℕ × ℕ). s.0), there, short)
 
-  bytes : length (record_code m (Logged_check table)) ≡ 13 + 12 * length kept
+  bytes : length (record_code m (Logged_checkpoint table)) ≡ 13 + 12 * length kept
   bytes = omega (
     arith,
     start_bytes kept,
@@ -139,8 +139,8 @@ module _ {O : Type 0} (m : Meaning O) (log : RecordLogView) (entries : List Entr
     length-little_bytes 4 (length kept),
   )
 
-  pub check_here : IsCheckHere m log table
-  check_here = record {
+  pub checkpoint_here : IsCheckpointHere m log table
+  checkpoint_here = record {
     placed = record { next_is = refl; rising = rises; there = below; from_base = from; before = before };
     grammar = record {
       next = omega (arith, low);

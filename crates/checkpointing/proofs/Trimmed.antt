@@ -7,19 +7,19 @@ use Rattle.disk_model.specs.declared.machine.FileNo.{FileNo}
 use Rattle.disk_model.specs.declared.machine.FileNo.TheVariants.{Objects}
 use Rattle.oper_core.specs.Meaning.{Meaning, IsLawful, IsSmall}
 use Rattle.oper_core.specs.declared.bounds.Bounds.{Bounds}
-use Rattle.redo_tables.specs.declared.table.Table.{Table}
-use Rattle.formats.specs.Limits.{numbers_end}
+use Rattle.dirty_page_table.specs.declared.table.DirtyPageTable.{DirtyPageTable}
+use Rattle.formats.specs.Limits.{lsn_end}
 use Rattle.formats.specs.Objects.{IsObjectsFile, bounds_of}
 use Rattle.formats.specs.declared.params.Params.{Params}
-use Rattle.log_frames.specs.LogView.{LogView, used_of}
+use Rattle.log_blocks.specs.LogView.{LogView, used_of}
 use Rattle.log_records.specs.RecordLog.{RecordLogView}
 use Rattle.log_records.specs.Rewriting.{FindsDamage, IsRewritable, RewriteFails}
 use Rattle.log_records.specs.declared.rewrite_err.RewriteErr.{RewriteErr}
 use Rattle.log_records.specs.declared.rewrite_err.RewriteErr.TheVariants.{Exhausted, DiskFault, Damaged, LogFull, Memory}
 use Rattle.explain_core.specs.World.{World}
 use Rattle.standing.specs.OneStable.{small_store}
-use Rattle.running_store.specs.Appended.{next_number}
-use Rattle.running_store.specs.Checks.{IsCheckHere}
+use Rattle.running_store.specs.Appended.{next_lsn}
+use Rattle.running_store.specs.Checkpoints.{IsCheckpointHere}
 use Rattle.running_store.specs.Courses.{and_then, course, force_course}
 use Rattle.running_store.specs.Courses.Stop.{Worn}
 use Rattle.running_store.specs.Finished.{IsQuiet}
@@ -28,24 +28,24 @@ use Rattle.running_store.specs.Rewrites.{IsKeptFrom, rewrite_course}
 use Rattle.running_store.specs.Taking.{Ending, Takes}
 use Rattle.running_store.specs.Taking.Ending.{Done, Stopped, Failed}
 use Rattle.running_store.specs.TakesLaws.{takes_both, takes_first, takes_none, takes_same, takes_stop}
-use Rattle.checkpointing.specs.Checks.{IsTakenBy}
+use Rattle.checkpointing.specs.Checkpoints.{IsTakenBy}
 use Rattle.checkpointing.specs.Courses.{trim_course}
 use Rattle.checkpointing.specs.Left.{DamagedBy, IsTooLong}
 use Rattle.checkpointing.proofs.Base.{base_is}
-use Rattle.checkpointing.proofs.CheckLogs.{taken_here}
+use Rattle.checkpointing.proofs.CheckpointLogs.{taken_here}
 
 -- the log has had its last epoch
-pub trim_worn : {O : Type 0} (meaning : Bounds → Meaning O) (d : Disk) (it : Parts) (epoch told : ℕ) → told ≡ epoch → numbers_end ≤ epoch → IsDisk d → Takes meaning d d it it (λ m w used. trim_course m epoch w used) (Stopped (Worn told))
+pub trim_worn : {O : Type 0} (meaning : Bounds → Meaning O) (d : Disk) (it : Parts) (epoch told : ℕ) → told ≡ epoch → lsn_end ≤ epoch → IsDisk d → Takes meaning d d it it (λ m w used. trim_course m epoch w used) (Stopped (Worn told))
 trim_worn meaning d it epoch told same last lawful =
     takes_same meaning d d it it (λ m w used. course [] used (Worn told)) (λ m w used. trim_course m epoch w used) (Stopped (Worn told))
-    (λ p w shows. ap (λ (k : ℕ). course [] (used_of it.log.log) (Worn k)) same ∙ sym (cond-true (nat_le numbers_end epoch) _ _ (le-leb numbers_end epoch last)))
+    (λ p w shows. ap (λ (k : ℕ). course [] (used_of it.log.log) (Worn k)) same ∙ sym (cond-true (nat_le lsn_end epoch) _ _ (le-leb lsn_end epoch last)))
     (takes_stop meaning d d it it (λ m w. []) (Worn told) (takes_none meaning d it lawful))
 
-module _ {O : Type 0} (meaning : Bounds → Meaning O) (epoch : ℕ) (early : epoch < numbers_end) (old new : Disk) (before after : Parts) where
+module _ {O : Type 0} (meaning : Bounds → Meaning O) (epoch : ℕ) (early : epoch < lsn_end) (old new : Disk) (before after : Parts) where
   trims : (ending : Ending) → Takes meaning old new before after (λ m w used. and_then m w (force_course m w used) (λ v used. rewrite_course m v used)) ending → Takes meaning old new before after (λ m w used. trim_course m epoch w used) ending
   trims ending =
       takes_same meaning old new before after (λ m w used. and_then m w (force_course m w used) (λ v used. rewrite_course m v used)) (λ m w used. trim_course m epoch w used) ending
-      (λ p w shows. sym (cond-false (nat_le numbers_end epoch) _ _ (lt-leb numbers_end epoch early)))
+      (λ p w shows. sym (cond-false (nat_le lsn_end epoch) _ _ (lt-leb lsn_end epoch early)))
 
   -- the force fails
   pub trim_unforced : Takes meaning old new before after (λ m w used. force_course m w used) Failed → Takes meaning old new before after (λ m w used. trim_course m epoch w used) Failed
@@ -57,54 +57,54 @@ module _ {O : Type 0} (meaning : Bounds → Meaning O) (epoch : ℕ) (early : ep
   trim_then mid here ending quiet first second =
       trims ending (takes_both meaning (λ m w used. force_course m w used) (λ m v used. rewrite_course m v used) old mid new before here after ending quiet first second)
 
--- the least of a check's starts and of the log's next number
-pub record IsLeastStart (log : RecordLogView) (table : Table) (base : ℕ) : Type 0 where
+-- the least of a checkpoint's starts and of the log's next LSN
+pub record IsLeastStart (log : RecordLogView) (table : DirtyPageTable) (base : ℕ) : Type 0 where
   pub next : base ≤ log.next
   pub each : All (λ s. base ≤ s.1) table.starts
   pub greatest : (k : ℕ) → k ≤ log.next → All (λ s. k ≤ s.1) table.starts → k ≤ base
 
-pub least_of : (log : RecordLogView) (table : Table) (base next : ℕ) (starts : List (ℕ × ℕ)) → next ≡ log.next → starts ≡ table.starts → base ≤ next → All (λ s. base ≤ s.1) starts → ((k : ℕ) → k ≤ next → All (λ s. k ≤ s.1) starts → k ≤ base)
+pub least_of : (log : RecordLogView) (table : DirtyPageTable) (base next : ℕ) (starts : List (ℕ × ℕ)) → next ≡ log.next → starts ≡ table.starts → base ≤ next → All (λ s. base ≤ s.1) starts → ((k : ℕ) → k ≤ next → All (λ s. k ≤ s.1) starts → k ≤ base)
     → IsLeastStart log table base
-least_of log table base next starts number same low each greatest = record {
-  next = omega (arith, low, number);
+least_of log table base next starts lsn same low each greatest = record {
+  next = omega (arith, low, lsn);
   each = subst (λ (l : List (ℕ × ℕ)). All (λ s. base ≤ s.1) l) same each;
-  greatest = λ k below all. greatest k (omega (arith, below, number)) (subst (λ (l : List (ℕ × ℕ)). All (λ s. k ≤ s.1) l) (sym same) all);
+  greatest = λ k below all. greatest k (omega (arith, below, lsn)) (subst (λ (l : List (ℕ × ℕ)). All (λ s. k ≤ s.1) l) (sym same) all);
 }
 
 -- from there on a log may be rewritten
-pub may_rewrite : {O : Type 0} (m : Meaning O) (log : RecordLogView) (table : Table) (base : ℕ) → IsCheckHere m log table → log.log.pending ≡ [] → IsLeastStart log table base → IsRewritable m log base table
-may_rewrite m log table base check none least = record {
+pub may_rewrite : {O : Type 0} (m : Meaning O) (log : RecordLogView) (table : DirtyPageTable) (base : ℕ) → IsCheckpointHere m log table → log.log.pending ≡ [] → IsLeastStart log table base → IsRewritable m log base table
+may_rewrite m log table base checkpoint none least = record {
   waits = none;
-  low = least.greatest log.log.header.base check.ahead check.placed.from_base;
+  low = least.greatest log.log.header.base checkpoint.ahead checkpoint.placed.from_base;
   high = least.next;
-  place = record { next_is = check.placed.next_is; rising = check.placed.rising; there = check.placed.there; from_base = least.each; before = check.placed.before };
-  grammar = check.grammar;
-  short = omega (arith, check.bytes, check.few);
+  place = record { next_is = checkpoint.placed.next_is; rising = checkpoint.placed.rising; there = checkpoint.placed.there; from_base = least.each; before = checkpoint.placed.before };
+  grammar = checkpoint.grammar;
+  short = omega (arith, checkpoint.bytes, checkpoint.few);
 }
 
 -- and of each world that is shown the log then begins there
-kept_from : {O : Type 0} (meaning : Bounds → Meaning O) → ((b : Bounds) → IsSmall b → IsLawful (meaning b)) → (d : Disk) (it : Parts) (table : Table) → IsTakenBy meaning it table → (base : ℕ) → IsLeastStart it.log table base
+kept_from : {O : Type 0} (meaning : Bounds → Meaning O) → ((b : Bounds) → IsSmall b → IsLawful (meaning b)) → (d : Disk) (it : Parts) (table : DirtyPageTable) → IsTakenBy meaning it table → (base : ℕ) → IsLeastStart it.log table base
     → (p : Params) (w : World O) → Shows (meaning_in meaning p) p d it w → IsKeptFrom (meaning_in meaning p) w base table
 kept_from meaning lawful d it table so base least p w shows =
     let m = meaning_in meaning p in
     let law : IsLawful m = lawful (bounds_of p) (small_store p (d.reads Objects) (subst (λ (q : Params). IsObjectsFile q (d.reads Objects)) shows.store.params shows.store.laid.slots.whole)) in
-    let number = next_number m p d it w shows in
+    let lsn = next_lsn m p d it w shows in
     let taken = taken_here meaning table d it so p w shows in
     record {
       now = taken.now;
-      starts = base_is m law w shows.running.sound it.volatile.entries shows.store.accesses table.starts taken.objects taken.least base least.each (omega (arith, least.next, number)) (λ k low all. least.greatest k (omega (arith, low, number)) all);
+      starts = base_is m law w shows.running.sound it.volatile.entries shows.store.accesses table.starts taken.objects taken.least base least.each (omega (arith, least.next, lsn)) (λ k low all. least.greatest k (omega (arith, low, lsn)) all);
     }
 
 -- so it is rewritten after the force, or not
-pub trim_rewrites : {O : Type 0} (meaning : Bounds → Meaning O) (epoch : ℕ) → epoch < numbers_end → (old new : Disk) (before after : Parts) (mid : Disk) (here : Parts) (ending : Ending) → IsQuiet old mid
-    → Takes meaning old mid before here (λ m w used. force_course m w used) Done → ((b : Bounds) → IsSmall b → IsLawful (meaning b)) → (table : Table) → IsTakenBy meaning here table → (base : ℕ) → IsLeastStart here.log table base
+pub trim_rewrites : {O : Type 0} (meaning : Bounds → Meaning O) (epoch : ℕ) → epoch < lsn_end → (old new : Disk) (before after : Parts) (mid : Disk) (here : Parts) (ending : Ending) → IsQuiet old mid
+    → Takes meaning old mid before here (λ m w used. force_course m w used) Done → ((b : Bounds) → IsSmall b → IsLawful (meaning b)) → (table : DirtyPageTable) → IsTakenBy meaning here table → (base : ℕ) → IsLeastStart here.log table base
     → (((p : Params) (w : World O) → Shows (meaning_in meaning p) p mid here w → IsKeptFrom (meaning_in meaning p) w base table) → Takes meaning mid new here after (λ m w used. rewrite_course m w used) ending)
     → Takes meaning old new before after (λ m w used. trim_course m epoch w used) ending
 trim_rewrites meaning epoch early old new before after mid here ending quiet forced lawful table so base least rewrites =
     trim_then meaning epoch early old new before after mid here ending quiet forced (rewrites (kept_from meaning lawful mid here table so base least))
 
--- where there is no start it is the next number
-pub least_next : (log : RecordLogView) (table : Table) (base : ℕ) → IsLeastStart log table base → table.starts ≡ [] → base ≡ log.next
+-- where there is no start it is the next LSN
+pub least_next : (log : RecordLogView) (table : DirtyPageTable) (base : ℕ) → IsLeastStart log table base → table.starts ≡ [] → base ≡ log.next
 least_next log table base least none =
     let high = least.greatest log.next (omega arith) (subst (λ (l : List (ℕ × ℕ)). All (λ s. log.next ≤ s.1) l) (sym none) (λ k d below. absurd (omega (arith, below)))) in omega (arith, high, least.next)
 

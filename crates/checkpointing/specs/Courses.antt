@@ -1,40 +1,40 @@
--- What a checkpoint, a trim and the check at the end of a restart do, as functions of the world and of the log's length.
+-- What a checkpoint, a trim and the checkpoint at the end of a restart do, as functions of the world and of the log's length.
 -- No group is open in the world.
 use Rattle.std.specs.Prelude.{◌+◌, ℕ, nat_lt, nat_le, if◌then◌else◌, List, [], ◌∷◌, ◌++◌}
 use Rattle.oper_core.specs.Meaning.{Meaning}
 use Rattle.explain_core.specs.World.{World, Step, run}
-use Rattle.explain_core.specs.World.Step.{Block_gate, Check}
+use Rattle.explain_core.specs.World.Step.{Block_gate, Checkpoint}
 use Rattle.running_store.specs.Courses.{Course, is_through, course, and_then, grown, force_steps, force_course, room_steps}
 use Rattle.running_store.specs.Courses.Stop.{Through, Full, Worn}
-use Rattle.formats.specs.Limits.{log_limit, numbers_end}
-use Rattle.running_store.specs.Rewrites.{check_length, rewrite_course}
+use Rattle.formats.specs.Limits.{log_limit, lsn_end}
+use Rattle.running_store.specs.Rewrites.{checkpoint_length, rewrite_course}
 
--- a check is taken, and forced
-abbrev pub check_steps : {O : Type 0} → List (Step O)
-check_steps = Check ∷ Block_gate ∷ []
+-- a checkpoint is taken, and forced
+abbrev pub checkpoint_steps : {O : Type 0} → List (Step O)
+checkpoint_steps = Checkpoint ∷ Block_gate ∷ []
 
 module _ {O : Type 0} (m : Meaning O) where
-  -- a check is logged and forced, where the log has a place for it
+  -- a checkpoint is logged and forced, where the log has a place for it
   abbrev pub logged_course : World O → ℕ → Course O
   logged_course w used =
-      let n = check_length m w in
-      if nat_lt log_limit (grown m w used n) then course [] used (Full used (n + 5) log_limit) else course check_steps (grown m w used n) Through
+      let n = checkpoint_length m w in
+      if nat_lt log_limit (grown m w used n) then course [] used (Full used (n + 5) log_limit) else course checkpoint_steps (grown m w used n) Through
 
   -- room is made for it first
-  abbrev pub check_course : World O → ℕ → Course O
-  check_course w used = and_then m w (course (room_steps m w (check_length m w)) used Through) logged_course
+  abbrev pub taking_course : World O → ℕ → Course O
+  taking_course w used = and_then m w (course (room_steps m w (checkpoint_length m w)) used Through) logged_course
 
-  -- A checkpoint is such a check; where it is refused, what waits is forced.
+  -- The checkpoint of a call; where it is refused, what waits is forced.
   abbrev pub checkpoint_course : World O → ℕ → Course O
   checkpoint_course w used =
-      let c = check_course w used in
+      let c = taking_course w used in
       if is_through c.stop then c else course (c.steps ++ force_steps m (run m w c.steps)) c.used c.stop
 
-  -- A restart ends with such a check, or, where the log has no place for it, with none.
+  -- A restart ends with such a checkpoint, or, where the log has no place for it, with none.
   abbrev pub closing_course : World O → ℕ → Course O
-  closing_course w used = let c = check_course w used in course c.steps c.used Through
+  closing_course w used = let c = taking_course w used in course c.steps c.used Through
 
-  -- A trim of a log of this epoch: of the last one (`numbers_end`) none is made; else all that waits is forced, and the log rewritten.
+  -- A trim of a log of this epoch: of the last one (`lsn_end`) none is made; else all that waits is forced, and the log rewritten.
   abbrev pub trim_course : ℕ → World O → ℕ → Course O
   trim_course epoch w used =
-      if nat_le numbers_end epoch then course [] used (Worn epoch) else and_then m w (force_course m w used) (rewrite_course m)
+      if nat_le lsn_end epoch then course [] used (Worn epoch) else and_then m w (force_course m w used) (rewrite_course m)

@@ -1,4 +1,4 @@
 pub mod Courses
-pub mod Checks
+pub mod Checkpoints
 pub mod Left
 pub mod Worked

@@ -15,8 +15,8 @@ pub fn checkpoint_may_be_taken<O: Oper>()
     explain_core::every_run_keeps::<O>();
 }
 
-/// So may the check with which a restart ends.
-pub fn closing_check_may_be_taken<O: Oper>()
+/// So may the checkpoint with which a restart ends.
+pub fn closing_checkpoint_may_be_taken<O: Oper>()
     ensures { (b : Bounds) (w : World O) (used : ℕ) → IsSmall b → IsRunning (O.meaning b) w →
         MayBeTaken (O.meaning b) w (closing_course (O.meaning b) w used).steps }
 {

@@ -10,15 +10,15 @@ ghost use Rattle.running_store.specs.Taking.{Takes};
 ghost use Rattle.checkpointing.specs.Courses.{trim_course};
 ghost use Rattle.checkpointing.specs.Left.{DamagedBy, IsTooLong, KeepsCounts};
 
-use crate::taking::{check_now, least_start};
+use crate::taking::{checkpoint_now, least_start};
 use disk_model::Machine;
-use formats::NUMBERS_END;
+use formats::LSN_END;
 use log_records::RewriteErr;
 use oper_core::Oper;
 use running_store::Store;
 
-/// Forces the log and puts another in its place: the commands and identity writes from the least number in the graph on, or
-/// none where the graph is empty, and after them a check taken now. A log of the last epoch is not trimmed: `Exhausted`
+/// Forces the log and puts another in its place: the commands and identity writes from the least LSN in the graph on, or
+/// none where the graph is empty, and after them a checkpoint taken now. A log of the last epoch is not trimmed: `Exhausted`
 /// comes before all else. The other refusals come after the force. `LogFull` says how long the log is, and how long the file
 /// of the new one would be. `Damaged` names the place of a record that breaks its format, and never comes where the log keeps
 /// its records.
@@ -35,11 +35,11 @@ pub fn trim<O: Oper, M: Machine>(store: &mut Store<O>, machine: &mut M) -> Resul
     ensures emptied { store.old.parts.volatile.entries ≡ [] → OnOk result (store.new.parts.log.log.header.base ≡ next_of store.new) }
 {
     let epoch = store.log().epoch();
-    if epoch >= NUMBERS_END {
+    if epoch >= LSN_END {
         return Err(RewriteErr::Exhausted { epoch });
     }
     store.force(machine)?;
-    let table = check_now(store)?;
+    let table = checkpoint_now(store)?;
     let base = least_start(store.log().next(), table.starts.as_slice());
     store.rewrite(machine, base, table)?;
     Ok(())

@@ -10,7 +10,7 @@ use Rattle.dirty_cache.specs.Places.{entry_at, count_of, with_bytes}
 
 -- what an entry holds of its object
 abbrev pub cell_of_entry : Entry → Cell
-cell_of_entry e = record { id = e.lsn; value = e.bytes }
+cell_of_entry e = record { lsn = e.lsn; value = e.bytes }
 
 -- the objects that have a place for a dirty entry, each with the entry, if it is dirty; the clean entries, the one used
 -- last in front; and how many clean entries there may be

@@ -43,7 +43,7 @@ impl Cache {
         })
     }
 
-    /// The identifier and the value of the object, if it is cached. A clean object becomes the one used last.
+    /// The LSN and the value of the object, if it is cached. A clean object becomes the one used last.
     pub fn view(&mut self, x: u32) -> Option<(u64, &[u8])>
         ensures* unchanged { sem 𝓛 (EndsUsed self.entry x) }
         ensures entry { shown result ≡ held self.old x }
@@ -64,7 +64,7 @@ impl Cache {
         self.dirty.make(x)
     }
 
-    /// Makes the object dirty, with this identifier and value, whatever it had. It takes no memory: there is room for
+    /// Makes the object dirty, with this LSN and value, whatever it had. It takes no memory: there is room for
     /// the object, or it is dirty already.
     pub fn set(&mut self, x: u32, lsn: u64, bytes: Vec<u8>)
         requires { HasRoom self.old x }
@@ -82,7 +82,7 @@ impl Cache {
         drop(self.dirty.replace(x, Some(Entry { lsn, bytes })));
     }
 
-    /// Keeps the identifier and the value of an object that is not dirty. Where memory is refused they are dropped.
+    /// Keeps the LSN and the value of an object that is not dirty. Where memory is refused they are dropped.
     pub fn keep_clean(&mut self, x: u32, lsn: u64, bytes: Vec<u8>)
         requires { is_dirty self.old x ≡ false }
         ensures entry { (held self.new x ≡ Some (record { lsn = lsn; bytes = bytes.items })) ⊎ (held self.new x ≡ None) }

@@ -1,6 +1,6 @@
 use oper_core::ByteList;
 
-/// An object's identifier, the number of the record that wrote it last, and its value.
+/// An object's LSN, that of the record that wrote it last, and its value.
 #[derive(Drop)]
 pub struct Entry {
     pub lsn: u64,

@@ -1,4 +1,4 @@
-//! What is cached of a store's objects: of each an identifier and a value, dirty or clean.
+//! What is cached of a store's objects: of each an LSN and a value, dirty or clean.
 //!
 //! A dirty object's value is in no slot yet, so it stays until it is marked clean. Clean ones stand in a bounded cache
 //! and may be forgotten. The one contract is that of [`Cache`]: it is a finite map, whose words are in

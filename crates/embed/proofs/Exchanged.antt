@@ -59,7 +59,7 @@ module _ {O : Type 0} (exchange : Exchange) (d : Disk) where
       sound = was.sound;
       group = was.group;
       shows = shows _ p engine.parts _ was.shows;
-      no_check = was.no_check;
+      no_checkpoint = was.no_checkpoint;
     }
 
     pub holds_so : (p : Params) (commands : List O) → Holds meaning p d engine commands → Holds meaning p (with_exchange exchange d) engine commands

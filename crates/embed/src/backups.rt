@@ -26,7 +26,7 @@ use disk_model::Machine;
 
 impl<M: Machine + Drop> Store<M> {
     /// Starts a backup: forces the log, and lays out a store with the same numbers on a second machine, the target, whose objects
-    /// gate stays closed. Commands, installs and checks go on meanwhile. It fails as `backup_copy::start`.
+    /// gate stays closed. Commands, installs and checkpoints go on meanwhile. It fails as `backup_copy::start`.
     pub fn start_backup<T: Machine>(&mut self, target: &mut T) -> Result<(), BackupErr>
         ensures refused { self.old.engine.broken ≡ false → IfErr (judge_start self.old.engine) (λ why. IsRefusedSo why self.old.machine self.new.machine target.old target.new self.old.engine self.new.engine result) }
         ensures forces { self.old.engine.broken ≡ false → IfOk (judge_start self.old.engine) (λ done. LooksFirst all_meaning (M.disk self.old.machine) (M.disk self.new.machine) self.old.engine self.new.engine

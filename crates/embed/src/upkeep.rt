@@ -1,13 +1,13 @@
-// Groups, forces, installs, checks and trims.
+// Groups, forces, installs, checkpoints and trims.
 ghost use Rattle.std.specs.Prelude.{◌≡◌, true, false, ℕ, None, Some, Ok, IfSome, Result};
 ghost use Rattle.disk_model.specs.Disk.{Passes};
 ghost use Rattle.disk_model.specs.declared.machine.Failed.{Failed as ForceFailure};
 ghost use Rattle.log_records.specs.declared.rewrite_err.RewriteErr.{RewriteErr as RewriteFailure};
 ghost use Rattle.cache_manager.specs.declared.install.Install.{Install as Installs};
 ghost use Rattle.cache_manager.specs.declared.install_err.InstallErr.{InstallErr as InstallFailure};
-ghost use Rattle.checkpointing.specs.declared.check_err.CheckErr.{CheckErr as CheckFailure};
+ghost use Rattle.checkpointing.specs.declared.checkpoint_err.CheckpointErr.{CheckpointErr as CheckpointFailure};
 ghost use Rattle.op_codec.specs.AllOps.{all_meaning};
-ghost use Rattle.store_engine.specs.Calls.{IsBeginning, IsChecking, IsDraining, IsForcing, IsInstalling, IsRefused, IsRefusedBeside, IsTrimming, work_of_check, work_of_force, work_of_install, work_of_trim};
+ghost use Rattle.store_engine.specs.Calls.{IsBeginning, IsTakingCheckpoint, IsDraining, IsForcing, IsInstalling, IsRefused, IsRefusedBeside, IsTrimming, work_of_checkpoint, work_of_force, work_of_install, work_of_trim};
 ghost use Rattle.store_engine.specs.Engine.{group_size};
 ghost use Rattle.embed.specs.Embedded.{IsStillBroken, Reports};
 
@@ -84,11 +84,11 @@ impl<M: Machine + Drop> Store<M> {
         self.engine.drain(&mut self.machine)
     }
 
-    /// Logs a check of where a redo begins, and makes it durable.
+    /// Logs a checkpoint of where a redo begins, and makes it durable.
     pub fn checkpoint(&mut self) -> Result<(), WorkErr>
         ensures time { Passes (M.disk self.old.machine) (M.disk self.new.machine) }
         ensures in_group { self.old.engine.broken ≡ false → IfSome (group_size self.old.engine) (λ size. IsRefused size self.old.machine self.new.machine self.old.engine self.new.engine result) }
-        ensures alone { self.old.engine.broken ≡ false → self.old.engine.group ≡ None → (answer : Result _ CheckFailure) × (result ≡ work_of_check answer) × IsChecking all_meaning (M.disk self.old.machine) (M.disk self.new.machine) self.old.engine self.new.engine answer }
+        ensures alone { self.old.engine.broken ≡ false → self.old.engine.group ≡ None → (answer : Result _ CheckpointFailure) × (result ≡ work_of_checkpoint answer) × IsTakingCheckpoint all_meaning (M.disk self.old.machine) (M.disk self.new.machine) self.old.engine self.new.engine answer }
         ensures broken { self.old.engine.broken ≡ true → IsStillBroken WorkErr.DiskFault self.old self.new result }
     {
         if self.engine.is_broken() {

@@ -13,7 +13,7 @@ use Rattle.execution.specs.declared.exec_err.ExecErr.TheVariants as commands
 use Rattle.op_codec.specs.AllOps.{AllOps, all_meaning}
 use Rattle.store_engine.specs.declared.work_err.WorkErr.{WorkErr}
 use Rattle.store_engine.specs.declared.work_err.WorkErr.TheVariants as work
-use Rattle.store_engine.specs.Calls.{IsBeginning, IsChecking, IsDraining, IsForcing, IsInstalling, IsRefused, IsRefusedBeside, IsTrimming, work_of_check, work_of_force, work_of_install, work_of_trim}
+use Rattle.store_engine.specs.Calls.{IsBeginning, IsTakingCheckpoint, IsDraining, IsForcing, IsInstalling, IsRefused, IsRefusedBeside, IsTrimming, work_of_checkpoint, work_of_force, work_of_install, work_of_trim}
 use Rattle.store_engine.specs.Commands.{HasFetched, HasRun}
 use Rattle.store_engine.specs.Engine.{EngineView, Holds, group_size}
 use Rattle.store_engine.specs.Lists.{AddsFront, AreCalls, ending_of}
@@ -100,9 +100,9 @@ DoesInstall = DoesWork work_of_install (IsInstalling all_meaning)
 abbrev pub DoesDrain : Store QueueMem → Store QueueMem → Result ℕ WorkErr → Type 0
 DoesDrain = DoesWork work_of_install (IsDraining all_meaning)
 
--- a check was logged and forced
+-- a checkpoint was logged and forced
 abbrev pub DoesCheckpoint : Store QueueMem → Store QueueMem → Result (Unit {0}) WorkErr → Type 0
-DoesCheckpoint = DoesWork work_of_check (λ d e before after its. IsChecking all_meaning d e before after its)
+DoesCheckpoint = DoesWork work_of_checkpoint (λ d e before after its. IsTakingCheckpoint all_meaning d e before after its)
 
 -- the log was rewritten; a backup bars that too
 pub record DoesTrim (old new : Store QueueMem) (made : Result (Unit {0}) WorkErr) : Type 0 where

@@ -74,7 +74,7 @@ impl Answer {
             ExecErr::DiskFault => Answer::alone(5),
             ExecErr::Damaged { file, place } => Answer::damaged(file, place),
             ExecErr::LogFull { used, need, limit } => Answer::telling(16, used, need, limit),
-            ExecErr::LsnEnd { number } => Answer::telling(17, number, 0, 0),
+            ExecErr::LsnEnd { lsn } => Answer::telling(17, lsn, 0, 0),
             ExecErr::Memory => Answer::alone(8),
         }
     }
@@ -98,7 +98,7 @@ impl Answer {
             WorkErr::InGroup { commands } => Answer::telling(18, commands, 0, 0),
             WorkErr::InBackup { copied } => Answer::telling(20, u64::from(copied), 0, 0),
             WorkErr::LogFull { used, need, limit } => Answer::telling(16, used, need, limit),
-            WorkErr::LsnEnd { number } => Answer::telling(17, number, 0, 0),
+            WorkErr::LsnEnd { lsn } => Answer::telling(17, lsn, 0, 0),
             WorkErr::Exhausted { epoch } => Answer::telling(17, epoch, 0, 0),
             WorkErr::DiskFault => Answer::alone(5),
             WorkErr::Damaged { file, place } => Answer::damaged(file, place),

@@ -303,7 +303,7 @@ impl Session {
         answer.number
     }
 
-    /// Logs a check.
+    /// Logs a checkpoint.
     pub fn checkpoint(&mut self) -> u32
         ensures { IsCalled (told of_work) DoesCheckpoint self.old self.new result }
     {

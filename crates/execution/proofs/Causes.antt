@@ -6,9 +6,9 @@ use Rattle.disk_model.specs.declared.machine.FileNo.TheVariants.{Objects}
 use Rattle.oper_core.specs.Meaning.{Meaning, HasBounds, IsSmall, IsLawful, IsInGrammar}
 use Rattle.oper_core.specs.declared.bounds.Bounds.{Bounds}
 use Rattle.formats.specs.declared.params.Params.{Params}
-use Rattle.log_frames.specs.LogView.{used_of}
+use Rattle.log_blocks.specs.LogView.{used_of}
 use Rattle.explain_core.specs.World.{World}
-use Rattle.running_store.specs.Appended.{next_number}
+use Rattle.running_store.specs.Appended.{next_lsn}
 use Rattle.running_store.specs.Commands.{HasPlaceBelow, command_length}
 use Rattle.running_store.specs.Laid.{IsLaidOn, values_in}
 use Rattle.running_store.specs.LongSlot.{long_untold}
@@ -40,7 +40,7 @@ module _ {O : Type 0} (meaning : Bounds → Meaning O) (grouped : Bool) (p : Par
   admit_cause bounded laws DiskFault stays fails shown fault = inl (subst (λ (b : Params). IsInGrammar (meaning_in meaning b) op × (0 < length ((meaning_in meaning b).reads op))) same (fault refl))
   admit_cause bounded laws (Damaged file place) stays fails shown fault = long_untold it.volatile.objects.slots fails.object file place stays shows.told shows.store.laid.slots fails.slot
   admit_cause bounded laws (LogFull used need limit) stays fails shown fault = absurd fails
-  admit_cause bounded laws (LsnEnd number) stays fails shown fault = absurd fails
+  admit_cause bounded laws (LsnEnd lsn) stays fails shown fault = absurd fails
   admit_cause bounded laws Memory stays fails shown fault = tt
 
   module _ (accepted : refusal_in m w op ≡ None) where
@@ -48,15 +48,15 @@ module _ {O : Type 0} (meaning : Bounds → Meaning O) (grouped : Bool) (p : Par
     pub lacks_cause : (e : ExecErr) → LacksPlace grouped p.limit it.log (command_length m op) e → HasCauseIn grouped m p.limit w (used_of it.log.log) op (Err e)
     lacks_cause (Refused refusal) lacks = absurd lacks
     lacks_cause (LogFull held need most) lacks = (accepted, omega (arith, lacks.0, long_is m p d it w shows grouped p.limit op accepted), lacks.1, lacks.2 ∙ needed_is m p d it w shows grouped p.limit op accepted grouped, lacks.3)
-    lacks_cause (LsnEnd number) lacks =
-        let next = next_number m p d it w shows in
+    lacks_cause (LsnEnd lsn) lacks =
+        let next = next_lsn m p d it w shows in
         (accepted, omega (arith, lacks.0, long_is m p d it w shows grouped p.limit op accepted), omega (arith, lacks.1, next), lacks.2 ∙ next)
     lacks_cause DiskFault lacks = inr (
       lacks.0,
       accepted,
       ⊎_elim
           (λ over. inl (omega (arith, over, long_is m p d it w shows grouped p.limit op accepted)))
-          (λ last. inr (omega (arith, last, next_number m p d it w shows))) lacks.1,
+          (λ last. inr (omega (arith, last, next_lsn m p d it w shows))) lacks.1,
     )
     lacks_cause (Damaged file place) lacks = absurd lacks
     lacks_cause Memory lacks = absurd lacks
@@ -65,5 +65,5 @@ module _ {O : Type 0} (meaning : Bounds → Meaning O) (grouped : Bool) (p : Par
     pub done_cause : (n : ℕ) → HasPlaceBelow p.limit it.log (command_length m op) → n ≡ it.log.accepted + 1 → HasCauseIn grouped m p.limit w (used_of it.log.log) op (Ok n)
     done_cause n place is =
         let room = place.room in
-        let number = place.number in
-        (accepted, omega (arith, room, long_is m p d it w shows grouped p.limit op accepted), omega (arith, number, next_number m p d it w shows), omega (arith, is, accepted_shown m p d it w shows))
+        let lsn = place.lsn in
+        (accepted, omega (arith, room, long_is m p d it w shows grouped p.limit op accepted), omega (arith, lsn, next_lsn m p d it w shows), omega (arith, is, accepted_shown m p d it w shows))

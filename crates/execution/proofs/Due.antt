@@ -1,4 +1,4 @@
--- A record is judged by its number first, and one with the next number as the member that it is.
+-- A record is judged by its LSN first, and one with the next LSN as the member that it is.
 use Rattle.std.proofs.Common.{◌≡◌, ◌∙◌, sym, ap, ℕ, ◌<◌, Bool, true, false, refl, arith, inl, inr, Some}
 use Rattle.std.specs.Prelude.{IsTrue, Result, Ok, Err, nat_lt, if◌then◌else◌}
 use Rattle.std.proofs.lemmas.Bool.{cases_Bool, cases_lt, cond-true, cond-false, le-ltb, lt-ltb}
@@ -6,26 +6,26 @@ use Rattle.disk_model.specs.Disk.{Disk}
 use Rattle.oper_core.specs.Meaning.{Meaning}
 use Rattle.oper_core.specs.declared.bounds.Bounds.{Bounds}
 use Rattle.formats.specs.declared.params.Params.{Params}
-use Rattle.log_frames.specs.LogView.{used_of}
+use Rattle.log_blocks.specs.LogView.{used_of}
 use Rattle.oper_core.specs.State.{State}
-use Rattle.formats.specs.Records.{number_of}
+use Rattle.formats.specs.Records.{lsn_of}
 use Rattle.formats.specs.declared.record.Record.{Record}
-use Rattle.formats.specs.declared.record.Record.TheVariants.{Command as Logged_command, Identity as Logged_identity, Check as Logged_check}
+use Rattle.formats.specs.declared.record.Record.TheVariants.{Command as Logged_command, Identity as Logged_identity, Checkpoint as Logged_checkpoint}
 use Rattle.explain_core.specs.History.{Member}
 use Rattle.explain_core.specs.History.Member.{Command, Identity}
 use Rattle.explain_core.specs.World.{World, end_of}
 use Rattle.running_store.specs.Courses.{course, record_length}
-use Rattle.running_store.specs.Appended.{next_number}
+use Rattle.running_store.specs.Appended.{next_lsn}
 use Rattle.running_store.specs.Parts.{Parts, Shows, meaning_in, record_of}
 use Rattle.running_store.specs.Taking.{Ending, Takes}
 use Rattle.running_store.specs.TakesLaws.{takes_same}
-use Rattle.execution.specs.Following.{HasFollowCause, HasMemberCause, IsNumbered, follow_course, grown_by, judge_in, judged_course, member_course}
+use Rattle.execution.specs.Following.{HasFollowCause, HasMemberCause, HasLsn, follow_course, grown_by, judge_in, judged_course, member_course}
 use Rattle.execution.specs.Judged.{Judged, judge_member, may_follow}
 use Rattle.execution.specs.Judged.Judged.{Passed, Taken, Gap, Differs}
 use Rattle.execution.specs.declared.record_err.RecordErr.{RecordErr}
 use Rattle.execution.specs.declared.record_err.RecordErr.TheVariants as of_record
 
--- what is said of a number where the next is this one
+-- what is said of an LSN where the next is this one
 abbrev pub due_or : ℕ → ℕ → Result Bool RecordErr
 due_or next n = if nat_lt n next then Ok false else (if nat_lt next n then Err (of_record.Gap next n) else Ok true)
 
@@ -59,45 +59,45 @@ due_gap next n e is = elim (cases_lt n next) [
   ]
 ]
 
--- a record that has a number is a member with it
-pub as_numbered : {O : Type 0} (r : Record O) → IsNumbered r → (number : ℕ) × (member : Member O) × (r ≡ record_of number member)
-as_numbered (Logged_command number op) is = (number, Command op, refl)
-as_numbered (Logged_identity number x value) is = (number, Identity x value, refl)
-as_numbered (Logged_check table) is = absurd is
+-- a record that has an LSN is a member with it
+pub as_with_lsn : {O : Type 0} (r : Record O) → HasLsn r → (lsn : ℕ) × (member : Member O) × (r ≡ record_of lsn member)
+as_with_lsn (Logged_command lsn op) is = (lsn, Command op, refl)
+as_with_lsn (Logged_identity lsn x value) is = (lsn, Identity x value, refl)
+as_with_lsn (Logged_checkpoint table) is = absurd is
 
-pub number_is : {O : Type 0} (number : ℕ) (member : Member O) → number_of (record_of number member) ≡ Some number
-number_is number (Command op) = refl
-number_is number (Identity x value) = refl
+pub lsn_is : {O : Type 0} (lsn : ℕ) (member : Member O) → lsn_of (record_of lsn member) ≡ Some lsn
+lsn_is lsn (Command op) = refl
+lsn_is lsn (Identity x value) = refl
 
 module _ {O : Type 0} (m : Meaning O) (w : World O) where
   abbrev values : State
   values x = (w.cache x).value
 
-  judge_is : (number : ℕ) (member : Member O) → judge_in m w (record_of number member) ≡ judge_member m values (end_of w) number member
-  judge_is number (Command op) = refl
-  judge_is number (Identity x value) = refl
+  judge_is : (lsn : ℕ) (member : Member O) → judge_in m w (record_of lsn member) ≡ judge_member m values (end_of w) lsn member
+  judge_is lsn (Command op) = refl
+  judge_is lsn (Identity x value) = refl
 
   -- another number than the next one
-  pub passed_is : (number : ℕ) (member : Member O) → number < end_of w → judge_in m w (record_of number member) ≡ Passed
-  passed_is number member low = judge_is number member ∙ cond-true (nat_lt number (end_of w)) _ _ (lt-ltb number (end_of w) low)
+  pub passed_is : (lsn : ℕ) (member : Member O) → lsn < end_of w → judge_in m w (record_of lsn member) ≡ Passed
+  passed_is lsn member low = judge_is lsn member ∙ cond-true (nat_lt lsn (end_of w)) _ _ (lt-ltb lsn (end_of w) low)
 
-  pub gap_is : (number : ℕ) (member : Member O) → end_of w < number → judge_in m w (record_of number member) ≡ Gap (end_of w) number
-  gap_is number member high = judge_is number member ∙ cond-false (nat_lt number (end_of w)) _ _ (le-ltb number (end_of w) (omega (arith, high))) ∙ cond-true (nat_lt (end_of w) number) _ _ (lt-ltb (end_of w) number high)
+  pub gap_is : (lsn : ℕ) (member : Member O) → end_of w < lsn → judge_in m w (record_of lsn member) ≡ Gap (end_of w) lsn
+  gap_is lsn member high = judge_is lsn member ∙ cond-false (nat_lt lsn (end_of w)) _ _ (le-ltb lsn (end_of w) (omega (arith, high))) ∙ cond-true (nat_lt (end_of w) lsn) _ _ (lt-ltb (end_of w) lsn high)
 
   -- the next one
-  module _ (number : ℕ) (next : number ≡ end_of w) (member : Member O) where
+  module _ (lsn : ℕ) (next : lsn ≡ end_of w) (member : Member O) where
     abbrev own : Record O
-    own = record_of number member
+    own = record_of lsn member
 
-    here : judge_in m w own ≡ (if may_follow m values member then Taken member else Differs number)
+    here : judge_in m w own ≡ (if may_follow m values member then Taken member else Differs lsn)
     here =
-        judge_is number member ∙ cond-false (nat_lt number (end_of w)) _ _ (le-ltb number (end_of w) (omega (arith, next)))
-        ∙ cond-false (nat_lt (end_of w) number) _ _ (le-ltb (end_of w) number (omega (arith, next)))
+        judge_is lsn member ∙ cond-false (nat_lt lsn (end_of w)) _ _ (le-ltb lsn (end_of w) (omega (arith, next)))
+        ∙ cond-false (nat_lt (end_of w) lsn) _ _ (le-ltb (end_of w) lsn (omega (arith, next)))
 
     taken_is : IsTrue (may_follow m values member) → judge_in m w own ≡ Taken member
     taken_is so = here ∙ cond-true (may_follow m values member) _ _ so
 
-    differs_is : may_follow m values member ≡ false → judge_in m w own ≡ Differs number
+    differs_is : may_follow m values member ≡ false → judge_in m w own ≡ Differs lsn
     differs_is so = here ∙ cond-false (may_follow m values member) _ _ so
 
     -- its course is that of its member
@@ -111,8 +111,8 @@ module _ {O : Type 0} (m : Meaning O) (w : World O) where
     due_taken : (used : ℕ) → HasMemberCause m w used member (Ok tt) → HasFollowCause m w used own (Ok true)
     due_taken used so = (member, grown_by m w (record_length m member), (taken_is so.0, refl), so.1)
 
-    is_due : number_of own ≡ Some (end_of w)
-    is_due = number_is number member ∙ (λ i. Some (next i))
+    is_due : lsn_of own ≡ Some (end_of w)
+    is_due = lsn_is lsn member ∙ (λ i. Some (next i))
 
     due_refused : (used : ℕ) (e : RecordErr) → HasMemberCause m w used member (Err e) → HasFollowCause m w used own (Err e)
     due_refused used (of_record.Gap expected got) so = absurd so
@@ -122,15 +122,15 @@ module _ {O : Type 0} (m : Meaning O) (w : World O) where
     due_refused used (of_record.Damaged file place) so = absurd so
     due_refused used of_record.Memory so = is_due
 
--- a call that takes the course of a member takes that of its record, where this has the next number
-module _ {O : Type 0} (meaning : Bounds → Meaning O) (old new : Disk) (before : Parts) (number : ℕ) (next : number ≡ before.log.next) (member : Member O) where
-  pub record_takes : (after : Parts) (ending : Ending) → Takes meaning old new before after (λ m w used. member_course m member w used) ending → Takes meaning old new before after (λ m w used. follow_course m (record_of number member) w used) ending
-  record_takes after ending takes = takes_same meaning old new before after (λ m w used. member_course m member w used) (λ m w used. follow_course m (record_of number member) w used) ending
-      (λ p w shows. let m = meaning_in meaning p in due_course m w number (next ∙ next_number m p old before w shows) member (used_of before.log.log)) takes
+-- a call that takes the course of a member takes that of its record, where this has the next LSN
+module _ {O : Type 0} (meaning : Bounds → Meaning O) (old new : Disk) (before : Parts) (lsn : ℕ) (next : lsn ≡ before.log.next) (member : Member O) where
+  pub record_takes : (after : Parts) (ending : Ending) → Takes meaning old new before after (λ m w used. member_course m member w used) ending → Takes meaning old new before after (λ m w used. follow_course m (record_of lsn member) w used) ending
+  record_takes after ending takes = takes_same meaning old new before after (λ m w used. member_course m member w used) (λ m w used. follow_course m (record_of lsn member) w used) ending
+      (λ p w shows. let m = meaning_in meaning p in due_course m w lsn (next ∙ next_lsn m p old before w shows) member (used_of before.log.log)) takes
 
   module _ (p : Params) (w : World O) (shows : Shows (meaning_in meaning p) p old before w) where
-    pub record_taken : HasMemberCause (meaning_in meaning p) w (used_of before.log.log) member (Ok tt) → HasFollowCause (meaning_in meaning p) w (used_of before.log.log) (record_of number member) (Ok true)
-    record_taken so = let m = meaning_in meaning p in due_taken m w number (next ∙ next_number m p old before w shows) member (used_of before.log.log) so
+    pub record_taken : HasMemberCause (meaning_in meaning p) w (used_of before.log.log) member (Ok tt) → HasFollowCause (meaning_in meaning p) w (used_of before.log.log) (record_of lsn member) (Ok true)
+    record_taken so = let m = meaning_in meaning p in due_taken m w lsn (next ∙ next_lsn m p old before w shows) member (used_of before.log.log) so
 
-    pub record_refused : (e : RecordErr) → HasMemberCause (meaning_in meaning p) w (used_of before.log.log) member (Err e) → HasFollowCause (meaning_in meaning p) w (used_of before.log.log) (record_of number member) (Err e)
-    record_refused e so = let m = meaning_in meaning p in due_refused m w number (next ∙ next_number m p old before w shows) member (used_of before.log.log) e so
+    pub record_refused : (e : RecordErr) → HasMemberCause (meaning_in meaning p) w (used_of before.log.log) member (Err e) → HasFollowCause (meaning_in meaning p) w (used_of before.log.log) (record_of lsn member) (Err e)
+    record_refused e so = let m = meaning_in meaning p in due_refused m w lsn (next ∙ next_lsn m p old before w shows) member (used_of before.log.log) e so

@@ -14,7 +14,7 @@ use Rattle.explain_core.specs.History.Member.{Command}
 use Rattle.explain_core.specs.Sound.{IsSound}
 use Rattle.explain_core.specs.World.{World, step, IsLive}
 use Rattle.explain_core.specs.World.Step.{Append}
-use Rattle.log_frames.specs.LogView.{used_of, growth_of}
+use Rattle.log_blocks.specs.LogView.{used_of, growth_of}
 use Rattle.log_records.specs.RecordLog.{RecordLogView}
 use Rattle.stable_objects.specs.SlotsView.{SlotsView}
 use Rattle.running_store.specs.AfterReads.{fetch_takes, fetch_then, fetch_unbroken, read_moments}
@@ -148,7 +148,7 @@ module _ {O : Type 0} (meaning : Bounds → Meaning O) (grouped : Bool) (op : O)
 
         finished_shows : Shows m q mid after.parts (step m w (Append (Command op)))
         finished_shows =
-            let low = place.number in
+            let low = place.lsn in
             appended_shows m q mid first after.parts (Command op) made w (read_shows m q old mid before.parts here.parts.volatile.objects w is.read shows) done_there made_is writes_below (omega (arith, low), ready_there.shape) low
             (keeps (bounds_of q) w op shows.running.sound shows.running.live not_refused)
 

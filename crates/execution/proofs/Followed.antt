@@ -6,7 +6,7 @@ use Rattle.oper_core.specs.Meaning.{Meaning}
 use Rattle.oper_core.specs.declared.bounds.Bounds.{Bounds}
 use Rattle.formats.specs.Limits.{log_limit}
 use Rattle.formats.specs.declared.params.Params.{Params}
-use Rattle.log_frames.specs.LogView.{used_of}
+use Rattle.log_blocks.specs.LogView.{used_of}
 use Rattle.explain_core.specs.History.{Member}
 use Rattle.explain_core.specs.RunLaws.{run-append}
 use Rattle.explain_core.specs.World.{World, Step, run}

@@ -9,7 +9,7 @@ use Rattle.oper_core.specs.Meaning.{Meaning, refusal_of}
 use Rattle.oper_core.specs.State.{State}
 use Rattle.formats.specs.Limits.{log_limit}
 use Rattle.formats.specs.declared.record.Record.{Record}
-use Rattle.formats.specs.declared.record.Record.TheVariants.{Command as Logged_command, Identity as Logged_identity, Check as Logged_check}
+use Rattle.formats.specs.declared.record.Record.TheVariants.{Command as Logged_command, Identity as Logged_identity, Checkpoint as Logged_checkpoint}
 use Rattle.explain_core.specs.History.{Member}
 use Rattle.explain_core.specs.History.Member.{Command, Identity}
 use Rattle.explain_core.specs.RunLaws.{allowed-append, run-append}
@@ -35,27 +35,27 @@ module _ {O : Type 0} (m : Meaning O) (w : World O) where
   values x = (w.cache x).value
 
   -- what is taken may come next
-  judged_may : (number : ℕ) (own member : Member O) → judge_member m values (end_of w) number own ≡ Taken member → IsTrue (may_follow m values member)
-  judged_may number own member is = elim (cases_Bool (nat_lt number (end_of w))) [
-    | inl low ↦ let h : Passed ≡ Taken member = sym (cond-true (nat_lt number (end_of w)) _ _ low) ∙ is in cc
-    | inr more ↦ elim (cases_Bool (nat_lt (end_of w) number)) [
-      | inl high ↦ let h : Gap (end_of w) number ≡ Taken member = sym (cond-false (nat_lt number (end_of w)) _ _ more ∙ cond-true (nat_lt (end_of w) number) _ _ high) ∙ is in cc
+  judged_may : (lsn : ℕ) (own member : Member O) → judge_member m values (end_of w) lsn own ≡ Taken member → IsTrue (may_follow m values member)
+  judged_may lsn own member is = elim (cases_Bool (nat_lt lsn (end_of w))) [
+    | inl low ↦ let h : Passed ≡ Taken member = sym (cond-true (nat_lt lsn (end_of w)) _ _ low) ∙ is in cc
+    | inr more ↦ elim (cases_Bool (nat_lt (end_of w) lsn)) [
+      | inl high ↦ let h : Gap (end_of w) lsn ≡ Taken member = sym (cond-false (nat_lt lsn (end_of w)) _ _ more ∙ cond-true (nat_lt (end_of w) lsn) _ _ high) ∙ is in cc
       | inr most ↦
-          let here : judge_member m values (end_of w) number own ≡ (if may_follow m values own then Taken own else Differs number) = cond-false (nat_lt number (end_of w)) _ _ more ∙ cond-false (nat_lt (end_of w) number) _ _ most in
+          let here : judge_member m values (end_of w) lsn own ≡ (if may_follow m values own then Taken own else Differs lsn) = cond-false (nat_lt lsn (end_of w)) _ _ more ∙ cond-false (nat_lt (end_of w) lsn) _ _ most in
           elim (cases_Bool (may_follow m values own)) [
             | inl so ↦
                 let same : Taken own ≡ Taken member = sym (here ∙ cond-true (may_follow m values own) _ _ so) ∙ is in
                 let own_is : own ≡ member = cc same in
                 subst (λ (k : Member O). IsTrue (may_follow m values k)) own_is so
-            | inr not_so ↦ let h : Differs number ≡ Taken member = sym (here ∙ cond-false (may_follow m values own) _ _ not_so) ∙ is in cc
+            | inr not_so ↦ let h : Differs lsn ≡ Taken member = sym (here ∙ cond-false (may_follow m values own) _ _ not_so) ∙ is in cc
           ]
     ]
   ]
 
   taken_may : (r : Record O) (member : Member O) → judge_in m w r ≡ Taken member → IsTrue (may_follow m values member)
-  taken_may (Logged_command number op) member is = judged_may number (Command op) member is
-  taken_may (Logged_identity number x value) member is = judged_may number (Identity x value) member is
-  taken_may (Logged_check table) member is = let h : Passed ≡ Taken member = is in cc
+  taken_may (Logged_command lsn op) member is = judged_may lsn (Command op) member is
+  taken_may (Logged_identity lsn x value) member is = judged_may lsn (Identity x value) member is
+  taken_may (Logged_checkpoint table) member is = let h : Passed ≡ Taken member = is in cc
 
   -- such a member may be appended, where no group is open
   member_may : (member : Member O) → IsTrue (may_follow m values member) → NoGroup w → MayAppend m w member
@@ -148,7 +148,7 @@ module _ {O : Type 0} (m : Meaning O) (keeps : KeepsSound m) where
     by_judged Passed is force = none_may (ap (λ (j : Judged O). judged_course m j w used) is) (ap (λ (j : Judged O). with_judged w.history j) is)
     by_judged (Taken member) is force = taken_may_be member is force
     by_judged (Gap expected got) is force = none_may (ap (λ (j : Judged O). judged_course m j w used) is) (ap (λ (j : Judged O). with_judged w.history j) is)
-    by_judged (Differs number) is force = none_may (ap (λ (j : Judged O). judged_course m j w used) is) (ap (λ (j : Judged O). with_judged w.history j) is)
+    by_judged (Differs lsn) is force = none_may (ap (λ (j : Judged O). judged_course m j w used) is) (ap (λ (j : Judged O). with_judged w.history j) is)
 
 pub may_follow_course : {O : Type 0} (m : Meaning O) (r : Record O) (w : World O) (used : ℕ) → KeepsSound m → IsRunning m w → MayBeTaken m w (force_steps m w) → MayFollow m r w used
 may_follow_course m r w used keeps running force = by_judged m keeps r w used running (judge_in m w r) refl force

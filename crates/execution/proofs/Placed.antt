@@ -6,11 +6,11 @@ use Rattle.disk_model.specs.Disk.{Disk}
 use Rattle.oper_core.specs.Meaning.{Meaning}
 use Rattle.oper_core.specs.declared.refusal.Refusal.{Refusal}
 use Rattle.formats.specs.declared.params.Params.{Params}
-use Rattle.log_frames.specs.LogView.{used_of}
+use Rattle.log_blocks.specs.LogView.{used_of}
 use Rattle.explain_core.specs.History.Member.{Command}
 use Rattle.explain_core.specs.World.{World, end_of}
 use Rattle.explain_core.specs.World.Step.{Append}
-use Rattle.running_store.specs.Appended.{next_number}
+use Rattle.running_store.specs.Appended.{next_lsn}
 use Rattle.running_store.specs.Commands.{HasPlaceBelow, command_length, length_with}
 use Rattle.running_store.specs.Courses.{Course, course, grown}
 use Rattle.running_store.specs.Courses.Stop.{Through, Full, At_end}
@@ -46,15 +46,15 @@ module _ {O : Type 0} (m : Meaning O) (p : Params) (d : Disk) (it : Parts) (w : 
   needed_is true = omega (arith, long_is)
   needed_is false = refl
 
-  number_is : it.log.next ≡ end_of w
-  number_is = next_number m p d it w shows
+  lsn_is : it.log.next ≡ end_of w
+  lsn_is = next_lsn m p d it w shows
 
   pub done_is : HasPlaceBelow limit it.log n → whole ≡ course (Append (Command op) ∷ []) (length_with it.log n) Through
   done_is place =
       let fits = place.room in
-      let low = place.number in
+      let low = place.lsn in
       let over : nat_lt limit (grown m w used n) ≡ false = le-ltb limit (grown m w used n) (omega (arith, fits, long_is)) in
-      let past : nat_le (2 ^ 62) (end_of w) ≡ false = lt-leb (2 ^ 62) (end_of w) (omega (arith, low, number_is)) in
+      let past : nat_le (2 ^ 62) (end_of w) ≡ false = lt-leb (2 ^ 62) (end_of w) (omega (arith, low, lsn_is)) in
       exec_accepted m grouped limit op w used accepted
       ∙ cond-false (nat_lt limit (grown m w used n)) _ _ over
       ∙ cond-false (nat_le (2 ^ 62) (end_of w)) _ _ past
@@ -68,15 +68,15 @@ module _ {O : Type 0} (m : Meaning O) (p : Params) (d : Disk) (it : Parts) (w : 
       let over : nat_lt limit (grown m w used n) ≡ false = le-ltb limit (grown m w used n) (omega (arith, fits, long_is)) in
       exec_accepted m grouped limit op w used accepted
       ∙ cond-false (nat_lt limit (grown m w used n)) _ _ over
-      ∙ cond-true (nat_le (2 ^ 62) (end_of w)) _ _ (le-leb (2 ^ 62) (end_of w) (omega (arith, last, number_is)))
-      ∙ ap (λ (k : ℕ). course (unplaced_steps m grouped w) used (At_end k)) (sym number_is)
+      ∙ cond-true (nat_le (2 ^ 62) (end_of w)) _ _ (le-leb (2 ^ 62) (end_of w) (omega (arith, last, lsn_is)))
+      ∙ ap (λ (k : ℕ). course (unplaced_steps m grouped w) used (At_end k)) (sym lsn_is)
 
   -- the course of one that gets no place is the force, and why it gets none; where the force fails, its steps alone are told
   pub full_here : (held need most : ℕ) → LacksPlace grouped limit it.log n (LogFull held need most) → course (unplaced_steps m grouped w) used (Full held need most) ≡ whole
   full_here held need most lacks = let same = lacks.2 ∙ needed_is grouped in (λ i. course (unplaced_steps m grouped w) used (Full (lacks.1 i) (same i) (lacks.3 i))) ∙ sym (full_is lacks.0)
 
-  pub end_here : (number : ℕ) → LacksPlace grouped limit it.log n (LsnEnd number) → course (unplaced_steps m grouped w) used (At_end number) ≡ whole
-  end_here number lacks = (λ i. course (unplaced_steps m grouped w) used (At_end (lacks.2 i))) ∙ sym (end_is lacks.0 lacks.1)
+  pub end_here : (lsn : ℕ) → LacksPlace grouped limit it.log n (LsnEnd lsn) → course (unplaced_steps m grouped w) used (At_end lsn) ≡ whole
+  end_here lsn lacks = (λ i. course (unplaced_steps m grouped w) used (At_end (lacks.2 i))) ∙ sym (end_is lacks.0 lacks.1)
 
   pub unforced_here : LacksPlace grouped limit it.log n DiskFault → unplaced_steps m grouped w ≡ whole.steps
   unforced_here lacks = elim (cases_lt limit (length_with it.log n)) [

@@ -5,7 +5,7 @@ use Rattle.disk_model.specs.Disk.{Disk, Stays}
 use Rattle.oper_core.specs.Meaning.{Meaning}
 use Rattle.oper_core.specs.declared.bounds.Bounds.{Bounds}
 use Rattle.formats.specs.Limits.{block_limit, log_limit}
-use Rattle.formats.specs.Records.{number_of}
+use Rattle.formats.specs.Records.{lsn_of}
 use Rattle.formats.specs.declared.record.Record.{Record}
 use Rattle.log_records.specs.RecordLog.{RecordLogView}
 use Rattle.explain_core.specs.History.{Member}
@@ -46,11 +46,11 @@ module _ {O : Type 0} (meaning : Bounds → Meaning O) (old mid new : Disk) (bef
   room_next same = same ∙ ap (λ (l : RecordLogView). l.next) is.log
 
   -- why there is none is why the record is not taken
-  pub room_failure : (m : Meaning O) (r : Record O) (objects : Laid) (n : ℕ) (rises : Type 0) (e : RecordErr) → number_of r ≡ Some (next_of before) → LacksRoom here.parts.log n rises e
+  pub room_failure : (m : Meaning O) (r : Record O) (objects : Laid) (n : ℕ) (rises : Type 0) (e : RecordErr) → lsn_of r ≡ Some (next_of before) → LacksRoom here.parts.log n rises e
       → IsCall meaning mid new here room 0 (StopsWithin log_limit) (ending_of_record_error e) → IsFollowFailure m r (next_of before) old new objects e
   room_failure m r objects n rises (LogFull used need limit) due lacks call = (due, lacks.1, lacks.2)
   room_failure m r objects n rises DiskFault due lacks call = (due, (room_call Ending.Failed call).fault tt)
   room_failure m r objects n rises (Gap expected got) due lacks call = absurd lacks
-  room_failure m r objects n rises (Differs number) due lacks call = absurd lacks
+  room_failure m r objects n rises (Differs lsn) due lacks call = absurd lacks
   room_failure m r objects n rises (Damaged file place) due lacks call = absurd lacks
   room_failure m r objects n rises Memory due lacks call = absurd lacks

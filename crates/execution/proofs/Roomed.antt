@@ -5,7 +5,7 @@ use Rattle.std.proofs.lemmas.Bool.{cases_Bool, cases_lt, cond-true, cond-false, 
 use Rattle.disk_model.specs.Disk.{Disk}
 use Rattle.oper_core.specs.Meaning.{Meaning}
 use Rattle.formats.specs.Limits.{block_limit, log_limit}
-use Rattle.log_frames.specs.LogView.{growth_of}
+use Rattle.log_blocks.specs.LogView.{growth_of}
 use Rattle.log_records.specs.RecordLog.{RecordLogView}
 use Rattle.explain_core.specs.TurnLaws.{run_none}
 use Rattle.explain_core.specs.World.{World, Step, step, run}

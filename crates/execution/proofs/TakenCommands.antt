@@ -14,7 +14,7 @@ use Rattle.explain_core.specs.History.Member.{Command}
 use Rattle.explain_core.specs.Sound.{IsSound}
 use Rattle.explain_core.specs.World.{World, step, run, IsLive}
 use Rattle.explain_core.specs.World.Step.{Append}
-use Rattle.log_frames.specs.LogView.{used_of}
+use Rattle.log_blocks.specs.LogView.{used_of}
 use Rattle.running_store.specs.Appended.{appended_shows}
 use Rattle.running_store.specs.Among.{all_among}
 use Rattle.running_store.specs.Commands.{IsCommanded, IsReady, command_length}
@@ -87,7 +87,7 @@ module _ {O : Type 0} (meaning : Bounds → Meaning O) (op : O) (old : Disk) (be
       -- it is appended there
       pub command_after : Shows (m q w shows) q mid room.parts v → IsAfter (m q w shows) q mid after.parts v (behind_room meaning n (Command op) (m q w shows) v (used_of room.parts.log.log))
       command_after there =
-          let low = done.number in
+          let low = done.lsn in
           record {
             shows = subst (λ (u : World O). Shows (m q w shows) q mid after.parts u) (sym (run_one (m q w shows) v (Append (Command op))))
                 (appended_shows (m q w shows) q mid room.parts after.parts (Command op) made v there done_there made_is writes_below (omega (arith, low), (ready_there q w shows).shape) low

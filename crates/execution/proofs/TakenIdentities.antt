@@ -14,7 +14,7 @@ use Rattle.formats.specs.declared.params.Params.{Params}
 use Rattle.formats.specs.declared.read_err.ReadErr.{ReadErr}
 use Rattle.formats.specs.declared.read_err.ReadErr.TheVariants as of_read
 use Rattle.formats.specs.declared.record.Record.TheVariants.{Identity as Logged}
-use Rattle.log_frames.specs.LogView.{used_of}
+use Rattle.log_blocks.specs.LogView.{used_of}
 use Rattle.dirty_cache.specs.Contents.{held}
 use Rattle.dirty_cache.specs.declared.entry.Entry.{Entry as Pair}
 use Rattle.explain_core.specs.History.Member.{Identity}
@@ -22,7 +22,7 @@ use Rattle.explain_core.specs.Sound.{IsSound}
 use Rattle.explain_core.specs.World.{World, step, run, IsLive, NoGroup}
 use Rattle.explain_core.specs.World.Step.{Append}
 use Rattle.running_store.specs.AfterReads.{fetch_shows, fetch_takes}
-use Rattle.running_store.specs.Appended.{next_number}
+use Rattle.running_store.specs.Appended.{next_lsn}
 use Rattle.running_store.specs.Calls.{IsCall}
 use Rattle.running_store.specs.Courses.{Course, course, grown, identity_length, written_course}
 use Rattle.running_store.specs.Courses.Stop.{Through}
@@ -120,8 +120,8 @@ module _ {O : Type 0} (meaning : Bounds → Meaning O) (x : ℕ) (value : List �
           (λ q w shows. may_not_is (meaning_in meaning q) w (Identity x value) (used_of before.parts.log.log) (other_may_not q w shows))
           (fetch_takes old mid before here ⊥ is meaning mid here.parts none Ending.Done (takes_none meaning mid here.parts lawful))
 
-      pub other_cause : (number : ℕ) → number ≡ next_of before → (q : Params) (w : World O) → Shows (meaning_in meaning q) q old before.parts w → HasMemberCause (meaning_in meaning q) w (log_length before) (Identity x value) (Err (Differs number))
-      other_cause number next q w shows = (other_may_not q w shows, next ∙ next_number (meaning_in meaning q) q old before.parts w shows)
+      pub other_cause : (lsn : ℕ) → lsn ≡ next_of before → (q : Params) (w : World O) → Shows (meaning_in meaning q) q old before.parts w → HasMemberCause (meaning_in meaning q) w (log_length before) (Identity x value) (Err (Differs lsn))
+      other_cause lsn next q w shows = (other_may_not q w shows, next ∙ next_lsn (meaning_in meaning q) q old before.parts w shows)
 
     -- it is of that value
     module _ (same : bytes_eq value pair.bytes ≡ true) (equal : pair.bytes ≡ value) (n : ℕ) (long : n ≡ identity_length (length value)) (bounded : (b : Bounds) → HasBounds b (meaning b)) where

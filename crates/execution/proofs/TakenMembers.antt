@@ -6,7 +6,7 @@ use Rattle.oper_core.specs.Meaning.{Meaning}
 use Rattle.oper_core.specs.declared.bounds.Bounds.{Bounds}
 use Rattle.formats.specs.Limits.{log_limit}
 use Rattle.formats.specs.declared.params.Params.{Params}
-use Rattle.log_frames.specs.LogView.{used_of}
+use Rattle.log_blocks.specs.LogView.{used_of}
 use Rattle.log_records.specs.RecordLog.{RecordLogView}
 use Rattle.explain_core.specs.History.{Member}
 use Rattle.explain_core.specs.World.{World}
@@ -45,7 +45,7 @@ module _ {O : Type 0} (meaning : Bounds → Meaning O) (n : ℕ) (member : Membe
         roomless_takes (LogFull used need limit) lacks takes = as_member room (ending_of_record_error (LogFull used need limit)) (full_takes meaning n member old new before room used need limit takes)
         roomless_takes DiskFault lacks takes = as_member room Ending.Failed (unroomed_takes meaning n member old new before room takes)
         roomless_takes (Gap expected got) lacks takes = absurd lacks
-        roomless_takes (Differs number) lacks takes = absurd lacks
+        roomless_takes (Differs lsn) lacks takes = absurd lacks
         roomless_takes (Damaged file place) lacks takes = absurd lacks
         roomless_takes Memory lacks takes = absurd lacks
 
@@ -58,7 +58,7 @@ module _ {O : Type 0} (meaning : Bounds → Meaning O) (n : ℕ) (member : Membe
             (so.0, over.0, over.1 ∙ ap (λ (k : ℕ). grown_by m w k) so.1, over.2, over.3)
         roomless_cause DiskFault lacks takes p w shows = tt
         roomless_cause (Gap expected got) lacks takes p w shows = absurd lacks
-        roomless_cause (Differs number) lacks takes p w shows = absurd lacks
+        roomless_cause (Differs lsn) lacks takes p w shows = absurd lacks
         roomless_cause (Damaged file place) lacks takes p w shows = absurd lacks
         roomless_cause Memory lacks takes p w shows = absurd lacks
 

@@ -9,7 +9,7 @@ use Rattle.formats.specs.Reading.{FailsBy}
 use Rattle.formats.specs.declared.params.Params.{Params}
 use Rattle.formats.specs.declared.read_err.ReadErr.{ReadErr}
 use Rattle.formats.specs.declared.read_err.ReadErr.TheVariants as of_read
-use Rattle.log_frames.specs.LogView.{used_of}
+use Rattle.log_blocks.specs.LogView.{used_of}
 use Rattle.log_records.specs.RecordLog.{RecordLogView}
 use Rattle.explain_core.specs.World.{World}
 use Rattle.running_store.specs.AfterReads.{fetch_takes}
@@ -62,7 +62,7 @@ module _ {O : Type 0} (meaning : Bounds → Meaning O) (grouped : Bool) (op : O)
   tells DiskFault fails = record { rises = λ failed. fails; stops = λ most log stop is. cc is; failure = fails; log = refl }
   tells (Damaged file place) fails = record { rises = λ failed. absurd failed; stops = λ most log stop is. cc is; failure = fails; log = refl }
   tells (LogFull used need limit) fails = absurd fails
-  tells (LsnEnd number) fails = absurd fails
+  tells (LsnEnd lsn) fails = absurd fails
   tells Memory fails = record { rises = λ failed. absurd failed; stops = λ most log stop is. cc is; failure = inl fails; log = refl }
 
   pub unadmitted_call : (e : ExecErr) → Fails e → IsFetch old mid before here (IsFailed (ending_of_error e)) → IsCall meaning old mid before here 0 (StopsCommand grouped p.limit) (ending_of_error e)
@@ -93,5 +93,5 @@ module _ {O : Type 0} (meaning : Bounds → Meaning O) (grouped : Bool) (op : O)
       unadmitted_takes DiskFault fails shown = takes_failed meaning old mid before.parts here.parts whole unread_takes.steps
       unadmitted_takes (Damaged file place) fails shown = unread_takes
       unadmitted_takes (LogFull used need limit) fails shown = absurd fails
-      unadmitted_takes (LsnEnd number) fails shown = absurd fails
+      unadmitted_takes (LsnEnd lsn) fails shown = absurd fails
       unadmitted_takes Memory fails shown = unread_takes

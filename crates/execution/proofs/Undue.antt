@@ -4,13 +4,13 @@ use Rattle.std.specs.Prelude.{IfSome, Result, Ok, Err}
 use Rattle.disk_model.specs.Disk.{Disk, IsDisk}
 use Rattle.oper_core.specs.Meaning.{Meaning}
 use Rattle.oper_core.specs.declared.bounds.Bounds.{Bounds}
-use Rattle.formats.specs.Records.{number_of}
+use Rattle.formats.specs.Records.{lsn_of}
 use Rattle.formats.specs.declared.params.Params.{Params}
 use Rattle.formats.specs.declared.record.Record.{Record}
-use Rattle.log_frames.specs.LogView.{used_of}
+use Rattle.log_blocks.specs.LogView.{used_of}
 use Rattle.explain_core.specs.History.{Member}
 use Rattle.explain_core.specs.World.{World, end_of}
-use Rattle.running_store.specs.Appended.{next_number}
+use Rattle.running_store.specs.Appended.{next_lsn}
 use Rattle.running_store.specs.Courses.{course}
 use Rattle.running_store.specs.Courses.Stop.{Through}
 use Rattle.running_store.specs.Laid.{Laid}
@@ -18,35 +18,35 @@ use Rattle.running_store.specs.Parts.{Parts, Shows, meaning_in, record_of}
 use Rattle.running_store.specs.Taking.{Takes}
 use Rattle.running_store.specs.Taking.Ending.{Done}
 use Rattle.running_store.specs.TakesLaws.{takes_none, takes_same}
-use Rattle.execution.specs.Following.{HasFollowCause, IsFollowFailure, IsNumbered, follow_course, judge_in, judged_course}
+use Rattle.execution.specs.Following.{HasFollowCause, IsFollowFailure, HasLsn, follow_course, judge_in, judged_course}
 use Rattle.execution.specs.Judged.{Judged}
 use Rattle.execution.specs.Judged.Judged.{Passed, Gap}
 use Rattle.execution.specs.declared.record_err.RecordErr.{RecordErr}
 use Rattle.execution.specs.declared.record_err.RecordErr.TheVariants as of_record
-use Rattle.execution.proofs.Due.{as_numbered, due_gap, due_lower, due_next, due_or, gap_is, number_is, passed_is}
+use Rattle.execution.proofs.Due.{as_with_lsn, due_gap, due_lower, due_next, due_or, gap_is, lsn_is, passed_is}
 
-module _ {O : Type 0} (r : Record O) (numbered : IsNumbered r) (next : ℕ) (said : Result Bool RecordErr) (is : IfSome (number_of r) (λ n. said ≡ due_or next n)) where
-  -- the number that it has, and what is said of it
-  number : (n : ℕ) × (number_of r ≡ Some n) × (said ≡ due_or next n)
-  number =
-      let found = as_numbered r numbered in
-      let own : number_of r ≡ Some found.0 = ap number_of found.2 ∙ number_is found.0 found.1 in
+module _ {O : Type 0} (r : Record O) (with_lsn : HasLsn r) (next : ℕ) (said : Result Bool RecordErr) (is : IfSome (lsn_of r) (λ n. said ≡ due_or next n)) where
+  -- the LSN that it has, and what is said of it
+  lsn : (n : ℕ) × (lsn_of r ≡ Some n) × (said ≡ due_or next n)
+  lsn =
+      let found = as_with_lsn r with_lsn in
+      let own : lsn_of r ≡ Some found.0 = ap lsn_of found.2 ∙ lsn_is found.0 found.1 in
       (found.0, own, subst (λ (o : Option ℕ). IfSome o (λ n. said ≡ due_or next n)) own is)
 
-  pub said_next : said ≡ Ok true → number_of r ≡ Some next
-  said_next so = number.1 ∙ (λ i. Some (due_next next number.0 (sym number.2 ∙ so) i))
+  pub said_next : said ≡ Ok true → lsn_of r ≡ Some next
+  said_next so = lsn.1 ∙ (λ i. Some (due_next next lsn.0 (sym lsn.2 ∙ so) i))
 
-  pub said_lower : said ≡ Ok false → (n : ℕ) × (number_of r ≡ Some n) × (n < next)
-  said_lower so = (number.0, number.1, due_lower next number.0 (sym number.2 ∙ so))
+  pub said_lower : said ≡ Ok false → (n : ℕ) × (lsn_of r ≡ Some n) × (n < next)
+  said_lower so = (lsn.0, lsn.1, due_lower next lsn.0 (sym lsn.2 ∙ so))
 
-  pub said_higher : (e : RecordErr) → said ≡ Err e → (n : ℕ) × (number_of r ≡ Some n) × (next < n) × (e ≡ of_record.Gap next n)
-  said_higher e so = let gap = due_gap next number.0 e (sym number.2 ∙ so) in (number.0, number.1, gap.0, gap.1)
+  pub said_higher : (e : RecordErr) → said ≡ Err e → (n : ℕ) × (lsn_of r ≡ Some n) × (next < n) × (e ≡ of_record.Gap next n)
+  said_higher e so = let gap = due_gap next lsn.0 e (sym lsn.2 ∙ so) in (lsn.0, lsn.1, gap.0, gap.1)
 
-module _ {O : Type 0} (meaning : Bounds → Meaning O) (d : Disk) (it : Parts) (r : Record O) (numbered : IsNumbered r) (n : ℕ) (own : number_of r ≡ Some n) where
+module _ {O : Type 0} (meaning : Bounds → Meaning O) (d : Disk) (it : Parts) (r : Record O) (with_lsn : HasLsn r) (n : ℕ) (own : lsn_of r ≡ Some n) where
   its_member : (member : Member O) × (r ≡ record_of n member)
   its_member =
-      let found = as_numbered r numbered in
-      let same : found.0 ≡ n = let s : Some found.0 ≡ Some n = sym (number_is found.0 found.1) ∙ sym (ap number_of found.2) ∙ own in cc s in
+      let found = as_with_lsn r with_lsn in
+      let same : found.0 ≡ n = let s : Some found.0 ≡ Some n = sym (lsn_is found.0 found.1) ∙ sym (ap lsn_of found.2) ∙ own in cc s in
       (found.1, found.2 ∙ (λ i. record_of (same i) found.1))
 
   none_takes : (j : World O → Judged O) → ((p : Params) (w : World O) → Shows (meaning_in meaning p) p d it w → (judge_in (meaning_in meaning p) w r ≡ j w) × (judged_course (meaning_in meaning p) (j w) w (used_of it.log.log) ≡ course [] (used_of it.log.log) Through)) → IsDisk d
@@ -56,10 +56,10 @@ module _ {O : Type 0} (meaning : Bounds → Meaning O) (d : Disk) (it : Parts) (
 
   module _ (p : Params) (w : World O) (shows : Shows (meaning_in meaning p) p d it w) where
     lower : n < it.log.next → judge_in (meaning_in meaning p) w r ≡ Passed
-    lower low = ap (λ (s : Record O). judge_in (meaning_in meaning p) w s) its_member.1 ∙ passed_is (meaning_in meaning p) w n its_member.0 (omega (arith, low, next_number (meaning_in meaning p) p d it w shows))
+    lower low = ap (λ (s : Record O). judge_in (meaning_in meaning p) w s) its_member.1 ∙ passed_is (meaning_in meaning p) w n its_member.0 (omega (arith, low, next_lsn (meaning_in meaning p) p d it w shows))
 
     higher : it.log.next < n → judge_in (meaning_in meaning p) w r ≡ Gap (end_of w) n
-    higher high = ap (λ (s : Record O). judge_in (meaning_in meaning p) w s) its_member.1 ∙ gap_is (meaning_in meaning p) w n its_member.0 (omega (arith, high, next_number (meaning_in meaning p) p d it w shows))
+    higher high = ap (λ (s : Record O). judge_in (meaning_in meaning p) w s) its_member.1 ∙ gap_is (meaning_in meaning p) w n its_member.0 (omega (arith, high, next_lsn (meaning_in meaning p) p d it w shows))
 
   -- a lower one is passed over
   module _ (low : n < it.log.next) where
@@ -76,7 +76,7 @@ module _ {O : Type 0} (meaning : Bounds → Meaning O) (d : Disk) (it : Parts) (
 
     pub higher_cause : (p : Params) (w : World O) → Shows (meaning_in meaning p) p d it w → HasFollowCause (meaning_in meaning p) w (used_of it.log.log) r (Err e)
     higher_cause p w shows =
-        let next = next_number (meaning_in meaning p) p d it w shows in
+        let next = next_lsn (meaning_in meaning p) p d it w shows in
         subst (λ (f : RecordErr). HasFollowCause (meaning_in meaning p) w (used_of it.log.log) r (Err f)) (sym gap)
         (higher p w shows high ∙ (λ i. Gap (sym next i) n))
 

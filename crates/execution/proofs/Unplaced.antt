@@ -5,7 +5,7 @@ use Rattle.disk_model.specs.Disk.{Disk, Rises}
 use Rattle.oper_core.specs.Meaning.{Meaning}
 use Rattle.oper_core.specs.declared.bounds.Bounds.{Bounds}
 use Rattle.formats.specs.declared.params.Params.{Params}
-use Rattle.log_frames.specs.LogView.{used_of}
+use Rattle.log_blocks.specs.LogView.{used_of}
 use Rattle.log_records.specs.RecordLog.{RecordLogView}
 use Rattle.stable_objects.specs.SlotsView.{SlotsView}
 use Rattle.explain_core.specs.World.{World, Step}
@@ -54,9 +54,9 @@ module _ (limit : ℕ) (before after : RecordLogView) (n : ℕ) where
     is,
   )
 
-  pub end_stops : (grouped : Bool) (number : ℕ) → before.next ≤ 2 ^ 62 → 2 ^ 62 ≤ before.next → number ≡ before.next → IsUnplaced grouped before after → StopsCommand grouped limit after (At_end number)
-  end_stops true number low last is log = (is ∙ sym (ap (λ (r : RecordLogView). r.next) log), omega (arith, last, is, low))
-  end_stops false number low last is log = (is ∙ sym (ap (λ (r : RecordLogView). r.next) log), ap (λ (r : RecordLogView). r.log.pending) log, omega (arith, last, is, low))
+  pub end_stops : (grouped : Bool) (lsn : ℕ) → before.next ≤ 2 ^ 62 → 2 ^ 62 ≤ before.next → lsn ≡ before.next → IsUnplaced grouped before after → StopsCommand grouped limit after (At_end lsn)
+  end_stops true lsn low last is log = (is ∙ sym (ap (λ (r : RecordLogView). r.next) log), omega (arith, last, is, low))
+  end_stops false lsn low last is log = (is ∙ sym (ap (λ (r : RecordLogView). r.next) log), ap (λ (r : RecordLogView). r.log.pending) log, omega (arith, last, is, low))
 
 -- after a fetch
 module _ {O : Type 0} (meaning : Bounds → Meaning O) (grouped : Bool) (op : O) (old mid new : Disk) (before here after : StoreView) (is : IsFetch old mid before here ⊥) where
@@ -91,7 +91,7 @@ module _ {O : Type 0} (meaning : Bounds → Meaning O) (grouped : Bool) (op : O)
   lacks_failure DiskFault lacks admissible rises = rises tt
   lacks_failure (Damaged file place) lacks admissible rises = absurd lacks
   lacks_failure (LogFull used need most) lacks admissible rises = (admissible, lacks)
-  lacks_failure (LsnEnd number) lacks admissible rises = (admissible, lacks)
+  lacks_failure (LsnEnd lsn) lacks admissible rises = (admissible, lacks)
   lacks_failure Memory lacks admissible rises = absurd lacks
 
   pub unplaced_outcome : (e : ExecErr) → Lacks (meaning_in meaning p) e → IsAdmissible meaning p op → (IsFailed (ending_of_error e) → Rises old.disk_faults new.disk_faults)
@@ -122,9 +122,9 @@ module _ {O : Type 0} (meaning : Bounds → Meaning O) (grouped : Bool) (op : O)
         by_error (LogFull held need most) lacks takes =
             takes_same meaning old new before.parts after.parts (λ m w used. course (unplaced_steps m grouped w) used (Full held need most)) whole (Ending.Stopped (Full held need most))
             (λ q w shows. full_here (meaning_in meaning q) q old before.parts w shows grouped p.limit op (accepted q w shows) held need most (lacks_shown (LogFull held need most) lacks q shows.store.params)) takes
-        by_error (LsnEnd number) lacks takes =
-            takes_same meaning old new before.parts after.parts (λ m w used. course (unplaced_steps m grouped w) used (At_end number)) whole (Ending.Stopped (At_end number))
-            (λ q w shows. end_here (meaning_in meaning q) q old before.parts w shows grouped p.limit op (accepted q w shows) number (lacks_shown (LsnEnd number) lacks q shows.store.params)) takes
+        by_error (LsnEnd lsn) lacks takes =
+            takes_same meaning old new before.parts after.parts (λ m w used. course (unplaced_steps m grouped w) used (At_end lsn)) whole (Ending.Stopped (At_end lsn))
+            (λ q w shows. end_here (meaning_in meaning q) q old before.parts w shows grouped p.limit op (accepted q w shows) lsn (lacks_shown (LsnEnd lsn) lacks q shows.store.params)) takes
         by_error Memory lacks takes = absurd lacks
 
     pub unplaced_cause : (e : ExecErr) → Lacks (meaning_in meaning p) e → (q : Params) (w : World O) → Shows (meaning_in meaning q) q old before.parts w → HasCauseIn grouped (meaning_in meaning q) q.limit w (log_length before) op (Err e)

@@ -29,7 +29,7 @@ module _ {O : Type 0} (m : Meaning O) where
   needed true w n = if waits m w then n else n + 5
   needed false w n = n + 5
 
-  -- A command that nothing refuses is appended, where its record has room below the limit, and a number is left for it; else
+  -- A command that nothing refuses is appended, where its record has room below the limit, and an LSN is left for it; else
   -- what waits is forced, unless a group is open (`grouped`).
   abbrev pub append_course : Bool → ℕ → O → World O → ℕ → Course O
   append_course grouped limit op w used =

@@ -44,7 +44,7 @@ IsUnplaced false before log = IsForced before log
 -- the log after a command that was not done: one without the record, else it is as it was
 abbrev pub LogWithout : Bool → RecordLogView → RecordLogView → ExecErr → Type 0
 LogWithout grouped before log (LogFull used need limit) = IsUnplaced grouped before log
-LogWithout grouped before log (LsnEnd number) = IsUnplaced grouped before log
+LogWithout grouped before log (LsnEnd lsn) = IsUnplaced grouped before log
 LogWithout grouped before log e = IsSameLog before log
 
 -- such a force: the store is as it was but for its log, or the disk failed, which it does outside groups alone

@@ -9,7 +9,7 @@ use Rattle.oper_core.specs.declared.refusal.Refusal.{Refusal}
 use Rattle.formats.specs.declared.params.Params.{Params}
 use Rattle.formats.specs.declared.read_err.ReadErr.{ReadErr}
 use Rattle.formats.specs.declared.read_err.ReadErr.TheVariants as of_read
-use Rattle.log_frames.specs.LogView.{used_of, growth_of}
+use Rattle.log_blocks.specs.LogView.{used_of, growth_of}
 use Rattle.log_records.specs.RecordLog.{RecordLogView}
 use Rattle.running_store.specs.Laid.{Laid}
 use Rattle.running_store.specs.LongSlot.{HasLongSlot}
@@ -30,11 +30,11 @@ abbrev pub needed_by : Bool → RecordLogView → ℕ → ℕ
 needed_by true log n = growth_of log.log.pending n
 needed_by false log n = n + 5
 
--- why a record of n bytes gets no place: no room in the log, or else no number; the force that comes then may fail, where no
+-- why a record of n bytes gets no place: no room in the log, or else no LSN; the force that comes then may fail, where no
 -- group is open
 abbrev pub LacksPlace : Bool → ℕ → RecordLogView → ℕ → ExecErr → Type 0
 LacksPlace grouped limit log n (LogFull used need most) = (limit < length_with log n) × (used ≡ used_of log.log) × (need ≡ needed_by grouped log n) × (most ≡ limit)
-LacksPlace grouped limit log n (LsnEnd number) = (length_with log n ≤ limit) × (2 ^ 62 ≤ log.next) × (number ≡ log.next)
+LacksPlace grouped limit log n (LsnEnd lsn) = (length_with log n ≤ limit) × (2 ^ 62 ≤ log.next) × (lsn ≡ log.next)
 LacksPlace grouped limit log n DiskFault = (grouped ≡ false) × ((limit < length_with log n) ⊎ (2 ^ 62 ≤ log.next))
 LacksPlace grouped limit log n (Refused refusal) = ⊥
 LacksPlace grouped limit log n (Damaged file place) = ⊥
@@ -48,7 +48,7 @@ IsReadFailure old new damage (Damaged file place) = damage file place
 IsReadFailure old new damage Memory = ⊤
 IsReadFailure old new damage (Refused refusal) = ⊥
 IsReadFailure old new damage (LogFull used need limit) = ⊥
-IsReadFailure old new damage (LsnEnd number) = ⊥
+IsReadFailure old new damage (LsnEnd lsn) = ⊥
 
 module _ {O : Type 0} (meaning : Bounds → Meaning O) (p : Params) (op : O) where
   abbrev m : Meaning O
@@ -81,7 +81,7 @@ IsAdmittedOn m state op (Err (Refused refusal)) = refusal_of m state op ≡ Some
 IsAdmittedOn m state op (Err DiskFault) = ⊤
 IsAdmittedOn m state op (Err (Damaged file place)) = ⊤
 IsAdmittedOn m state op (Err (LogFull used need limit)) = ⊤
-IsAdmittedOn m state op (Err (LsnEnd number)) = ⊤
+IsAdmittedOn m state op (Err (LsnEnd lsn)) = ⊤
 IsAdmittedOn m state op (Err Memory) = ⊤
 
 module _ {O : Type 0} (meaning : Bounds → Meaning O) (grouped : Bool) (old new : Disk) (before : Parts) (op : O) where
@@ -96,6 +96,6 @@ module _ {O : Type 0} (meaning : Bounds → Meaning O) (grouped : Bool) (old new
   -- memory runs out only where it has its place.
   abbrev pub IsExecFailure : ExecErr → Type 0
   IsExecFailure (LogFull used need limit) = IsAdmissible meaning p op × LacksPlace grouped p.limit before.log n (LogFull used need limit)
-  IsExecFailure (LsnEnd number) = IsAdmissible meaning p op × LacksPlace grouped p.limit before.log n (LsnEnd number)
+  IsExecFailure (LsnEnd lsn) = IsAdmissible meaning p op × LacksPlace grouped p.limit before.log n (LsnEnd lsn)
   IsExecFailure Memory = NeedsMemory meaning p op ⊎ (IsAdmissible meaning p op × HasPlaceBelow p.limit before.log n)
   IsExecFailure e = IsAdmitFailure meaning p op old new before.volatile.objects e

@@ -12,11 +12,11 @@ record_from_read of_read.DiskFault = DiskFault
 record_from_read (of_read.Damaged file place) = Damaged file place
 record_from_read of_read.Memory = Memory
 
--- of the record with this number, whose command is not admitted
+-- of the record with this LSN, whose command is not admitted
 abbrev pub record_from_exec : ℕ → ExecErr → RecordErr
-record_from_exec number (of_exec.Refused refusal) = Differs number
-record_from_exec number of_exec.DiskFault = DiskFault
-record_from_exec number (of_exec.Damaged file place) = Damaged file place
-record_from_exec number (of_exec.LogFull used need limit) = LogFull used need limit
-record_from_exec number (of_exec.LsnEnd end) = Differs number
-record_from_exec number of_exec.Memory = Memory
+record_from_exec lsn (of_exec.Refused refusal) = Differs lsn
+record_from_exec lsn of_exec.DiskFault = DiskFault
+record_from_exec lsn (of_exec.Damaged file place) = Damaged file place
+record_from_exec lsn (of_exec.LogFull used need limit) = LogFull used need limit
+record_from_exec lsn (of_exec.LsnEnd end) = Differs lsn
+record_from_exec lsn of_exec.Memory = Memory

@@ -22,9 +22,9 @@ pub enum ExecErr {
     /// The log has no room for its record.
     #[error("the log is full: {used} bytes are used, {need} more are needed, the limit is {limit}")]
     LogFull { used: u64, need: u64, limit: u64 },
-    /// No record may have this number.
-    #[error("no record may have the number {number}")]
-    LsnEnd { number: u64 },
+    /// No record may have this LSN.
+    #[error("no record may have the number {lsn}")]
+    LsnEnd { lsn: u64 },
     /// Out of memory.
     #[error("out of memory")]
     Memory,

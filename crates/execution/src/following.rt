@@ -3,9 +3,9 @@ ghost use Rattle.std.specs.Prelude.{◌≡◌, ◌≢◌, ◌≤◌, ◌<◌, �
 ghost use Rattle.disk_model.specs.Disk.{Rises, Stays};
 ghost use Rattle.oper_core.specs.Meaning.{IsInGrammar};
 ghost use Rattle.formats.specs.Limits.{block_limit, log_limit};
-ghost use Rattle.formats.specs.Records.{number_of};
+ghost use Rattle.formats.specs.Records.{lsn_of};
 ghost use Rattle.formats.specs.declared.params.Params.{Params as Numbers};
-ghost use Rattle.log_frames.specs.LogView.{growth_of};
+ghost use Rattle.log_blocks.specs.LogView.{growth_of};
 ghost use Rattle.explain_core.specs.History.Member.{Command, Identity};
 ghost use Rattle.explain_core.specs.World.{World};
 ghost use Rattle.running_store.specs.Calls.{IsCall};
@@ -28,12 +28,12 @@ use log_records::RecordLog;
 use oper_core::Oper;
 use running_store::Store;
 
-// Why a command is not admitted, in the terms of a record with this number. No place is looked for then.
-fn record_error(number: u64, e: ExecErr) -> RecordErr
-    ensures { result ≡ record_from_exec number e }
+// Why a command is not admitted, in the terms of a record with this LSN. No place is looked for then.
+fn record_error(lsn: u64, e: ExecErr) -> RecordErr
+    ensures { result ≡ record_from_exec lsn e }
 {
     match e {
-        ExecErr::Refused(_) | ExecErr::LsnEnd { .. } => RecordErr::Differs { lsn: number },
+        ExecErr::Refused(_) | ExecErr::LsnEnd { .. } => RecordErr::Differs { lsn },
         ExecErr::DiskFault => RecordErr::DiskFault,
         ExecErr::Damaged { file, place } => RecordErr::Damaged { file, place },
         ExecErr::LogFull { used, need, limit } => RecordErr::LogFull { used, need, limit },
@@ -41,12 +41,12 @@ fn record_error(number: u64, e: ExecErr) -> RecordErr
     }
 }
 
-// Whether a record with this number, if it has one, is the next; an error where there are others in between.
-fn is_due(next: u64, number: Option<u64>) -> Result<bool, RecordErr>
-    ensures none { number ≡ None → result ≡ Fine false }
-    ensures some { IfSome number (λ n. result ≡ (if nat_lt n next then Fine false else (if nat_lt next n then Error (RecordErr.Gap next n) else Fine true))) }
+// Whether a record with this LSN, if it has one, is the next; an error where there are others in between.
+fn is_due(next: u64, lsn: Option<u64>) -> Result<bool, RecordErr>
+    ensures none { lsn ≡ None → result ≡ Fine false }
+    ensures some { IfSome lsn (λ n. result ≡ (if nat_lt n next then Fine false else (if nat_lt next n then Error (RecordErr.Gap next n) else Fine true))) }
 {
-    let Some(got) = number else {
+    let Some(got) = lsn else {
         return Ok(false);
     };
     if got > next {
@@ -111,7 +111,7 @@ fn follow_command<O: Oper, M: Machine>(
     op: O,
 ) -> Result<(), RecordErr>
     requires unbroken { store.old.broken ≡ false }
-    requires number { next_of store.old < 2 ^ 62 }
+    requires lsn { next_of store.old < 2 ^ 62 }
     requires grammar { IsInGrammar (meaning_in O.meaning (store_params store.old)) op }
     requires short { command_length (meaning_in O.meaning (store_params store.old)) op ≤ 2 ^ 30 }
     ensures call { IsCall O.meaning (M.disk machine.old) (M.disk machine.new) store.old store.new 0 (StopsWithin log_limit) (ending_of_follow result) }
@@ -123,10 +123,10 @@ fn follow_command<O: Oper, M: Machine>(
     ensures cause { IfErr result (IsFollowFailure (meaning_in O.meaning (store_params store.old)) (Record.Command (next_of store.old) op) (next_of store.old) (M.disk machine.old) (M.disk machine.new) store.old.parts.volatile.objects) }
 {
     explain_core::append_keeps::<O>();
-    let number = store.log().next();
+    let lsn = store.log().next();
     let (copies, length) = match admit(store, machine, &op) {
         Ok(admitted) => admitted,
-        Err(e) => return Err(record_error(number, e)),
+        Err(e) => return Err(record_error(lsn, e)),
     };
     require_room(store, machine, length)?;
     store.append_command(op, copies)?;
@@ -141,7 +141,7 @@ fn follow_identity<O: Oper, M: Machine>(
     value: &[u8],
 ) -> Result<(), RecordErr>
     requires unbroken { store.old.broken ≡ false }
-    requires number { next_of store.old < 2 ^ 62 }
+    requires lsn { next_of store.old < 2 ^ 62 }
     requires below { object < (store_params store.old).objects }
     requires short { identity_length (length value.now) ≤ 2 ^ 30 }
     ensures call { IsCall O.meaning (M.disk machine.old) (M.disk machine.new) store.old store.new (if is_ok result then 1 else 0) (StopsWithin log_limit) (ending_of_follow result) }
@@ -164,7 +164,7 @@ fn follow_identity<O: Oper, M: Machine>(
     Ok(())
 }
 
-// Takes a record with the next number.
+// Takes a record with the next LSN.
 fn take<O: Oper, M: Machine>(
     store: &mut Store<O>,
     machine: &mut M,
@@ -172,7 +172,7 @@ fn take<O: Oper, M: Machine>(
 ) -> Result<bool, RecordErr>
     requires unbroken { store.old.broken ≡ false }
     requires logged { IsFollowable (meaning_in O.meaning (store_params store.old)) logged }
-    requires due { number_of logged ≡ Some (next_of store.old) }
+    requires due { lsn_of logged ≡ Some (next_of store.old) }
     ensures call { IsCall O.meaning (M.disk machine.old) (M.disk machine.new) store.old store.new (identities_logged logged result) (StopsWithin log_limit) (ending_of_follow result) }
     ensures takes { Takes O.meaning (M.disk machine.old) (M.disk machine.new) store.old.parts store.new.parts (λ m w used. follow_course m logged w used) (ending_of_follow result) }
     ensures in_world { (p : Numbers) (w : World O) → Shows (meaning_in O.meaning p) p (M.disk machine.old) store.old.parts w →
@@ -190,15 +190,15 @@ fn take<O: Oper, M: Machine>(
             follow_identity(store, machine, object, value.as_slice())?;
             Ok(true)
         }
-        // It has no number.
-        Record::Check(_) => Ok(false),
+        // It has no LSN.
+        Record::Checkpoint(_) => Ok(false),
     }
 }
 
 /// Takes a record of another log as the next one of this log: a command that nothing refuses on the objects' values, or an
-/// identity write of the value that its object has. False where the number is below the next one: the record is passed over.
+/// identity write of the value that its object has. False where the LSN is below the next one: the record is passed over.
 ///
-/// It answers `Gap` where the number is above the next one, and `Differs` where the record is not what may come next. Nothing is
+/// It answers `Gap` where the LSN is above the next one, and `Differs` where the record is not what may come next. Nothing is
 /// forced, but where the block that waits has no room for the record, and `LogFull` comes where the log would pass 2^48 bytes,
 /// which is more than a command may let it have. Where it is not taken each object has the value that it had, and the graph is
 /// as it was.
@@ -214,14 +214,14 @@ pub fn follow<O: Oper, M: Machine>(
     ensures in_world { (p : Numbers) (w : World O) → Shows (meaning_in O.meaning p) p (M.disk machine.old) store.old.parts w →
         HasFollowCause (meaning_in O.meaning p) w (log_length store.old) logged result }
     // A record with another number than the next costs nothing.
-    ensures idle { number_of logged ≢ Some (next_of store.old) → (machine.new ≡ machine.old) × (store.new ≡ store.old) }
+    ensures idle { lsn_of logged ≢ Some (next_of store.old) → (machine.new ≡ machine.old) × (store.new ≡ store.old) }
     ensures quiet { ForcesNone (meaning_in O.meaning (store_params store.old)) (length store.old.parts.log.log.pending) logged (M.disk machine.old) (M.disk machine.new) }
     // Where it is not taken the log has no record more, and the slots are those that it had.
     ensures untaken { OnErr result ((next_of store.new ≡ next_of store.old) × (store.new.parts.volatile.objects.slots ≡ store.old.parts.volatile.objects.slots)) }
     ensures cause { IfErr result (IsFollowFailure (meaning_in O.meaning (store_params store.old)) logged (next_of store.old) (M.disk machine.old) (M.disk machine.new) store.old.parts.volatile.objects) }
 {
-    let number = logged.number();
-    if !is_due(store.log().next(), number)? {
+    let lsn = logged.lsn();
+    if !is_due(store.log().next(), lsn)? {
         return Ok(false);
     }
     take(store, machine, logged)

@@ -3,7 +3,7 @@
 //!
 //! There are two contracts. [`execute`] takes, of each world that the store and the files show, the steps of the command's
 //! course, which are the append of the command, or none where the command is refused, or a force where its record has no
-//! place in the log. [`follow`] takes those of the record's course: the append of its member with the number that it has, behind
+//! place in the log. [`follow`] takes those of the record's course: the append of its member with the LSN that it has, behind
 //! a force where the block that waits has no room for it, or none. Each answer comes exactly where its cause holds. The write
 //! graph has an entry of each member that is appended.
 //!

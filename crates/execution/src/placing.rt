@@ -15,7 +15,7 @@ ghost use Rattle.execution.specs.Stops.{StopsCommand};
 
 use crate::exec_err::ExecErr;
 use disk_model::{Failed, Machine};
-use formats::{BLOCK_HEAD, NUMBERS_END};
+use formats::{BLOCK_HEAD, LSN_END};
 use log_records::RecordLog;
 use oper_core::Oper;
 use running_store::Store;
@@ -48,7 +48,7 @@ fn needed<O: Oper>(log: &RecordLog<O>, length: u64, grouped: bool) -> u64
     length + BLOCK_HEAD as u64
 }
 
-// Requires that the log has a place below the store's limit, and a number, for a record of this length. Where it has none,
+// Requires that the log has a place below the store's limit, and an LSN, for a record of this length. Where it has none,
 // all that waits is forced, unless a group is open.
 pub(crate) fn require_place<O: Oper, M: Machine>(
     store: &mut Store<O>,
@@ -73,10 +73,10 @@ pub(crate) fn require_place<O: Oper, M: Machine>(
         force_outside(store, machine, grouped)?;
         return Err(ExecErr::LogFull { used, need, limit });
     }
-    let number = store.log().next();
-    if number >= NUMBERS_END {
+    let lsn = store.log().next();
+    if lsn >= LSN_END {
         force_outside(store, machine, grouped)?;
-        return Err(ExecErr::LsnEnd { number });
+        return Err(ExecErr::LsnEnd { lsn });
     }
     Ok(())
 }

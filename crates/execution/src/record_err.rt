@@ -9,10 +9,10 @@ use thiserror::Error;
 /// Why a record of another log was not taken.
 #[derive(Debug, Drop, Error)]
 pub enum RecordErr {
-    /// The record's number is above the next one.
+    /// The record's LSN is above the next one.
     #[error("the next record has the number {expected}, and this one {got}")]
     Gap { expected: u64, got: u64 },
-    /// The record has the next number, and is a command that is refused, or an identity write of another value.
+    /// The record has the next LSN, and is a command that is refused, or an identity write of another value.
     #[error("the record {lsn} differs")]
     Differs { lsn: u64 },
     /// The log has no room for the record.

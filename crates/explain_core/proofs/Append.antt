@@ -25,7 +25,7 @@ use Rattle.explain_core.proofs.Set.{IsSetAt, Explains-fresh, read-right, made_by
 use Rattle.explain_core.specs.GraphLaws.{no-writes}
 
 -- the cell that is set, and one that is not
-pub set_at : {O : Type 0} (m : Meaning O) (o : Option (Member O)) (chosen : ℕ → Bool) (n k : ℕ) (c : ℕ → Cell) (x : ℕ) (v : List ℕ) → IsTrue (chosen x) → n ≡ k → made_by m o (λ y. (c y).value) x ≡ v → set_by m o chosen n c x ≡ record { id = k; value = v }
+pub set_at : {O : Type 0} (m : Meaning O) (o : Option (Member O)) (chosen : ℕ → Bool) (n k : ℕ) (c : ℕ → Cell) (x : ℕ) (v : List ℕ) → IsTrue (chosen x) → n ≡ k → made_by m o (λ y. (c y).value) x ≡ v → set_by m o chosen n c x ≡ record { lsn = k; value = v }
 set_at m o chosen n k c x v e q made = rw (e, q, made) refl
 
 pub set_not : {O : Type 0} (m : Meaning O) (o : Option (Member O)) (chosen : ℕ → Bool) (n : ℕ) (c : ℕ → Cell) (x : ℕ) → IsFalse (chosen x) → set_by m o chosen n c x ≡ c x
@@ -37,14 +37,14 @@ live-map m h i c inside e x =
     let n = length h in
     let a = accesses_of m h in
     let shown : IsExposed a (and_below (suc n) i) x = λ p out w. absurd (both_ways _ (no-writes m h p x (out-parts (suc n) i p out).0) w) in
-    let early : (c x).id ≤ n = elim (e.origin x) [
+    let early : (c x).lsn ≤ n = elim (e.origin x) [
       | inl z ↦ omega (arith, z.0)
-      | inr g ↦ elim (in-cases (suc n) i (c x).id g.0) [ inl lt ↦ omega arith | inr there ↦ inside _ there ]
+      | inr g ↦ elim (in-cases (suc n) i (c x).lsn g.0) [ inl lt ↦ omega arith | inr there ↦ inside _ there ]
     ] in
-    e.right x shown ∙ sym (value_at-still m h x (c x).id n early (λ k lt le. e.last x shown k lt (in-below (suc n) i k (omega arith))))
+    e.right x shown ∙ sym (value_at-still m h x (c x).lsn n early (λ k lt le. e.last x shown k lt (in-below (suc n) i k (omega arith))))
 
-pub id-within : (a : Access) (v : ℕ → ℕ → List ℕ) (n : ℕ) (i : ℕ → Bool) (c : ℕ → Cell) → ((k : ℕ) → IsTrue (i k) → k ≤ n) → Explains a v i c → (x : ℕ) → (c x).id ≤ n
-id-within a v n i c inside e x = elim (e.origin x) [ inl z ↦ omega (arith, z.0) | inr g ↦ inside _ g.0 ]
+pub lsn-within : (a : Access) (v : ℕ → ℕ → List ℕ) (n : ℕ) (i : ℕ → Bool) (c : ℕ → Cell) → ((k : ℕ) → IsTrue (i k) → k ≤ n) → Explains a v i c → (x : ℕ) → (c x).lsn ≤ n
+lsn-within a v n i c inside e x = elim (e.origin x) [ inl z ↦ omega (arith, z.0) | inr g ↦ inside _ g.0 ]
 
 -- a history with one more member
 history-append : {O : Type 0} (m : Meaning O) (h : List (Member O)) (member : Member O) → IsHistory m h → IsMember m (λ x. value_at m h (length h) x) member → IsHistory m (h ++ member ∷ [])
@@ -65,7 +65,7 @@ may-member : {O : Type 0} (m : Meaning O) (w : World O) (before : ℕ → List �
 may-member {O} m w before (Command op) same may = subst (λ (state : ℕ → List ℕ). Accepts m state op) (fun_ext same) may
 may-member m w before (Identity x v) same may = (may.0, may.1 ∙ same x)
 
--- the checks skip nothing of the longer history either
+-- the checkpoints skip nothing of the longer history either
 fits-append : {O : Type 0} (m : Meaning O) (h t : List (Member O)) (i : ℕ → Bool) (base end : ℕ) (table : Starts) → end ≤ length h + 1 → SkipsNothing (accesses_of m h) i base end table → SkipsNothing (accesses_of m (h ++ t)) i base end table
 fits-append m h t i base end table le f = record {
   before = λ n x out w. elim (cases_lt (length h) n) [
@@ -91,7 +91,7 @@ set-append {O} m h member i c closed out e x =
     let n = length h in
     let g = h ++ member ∷ [] in
     let here : slice_get g n ≡ Some member = slice_get-last h member in
-    let number : length h + 1 ≡ suc (length h) = omega arith in
+    let lsn : length h + 1 ≡ suc (length h) = omega arith in
     let writes : (accesses_of m g).writes (suc n) x ≡ is_among x (writes_of m member) = ap (λ o. writes_some m o x) here in
     elim (cases_Bool (is_among x (writes_of m member))) [
       | inl there ↦
@@ -99,7 +99,7 @@ set-append {O} m h member i c closed out e x =
           let made : made_by m (Some member) (λ y. (c y).value) x ≡ value_at m g (suc n) x =
           subst (λ (o : Option (Member O)). made_by m o (λ y. (c y).value) x ≡ value_at m g (suc n) x) here
           (made_by-same m (slice_get g n) (λ y. (c y).value) (λ y. value_at m g n y) x (λ y r. read-right m g i n c closed out e y r) wrote) in
-          inl (wrote, set_at m (Some member) (λ x. is_among x (writes_of m member)) (length h + 1) (suc n) c x (value_at m g (suc n) x) there number made)
+          inl (wrote, set_at m (Some member) (λ x. is_among x (writes_of m member)) (length h + 1) (suc n) c x (value_at m g (suc n) x) there lsn made)
       | inr none ↦ inr (writes ∙ none, set_not m (Some member) (λ x. is_among x (writes_of m member)) (length h + 1) c x none)
     ]
 
@@ -113,7 +113,7 @@ append_sound {O} m w member live may s =
     let b = accesses_of m g in
     let long : length g ≡ n + 1 = length-append h (member ∷ []) in
     let next : w.next ≡ suc n = omega (arith, s.next.1) in
-    let number : n + 1 ≡ suc n = omega arith in
+    let lsn : n + 1 ≡ suc n = omega arith in
     let inside : (k : ℕ) → IsTrue (w.installed k) → k ≤ n = λ k e. omega (arith, s.installed k e, s.forced) in
     let front : IsFront a b n = front-append m h (member ∷ []) in
     let out : IsFalse (w.installed (suc n)) = false_from_ne_true _ (λ e. absurd (omega (arith, inside (suc n) e))) in
@@ -131,7 +131,7 @@ append_sound {O} m w member live may s =
       | inr old ↦ omega (arith, (s.graph k old).1)
     ] in
     let not_new : (k x : ℕ) → IsTrue (graph k) → IsTrue (b.writes k x) → IsFalse (b.writes (suc n) x) → IsTrue (w.graph k) = λ k x e wr none. elim (or_cases (k == end_of w) (w.graph k) e) [
-      | inl new ↦ let q : k ≡ suc n = eqb-true k (n + 1) new ∙ number in absurd (both_ways _ none (subst (λ (j : ℕ). IsTrue (b.writes j x)) q wr))
+      | inl new ↦ let q : k ≡ suc n = eqb-true k (n + 1) new ∙ lsn in absurd (both_ways _ none (subst (λ (j : ℕ). IsTrue (b.writes j x)) q wr))
       | inr old ↦ old
     ] in
     let set : IsSetAt b (value_at m g) (suc n) w.cache after = set-append m h member w.installed w.cache closed out wide in
@@ -157,27 +157,27 @@ append_sound {O} m w member live may s =
       ];
       cache = subst (λ (k : ℕ). Explains b (value_at m g) (and_below k w.installed) after) (omega arith) (Explains-fresh b (value_at m g) w.installed (suc n) w.cache after closed out wide set);
       cache_right = λ x off. elim (set x) [
-        | inl t ↦ subst (λ (cell : Cell). cell.value ≡ value_at m g cell.id x) (sym t.1) refl
-        | inr f ↦ subst (λ (cell : Cell). cell.value ≡ value_at m g cell.id x) (sym f.1)
-            (s.cache_right x (subst (λ (cell : Cell). IsFalse (w.installed cell.id)) f.1 off) ∙ sym (value_at-append m h (member ∷ []) (w.cache x).id x (id-within a (value_at m h) n (and_below (suc n) w.installed) w.cache within cache x)))
+        | inl t ↦ subst (λ (cell : Cell). cell.value ≡ value_at m g cell.lsn x) (sym t.1) refl
+        | inr f ↦ subst (λ (cell : Cell). cell.value ≡ value_at m g cell.lsn x) (sym f.1)
+            (s.cache_right x (subst (λ (cell : Cell). IsFalse (w.installed cell.lsn)) f.1 off) ∙ sym (value_at-append m h (member ∷ []) (w.cache x).lsn x (lsn-within a (value_at m h) n (and_below (suc n) w.installed) w.cache within cache x)))
       ];
       cache_late = λ k x e off wr. elim (set x) [
-        | inl t ↦ subst (λ (cell : Cell). k ≤ cell.id) (sym t.1) (upto k e)
-        | inr f ↦ subst (λ (cell : Cell). k ≤ cell.id) (sym f.1) (
+        | inl t ↦ subst (λ (cell : Cell). k ≤ cell.lsn) (sym t.1) (upto k e)
+        | inr f ↦ subst (λ (cell : Cell). k ≤ cell.lsn) (sym f.1) (
             let old = not_new k x e wr f.0 in s.cache_late k x old off (front.writes k x (omega (arith, (s.graph k old).1)) ∙ wr))
       ];
       dirty = λ x ne. elim (set x) [
-        | inl t ↦ subst (λ (cell : Cell). ((w.slots x).id < cell.id) × IsTrue (graph cell.id) × ((k : ℕ) → IsTrue (graph k) → IsTrue (b.writes k x) → k ≤ cell.id) × (w.next + 1 ≤ length g → (plan_of w.tables w.base).redo_from x ≤ cell.id)) (sym t.1) (
-          omega (arith, id-within b (value_at m g) n w.installed w.slots inside slots_whole x),
+        | inl t ↦ subst (λ (cell : Cell). ((w.slots x).lsn < cell.lsn) × IsTrue (graph cell.lsn) × ((k : ℕ) → IsTrue (graph k) → IsTrue (b.writes k x) → k ≤ cell.lsn) × (w.next + 1 ≤ length g → (plan_of w.tables w.base).redo_from x ≤ cell.lsn)) (sym t.1) (
+          omega (arith, lsn-within b (value_at m g) n w.installed w.slots inside slots_whole x),
           or_left (suc n == end_of w) (w.graph (suc n)) (eq-eqb (suc n) (n + 1) (omega arith)),
           (λ k e wr. upto k e),
           (λ le. absurd (omega arith)),
         )
         | inr f ↦
-            let d = s.dirty x (λ q. ne (q ∙ sym (ap (λ (cell : Cell). cell.id) f.1))) in
-            subst (λ (cell : Cell). ((w.slots x).id < cell.id) × IsTrue (graph cell.id) × ((k : ℕ) → IsTrue (graph k) → IsTrue (b.writes k x) → k ≤ cell.id) × (w.next + 1 ≤ length g → (plan_of w.tables w.base).redo_from x ≤ cell.id)) (sym f.1) (
+            let d = s.dirty x (λ q. ne (q ∙ sym (ap (λ (cell : Cell). cell.lsn) f.1))) in
+            subst (λ (cell : Cell). ((w.slots x).lsn < cell.lsn) × IsTrue (graph cell.lsn) × ((k : ℕ) → IsTrue (graph k) → IsTrue (b.writes k x) → k ≤ cell.lsn) × (w.next + 1 ≤ length g → (plan_of w.tables w.base).redo_from x ≤ cell.lsn)) (sym f.1) (
               d.0,
-              or_right ((w.cache x).id == end_of w) (w.graph (w.cache x).id) d.1,
+              or_right ((w.cache x).lsn == end_of w) (w.graph (w.cache x).lsn) d.1,
               (λ k e wr. let old = not_new k x e wr f.0 in d.2 k old (front.writes k x (omega (arith, (s.graph k old).1)) ∙ wr)),
               (λ le. absurd (omega arith)),
             )

@@ -9,12 +9,12 @@ use Rattle.explain_core.specs.History.{Member, accesses_of, value_at, reads_some
 use Rattle.oper_core.specs.Cell.{Cell}
 use Rattle.explain_core.specs.Explains.{Explains}
 use Rattle.explain_core.specs.World.{World, Step, Starts, step, IsAllowed, plan_of, work_of}
-use Rattle.explain_core.specs.World.Step.{Begin, End, Append, Block_gate, Check, Slot_gate, Removal, Header_gate, Replay, Crash}
+use Rattle.explain_core.specs.World.Step.{Begin, End, Append, Block_gate, Checkpoint, Slot_gate, Removal, Header_gate, Replay, Crash}
 use Rattle.explain_core.specs.Sound.{IsSound, SkipsNothing}
 use Rattle.explain_core.specs.Stable.{IsStableOf}
 use Rattle.explain_core.specs.Backup.{IsCopied, IsIdentityAt, MayWhileCopied, with_next, installed_in_copy, copy_of, backup_of}
-use Rattle.explain_core.proofs.Basics.{front-append, front-take, numbered-front}
-use Rattle.explain_core.specs.GraphLaws.{numbered-take}
+use Rattle.explain_core.proofs.Basics.{front-append, front-take, with_lsn-front}
+use Rattle.explain_core.specs.GraphLaws.{with_lsn-take}
 use Rattle.explain_core.proofs.Core.{slots-whole}
 use Rattle.explain_core.proofs.Crash.{plan_fits}
 use Rattle.explain_core.proofs.OneState.{sound-stands}
@@ -49,30 +49,30 @@ copied-more m w copied cells s c =
     let a = accesses_of m w.history in
     record {
       origin = λ x lt. elim (with_next-is w copied cells x lt) [
-        | inl new ↦ subst (λ (cell : Cell). ((cell.id ≡ 0) × (cell.value ≡ [])) ⊎ (IsTrue (w.installed cell.id) × IsTrue (a.writes cell.id x))) (sym new.1) ((whole m w s).origin x)
-        | inr old ↦ subst (λ (cell : Cell). ((cell.id ≡ 0) × (cell.value ≡ [])) ⊎ (IsTrue (w.installed cell.id) × IsTrue (a.writes cell.id x))) (sym old.1) (c.origin x old.0)
+        | inl new ↦ subst (λ (cell : Cell). ((cell.lsn ≡ 0) × (cell.value ≡ [])) ⊎ (IsTrue (w.installed cell.lsn) × IsTrue (a.writes cell.lsn x))) (sym new.1) ((whole m w s).origin x)
+        | inr old ↦ subst (λ (cell : Cell). ((cell.lsn ≡ 0) × (cell.value ≡ [])) ⊎ (IsTrue (w.installed cell.lsn) × IsTrue (a.writes cell.lsn x))) (sym old.1) (c.origin x old.0)
       ];
       since = λ x lt. elim (with_next-is w copied cells x lt) [
         | inl new ↦ inl new.1
-        | inr old ↦ subst (λ (cell : Cell). (cell ≡ w.slots x) ⊎ ((cell.id < (w.slots x).id) × (w.base ≤ (w.slots x).id) × IsIdentityAt w.history (w.slots x).id x)) (sym old.1) (c.since x old.0)
+        | inr old ↦ subst (λ (cell : Cell). (cell ≡ w.slots x) ⊎ ((cell.lsn < (w.slots x).lsn) × (w.base ≤ (w.slots x).lsn) × IsIdentityAt w.history (w.slots x).lsn x)) (sym old.1) (c.since x old.0)
       ];
     }
 
 -- more members are installed
 installed-more : {O : Type 0} (m : Meaning O) (w : World O) (node : ℕ → Bool) (copied : ℕ) (cells : ℕ → Cell) → IsCopied m w copied cells → (x : ℕ) → x < copied →
-    (((cells x).id ≡ 0) × ((cells x).value ≡ [])) ⊎ (IsTrue (node (cells x).id || w.installed (cells x).id) × IsTrue ((accesses_of m w.history).writes (cells x).id x))
+    (((cells x).lsn ≡ 0) × ((cells x).value ≡ [])) ⊎ (IsTrue (node (cells x).lsn || w.installed (cells x).lsn) × IsTrue ((accesses_of m w.history).writes (cells x).lsn x))
 installed-more m w node copied cells c x lt = elim (c.origin x lt) [
   | inl z ↦ inl z
-  | inr g ↦ inr (or_right (node (cells x).id) (w.installed (cells x).id) g.0, g.1)
+  | inr g ↦ inr (or_right (node (cells x).lsn) (w.installed (cells x).lsn) g.0, g.1)
 ]
 
 -- the slot of a copied object is set from a node of one identity write: that is the version in the cache
 slot-set : {O : Type 0} (m : Meaning O) (w : World O) (node : ℕ → Bool) (x : ℕ) (copied : ℕ) (cells : ℕ → Cell) → IsSound m w → work_of m w node x → x < copied → (n y : ℕ) → ((k : ℕ) → IsTrue (node k) → k ≡ n) → IsIdentityAt w.history n y →
-    IsCopied m w copied cells → ((cells x).id < (w.cache x).id) × (w.base ≤ (w.cache x).id) × IsIdentityAt w.history (w.cache x).id x
+    IsCopied m w copied cells → ((cells x).lsn < (w.cache x).lsn) × (w.base ≤ (w.cache x).lsn) × IsIdentityAt w.history (w.cache x).lsn x
 slot-set {O} m w node x copied cells s work lt n y single is c =
     let a = accesses_of m w.history in
     let d = s.dirty x work.1 in
-    let top = (w.cache x).id in
+    let top = (w.cache x).lsn in
     let k = work.0.0 in
     let writes : IsTrue (w.graph k) × IsTrue (a.writes k x) = and_parts (w.graph k) (a.writes k x) work.0.2.0 in
     let made : IsTrue (a.writes top x) = elim (s.cache.origin x) [ inl z ↦ absurd (omega (arith, z.0, d.0)) | inr h ↦ h.1 ] in
@@ -84,7 +84,7 @@ slot-set {O} m w node x copied cells s work lt n y single is c =
     let here : n ≡ top = sym (single k work.0.1) ∙ same in
     let object : x ≡ y = (identity-blind m w.history n y is).only x (subst (λ (j : ℕ). IsTrue (a.writes j x)) (sym here) made) in
     let at : IsIdentityAt w.history top x = subst (λ (z : ℕ). IsIdentityAt w.history top z) (sym object) (subst (λ (j : ℕ). IsIdentityAt w.history j y) here is) in (
-      elim (c.since x lt) [ inl q ↦ omega (arith, ap (λ (cell : Cell). cell.id) q, d.0) | inr set ↦ omega (arith, set.0, d.0) ],
+      elim (c.since x lt) [ inl q ↦ omega (arith, ap (λ (cell : Cell). cell.lsn) q, d.0) | inr set ↦ omega (arith, set.0, d.0) ],
       (s.graph top d.1).0,
       at,
     )
@@ -108,28 +108,28 @@ copied-step {O} m w (Append member) copied cells s may rule c =
     record {
       origin = λ x lt. elim (c.origin x lt) [
         | inl z ↦ inl z
-        | inr i ↦ inr (i.0, sym (front.writes (cells x).id x (inside (cells x).id i.0)) ∙ i.1)
+        | inr i ↦ inr (i.0, sym (front.writes (cells x).lsn x (inside (cells x).lsn i.0)) ∙ i.1)
       ];
       since = λ x lt. elim (c.since x lt) [
         | inl q ↦ inl q
         | inr set ↦
-            let n = (w.slots x).id in
+            let n = (w.slots x).lsn in
             let low : n ≤ length h = elim (s.slots.origin x) [ inl z ↦ omega (arith, z.0) | inr i ↦ inside n i.0 ] in
-            inr (set.0, set.1, (set.2.0, sym (numbered-front h (member ∷ []) n low) ∙ set.2.1))
+            inr (set.0, set.1, (set.2.0, sym (with_lsn-front h (member ∷ []) n low) ∙ set.2.1))
       ];
     }
 copied-step m w Block_gate copied cells s may rule c = record { origin = c.origin; since = c.since }
-copied-step m w Check copied cells s may rule c = record { origin = c.origin; since = c.since }
+copied-step m w Checkpoint copied cells s may rule c = record { origin = c.origin; since = c.since }
 copied-step m w (Slot_gate node x) copied cells s may rule c = record {
   origin = installed-more m w node copied cells c;
   since = λ y lt. elim (slot-is w x y) [
-    | inr q ↦ subst (λ (cell : Cell). (cells y ≡ cell) ⊎ (((cells y).id < cell.id) × (w.base ≤ cell.id) × IsIdentityAt w.history cell.id y)) (sym q) (c.since y lt)
+    | inr q ↦ subst (λ (cell : Cell). (cells y ≡ cell) ⊎ (((cells y).lsn < cell.lsn) × (w.base ≤ cell.lsn) × IsIdentityAt w.history cell.lsn y)) (sym q) (c.since y lt)
     | inl q ↦
         let there : x < copied = omega (arith, lt, q.0) in
         let one = rule there in
         let set = slot-set m w node x copied cells s may.1 there one.0 one.1 one.2 one.3 c in
-        subst (λ (cell : Cell). (cells y ≡ cell) ⊎ (((cells y).id < cell.id) × (w.base ≤ cell.id) × IsIdentityAt w.history cell.id y)) (sym q.1)
-        (subst (λ (z : ℕ). (cells z ≡ w.cache x) ⊎ (((cells z).id < (w.cache x).id) × (w.base ≤ (w.cache x).id) × IsIdentityAt w.history (w.cache x).id z)) (sym q.0) (inr set))
+        subst (λ (cell : Cell). (cells y ≡ cell) ⊎ (((cells y).lsn < cell.lsn) × (w.base ≤ cell.lsn) × IsIdentityAt w.history cell.lsn y)) (sym q.1)
+        (subst (λ (z : ℕ). (cells z ≡ w.cache x) ⊎ (((cells z).lsn < (w.cache x).lsn) × (w.base ≤ (w.cache x).lsn) × IsIdentityAt w.history (w.cache x).lsn z)) (sym q.0) (inr set))
   ];
 }
 copied-step m w (Removal node) copied cells s may rule c = record { origin = installed-more m w node copied cells c; since = c.since }
@@ -148,22 +148,22 @@ module _ {O : Type 0} (m : Meaning O) (w : World O) (copied : ℕ) (cells : ℕ 
   abbrev a : Access
   a = accesses_of m h
 
-  low_slot : (x : ℕ) → (w.slots x).id ≤ f
+  low_slot : (x : ℕ) → (w.slots x).lsn ≤ f
   low_slot x = elim (s.slots.origin x) [ inl z ↦ omega (arith, z.0) | inr i ↦ s.installed _ i.0 ]
 
   within : (n : ℕ) → IsTrue (w.installed n) → n < f + 1
   within n e = omega (arith, s.installed n e)
 
-  origin : (x : ℕ) → x < copied → (((cells x).id ≡ 0) × ((cells x).value ≡ [])) ⊎ (IsTrue (w.installed (cells x).id) × IsTrue (a.writes (cells x).id x))
+  origin : (x : ℕ) → x < copied → (((cells x).lsn ≡ 0) × ((cells x).value ≡ [])) ⊎ (IsTrue (w.installed (cells x).lsn) × IsTrue (a.writes (cells x).lsn x))
   origin x lt = elim (c.origin x lt) [
     | inl z ↦ inl z
-    | inr i ↦ inr (i.0, (front-take m w.history f s.forced).writes (cells x).id x (s.installed _ i.0) ∙ i.1)
+    | inr i ↦ inr (i.0, (front-take m w.history f s.forced).writes (cells x).lsn x (s.installed _ i.0) ∙ i.1)
   ]
 
-  since : (x : ℕ) → x < copied → (cells x ≡ w.slots x) ⊎ (((cells x).id < (w.slots x).id) × IsBlind a (w.slots x).id x)
+  since : (x : ℕ) → x < copied → (cells x ≡ w.slots x) ⊎ (((cells x).lsn < (w.slots x).lsn) × IsBlind a (w.slots x).lsn x)
   since x lt = elim (c.since x lt) [
     | inl q ↦ inl q
-    | inr set ↦ inr (set.0, identity-blind m h (w.slots x).id x (set.2.0, numbered-take w.history f (w.slots x).id (low_slot x) ∙ set.2.1))
+    | inr set ↦ inr (set.0, identity-blind m h (w.slots x).lsn x (set.2.0, with_lsn-take w.history f (w.slots x).lsn (low_slot x) ∙ set.2.1))
   ]
 
   pub copy-explained : Explains a (value_at m h) (installed_in_copy m w copied cells) (backup_of copied cells w.slots)
@@ -174,7 +174,7 @@ module _ {O : Type 0} (m : Meaning O) (w : World O) (copied : ℕ) (cells : ℕ 
   from_base n lt = and_from (w.installed n) _ (s.below_base n lt) (not_from_false _ (false_from_ne_true _ (λ new.
       let is = newer-is a (value_at m h) w.installed (f + 1) copied cells w.slots s.slots within origin since n new in
       elim (c.since is.0 is.1) [
-        | inl q ↦ omega (arith, is.2, is.3, ap (λ (cell : Cell). cell.id) q)
+        | inl q ↦ omega (arith, is.2, is.3, ap (λ (cell : Cell). cell.lsn) q)
         | inr set ↦ omega (arith, is.2, set.1, lt)
       ])))
 

@@ -15,8 +15,8 @@ pub record IsBlind (a : Access) (n x : ℕ) : Type 0 where
   pub only : (y : ℕ) → IsTrue (a.writes n y) → y ≡ x
 
 module _ (a : Access) (v : ℕ → ℕ → List ℕ) (i : ℕ → Bool) (end copied : ℕ) (cells s : ℕ → Cell) (e : Explains a v i s) (within : (n : ℕ) → IsTrue (i n) → n < end)
-    (origin : (x : ℕ) → x < copied → (((cells x).id ≡ 0) × ((cells x).value ≡ [])) ⊎ (IsTrue (i (cells x).id) × IsTrue (a.writes (cells x).id x)))
-    (since : (x : ℕ) → x < copied → (cells x ≡ s x) ⊎ (((cells x).id < (s x).id) × IsBlind a (s x).id x)) where
+    (origin : (x : ℕ) → x < copied → (((cells x).lsn ≡ 0) × ((cells x).value ≡ [])) ⊎ (IsTrue (i (cells x).lsn) × IsTrue (a.writes (cells x).lsn x)))
+    (since : (x : ℕ) → x < copied → (cells x ≡ s x) ⊎ (((cells x).lsn < (s x).lsn) × IsBlind a (s x).lsn x)) where
   abbrev newer : ℕ → Bool
   newer = is_newer a i end copied cells s
 
@@ -30,17 +30,17 @@ module _ (a : Access) (v : ℕ → ℕ → List ℕ) (i : ℕ → Bool) (end cop
   later n x k = nat_lt n k && (i k && a.writes k x)
 
   -- what is left out is a blind write of a copied object, and the last installed one that writes it
-  pub newer-is : (n : ℕ) → IsTrue (newer n) → (x : ℕ) × (x < copied) × (n ≡ (s x).id) × ((cells x).id < n) × ((k : ℕ) → n < k → IsTrue (i k) → IsFalse (a.writes k x)) × IsBlind a n x
+  pub newer-is : (n : ℕ) → IsTrue (newer n) → (x : ℕ) × (x < copied) × (n ≡ (s x).lsn) × ((cells x).lsn < n) × ((k : ℕ) → n < k → IsTrue (i k) → IsFalse (a.writes k x)) × IsBlind a n x
   newer-is n is =
-      let g = some-gives copied (λ x. (n == (s x).id) && (nat_lt (cells x).id n && not (some_below end (later n x)))) is in
+      let g = some-gives copied (λ x. (n == (s x).lsn) && (nat_lt (cells x).lsn n && not (some_below end (later n x)))) is in
       let x = g.0 in
-      let p = and_parts (n == (s x).id) _ g.2 in
-      let q = and_parts (nat_lt (cells x).id n) _ p.1 in
-      let here : n ≡ (s x).id = eqb-true n (s x).id p.0 in
-      let low : (cells x).id < n = ltb-true _ _ q.0 in
+      let p = and_parts (n == (s x).lsn) _ g.2 in
+      let q = and_parts (nat_lt (cells x).lsn n) _ p.1 in
+      let here : n ≡ (s x).lsn = eqb-true n (s x).lsn p.0 in
+      let low : (cells x).lsn < n = ltb-true _ _ q.0 in
       let none : IsFalse (some_below end (later n x)) = not-true _ q.1 in
       let blind : IsBlind a n x = elim (since x g.1) [
-        | inl same ↦ absurd (omega (arith, low, here, ap (λ (c : Cell). c.id) same))
+        | inl same ↦ absurd (omega (arith, low, here, ap (λ (c : Cell). c.lsn) same))
         | inr set ↦ subst (λ (k : ℕ). IsBlind a k x) (sym here) set.1
       ] in (
         x,
@@ -74,15 +74,15 @@ module _ (a : Access) (v : ℕ → ℕ → List ℕ) (i : ℕ → Bool) (end cop
   copied-same x shown lt = elim (since x lt) [
     | inl same ↦ same
     | inr set ↦
-        let n = (s x).id in
+        let n = (s x).lsn in
         let live = exposed-live x shown in
         let last : IsFalse (some_below end (later n x)) = false_from_ne_true _ (λ some.
         let g = some-gives end (later n x) some in
         let p = and_parts (nat_lt n g.0) _ g.2 in
         let q = and_parts (i g.0) _ p.1 in
         both_ways _ (e.last x live g.0 (ltb-true _ _ p.0) q.0) q.1) in
-        let new : IsTrue (newer n) = some-from copied (λ y. (n == (s y).id) && (nat_lt (cells y).id n && not (some_below end (later n y)))) x lt
-        (and_from (n == (s x).id) _ (eq-eqb n n refl) (and_from (nat_lt (cells x).id n) _ (lt-ltb _ _ set.0) (not_from_false _ last))) in
+        let new : IsTrue (newer n) = some-from copied (λ y. (n == (s y).lsn) && (nat_lt (cells y).lsn n && not (some_below end (later n y)))) x lt
+        (and_from (n == (s x).lsn) _ (eq-eqb n n refl) (and_from (nat_lt (cells x).lsn n) _ (lt-ltb _ _ set.0) (not_from_false _ last))) in
         let out : IsFalse (j n) = false_from_ne_true _ (λ there. both_ways _ (not-true _ (and_parts (i n) _ there).1) new) in
         elim (e.origin x) [
           | inl z ↦ absurd (omega (arith, z.0, set.0))
@@ -123,27 +123,27 @@ module _ (a : Access) (v : ℕ → ℕ → List ℕ) (i : ℕ → Bool) (end cop
               )
         ];
     origin = λ x. elim (split x) [
-      | inl c ↦ subst (λ (cell : Cell). ((cell.id ≡ 0) × (cell.value ≡ [])) ⊎ (IsTrue (j cell.id) × IsTrue (a.writes cell.id x))) (sym c.1) (elim (origin x c.0) [
+      | inl c ↦ subst (λ (cell : Cell). ((cell.lsn ≡ 0) × (cell.value ≡ [])) ⊎ (IsTrue (j cell.lsn) × IsTrue (a.writes cell.lsn x))) (sym c.1) (elim (origin x c.0) [
         | inl z ↦ inl z
         | inr g ↦ inr (
-          and_from (i (cells x).id) _ g.0 (not_from_false _ (false_from_ne_true _ (λ new.
-              let is = newer-is (cells x).id new in
+          and_from (i (cells x).lsn) _ g.0 (not_from_false _ (false_from_ne_true _ (λ new.
+              let is = newer-is (cells x).lsn new in
               let q : x ≡ is.0 = is.5.only x g.1 in
-              absurd (omega (arith, is.3, ap (λ (y : ℕ). (cells y).id) q))))),
+              absurd (omega (arith, is.3, ap (λ (y : ℕ). (cells y).lsn) q))))),
           g.1,
         )
       ])
-      | inr c ↦ subst (λ (cell : Cell). ((cell.id ≡ 0) × (cell.value ≡ [])) ⊎ (IsTrue (j cell.id) × IsTrue (a.writes cell.id x))) (sym c.1) (elim (e.origin x) [
+      | inr c ↦ subst (λ (cell : Cell). ((cell.lsn ≡ 0) × (cell.value ≡ [])) ⊎ (IsTrue (j cell.lsn) × IsTrue (a.writes cell.lsn x))) (sym c.1) (elim (e.origin x) [
         | inl z ↦ inl z
         | inr g ↦ inr (
-          and_from (i (s x).id) _ g.0 (not_from_false _ (false_from_ne_true _ (λ new.
-              let is = newer-is (s x).id new in
+          and_from (i (s x).lsn) _ g.0 (not_from_false _ (false_from_ne_true _ (λ new.
+              let is = newer-is (s x).lsn new in
               let q : x ≡ is.0 = is.5.only x g.1 in
               absurd (omega (arith, is.1, c.0, q))))),
           g.1,
         )
       ])
     ];
-    last = λ x shown n lt there. e.last x (exposed-live x shown) n (subst (λ (cell : Cell). cell.id < n) (shown-same x shown) lt) (and_parts (i n) _ there).0;
-    right = λ x shown. subst (λ (cell : Cell). cell.value ≡ v cell.id x) (sym (shown-same x shown)) (e.right x (exposed-live x shown));
+    last = λ x shown n lt there. e.last x (exposed-live x shown) n (subst (λ (cell : Cell). cell.lsn < n) (shown-same x shown) lt) (and_parts (i n) _ there).0;
+    right = λ x shown. subst (λ (cell : Cell). cell.value ≡ v cell.lsn x) (sym (shown-same x shown)) (e.right x (exposed-live x shown));
   }

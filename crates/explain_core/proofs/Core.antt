@@ -10,7 +10,7 @@ use Rattle.oper_core.specs.Meaning.{Meaning}
 use Rattle.explain_core.specs.History.{Member, accesses_of, value_at}
 use Rattle.explain_core.proofs.Basics.{IsFront, front-take, value_at-take}
 
--- only which numbers are in the set counts
+-- only which LSNs are in the set counts
 pub Explains-same : (a : Access) (v : ℕ → ℕ → List ℕ) (i j : ℕ → Bool) (s : ℕ → Cell) → ((n : ℕ) → i n ≡ j n) → Explains a v i s → Explains a v j s
 Explains-same a v i j s e h = subst (λ (k : ℕ → Bool). Explains a v k s) (fun_ext e) h
 
@@ -34,7 +34,7 @@ Explains-more t a u v n i s f same inside e = record {
       (sym (f.reads o x lo) ∙ c.0, sym (f.writes o x lo) ∙ c.1);
   origin = λ x. elim (e.origin x) [
     | inl z ↦ inl z
-    | inr g ↦ inr (g.0, sym (f.writes (s x).id x (inside _ g.0)) ∙ g.1)
+    | inr g ↦ inr (g.0, sym (f.writes (s x).lsn x (inside _ g.0)) ∙ g.1)
   ];
   last = λ x shown k lt within. sym (f.writes k x (inside k within)) ∙ e.last x (exposed-front t a n i x f shown) k lt within;
   right = λ x shown. e.right x (exposed-front t a n i x f shown) ∙ same _ x (elim (e.origin x) [ inl z ↦ omega (arith, z.0) | inr g ↦ inside _ g.0 ]);

@@ -57,7 +57,7 @@ same-below i k inside n = elim (cases_lt n k) [
   | inr le ↦ rw (le-ltb n k le) refl
 ]
 
--- the plan skips nothing where the stable checks skip nothing
+-- the plan skips nothing where the stable checkpoints skip nothing
 pub plan_fits : (a : Access) (installed : ℕ → Bool) (base end : ℕ) (tables : List Starts) → base ≤ end → ((n : ℕ) → n < base → IsTrue (installed n)) → AllByRecursion (SkipsNothing a installed base end) tables → SkipsNothing a installed base end (plan_of tables base)
 plan_fits a i base end [] le below all = record {
   before = λ n x out w. elim (cases_lt n base) [ inl lt ↦ absurd (both_ways _ out (below n lt)) | inr ge ↦ ge ];
@@ -68,7 +68,7 @@ plan_fits a i base end [] le below all = record {
 }
 plan_fits a i base end (t ∷ ts) le below all = all.0
 
--- a check that skips nothing of the whole skips nothing of the stable front
+-- a checkpoint that skips nothing of the whole skips nothing of the stable front
 fits-front : (t a : Access) (f : ℕ) (installed : ℕ → Bool) (base end : ℕ) (table : Starts) → IsFront t a f → SkipsNothing a installed base end table → SkipsNothing t installed base end table
 fits-front t a f i base end table front h = record {
   before = λ n x out w. elim (cases_lt f n) [

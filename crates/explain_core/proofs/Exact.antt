@@ -28,7 +28,7 @@ last_writer-is a (suc n) x =
           )
     ]
 
--- a writer's number is at most the length
+-- a writer's LSN is at most the length
 writer-within : {O : Type 0} (m : Meaning O) (h : List (Member O)) (n x : ℕ) → IsTrue ((accesses_of m h).writes n x) → n < suc (length h)
 writer-within m h n x w = elim (cases_lt (length h) n) [ inl lt ↦ absurd (both_ways _ (no-writes m h n x lt) w) | inr le ↦ omega arith ]
 
@@ -50,19 +50,19 @@ can-from {O} m h i j s first e part none =
       | inl lt ↦ absurd (both_ways _ ((last_writer-is a end x).1 n lt (writer-within m h n x w)) w)
       | inr le ↦ le
     ] in
-    let made : (x : ℕ) → (s x).id ≢ last x → IsTrue (a.writes (last x) x) = λ x ne. elim (last_writer-is a end x).0 [
+    let made : (x : ℕ) → (s x).lsn ≢ last x → IsTrue (a.writes (last x) x) = λ x ne. elim (last_writer-is a end x).0 [
       | inl w ↦ w.0
       | inr z ↦ elim (e.origin x) [
         | inl y ↦ absurd (ne (y.0 ∙ sym z.0))
-        | inr k ↦ absurd (both_ways _ (z.1 (s x).id (writer-within m h (s x).id x k.1)) k.1)
+        | inr k ↦ absurd (both_ways _ (z.1 (s x).lsn (writer-within m h (s x).lsn x k.1)) k.1)
       ]
     ] in
-    let later : (x : ℕ) → (s x).id ≢ last x → (s x).id < last x = λ x ne. elim (e.origin x) [
+    let later : (x : ℕ) → (s x).lsn ≢ last x → (s x).lsn < last x = λ x ne. elim (e.origin x) [
       | inl y ↦ elim (cases_eq (last x) 0) [ inl q ↦ absurd (ne (y.0 ∙ sym q)) | inr other ↦ omega (arith, y.0) ]
-      | inr k ↦ omega (arith, upto (s x).id x k.1)
+      | inr k ↦ omega (arith, upto (s x).lsn x k.1)
     ] in
     -- the last writer of an object that is not current is not installed
-    let out : (x : ℕ) → (s x).id ≢ last x → IsFalse (i (last x)) = λ x ne. false_from_ne_true _ (λ there.
+    let out : (x : ℕ) → (s x).lsn ≢ last x → IsFalse (i (last x)) = λ x ne. false_from_ne_true _ (λ there.
     both_ways _ (e.last x (λ p off w. absurd (elim (cases_eq p (last x)) [
       | inl q ↦ both_ways _ off (subst (λ (n : ℕ). IsTrue (i n)) (sym q) there)
       | inr other ↦ both_ways _ (e.closed p (last x) x off there (omega (arith, upto p x w)) (made x ne)).1 w
@@ -84,7 +84,7 @@ can-from {O} m h i j s first e part none =
       Explains-install a v i j g s c end may (λ x. if written x then c x else s x) (λ y. elim (cases_Bool (written y)) [
         | inl there ↦
             let r = rest-out h i (last y) (part (last y) there) in
-            let ne : (s y).id ≢ last y = λ q. elim (e.origin y) [
+            let ne : (s y).lsn ≢ last y = λ q. elim (e.origin y) [
               | inl z ↦ both_ways _ r.1 (subst (λ (n : ℕ). IsTrue (i n)) (sym z.0 ∙ q) first)
               | inr k ↦ both_ways _ r.1 (subst (λ (n : ℕ). IsTrue (i n)) q k.0)
             ] in
@@ -139,31 +139,31 @@ can-gives {O} m h i j s first e part can o p off jp edge =
           ] in
           (o, after, out_o, u.1) in
           let cell : Cell = if can.0 x then current m h x else s x in
-          let high : p ≤ cell.id = elim (cases_lt cell.id p) [
+          let high : p ≤ cell.lsn = elim (cases_lt cell.lsn p) [
             | inl low ↦ absurd (both_ways _ (new.last x shown p low in_p) wp)
             | inr ge ↦ ge
           ] in
           elim (cases_Bool (can.0 x)) [
             | inl there ↦
-                let q : cell.id ≡ last_writer a (suc (length h)) x = ap (λ (c : Cell). c.id) (cond-true (can.0 x) (current m h x) (s x) there) in
+                let q : cell.lsn ≡ last_writer a (suc (length h)) x = ap (λ (c : Cell). c.lsn) (cond-true (can.0 x) (current m h x) (s x) there) in
                 let top : later ≤ last_writer a (suc (length h)) x = elim (cases_lt (last_writer a (suc (length h)) x) later) [
                   | inl low ↦ absurd (both_ways _ ((last_writer-is a (suc (length h)) x).1 later low (writer-within m h later x wlater)) wlater)
                   | inr ge ↦ ge
                 ] in
                 elim (new.origin x) [
                   | inl z ↦ absurd (omega (arith, z.0))
-                  | inr k ↦ elim (cases_eq o cell.id) [
+                  | inr k ↦ elim (cases_eq o cell.lsn) [
                     | inl same ↦ both_ways _ out_o (subst (λ (n : ℕ). IsTrue (both n)) (sym same) k.0)
-                    | inr ne ↦ both_ways _ (new.closed o cell.id x out_o k.0 (omega arith) k.1).0 u.1
+                    | inr ne ↦ both_ways _ (new.closed o cell.lsn x out_o k.0 (omega arith) k.1).0 u.1
                   ]
                 ]
             | inr kept ↦
-                let q : cell.id ≡ (s x).id = ap (λ (c : Cell). c.id) (cond-false (can.0 x) (current m h x) (s x) kept) in
+                let q : cell.lsn ≡ (s x).lsn = ap (λ (c : Cell). c.lsn) (cond-false (can.0 x) (current m h x) (s x) kept) in
                 elim (e.origin x) [
                   | inl z ↦ let zero_p : 0 ≡ p = omega (arith, z.0) in both_ways _ out_p (subst (λ (n : ℕ). IsTrue (i n)) zero_p first)
-                  | inr k ↦ elim (cases_eq p (s x).id) [
+                  | inr k ↦ elim (cases_eq p (s x).lsn) [
                     | inl same ↦ both_ways _ out_p (subst (λ (n : ℕ). IsTrue (i n)) (sym same) k.0)
-                    | inr ne ↦ both_ways _ (e.closed p (s x).id x out_p k.0 (omega arith) k.1).1 wp
+                    | inr ne ↦ both_ways _ (e.closed p (s x).lsn x out_p k.0 (omega arith) k.1).1 wp
                   ]
                 ]
           ]

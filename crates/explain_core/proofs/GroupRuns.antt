@@ -6,7 +6,7 @@ use Rattle.std.specs.List.{AllByRecursion}
 use Rattle.std.proofs.lemmas.Bool.{cases_Bool, leb-true}
 use Rattle.oper_core.specs.Meaning.{Meaning, IsLawful}
 use Rattle.explain_core.specs.World.{World, Step, step, run, end_of, AreAllowed}
-use Rattle.explain_core.specs.World.Step.{Begin, End, Append, Block_gate, Check, Slot_gate, Removal, Header_gate, Replay, Crash}
+use Rattle.explain_core.specs.World.Step.{Begin, End, Append, Block_gate, Checkpoint, Slot_gate, Removal, Header_gate, Replay, Crash}
 use Rattle.explain_core.specs.Sound.{IsSound, IsGroup}
 use Rattle.explain_core.specs.Group.{Group, IsUnsplit, with_closed, groups_after, groups_of}
 use Rattle.explain_core.proofs.Groups.{if_some-to}
@@ -59,7 +59,7 @@ kept-step m w Begin groups sound each = each
 kept-step m w End groups sound each = kept-closed w.forced (end_of w) w.group groups (if_some-to w.group (IsGroup w.history w.forced) (λ begun. begun ≡ w.forced + 1) (λ begun g. g.stable) sound.group) each
 kept-step m w (Append member) groups sound each = kept-more w.forced (end_of w) (length (w.history ++ member ∷ []) + 1) (omega (arith, length-append w.history (member ∷ []))) groups each
 kept-step m w Block_gate groups sound each = kept-all w.forced (length w.history) groups each
-kept-step m w Check groups sound each = each
+kept-step m w Checkpoint groups sound each = each
 kept-step m w (Slot_gate node x) groups sound each = each
 kept-step m w (Removal node) groups sound each = each
 kept-step m w (Header_gate base) groups sound each = each

@@ -3,13 +3,13 @@ use Rattle.std.proofs.Common.{◌≡◌, ◌∙◌, sym, subst, ℕ, ◌+◌, Op
 use Rattle.std.specs.Prelude.{IfSome}
 use Rattle.std.proofs.lemmas.Bool.{cases_lt}
 use Rattle.oper_core.specs.Meaning.{Meaning}
-use Rattle.explain_core.specs.History.{Member, IsCommand, numbered}
+use Rattle.explain_core.specs.History.{Member, IsCommand, with_lsn}
 use Rattle.explain_core.specs.History.Member.{Command, Identity}
 use Rattle.explain_core.specs.World.{World, step, MayAppend}
 use Rattle.explain_core.specs.World.Step.{Begin, End}
 use Rattle.explain_core.specs.Sound.{IsSound, IsGroup}
-use Rattle.explain_core.proofs.Basics.{numbered-front, numbered-last}
-use Rattle.explain_core.specs.GraphLaws.{numbered-past}
+use Rattle.explain_core.proofs.Basics.{with_lsn-front, with_lsn-last}
+use Rattle.explain_core.specs.GraphLaws.{with_lsn-past}
 
 pub of-none : {X : Type 0} (o : Option X) (P : X → Type 0) → o ≡ None → IfSome o P
 of-none o P e = subst (λ (q : Option _). IfSome q P) (sym e) tt
@@ -29,12 +29,12 @@ group-more : {O : Type 0} (h : List (Member O)) (member : Member O) (forced begu
 group-more {O} h member forced begun command g = record {
   stable = g.stable;
   commands = λ n le. elim (cases_lt (length h) n) [
-    | inr low ↦ subst (λ (o : Option (Member O)). IfSome o IsCommand) (numbered-front h (member ∷ []) n low) (g.commands n le)
+    | inr low ↦ subst (λ (o : Option (Member O)). IfSome o IsCommand) (with_lsn-front h (member ∷ []) n low) (g.commands n le)
     | inl high ↦ elim (cases_lt (length h + 1) n) [
-      | inl past ↦ of-none (numbered (h ++ member ∷ []) n) IsCommand (numbered-past (h ++ member ∷ []) n (omega (arith, length-append h (member ∷ []))))
+      | inl past ↦ of-none (with_lsn (h ++ member ∷ []) n) IsCommand (with_lsn-past (h ++ member ∷ []) n (omega (arith, length-append h (member ∷ []))))
       | inr here ↦
           let q : n ≡ length h + 1 = omega arith in
-          subst (λ (o : Option (Member O)). IfSome o IsCommand) (sym (ap (λ k. numbered (h ++ member ∷ []) k) q ∙ numbered-last h member)) command
+          subst (λ (o : Option (Member O)). IfSome o IsCommand) (sym (ap (λ k. with_lsn (h ++ member ∷ []) k) q ∙ with_lsn-last h member)) command
     ]
   ];
 }
@@ -65,7 +65,7 @@ begin_sound m w all s = record {
   dirty = s.dirty;
   group = record {
     stable = omega (arith, all);
-    commands = λ n le. of-none (numbered w.history n) IsCommand (numbered-past w.history n (omega (arith, le)));
+    commands = λ n le. of-none (with_lsn w.history n) IsCommand (with_lsn-past w.history n (omega (arith, le)));
   };
 }
 

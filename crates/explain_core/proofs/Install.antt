@@ -15,12 +15,12 @@ pub record MayInstall (a : Access) (v : ℕ → ℕ → List ℕ) (i j g : ℕ �
   pub no_edge : NoEdgeInto (within g a) j
   pub bound : (n : ℕ) → IsTrue (g n) → n < end
   pub cover : (n : ℕ) → n < end → IsFalse (i n) → IsTrue (g n)
-  pub late : (n x : ℕ) → IsTrue (g n) → IsFalse (i n) → IsTrue (a.writes n x) → n ≤ (c x).id
-  pub made : (x : ℕ) → (s x).id ≢ (c x).id → IsTrue (a.writes (c x).id x)
-  pub dirty : (x : ℕ) → (s x).id ≢ (c x).id → ((s x).id < (c x).id) × IsTrue (g (c x).id) × ((n : ℕ) → IsTrue (g n) → IsTrue (a.writes n x) → n ≤ (c x).id)
-  pub right : (x : ℕ) → IsFalse (i (c x).id) → (c x).value ≡ v (c x).id x
+  pub late : (n x : ℕ) → IsTrue (g n) → IsFalse (i n) → IsTrue (a.writes n x) → n ≤ (c x).lsn
+  pub made : (x : ℕ) → (s x).lsn ≢ (c x).lsn → IsTrue (a.writes (c x).lsn x)
+  pub dirty : (x : ℕ) → (s x).lsn ≢ (c x).lsn → ((s x).lsn < (c x).lsn) × IsTrue (g (c x).lsn) × ((n : ℕ) → IsTrue (g n) → IsTrue (a.writes n x) → n ≤ (c x).lsn)
+  pub right : (x : ℕ) → IsFalse (i (c x).lsn) → (c x).value ≡ v (c x).lsn x
 
--- the last number below n that passes, at or after one that does
+-- the last LSN below n that passes, at or after one that does
 last-below : (p : ℕ → Bool) (n from : ℕ) → from < n → IsTrue (p from) → (k : ℕ) × (from ≤ k) × (k < n) × IsTrue (p k) × ((q : ℕ) → k < q → q < n → IsFalse (p q))
 last-below p zero from lt e = absurd (omega arith)
 last-below p (suc n) from lt e = elim (cases_Bool (p n)) [
@@ -79,14 +79,14 @@ no_later a v i j g s c end m y p shown jp ip wp (suc fuel) l small lt gl jl wl =
 
 -- an exposed object that is no work is written by no member that becomes installed
 none_new : (a : Access) (v : ℕ → ℕ → List ℕ) (i j g : ℕ → Bool) (s c : ℕ → Cell) (end : ℕ) → MayInstall a v i j g s c end →
-    (y : ℕ) → (flush_set_of (within g a) j y → (s y).id ≢ (c y).id → ⊥) → IsExposed a (λ n. j n || i n) y → (p : ℕ) → IsTrue (j p) → IsFalse (i p) → IsTrue (a.writes p y) → ⊥
+    (y : ℕ) → (flush_set_of (within g a) j y → (s y).lsn ≢ (c y).lsn → ⊥) → IsExposed a (λ n. j n || i n) y → (p : ℕ) → IsTrue (j p) → IsFalse (i p) → IsTrue (a.writes p y) → ⊥
 none_new a v i j g s c end m y idle shown p jp ip wp =
     let gp : IsTrue (g p) = m.inside p jp in
-    let early : (s y).id < p = elim (m.explained.origin y) [
+    let early : (s y).lsn < p = elim (m.explained.origin y) [
       | inl z ↦ elim (cases_eq p 0) [ inl e ↦ absurd (both_ways _ ip (subst (λ (n : ℕ). IsTrue (i n)) (sym e) m.first)) | inr ne ↦ omega (arith, z.0) ]
-      | inr h ↦ elim (cases_order (s y).id p) [
+      | inr h ↦ elim (cases_order (s y).lsn p) [
         | inl e ↦ absurd (both_ways _ ip (subst (λ (n : ℕ). IsTrue (i n)) e h.0))
-        | inr other ↦ elim other [ inl lt ↦ lt | inr gt ↦ absurd (both_ways _ (m.explained.closed p (s y).id y ip h.0 gt h.1).1 wp) ]
+        | inr other ↦ elim other [ inl lt ↦ lt | inr gt ↦ absurd (both_ways _ (m.explained.closed p (s y).lsn y ip h.0 gt h.1).1 wp) ]
       ]
     ] in
     let t = last-below (λ n. g n && a.writes n y) end p (m.bound p gp) (and_from (g p) (a.writes p y) gp wp) in
@@ -99,27 +99,27 @@ none_new a v i j g s c end m y idle shown p jp ip wp =
       ]
     ] in
     let flushed : flush_set_of (within g a) j y = (t.0, jt, (t.3, λ n lt. false_from_ne_true _ (λ e. both_ways _ (t.4 n lt (m.bound n (and_parts (g n) (a.writes n y) e).0)) e))) in
-    elim (cases_eq (s y).id (c y).id) [
+    elim (cases_eq (s y).lsn (c y).lsn) [
       | inl same ↦ absurd (omega (arith, m.late p y gp ip wp))
       | inr ne ↦ idle flushed ne
     ]
 
 -- the cache's writer of a flushed dirty object is in the set
 writer_in : (a : Access) (v : ℕ → ℕ → List ℕ) (i j g : ℕ → Bool) (s c : ℕ → Cell) (end : ℕ) → MayInstall a v i j g s c end →
-    (y : ℕ) → flush_set_of (within g a) j y → (s y).id ≢ (c y).id → IsTrue (j (c y).id)
+    (y : ℕ) → flush_set_of (within g a) j y → (s y).lsn ≢ (c y).lsn → IsTrue (j (c y).lsn)
 writer_in a v i j g s c end m y f ne =
     let d = m.dirty y ne in
     let w = and_parts (g f.0) (a.writes f.0 y) f.2.0 in
-    elim (cases_order f.0 (c y).id) [
+    elim (cases_order f.0 (c y).lsn) [
       | inl same ↦ subst (λ (n : ℕ). IsTrue (j n)) same f.1
       | inr other ↦ elim other [
-        | inl lt ↦ absurd (both_ways _ (f.2.1 (c y).id lt) (and_from _ _ d.1 (m.made y ne)))
+        | inl lt ↦ absurd (both_ways _ (f.2.1 (c y).lsn lt) (and_from _ _ d.1 (m.made y ne)))
         | inr gt ↦ absurd (omega (arith, d.2 f.0 w.0 w.1))
       ]
     ]
 
 pub Explains-install : (a : Access) (v : ℕ → ℕ → List ℕ) (i j g : ℕ → Bool) (s c : ℕ → Cell) (end : ℕ) → MayInstall a v i j g s c end → (new : ℕ → Cell) →
-    ((y : ℕ) → ((new y ≡ s y) × (flush_set_of (within g a) j y → (s y).id ≢ (c y).id → ⊥)) ⊎ ((new y ≡ c y) × flush_set_of (within g a) j y × ((s y).id ≢ (c y).id))) →
+    ((y : ℕ) → ((new y ≡ s y) × (flush_set_of (within g a) j y → (s y).lsn ≢ (c y).lsn → ⊥)) ⊎ ((new y ≡ c y) × flush_set_of (within g a) j y × ((s y).lsn ≢ (c y).lsn))) →
     Explains a v (λ n. j n || i n) new
 Explains-install a v i j g s c end m new change =
     let e = m.explained in
@@ -144,36 +144,36 @@ Explains-install a v i j g s c end m new change =
             | inr ip ↦ e.closed o p x off.1 ip lt w
           ];
       origin = λ y. elim (change y) [
-        | inl k ↦ subst (λ (cell : Cell). ((cell.id ≡ 0) × (cell.value ≡ [])) ⊎ (IsTrue (both cell.id) × IsTrue (a.writes cell.id y))) (sym k.0)
-            (elim (e.origin y) [ inl z ↦ inl z | inr h ↦ inr (or_right (j (s y).id) (i (s y).id) h.0, h.1) ])
-        | inr k ↦ subst (λ (cell : Cell). ((cell.id ≡ 0) × (cell.value ≡ [])) ⊎ (IsTrue (both cell.id) × IsTrue (a.writes cell.id y))) (sym k.0)
-            (inr (or_left (j (c y).id) (i (c y).id) (writer_in a v i j g s c end m y k.1 k.2), m.made y k.2))
+        | inl k ↦ subst (λ (cell : Cell). ((cell.lsn ≡ 0) × (cell.value ≡ [])) ⊎ (IsTrue (both cell.lsn) × IsTrue (a.writes cell.lsn y))) (sym k.0)
+            (elim (e.origin y) [ inl z ↦ inl z | inr h ↦ inr (or_right (j (s y).lsn) (i (s y).lsn) h.0, h.1) ])
+        | inr k ↦ subst (λ (cell : Cell). ((cell.lsn ≡ 0) × (cell.value ≡ [])) ⊎ (IsTrue (both cell.lsn) × IsTrue (a.writes cell.lsn y))) (sym k.0)
+            (inr (or_left (j (c y).lsn) (i (c y).lsn) (writer_in a v i j g s c end m y k.1 k.2), m.made y k.2))
       ];
       last = λ y shown n lt there. elim (change y) [
         | inl k ↦
             let none = none_new a v i j g s c end m y k.1 shown in
-            let after : (s y).id < n = subst (λ (cell : Cell). cell.id < n) k.0 lt in
+            let after : (s y).lsn < n = subst (λ (cell : Cell). cell.lsn < n) k.0 lt in
             elim (cases_Bool (i n)) [
               | inl ip ↦ e.last y (back y shown none) n after ip
               | inr off ↦ elim (or_cases (j n) (i n) there) [ inl jn ↦ false_from_ne_true _ (λ w. none n jn off w) | inr ip ↦ absurd (both_ways _ off ip) ]
             ]
         | inr k ↦
             let d = m.dirty y k.2 in
-            let after : (c y).id < n = subst (λ (cell : Cell). cell.id < n) k.0 lt in
+            let after : (c y).lsn < n = subst (λ (cell : Cell). cell.lsn < n) k.0 lt in
             false_from_ne_true _ (λ w. elim (or_cases (j n) (i n) there) [
               | inl jn ↦ absurd (omega (arith, d.2 n (m.inside n jn) w))
               | inr ip ↦ both_ways _ (e.last y (back y shown (λ p jp off wp. both_ways _ (e.closed p n y off ip (omega (arith, d.2 p (m.inside p jp) wp)) w).1 wp)) n (omega (arith, d.0)) ip) w
             ])
       ];
       right = λ y shown. elim (change y) [
-        | inl k ↦ subst (λ (cell : Cell). cell.value ≡ v cell.id y) (sym k.0) (e.right y (back y shown (none_new a v i j g s c end m y k.1 shown)))
+        | inl k ↦ subst (λ (cell : Cell). cell.value ≡ v cell.lsn y) (sym k.0) (e.right y (back y shown (none_new a v i j g s c end m y k.1 shown)))
         | inr k ↦
             let d = m.dirty y k.2 in
-            let w : IsTrue (a.writes (c y).id y) = m.made y k.2 in
-            subst (λ (cell : Cell). cell.value ≡ v cell.id y) (sym k.0) (m.right y (false_from_ne_true _ (λ ip.
-            both_ways _ (e.last y (back y shown (λ p jp off wp. elim (cases_eq p (c y).id) [
+            let w : IsTrue (a.writes (c y).lsn y) = m.made y k.2 in
+            subst (λ (cell : Cell). cell.value ≡ v cell.lsn y) (sym k.0) (m.right y (false_from_ne_true _ (λ ip.
+            both_ways _ (e.last y (back y shown (λ p jp off wp. elim (cases_eq p (c y).lsn) [
               | inl same ↦ both_ways _ off (subst (λ (n : ℕ). IsTrue (i n)) (sym same) ip)
-              | inr ne ↦ both_ways _ (e.closed p (c y).id y off ip (omega (arith, d.2 p (m.inside p jp) wp)) w).1 wp
-            ])) (c y).id d.0 ip) w)))
+              | inr ne ↦ both_ways _ (e.closed p (c y).lsn y off ip (omega (arith, d.2 p (m.inside p jp) wp)) w).1 wp
+            ])) (c y).lsn d.0 ip) w)))
       ];
     }

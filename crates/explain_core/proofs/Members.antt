@@ -28,7 +28,7 @@ slice_get-some [] i lt = absurd (omega arith)
 slice_get-some (x ∷ xs) zero lt = (x, refl)
 slice_get-some (x ∷ xs) (suc i) lt = slice_get-some xs i (omega arith)
 
--- each numbered member writes some object
+-- each member writes some object
 pub writes-any : {O : Type 0} (m : Meaning O) → IsLawful m → (h : List (Member O)) (k : ℕ) → IsHistory m h → k < length h → (x : ℕ) × (x < m.objects) × IsTrue ((accesses_of m h).writes (suc k) x)
 writes-any {O} m law h k e lt =
     let got = slice_get-some h k lt in

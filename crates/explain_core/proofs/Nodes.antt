@@ -83,13 +83,13 @@ slot_sound {O} m w node x inside none all work only s =
       next = s.next;
       passed = λ n lt out. s.passed n lt (or_parts (node n) (w.installed n) out).1;
       cache = Explains-same a (value_at m w.history) (and_below w.next w.installed) (and_below w.next (λ n. node n || w.installed n)) w.cache (same-with w.installed node w.next (λ n e. (s.graph n (inside n e)).1)) s.cache;
-      cache_right = λ y out. s.cache_right y (or_parts (node (w.cache y).id) (w.installed (w.cache y).id) out).1;
+      cache_right = λ y out. s.cache_right y (or_parts (node (w.cache y).lsn) (w.installed (w.cache y).lsn) out).1;
       cache_late = λ n y e out wr. s.cache_late n y e (or_parts (node n) (w.installed n) out).1 wr;
       dirty = λ y ne. elim (split y) [
-        | inl q ↦ absurd (ne (ap (λ (cell : Cell). cell.id) q.1))
+        | inl q ↦ absurd (ne (ap (λ (cell : Cell). cell.lsn) q.1))
         | inr q ↦
-            let d = s.dirty y (λ e. ne (ap (λ (cell : Cell). cell.id) q.1 ∙ e)) in
-            (subst (λ (cell : Cell). cell.id < (w.cache y).id) (sym q.1) d.0, d.1, d.2, d.3)
+            let d = s.dirty y (λ e. ne (ap (λ (cell : Cell). cell.lsn) q.1 ∙ e)) in
+            (subst (λ (cell : Cell). cell.lsn < (w.cache y).lsn) (sym q.1) d.0, d.1, d.2, d.3)
       ];
       group = s.group;
     }
@@ -117,23 +117,23 @@ removal_sound {O} m w node inside none all idle s =
           let off = or_parts (node n) (w.installed n) out in
           and_from (w.graph n) (not (node n)) (s.passed n lt off.1) (not_from_false (node n) off.0);
       cache = Explains-same a (value_at m w.history) (and_below w.next w.installed) (and_below w.next (λ n. node n || w.installed n)) w.cache (same-with w.installed node w.next (λ n e. (s.graph n (inside n e)).1)) s.cache;
-      cache_right = λ y out. s.cache_right y (or_parts (node (w.cache y).id) (w.installed (w.cache y).id) out).1;
+      cache_right = λ y out. s.cache_right y (or_parts (node (w.cache y).lsn) (w.installed (w.cache y).lsn) out).1;
       cache_late = λ n y e out wr. s.cache_late n y (and_parts (w.graph n) (not (node n)) e).0 (or_parts (node n) (w.installed n) out).1 wr;
       dirty = λ y ne.
           let d = s.dirty y ne in
-          let off : IsFalse (node (w.cache y).id) = false_from_ne_true _ (λ there. idle y (
+          let off : IsFalse (node (w.cache y).lsn) = false_from_ne_true _ (λ there. idle y (
             (
-              (w.cache y).id,
+              (w.cache y).lsn,
               there,
               (
-                and_from (w.graph (w.cache y).id) (a.writes (w.cache y).id y) d.1 (may.made y ne),
+                and_from (w.graph (w.cache y).lsn) (a.writes (w.cache y).lsn y) d.1 (may.made y ne),
                 λ later lt. false_from_ne_true _ (λ e. let p = and_parts (w.graph later) (a.writes later y) e in absurd (omega (arith, d.2 later p.0 p.1))),
               ),
             ),
             ne,
           )) in (
             d.0,
-            and_from (w.graph (w.cache y).id) (not (node (w.cache y).id)) d.1 (not_from_false _ off),
+            and_from (w.graph (w.cache y).lsn) (not (node (w.cache y).lsn)) d.1 (not_from_false _ off),
             (λ n e wr. d.2 n (and_parts (w.graph n) (not (node n)) e).0 wr),
             d.3,
           );

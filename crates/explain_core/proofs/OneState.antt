@@ -5,7 +5,7 @@ use Rattle.std.specs.List.{AllByRecursion}
 use Rattle.std.proofs.lemmas.List.{take_all, take-take}
 use Rattle.std.proofs.lemmas.Bool.{both_ways}
 use Rattle.oper_core.specs.Meaning.{Meaning, IsLawful, state_after}
-use Rattle.explain_core.specs.History.{Member, accesses_of, value_at, numbered, writes_some, commands_of}
+use Rattle.explain_core.specs.History.{Member, accesses_of, value_at, with_lsn, writes_some, commands_of}
 use Rattle.oper_core.specs.Cell.{Cell}
 use Rattle.explain_core.specs.Explains.{Explains}
 use Rattle.explain_core.specs.World.{World, Starts, step, run, replays, plan_of, start_of, end_of, set_by}
@@ -47,13 +47,13 @@ slice_get-drop (suc n) (x ∷ xs) i = let e : suc n + i ≡ suc (n + i) = omega 
 
 -- the cache after one replay, and after so many
 abbrev redo_cache : {O : Type 0} → Meaning O → Option (Member O) → Starts → ℕ → (ℕ → Cell) → ℕ → Cell
-redo_cache m o plan k c = set_by m o (λ x. writes_some m o x && (nat_lt (c x).id k && nat_le (plan.redo_from x) k)) k c
+redo_cache m o plan k c = set_by m o (λ x. writes_some m o x && (nat_lt (c x).lsn k && nat_le (plan.redo_from x) k)) k c
 
 abbrev redo_caches : {O : Type 0} → Meaning O → (ℕ → Option (Member O)) → Starts → ℕ → ℕ → (ℕ → Cell) → ℕ → Cell
 redo_caches m members plan k zero c = c
 redo_caches m members plan k (suc n) c = redo_caches m members plan (k + 1) n (redo_cache m (members k) plan k c)
 
-run-caches : {O : Type 0} (m : Meaning O) (w : World O) (n : ℕ) → (run m w (replays n)).cache ≡ redo_caches m (λ k. numbered w.history k) (plan_of w.tables w.base) w.next n w.cache
+run-caches : {O : Type 0} (m : Meaning O) (w : World O) (n : ℕ) → (run m w (replays n)).cache ≡ redo_caches m (λ k. with_lsn w.history k) (plan_of w.tables w.base) w.next n w.cache
 unfolding step run
 run-caches m w zero = refl
 run-caches m w (suc n) = run-caches m (step m w Replay) n
@@ -106,7 +106,7 @@ stand-member {O} m parts h i s n le =
     let e : d + (n - d) ≡ n = omega (arith, s.base) in
     sym (ap (λ k. slice_get h k) e) ∙ sym (slice_get-drop d h (n - d)) ∙ ap (λ (r : List (Member O)). slice_get r (n - d)) s.records
 
-member-same : {O : Type 0} (m : Meaning O) (parts : Stable O) (h k : List (Member O)) (i j : ℕ → Bool) → IsStableOf m parts h i → IsStableOf m parts k j → (n : ℕ) → parts.base ≤ n → numbered h n ≡ numbered k n
+member-same : {O : Type 0} (m : Meaning O) (parts : Stable O) (h k : List (Member O)) (i j : ℕ → Bool) → IsStableOf m parts h i → IsStableOf m parts k j → (n : ℕ) → parts.base ≤ n → with_lsn h n ≡ with_lsn k n
 member-same m parts h k i j s t zero le = refl
 member-same m parts h k i j s t (suc n) le = stand-member m parts h i s n le ∙ sym (stand-member m parts k j t n le)
 
@@ -120,9 +120,9 @@ one-state {O} m law parts h k i j s t x =
     let sound = standing_sound m law parts h i s in
     let n = end_of w - w.next in
     let same : n ≡ end_of z - z.next = ap (λ l. (l + 1) - w.next) long in
-    let members : (a : ℕ) → w.next ≤ a → numbered h a ≡ numbered k a = λ a le.
+    let members : (a : ℕ) → w.next ≤ a → with_lsn h a ≡ with_lsn k a = λ a le.
     member-same m parts h k i j s t a (omega (arith, sound.next.0)) in
-    let caches : (run m w (replays n)).cache ≡ (run m z (replays n)).cache = run-caches m w n ∙ same-caches m (λ a. numbered h a) (λ a. numbered k a) plan w.next n w.cache members ∙ sym (run-caches m z n) in
+    let caches : (run m w (replays n)).cache ≡ (run m z (replays n)).cache = run-caches m w n ∙ same-caches m (λ a. with_lsn h a) (λ a. with_lsn k a) plan w.next n w.cache members ∙ sym (run-caches m z n) in
     let left = (replayed_map m law w sound).2 in
     let right = (replayed_map m law z (standing_sound m law parts k j t)).2 in
     sym (left x) ∙ ap (λ (c : ℕ → Cell). (c x).value) caches ∙ ap (λ (q : ℕ). ((run m z (replays q)).cache x).value) same ∙ right x

@@ -21,7 +21,7 @@ one_last a x n k last later = elim (cases_order n k) [
   | inr other ↦ elim other [ inl before ↦ absurd (both_ways _ (last.1 k before) later.0) | inr after ↦ absurd (both_ways _ (later.1 n after) last.0) ]
 ]
 
--- where some number is counted, one passes
+-- where some LSN is counted, one passes
 some_counted : (n : ℕ) (p : ℕ → Bool) → 1 ≤ count_below n p → IsTrue (some_below n p)
 some_counted zero p some = absurd (omega (arith, some))
 some_counted (suc n) p some = elim (cases_Bool (p n)) [
@@ -74,7 +74,7 @@ module _ {O : Type 0} (m : Meaning O) (lawful : IsLawful m) (w : World O) (sound
   pub is_within : IsWithin a m.objects end
   is_within = graph-within m lawful w sound
 
-  -- the members of the graph have numbers of the history
+  -- the members of the graph have LSNs of the history
   pub below : (n : ℕ) → IsTrue (w.graph n) → n < end
   below n there = omega (arith, (sound.graph n there).1, sound.next.1)
 
@@ -107,7 +107,7 @@ module _ {O : Type 0} (m : Meaning O) (lawful : IsLawful m) (w : World O) (sound
   acc = graph_access m w
 
   work_gives : (node : ℕ → Bool) (x : ℕ) → work_of m w node x → IsTrue (has_work m w node x)
-  work_gives node x work = and_from (is_flushed acc (end_of w) node x) _ ((flushed-iff acc m.objects (end_of w) node x (is_within m lawful w sound)).1 work.0) (not_from_false _ (ne_eqb (w.slots x).id (w.cache x).id work.1))
+  work_gives node x work = and_from (is_flushed acc (end_of w) node x) _ ((flushed-iff acc m.objects (end_of w) node x (is_within m lawful w sound)).1 work.0) (not_from_false _ (ne_eqb (w.slots x).lsn (w.cache x).lsn work.1))
 
   work_from : (node : ℕ → Bool) (x : ℕ) → IsTrue (has_work m w node x) → work_of m w node x
   work_from node x is =
@@ -172,7 +172,7 @@ module _ {O : Type 0} (m : Meaning O) (lawful : IsLawful m) (w : World O) (sound
   pub apart_due : (n k : ℕ) → n < k → IsTrue (is_due m may w n) → IsTrue (is_due m may w k) → object_at m w k ≢ object_at m w n
   apart_due n k less first second same = let le = names_le n k first second (sym same) in absurd (omega (arith, le, less))
 
-  -- each gate of a round is that of a number which is due
+  -- each gate of a round is that of an LSN which is due
   from_due : (most fuel k : ℕ) (h : Gate) → IsGateAmong h (due_from m may most fuel k w) → (j : ℕ) × (k ≤ j) × IsTrue (is_due m may w j) × (h ≡ gate_at m w j)
   from_due most zero k h there = absurd there
   from_due zero (suc fuel) k h there = absurd there

@@ -6,7 +6,7 @@ use Rattle.oper_core.specs.Meaning.{Meaning, IsLawful, state_after}
 use Rattle.explain_core.specs.History.{Member, accesses_of, value_at, commands_of}
 use Rattle.explain_core.specs.Explains.{Explains}
 use Rattle.explain_core.specs.World.{World, Step, step, run, IsAllowed, AreAllowed, IsLive, end_of, new_world, replays, redo_of}
-use Rattle.explain_core.specs.World.Step.{Begin, End, Append, Block_gate, Check, Slot_gate, Removal, Header_gate, Replay, Crash}
+use Rattle.explain_core.specs.World.Step.{Begin, End, Append, Block_gate, Checkpoint, Slot_gate, Removal, Header_gate, Replay, Crash}
 use Rattle.explain_core.specs.Sound.{IsSound, and_below}
 use Rattle.explain_core.proofs.Crash.{crash_sound}
 use Rattle.explain_core.proofs.Groups.{begin_sound, end_sound}
@@ -16,14 +16,14 @@ use Rattle.explain_core.proofs.Set.{out-from}
 use Rattle.explain_core.proofs.Fold.{state_after-commands_of}
 use Rattle.explain_core.proofs.Replay.{replay_sound}
 use Rattle.explain_core.proofs.Nodes.{slot_sound, removal_sound}
-use Rattle.explain_core.proofs.Tables.{check_sound, header_sound}
+use Rattle.explain_core.proofs.Tables.{checkpoint_sound, header_sound}
 
 pub step_sound : {O : Type 0} (m : Meaning O) → IsLawful m → (w : World O) (t : Step O) → IsAllowed m w t → IsSound m w → IsSound m (step m w t)
 step_sound m law w (Append member) may s = append_sound m w member may.0 may.1 s
 step_sound m law w Begin may s = begin_sound m w may.1.0 s
 step_sound m law w End may s = end_sound m w s
 step_sound m law w Block_gate may s = gate_sound m w may.0 may.1 s
-step_sound m law w Check may s = check_sound m w may.0 s
+step_sound m law w Checkpoint may s = checkpoint_sound m w may.0 s
 step_sound m law w (Slot_gate node x) may s = slot_sound m w node x may.0.0 may.0.1.1 may.0.2.0 may.1 may.2 s
 step_sound m law w (Removal node) may s = removal_sound m w node may.0.0 may.0.1.1 may.0.2.0 may.1 s
 step_sound m law w (Header_gate base) may s = header_sound m w base may.0 may.1.0 may.2 may.3 may.4 s
@@ -50,7 +50,7 @@ nothing-written m (suc n) x = refl
 pub new_sound : {O : Type 0} (m : Meaning O) → IsSound m (new_world O)
 new_sound m =
     let nothing : (n x : ℕ) → IsFalse ((accesses_of m []).writes n x) = λ n x. nothing-written m n x in
-    let start : (i : ℕ → Bool) → ((n : ℕ) → 0 < n → IsFalse (i n)) → Explains (accesses_of m []) (value_at m []) i (λ x. record { id = 0; value = [] }) = λ i none. record {
+    let start : (i : ℕ → Bool) → ((n : ℕ) → 0 < n → IsFalse (i n)) → Explains (accesses_of m []) (value_at m []) i (λ x. record { lsn = 0; value = [] }) = λ i none. record {
       closed = λ o p x out there lt w. absurd (both_ways _ (nothing p x) w);
       origin = λ x. inl (refl, refl);
       last = λ x shown n lt there. nothing n x;

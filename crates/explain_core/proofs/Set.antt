@@ -1,4 +1,4 @@
--- What explains the cache when the next number's writes are set.
+-- What explains the cache when the next LSN's writes are set.
 use Rattle.std.proofs.Common.{◌≡◌, ◌∙◌, sym, subst, ℕ, zero, suc, ◌<◌, ◌≤◌, Bool, List, [], ◌∷◌, refl, ap, arith, inl, inr, Option, None, Some}
 use Rattle.std.specs.Prelude.{IsTrue, IsFalse, ◌⊎◌, nat_lt, ◌==◌, slice_get}
 use Rattle.std.specs.Prelude.{map}
@@ -38,7 +38,7 @@ value_at-still m h x k (suc n) le none = elim (cases_lt n k) [
   | inr before ↦ made_by-still m (slice_get h n) (λ y. value_at m h n y) x (none (suc n) (omega arith) (omega arith)) ∙ value_at-still m h x k n before (λ i lt le. none i lt (omega arith))
 ]
 
--- out of a set and of the numbers below k
+-- out of a set and of the LSNs below k
 pub out-parts : (k : ℕ) (i : ℕ → Bool) (n : ℕ) → IsFalse (and_below k i n) → (k ≤ n) × IsFalse (i n)
 out-parts k i n e = let p = or_parts (nat_lt n k) (i n) e in (ltb-false n k p.0, p.1)
 
@@ -54,11 +54,11 @@ in-set k i n e = or_right (nat_lt n k) (i n) e
 pub in-cases : (k : ℕ) (i : ℕ → Bool) (n : ℕ) → IsTrue (and_below k i n) → (n < k) ⊎ IsTrue (i n)
 in-cases k i n e = elim (or_cases (nat_lt n k) (i n) e) [ inl lt ↦ inl (ltb-true n k lt) | inr there ↦ inr there ]
 
--- what the next number reads is exposed
+-- what the next LSN reads is exposed
 reads-exposed : (a : Access) (i : ℕ → Bool) (k y : ℕ) → IsFalse (i k) → IsTrue (a.reads k y) → IsExposed a (and_below k i) y
 reads-exposed a i k y out r p outside w = (k, (out-parts k i p outside).0, out-from k i k (omega arith) out, r)
 
--- no member of the set at or past k writes what the uninstalled number k reads or writes
+-- no member of the set at or past k writes what the uninstalled LSN k reads or writes
 pub late-none : (a : Access) (i : ℕ → Bool) (k p y : ℕ) → IsClosed a i → IsFalse (i k) → (IsTrue (a.reads k y) ⊎ IsTrue (a.writes k y)) → IsTrue (and_below k i p) → IsTrue (a.writes p y) → p < k
 late-none a i k p y closed out touch within w = elim (in-cases k i p within) [
   | inl lt ↦ lt
@@ -68,17 +68,17 @@ late-none a i k p y closed out touch within w = elim (in-cases k i p within) [
   ]
 ]
 
--- the next number reads what it read in the history
+-- the next LSN reads what it read in the history
 pub read-right : {O : Type 0} (m : Meaning O) (h : List (Member O)) (i : ℕ → Bool) (k : ℕ) (c : ℕ → Cell) → IsClosed (accesses_of m h) i → IsFalse (i (suc k)) → Explains (accesses_of m h) (value_at m h) (and_below (suc k) i) c → (y : ℕ) → IsTrue ((accesses_of m h).reads (suc k) y) → (c y).value ≡ value_at m h k y
 read-right m h i k c closed out e y r =
     let a = accesses_of m h in
     let shown : IsExposed a (and_below (suc k) i) y = reads-exposed a i (suc k) y out r in
-    let early : (c y).id ≤ k = elim (e.origin y) [ inl z ↦ omega (arith, z.0) | inr g ↦ omega (arith, late-none a i (suc k) (c y).id y closed out (inl r) g.0 g.1) ] in
-    e.right y shown ∙ sym (value_at-still m h y (c y).id k early (λ n lt le. e.last y shown n lt (in-below (suc k) i n (omega arith))))
+    let early : (c y).lsn ≤ k = elim (e.origin y) [ inl z ↦ omega (arith, z.0) | inr g ↦ omega (arith, late-none a i (suc k) (c y).lsn y closed out (inl r) g.0 g.1) ] in
+    e.right y shown ∙ sym (value_at-still m h y (c y).lsn k early (λ n lt le. e.last y shown n lt (in-below (suc k) i n (omega arith))))
 
 -- c is d with the writes of the member k set as the history has them
 abbrev pub IsSetAt : (a : Access) (v : ℕ → ℕ → List ℕ) (k : ℕ) (d c : ℕ → Cell) → Type 0
-IsSetAt a v k d c = (x : ℕ) → (IsTrue (a.writes k x) × (c x ≡ record { id = k; value = v k x })) ⊎ (IsFalse (a.writes k x) × (c x ≡ d x))
+IsSetAt a v k d c = (x : ℕ) → (IsTrue (a.writes k x) × (c x ≡ record { lsn = k; value = v k x })) ⊎ (IsFalse (a.writes k x) × (c x ≡ d x))
 
 closed-below : (a : Access) (i : ℕ → Bool) (k : ℕ) → IsClosed a i → IsClosed a (and_below k i)
 closed-below a i k closed o p x out within lt w =
@@ -100,13 +100,13 @@ exposed-back a i k x still shown p out w =
 in-next : (k : ℕ) (i : ℕ → Bool) (n : ℕ) → IsTrue (and_below k i n) → IsTrue (and_below (suc k) i n)
 in-next k i n e = elim (in-cases k i n e) [ inl lt ↦ in-below (suc k) i n (omega arith) | inr there ↦ in-set (suc k) i n there ]
 
--- the number k is not installed: its writes are right, and the set grows by it
+-- the LSN k is not installed: its writes are right, and the set grows by it
 pub Explains-fresh : (a : Access) (v : ℕ → ℕ → List ℕ) (i : ℕ → Bool) (k : ℕ) (d c : ℕ → Cell) → IsClosed a i → IsFalse (i k) → Explains a v (and_below k i) d → IsSetAt a v k d c → Explains a v (and_below (suc k) i) c
 Explains-fresh a v i k d c closed out e set = record {
   closed = closed-below a i (suc k) closed;
   origin = λ x. elim (set x) [
     | inl t ↦ rw t.1 (inr (in-below (suc k) i k (omega arith), t.0))
-    | inr f ↦ rw f.1 (elim (e.origin x) [ inl z ↦ inl z | inr g ↦ inr (in-next k i (d x).id g.0, g.1) ])
+    | inr f ↦ rw f.1 (elim (e.origin x) [ inl z ↦ inl z | inr g ↦ inr (in-next k i (d x).lsn g.0, g.1) ])
   ];
   last = λ x shown n lt within. elim (set x) [
     | inl t ↦
@@ -116,7 +116,7 @@ Explains-fresh a v i k d c closed out e set = record {
           | inr there ↦ false_from_ne_true (a.writes n x) (λ w. both_ways _ (closed k n x out there after w).1 t.0)
         ]
     | inr f ↦
-        let after : (d x).id < n = rw f.1 at lt in
+        let after : (d x).lsn < n = rw f.1 at lt in
         let back : IsExposed a (and_below k i) x = exposed-back a i k x f.0 shown in
         elim (in-cases (suc k) i n within) [
           | inl below ↦ elim (cases_eq n k) [
@@ -143,9 +143,9 @@ next-same k i there n = elim (cases_Bool (and_below k i n)) [
       ]
 ]
 
--- the number k is installed: whatever values are set, they are of objects that are not exposed
+-- the LSN k is installed: whatever values are set, they are of objects that are not exposed
 pub Explains-old : (a : Access) (v : ℕ → ℕ → List ℕ) (i : ℕ → Bool) (k : ℕ) (d c : ℕ → Cell) → IsTrue (i k) → Explains a v (and_below k i) d →
-    ((x : ℕ) → (IsTrue (a.writes k x) × ((d x).id < k) × ((c x).id ≡ k)) ⊎ (c x ≡ d x)) → Explains a v (and_below (suc k) i) c
+    ((x : ℕ) → (IsTrue (a.writes k x) × ((d x).lsn < k) × ((c x).lsn ≡ k)) ⊎ (c x ≡ d x)) → Explains a v (and_below (suc k) i) c
 Explains-old a v i k d c there e set =
     let same : (n : ℕ) → and_below k i n ≡ and_below (suc k) i n = next-same k i there in
     let g : Explains a v (and_below (suc k) i) d = Explains-same a v (and_below k i) (and_below (suc k) i) d same e in

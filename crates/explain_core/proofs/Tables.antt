@@ -1,4 +1,4 @@
--- A check and a header's gate keep a world sound.
+-- A checkpoint and a header's gate keep a world sound.
 use Rattle.std.proofs.Common.{◌≡◌, refl, sym, subst, ℕ, ◌+◌, ◌≤◌, Bool, length, arith, inl, inr}
 use Rattle.std.specs.Prelude.{IsTrue, ◌&&◌}
 use Rattle.std.proofs.lemmas.Bool.{cases_lt, both_ways, true_from_ne_false, and_parts, and_from}
@@ -7,11 +7,11 @@ use Rattle.explain_core.specs.History.{accesses_of}
 use Rattle.install_order.specs.Computed.{least_below}
 use Rattle.install_order.specs.NodeLaws.{least-is}
 use Rattle.explain_core.specs.World.{World, step, IsLive, end_of, table_now}
-use Rattle.explain_core.specs.World.Step.{Check, Header_gate}
+use Rattle.explain_core.specs.World.Step.{Checkpoint, Header_gate}
 use Rattle.explain_core.specs.Sound.{IsSound, SkipsNothing}
 use Rattle.explain_core.specs.GraphLaws.{no-writes}
 
--- a check taken now skips nothing, from any base that is at most each member of the graph
+-- a checkpoint taken now skips nothing, from any base that is at most each member of the graph
 now-fits : {O : Type 0} (m : Meaning O) (w : World O) (base : ℕ) → IsLive w → base ≤ end_of w → ((n : ℕ) → IsTrue (w.graph n) → base ≤ n) → IsSound m w → SkipsNothing (accesses_of m w.history) w.installed base (end_of w) (table_now m w)
 now-fits m w base live le each s =
     let a = accesses_of m w.history in
@@ -30,9 +30,9 @@ now-fits m w base live le each s =
       next_within = omega arith;
     }
 
-pub check_sound : {O : Type 0} (m : Meaning O) (w : World O) → IsLive w → IsSound m w → IsSound m (step m w Check)
+pub checkpoint_sound : {O : Type 0} (m : Meaning O) (w : World O) → IsLive w → IsSound m w → IsSound m (step m w Checkpoint)
 unfolding step
-check_sound m w live s = record {
+checkpoint_sound m w live s = record {
   history = s.history;
   forced = s.forced;
   installed = s.installed;

@@ -7,7 +7,7 @@ use Rattle.oper_core.specs.State.{State, is_among, value_for}
 use Rattle.oper_core.specs.Meaning.{Meaning, IsLawful, Widens, Accepts, read_values, after}
 use Rattle.oper_core.specs.MeaningLaws.{read_values-fit, accepts-wider, after-wider}
 use Rattle.install_order.specs.Order.{Access}
-use Rattle.explain_core.specs.History.{Member, IsMember, IsHistory, made_by, value_at, accesses_of, numbered, reads_some, writes_some}
+use Rattle.explain_core.specs.History.{Member, IsMember, IsHistory, made_by, value_at, accesses_of, with_lsn, reads_some, writes_some}
 use Rattle.explain_core.specs.History.Member.{Command, Identity}
 use Rattle.explain_core.specs.GraphLaws.{accepted-in_grammar}
 use Rattle.explain_core.specs.Explains.{Explains}
@@ -65,7 +65,7 @@ module _ {O : Type 0} (m wide : Meaning O) (law : IsLawful m) (widens : Widens m
   writes-wider (Some (Identity y v)) x = refl
 
   accesses-wider : (h : List (Member O)) → accesses_of wide h ≡ accesses_of m h
-  accesses-wider h i = record { reads = λ n x. reads-wider (numbered h n) x i; writes = λ n x. writes-wider (numbered h n) x i }
+  accesses-wider h i = record { reads = λ n x. reads-wider (with_lsn h n) x i; writes = λ n x. writes-wider (with_lsn h n) x i }
 
   module _ (h : List (Member O)) (is : IsHistory m h) where
     abbrev at : ℕ → State

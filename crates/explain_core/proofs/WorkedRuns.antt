@@ -9,10 +9,10 @@ use Rattle.install_order.specs.Checks.{is_minimal-gives, flushes_only-gives}
 use Rattle.explain_core.specs.declared.byte_op.ByteOp.{ByteOp}
 use Rattle.explain_core.specs.ByteOps.{byte_meaning, byte_lawful}
 use Rattle.explain_core.specs.World.{Step, step, run, AreAllowed, IsInstallable, new_world, graph_access, work_of, end_of, replays}
-use Rattle.explain_core.specs.World.Step.{Block_gate, Check, Slot_gate, Removal, Header_gate, Crash}
+use Rattle.explain_core.specs.World.Step.{Block_gate, Checkpoint, Slot_gate, Removal, Header_gate, Crash}
 use Rattle.explain_core.specs.RunLaws.{allowed-append}
 use Rattle.explain_core.specs.Sound.{IsSound}
-use Rattle.explain_core.specs.Worked.{two, after_steps, swap_node, swap_logged, swap_flushed, swap_removed, swap_checked, swap_redone, redone_node, swap_installed, swap_redone_again, group_opened}
+use Rattle.explain_core.specs.Worked.{two, after_steps, swap_node, swap_logged, swap_flushed, swap_removed, swap_checkpointed, swap_redone, redone_node, swap_installed, swap_redone_again, group_opened}
 use Rattle.explain_core.proofs.Runs.{run_sound, new_sound}
 use Rattle.explain_core.specs.GraphLaws.{graph-within}
 
@@ -74,7 +74,7 @@ removed-allowed = one-more swap_flushed (Removal swap_node ∷ []) flushed-allow
     flushed-ready,
     λ y work.
         let q : y ≡ 0 = flushes_only-gives (graph_access (byte_meaning two) (after_steps swap_flushed)) 2 5 swap_node 0 (within swap_flushed flushed-allowed) refl y work.0 in
-        work.1 (subst (λ (y : ℕ). ((after_steps swap_flushed).slots y).id ≡ ((after_steps swap_flushed).cache y).id) (sym q) refl),
+        work.1 (subst (λ (y : ℕ). ((after_steps swap_flushed).slots y).lsn ≡ ((after_steps swap_flushed).cache y).lsn) (sym q) refl),
   ),
   tt,
 )
@@ -87,9 +87,9 @@ from-four n there = elim (cases_lt n 4) [
   | inr high ↦ high
 ]
 
-pub checked-allowed : AreAllowed (byte_meaning two) (new_world ByteOp) swap_checked
+pub checkpointed-allowed : AreAllowed (byte_meaning two) (new_world ByteOp) swap_checkpointed
 unfolding step run
-checked-allowed = one-more swap_removed (Check ∷ Block_gate ∷ Header_gate 4 ∷ Crash ∷ []) removed-allowed
+checkpointed-allowed = one-more swap_removed (Checkpoint ∷ Block_gate ∷ Header_gate 4 ∷ Crash ∷ []) removed-allowed
     ((omega arith, refl), ((omega arith, refl), ((omega arith, (refl, refl), omega arith, omega arith, from-four), (tt, tt))))
 
 pub redone-allowed : AreAllowed (byte_meaning two) (new_world ByteOp) (swap_redone 4)
@@ -121,7 +121,7 @@ unfolding step run
 in_redo-only y work =
     let low : y < 2 = (within (swap_redone 3) in_redo-allowed).writes_object work.0.0 y work.0.2.0 in
     elim (cases_eq y 0) [
-      | inl q ↦ absurd (work.1 (subst (λ (y : ℕ). ((after_steps (swap_redone 3)).slots y).id ≡ ((after_steps (swap_redone 3)).cache y).id) (sym q) refl))
+      | inl q ↦ absurd (work.1 (subst (λ (y : ℕ). ((after_steps (swap_redone 3)).slots y).lsn ≡ ((after_steps (swap_redone 3)).cache y).lsn) (sym q) refl))
       | inr ne ↦ omega arith
     ]
 
@@ -143,8 +143,8 @@ gate-idle y work =
     let w = after_steps (swap_redone 3 ++ Slot_gate redone_node 1 ∷ []) in
     let low : y < 2 = (within (swap_redone 3 ++ Slot_gate redone_node 1 ∷ []) gate-allowed).writes_object work.0.0 y work.0.2.0 in
     elim (cases_eq y 0) [
-      | inl q ↦ work.1 (subst (λ (y : ℕ). (w.slots y).id ≡ (w.cache y).id) (sym q) refl)
-      | inr ne ↦ let q : y ≡ 1 = omega arith in work.1 (subst (λ (y : ℕ). (w.slots y).id ≡ (w.cache y).id) (sym q) refl)
+      | inl q ↦ work.1 (subst (λ (y : ℕ). (w.slots y).lsn ≡ (w.cache y).lsn) (sym q) refl)
+      | inr ne ↦ let q : y ≡ 1 = omega arith in work.1 (subst (λ (y : ℕ). (w.slots y).lsn ≡ (w.cache y).lsn) (sym q) refl)
     ]
 
 pub installed-allowed : AreAllowed (byte_meaning two) (new_world ByteOp) swap_installed

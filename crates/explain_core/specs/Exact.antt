@@ -6,14 +6,14 @@ use Rattle.explain_core.specs.History.{Member, accesses_of, value_at}
 use Rattle.oper_core.specs.Cell.{Cell}
 use Rattle.explain_core.specs.Explains.{Explains}
 
--- the last number below n that writes x, or 0
+-- the last LSN below n that writes x, or 0
 abbrev pub last_writer : Access → ℕ → ℕ → ℕ
 last_writer a zero x = 0
 last_writer a (suc n) x = if a.writes n x then n else last_writer a n x
 
--- each object's last identifier and value
+-- each object's last LSN and value
 abbrev pub current : {O : Type 0} → Meaning O → List (Member O) → ℕ → Cell
-current m h x = let n = last_writer (accesses_of m h) (suc (length h)) x in record { id = n; value = value_at m h n x }
+current m h x = let n = last_writer (accesses_of m h) (suc (length h)) x in record { lsn = n; value = value_at m h n x }
 
 -- the members that are not installed
 abbrev pub rest_of : {O : Type 0} → List (Member O) → (ℕ → Bool) → ℕ → Bool

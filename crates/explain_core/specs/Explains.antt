@@ -8,9 +8,9 @@ use Rattle.install_order.specs.Order.{Access, IsClosed, IsExposed}
 pub record Explains (a : Access) (values : ℕ → State) (installed : ℕ → Bool) (state : ℕ → Cell) : Type 0 where
   -- nobody outside accesses what a later installed member writes
   pub closed : IsClosed a installed
-  -- each object is empty under the identifier 0, or bears the number of an installed member that writes it
-  pub origin : (x : ℕ) → (((state x).id ≡ 0) × ((state x).value ≡ [])) ⊎ (IsTrue (installed (state x).id) × IsTrue (a.writes (state x).id x))
+  -- each object is empty under the LSN 0, or bears the LSN of an installed member that writes it
+  pub origin : (x : ℕ) → (((state x).lsn ≡ 0) × ((state x).value ≡ [])) ⊎ (IsTrue (installed (state x).lsn) × IsTrue (a.writes (state x).lsn x))
   -- an exposed object bears the number of the last installed member that writes it
-  pub last : (x : ℕ) → IsExposed a installed x → (n : ℕ) → (state x).id < n → IsTrue (installed n) → IsFalse (a.writes n x)
+  pub last : (x : ℕ) → IsExposed a installed x → (n : ℕ) → (state x).lsn < n → IsTrue (installed n) → IsFalse (a.writes n x)
   -- and has the value that this member made
-  pub right : (x : ℕ) → IsExposed a installed x → (state x).value ≡ values (state x).id x
+  pub right : (x : ℕ) → IsExposed a installed x → (state x).value ≡ values (state x).lsn x

@@ -8,7 +8,7 @@ use Rattle.oper_core.specs.State.{State, is_among}
 use Rattle.oper_core.specs.Meaning.{Meaning, IsLawful, IsInGrammar, Accepts}
 use Rattle.oper_core.specs.MeaningLaws.{or_else-none}
 use Rattle.install_order.specs.Computed.{IsWithin}
-use Rattle.explain_core.specs.History.{Member, IsMember, accesses_of, value_at, numbered, reads_some, writes_some}
+use Rattle.explain_core.specs.History.{Member, IsMember, accesses_of, value_at, with_lsn, reads_some, writes_some}
 use Rattle.explain_core.specs.History.Member.{Command, Identity}
 use Rattle.explain_core.specs.World.{World, graph_access, end_of}
 use Rattle.explain_core.specs.Sound.{IsSound}
@@ -34,15 +34,15 @@ writes-below m law before (Some (Identity y v)) h x w = elim (or_cases (x == y) 
 ]
 
 -- past the end there is no member
-pub numbered-past : {O : Type 0} (h : List (Member O)) (n : ℕ) → length h < n → numbered h n ≡ None
-numbered-past h zero lt = refl
-numbered-past h (suc n) lt = slice_get_past h n (omega arith)
+pub with_lsn-past : {O : Type 0} (h : List (Member O)) (n : ℕ) → length h < n → with_lsn h n ≡ None
+with_lsn-past h zero lt = refl
+with_lsn-past h (suc n) lt = slice_get_past h n (omega arith)
 
 pub no-writes : {O : Type 0} (m : Meaning O) (h : List (Member O)) (k x : ℕ) → length h < k → IsFalse ((accesses_of m h).writes k x)
-no-writes m h k x lt = ap (λ o. writes_some m o x) (numbered-past h k lt)
+no-writes m h k x lt = ap (λ o. writes_some m o x) (with_lsn-past h k lt)
 
 pub no-reads : {O : Type 0} (m : Meaning O) (h : List (Member O)) (k x : ℕ) → length h < k → IsFalse ((accesses_of m h).reads k x)
-no-reads m h k x lt = ap (λ o. reads_some m o x) (numbered-past h k lt)
+no-reads m h k x lt = ap (λ o. reads_some m o x) (with_lsn-past h k lt)
 
 written-below : {O : Type 0} (m : Meaning O) → IsLawful m → (w : World O) → IsSound m w → (n x : ℕ) → IsTrue ((accesses_of m w.history).writes n x) → x < m.objects
 written-below m law w s zero x e = absurd (both_ways _ refl e)
@@ -52,12 +52,12 @@ pub graph-within : {O : Type 0} (m : Meaning O) → IsLawful m → (w : World O)
 graph-within m law w s =
     let a = accesses_of m w.history in
     record {
-      writes_number = λ n x e. elim (cases_lt (length w.history) n) [
+      writes_lsn = λ n x e. elim (cases_lt (length w.history) n) [
         | inl lt ↦ absurd (both_ways _ (no-writes m w.history n x lt) (and_parts (w.graph n) (a.writes n x) e).1)
         | inr le ↦ omega arith
       ];
       writes_object = λ n x e. written-below m law w s n x (and_parts (w.graph n) (a.writes n x) e).1;
-      reads_number = λ n x e. elim (cases_lt (length w.history) n) [
+      reads_lsn = λ n x e. elim (cases_lt (length w.history) n) [
         | inl lt ↦ absurd (both_ways _ (no-reads m w.history n x lt) (and_parts (w.graph n) (a.reads n x) e).1)
         | inr le ↦ omega arith
       ];
@@ -70,6 +70,6 @@ slice_get-take (x ∷ xs) (suc f) zero lt = refl
 slice_get-take (x ∷ xs) (suc f) (suc i) lt = slice_get-take xs f i (omega arith)
 
 -- a front has the same members
-pub numbered-take : {O : Type 0} (h : List (Member O)) (f n : ℕ) → n ≤ f → numbered (take f h) n ≡ numbered h n
-numbered-take h f zero le = refl
-numbered-take h f (suc n) le = slice_get-take h f n (omega arith)
+pub with_lsn-take : {O : Type 0} (h : List (Member O)) (f n : ℕ) → n ≤ f → with_lsn (take f h) n ≡ with_lsn h n
+with_lsn-take h f zero le = refl
+with_lsn-take h f (suc n) le = slice_get-take h f n (omega arith)

@@ -2,9 +2,9 @@
 use Rattle.std.specs.Prelude.{ℕ, ◌+◌, ◌<◌, ◌≤◌, nat_le, Option, None, Some, List, [], ◌∷◌, filter, ◌⊎◌}
 use Rattle.oper_core.specs.Meaning.{Meaning}
 use Rattle.explain_core.specs.World.{World, Step, step, end_of}
-use Rattle.explain_core.specs.World.Step.{Begin, End, Append, Block_gate, Check, Slot_gate, Removal, Header_gate, Replay, Crash}
+use Rattle.explain_core.specs.World.Step.{Begin, End, Append, Block_gate, Checkpoint, Slot_gate, Removal, Header_gate, Replay, Crash}
 
--- a closed group: its members are those from this number to below that one
+-- a closed group: its members are those from this LSN to below that one
 pub record Group : Type 0 where
   pub begun : ℕ
   pub ended : ℕ
@@ -13,7 +13,7 @@ pub record Group : Type 0 where
 abbrev pub IsUnsplit : ℕ → Group → Type 0
 IsUnsplit forced g = (g.ended ≤ forced + 1) ⊎ (forced < g.begun)
 
--- with the open group, if there is one, closed before this number
+-- with the open group, if there is one, closed before this LSN
 abbrev pub with_closed : Option ℕ → ℕ → List Group → List Group
 with_closed None end groups = groups
 with_closed (Some begun) end groups = record { begun = begun; ended = end } ∷ groups
@@ -24,7 +24,7 @@ groups_after w Begin groups = groups
 groups_after w End groups = with_closed w.group (end_of w) groups
 groups_after w (Append member) groups = groups
 groups_after w Block_gate groups = groups
-groups_after w Check groups = groups
+groups_after w Checkpoint groups = groups
 groups_after w (Slot_gate node x) groups = groups
 groups_after w (Removal node) groups = groups
 groups_after w (Header_gate base) groups = groups

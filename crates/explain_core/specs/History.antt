@@ -54,10 +54,10 @@ commands_of [] = []
 commands_of (Command op ∷ rest) = op ∷ commands_of rest
 commands_of (Identity x v ∷ rest) = commands_of rest
 
--- the member with the number n; the first has the number 1
-abbrev pub numbered : {O : Type 0} → List (Member O) → ℕ → Option (Member O)
-numbered history zero = None
-numbered history (suc n) = slice_get history n
+-- the member with the LSN n; the first has the LSN 1
+abbrev pub with_lsn : {O : Type 0} → List (Member O) → ℕ → Option (Member O)
+with_lsn history zero = None
+with_lsn history (suc n) = slice_get history n
 
 -- x is among the objects that it reads
 abbrev pub reads_some : {O : Type 0} → Meaning O → Option (Member O) → ℕ → Bool
@@ -71,4 +71,4 @@ writes_some m (Some member) x = is_among x (writes_of m member)
 
 -- which numbered member reads and which writes which object
 abbrev pub accesses_of : {O : Type 0} → Meaning O → List (Member O) → Access
-accesses_of m history = record { reads = λ n x. reads_some m (numbered history n) x; writes = λ n x. writes_some m (numbered history n) x }
+accesses_of m history = record { reads = λ n x. reads_some m (with_lsn history n) x; writes = λ n x. writes_some m (with_lsn history n) x }

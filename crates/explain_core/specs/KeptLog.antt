@@ -5,7 +5,7 @@ use Rattle.oper_core.specs.Meaning.{Meaning}
 use Rattle.explain_core.specs.History.{Member}
 use Rattle.explain_core.specs.RunLaws.{run-append}
 use Rattle.explain_core.specs.World.{IsAllStable, World, Step, step, run}
-use Rattle.explain_core.specs.World.Step.{Begin, End, Append, Block_gate, Check, Slot_gate, Removal, Header_gate, Replay, Crash}
+use Rattle.explain_core.specs.World.Step.{Begin, End, Append, Block_gate, Checkpoint, Slot_gate, Removal, Header_gate, Replay, Crash}
 use Rattle.install_order.specs.Computed.{some_below, least_below}
 use Rattle.explain_core.specs.World.{node_named}
 use Rattle.explain_core.specs.Turns.{must_install, thin_steps, thin_name, has_work, turn, turns}
@@ -41,7 +41,7 @@ IsQuiet Begin = ⊥
 IsQuiet End = ⊥
 IsQuiet (Append member) = ⊥
 IsQuiet Block_gate = ⊥
-IsQuiet Check = ⊥
+IsQuiet Checkpoint = ⊥
 IsQuiet (Slot_gate node x) = ⊤
 IsQuiet (Removal node) = ⊤
 IsQuiet (Header_gate base) = ⊥
@@ -58,7 +58,7 @@ step_kept m w Begin q = absurd q
 step_kept m w End q = absurd q
 step_kept m w (Append member) q = absurd q
 step_kept m w Block_gate q = absurd q
-step_kept m w Check q = absurd q
+step_kept m w Checkpoint q = absurd q
 step_kept m w (Slot_gate node x) q = record { history = refl; forced = refl; tables = refl; base = refl; group = refl }
 step_kept m w (Removal node) q = record { history = refl; forced = refl; tables = refl; base = refl; group = refl }
 step_kept m w (Header_gate base) q = absurd q

@@ -78,20 +78,20 @@ module _ {O : Type 0} (m : Meaning O) (w : World O) (g h : Gate) (first : IsAllo
   -- the objects are two, since the first is not dirty any more
   apart : h.object ≢ g.object
   unfolding step
-  apart same = second.1.1 (ap (λ (c : Cell). c.id) (there g h.object same))
+  apart same = second.1.1 (ap (λ (c : Cell). c.lsn) (there g h.object same))
 
   -- the second may be opened first
   pub gate_first : IsAllowed m w (gate_step h)
   unfolding step
   gate_first = (
     second.0,
-    (second.1.0, λ same. second.1.1 (ap (λ (c : Cell). c.id) (elsewhere g h.object apart) ∙ same)),
+    (second.1.0, λ same. second.1.1 (ap (λ (c : Cell). c.lsn) (elsewhere g h.object apart) ∙ same)),
     λ y due. elim (cases_eq y g.object) [
       | inl here ↦
           let shared : flush_set_of (graph_access m w) h.node g.object = subst (λ (z : ℕ). flush_set_of (graph_access m w) h.node z) here due.0 in
           let both = one_flush (graph_access m w) h.node g.node g.object second.0.1.0 first.0.1.0 shared first.1.0 h.object second.1.0 in
-          absurd (apart (first.2 h.object (both, λ same. second.1.1 (ap (λ (c : Cell). c.id) (elsewhere g h.object apart) ∙ same))))
-      | inr other ↦ second.2 y (due.0, λ same. due.1 (sym (ap (λ (c : Cell). c.id) (elsewhere g y other)) ∙ same))
+          absurd (apart (first.2 h.object (both, λ same. second.1.1 (ap (λ (c : Cell). c.lsn) (elsewhere g h.object apart) ∙ same))))
+      | inr other ↦ second.2 y (due.0, λ same. due.1 (sym (ap (λ (c : Cell). c.lsn) (elsewhere g y other)) ∙ same))
     ],
   )
 
@@ -100,10 +100,10 @@ module _ {O : Type 0} (m : Meaning O) (w : World O) (g h : Gate) (first : IsAllo
   unfolding step
   gate_then = (
     first.0,
-    (first.1.0, λ same. first.1.1 (sym (ap (λ (c : Cell). c.id) (elsewhere h g.object (λ e. apart (sym e)))) ∙ same)),
+    (first.1.0, λ same. first.1.1 (sym (ap (λ (c : Cell). c.lsn) (elsewhere h g.object (λ e. apart (sym e)))) ∙ same)),
     λ y due. elim (cases_eq y h.object) [
-      | inl here ↦ absurd (due.1 (ap (λ (c : Cell). c.id) (there h y here)))
-      | inr other ↦ first.2 y (due.0, λ same. due.1 (ap (λ (c : Cell). c.id) (elsewhere h y other) ∙ same))
+      | inl here ↦ absurd (due.1 (ap (λ (c : Cell). c.lsn) (there h y here)))
+      | inr other ↦ first.2 y (due.0, λ same. due.1 (ap (λ (c : Cell). c.lsn) (elsewhere h y other) ∙ same))
     ],
   )
 
@@ -155,10 +155,10 @@ module _ {O : Type 0} (m : Meaning O) where
   unfolding step
   still_allowed w g h apart may = (
     may.0,
-    (may.1.0, λ same. may.1.1 (sym (ap (λ (c : Cell). c.id) (cond-false (h.object == g.object) (w.cache g.object) (w.slots h.object) (ne_eqb h.object g.object apart))) ∙ same)),
+    (may.1.0, λ same. may.1.1 (sym (ap (λ (c : Cell). c.lsn) (cond-false (h.object == g.object) (w.cache g.object) (w.slots h.object) (ne_eqb h.object g.object apart))) ∙ same)),
     λ y due. elim (cases_eq y g.object) [
-      | inl here ↦ absurd (due.1 (ap (λ (c : Cell). c.id) (cond-true (y == g.object) (w.cache g.object) (w.slots y) (eq-eqb y g.object here) ∙ ap w.cache (sym here))))
-      | inr other ↦ may.2 y (due.0, λ same. due.1 (ap (λ (c : Cell). c.id) (cond-false (y == g.object) (w.cache g.object) (w.slots y) (ne_eqb y g.object other)) ∙ same))
+      | inl here ↦ absurd (due.1 (ap (λ (c : Cell). c.lsn) (cond-true (y == g.object) (w.cache g.object) (w.slots y) (eq-eqb y g.object here) ∙ ap w.cache (sym here))))
+      | inr other ↦ may.2 y (due.0, λ same. due.1 (ap (λ (c : Cell). c.lsn) (cond-false (y == g.object) (w.cache g.object) (w.slots y) (ne_eqb y g.object other)) ∙ same))
     ],
   )
 

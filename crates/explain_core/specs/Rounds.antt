@@ -22,7 +22,7 @@ module _ {O : Type 0} (m : Meaning O) where
         let node = node_named m w n in
         w.graph n && ((least_below (end_of w) node == n) && (not (is_entered m w node) && ((count_below m.objects (has_work m w node) == 1) && may w (object_at w n))))
 
-    -- of `fuel` numbers from k on the gates of those that are due, so many at most
+    -- of `fuel` LSNs from k on the gates of those that are due, so many at most
     abbrev pub due_from : (most fuel k : ℕ) → World O → List Gate
     due_from most zero k w = []
     due_from zero (suc fuel) k w = []

@@ -28,7 +28,7 @@ pub record IsStableOf {O : Type 0} (m : Meaning O) (parts : Stable O) (history :
   -- all before the base is installed, and the installed members explain the slots
   pub below : (n : ℕ) → n < parts.base → IsTrue (installed n)
   pub slots : Explains (accesses_of m history) (value_at m history) installed parts.slots
-  -- a redo by any of the checks skips nothing
+  -- a redo by any of the checkpoints skips nothing
   pub tables : AllByRecursion (SkipsNothing (accesses_of m history) installed parts.base (length history + 1)) parts.tables
 
 -- the world just after a crash that these make

@@ -127,8 +127,8 @@ module _ {O : Type 0} (m : Meaning O) (lawful : IsLawful m) (w : World O) (sound
       (
         ready,
         λ y later. elim (cases_eq y x) [
-          | inl here ↦ later.1 (ap (λ (c : Cell). c.id) (cond-true (y == x) (w.cache x) (w.slots y) (eq-eqb y x here)) ∙ ap (λ (z : ℕ). (w.cache z).id) (sym here))
-          | inr other ↦ other (one_work x y work (later.0, λ same. later.1 (ap (λ (c : Cell). c.id) (cond-false (y == x) (w.cache x) (w.slots y) (ne_eqb y x other)) ∙ same)))
+          | inl here ↦ later.1 (ap (λ (c : Cell). c.lsn) (cond-true (y == x) (w.cache x) (w.slots y) (eq-eqb y x here)) ∙ ap (λ (z : ℕ). (w.cache z).lsn) (sym here))
+          | inr other ↦ other (one_work x y work (later.0, λ same. later.1 (ap (λ (c : Cell). c.lsn) (cond-false (y == x) (w.cache x) (w.slots y) (ne_eqb y x other)) ∙ same)))
         ],
       ),
       tt,

@@ -10,7 +10,7 @@ use Rattle.explain_core.specs.History.Member.{Command, Identity}
 use Rattle.oper_core.specs.Cell.{Cell}
 use Rattle.explain_core.specs.World.{World, Step, run, new_world, replays}
 use Rattle.explain_core.specs.Backup.{with_next}
-use Rattle.explain_core.specs.World.Step.{Begin, End, Append, Block_gate, Check, Slot_gate, Removal, Header_gate, Crash}
+use Rattle.explain_core.specs.World.Step.{Begin, End, Append, Block_gate, Checkpoint, Slot_gate, Removal, Header_gate, Crash}
 
 -- two objects of at most one byte
 abbrev pub two : Bounds
@@ -30,7 +30,7 @@ swapped = Command (Put 0 170) ∷ Command (Put 1 187) ∷ Command (Swap 0 1) ∷
 
 -- of the swap's two objects only 0 is flushed
 abbrev pub half_flushed : ℕ → Cell
-half_flushed x = if x == 0 then record { id = 3; value = 187 ∷ [] } else record { id = 0; value = [] }
+half_flushed x = if x == 0 then record { lsn = 3; value = 187 ∷ [] } else record { lsn = 0; value = [] }
 
 -- the same as steps; 1 then has aa, which is logged as the record 4; all is forced
 abbrev pub swap_logged : List (Step ByteOp)
@@ -46,9 +46,9 @@ swap_flushed = swap_logged ++ Slot_gate swap_node 0 ∷ []
 abbrev pub swap_removed : List (Step ByteOp)
 swap_removed = swap_flushed ++ Removal swap_node ∷ []
 
--- a check is taken and forced, the log is cut before the identity write, and the store stops
-abbrev pub swap_checked : List (Step ByteOp)
-swap_checked = swap_removed ++ Check ∷ Block_gate ∷ Header_gate 4 ∷ Crash ∷ []
+-- a checkpoint is taken and forced, the log is cut before the identity write, and the store stops
+abbrev pub swap_checkpointed : List (Step ByteOp)
+swap_checkpointed = swap_removed ++ Checkpoint ∷ Block_gate ∷ Header_gate 4 ∷ Crash ∷ []
 
 -- the store stops just after the flush, and so many records are replayed
 abbrev pub swap_redone : ℕ → List (Step ByteOp)
@@ -85,7 +85,7 @@ identity_node = set_of (4 ∷ [])
 
 -- both slots are copied after the removal of the swap's node
 abbrev pub both_copied : ℕ → Cell
-both_copied = with_next (after_steps swap_removed) 1 (with_next (after_steps swap_removed) 0 (λ x. record { id = 0; value = [] }))
+both_copied = with_next (after_steps swap_removed) 1 (with_next (after_steps swap_removed) 0 (λ x. record { lsn = 0; value = [] }))
 
 -- and then the identity write is installed
 abbrev pub copied_flushed : List (Step ByteOp)
@@ -93,4 +93,4 @@ copied_flushed = swap_removed ++ Slot_gate identity_node 1 ∷ []
 
 -- 0 is copied before the swap's node is flushed, and 1 after the identity write is
 abbrev pub stale_copied : ℕ → Cell
-stale_copied = with_next (after_steps copied_flushed) 1 (with_next (after_steps swap_logged) 0 (λ x. record { id = 0; value = [] }))
+stale_copied = with_next (after_steps copied_flushed) 1 (with_next (after_steps swap_logged) 0 (λ x. record { lsn = 0; value = [] }))

@@ -25,7 +25,7 @@ pub fn copying_goes_on<O: Oper>()
 {}
 
 /// The copied cells, with the live slots of the objects that are not copied yet, are explained by the installed members
-/// without those that the copy is too old for; and with the live log, without its checks or with one that asks for all
+/// without those that the copy is too old for; and with the live log, without its checkpoints or with one that asks for all
 /// records, they are the stable parts of the same history.
 pub fn copy_stands<O: Oper>()
     ensures explained { (b : Bounds) (w : World O) (copied : ℕ) (cells : ℕ → Cell) →
@@ -36,7 +36,7 @@ pub fn copy_stands<O: Oper>()
         IsSound (O.meaning b) w → IsCopied (O.meaning b) w copied cells →
         IsStableOf (O.meaning b) (copy_of w copied cells []) (take w.forced w.history)
         (installed_in_copy (O.meaning b) w copied cells) }
-    ensures with_check { (b : Bounds) (w : World O) (copied : ℕ) (cells : ℕ → Cell) →
+    ensures with_checkpoint { (b : Bounds) (w : World O) (copied : ℕ) (cells : ℕ → Cell) →
         IsSound (O.meaning b) w → IsCopied (O.meaning b) w copied cells →
         IsStableOf (O.meaning b) (copy_of w copied cells (plan_of [] w.base ∷ [])) (take w.forced w.history)
         (installed_in_copy (O.meaning b) w copied cells) }

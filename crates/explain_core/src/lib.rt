@@ -26,11 +26,11 @@ pub use recovery::{
 };
 pub use rounds::{a_round_may_be_taken, any_gates_may_open, minimal_nodes_stay};
 pub use steps::{
-    append_keeps, begin_keeps, block_gate_keeps, check_keeps, crash_keeps, end_keeps,
+    append_keeps, begin_keeps, block_gate_keeps, checkpoint_keeps, crash_keeps, end_keeps,
     every_run_keeps, header_gate_keeps, removal_keeps, replay_keeps, slot_gate_keeps,
 };
 pub use worked::{
     group_is_lost_or_kept, half_a_swap_is_not_explained, identity_is_flushed_beside_a_copy,
-    runs_of_bytes, stale_copy_is_not_explained, swap_is_checked, swap_is_flushed,
+    runs_of_bytes, stale_copy_is_not_explained, swap_is_checkpointed, swap_is_flushed,
     swap_is_installed_in_a_redo, swap_is_redone,
 };

@@ -101,7 +101,7 @@ pub fn crash_takes_the_group<O: Oper>()
         length (commands_of w.history) ≡ length (commands_of (take (begun - 1) w.history)) + (end_of w - begun) }
 {}
 
-/// Slots, checks, stable records and the count before the base alone fix the state and the number of commands: of
+/// Slots, checkpoints, stable records and the count before the base alone fix the state and the number of commands: of
 /// whatever histories the parts may be, these have equal states and equally many commands.
 pub fn one_state<O: Oper>()
     ensures commands { (b : Bounds) (parts : Stable O) (h k : List (Member O)) (i j : ℕ → Bool) →

@@ -3,7 +3,7 @@ ghost use Rattle.oper_core.specs.Meaning.{IsSmall, Accepts};
 ghost use Rattle.oper_core.specs.declared.bounds.Bounds.{Bounds};
 ghost use Rattle.explain_core.specs.History.Member.{Command, Identity};
 ghost use Rattle.explain_core.specs.World.{World, Step, step, run, IsAllowed, AreAllowed, IsLive, NoGroup, new_world};
-ghost use Rattle.explain_core.specs.World.Step.{Begin, End, Append, Block_gate, Check, Slot_gate, Removal, Header_gate, Replay, Crash};
+ghost use Rattle.explain_core.specs.World.Step.{Begin, End, Append, Block_gate, Checkpoint, Slot_gate, Removal, Header_gate, Replay, Crash};
 ghost use Rattle.explain_core.specs.Sound.{IsSound};
 
 use oper_core::Oper;
@@ -37,10 +37,10 @@ pub fn block_gate_keeps<O: Oper>()
         IsSound (O.meaning b) (step (O.meaning b) w Block_gate) }
 {}
 
-/// A check keeps a live world sound.
-pub fn check_keeps<O: Oper>()
-    ensures { (b : Bounds) (w : World O) → IsSound (O.meaning b) w → IsAllowed (O.meaning b) w Check →
-        IsSound (O.meaning b) (step (O.meaning b) w Check) }
+/// A checkpoint keeps a live world sound.
+pub fn checkpoint_keeps<O: Oper>()
+    ensures { (b : Bounds) (w : World O) → IsSound (O.meaning b) w → IsAllowed (O.meaning b) w Checkpoint →
+        IsSound (O.meaning b) (step (O.meaning b) w Checkpoint) }
 {}
 
 /// The opening of the gate of a minimal node's one slot keeps a world sound, also in the middle of a redo, where the

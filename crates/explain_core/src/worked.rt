@@ -11,17 +11,17 @@ ghost use Rattle.explain_core.specs.Explains.{Explains};
 ghost use Rattle.explain_core.specs.World.{World, Step, run, AreAllowed, IsLive, new_world, redo_of, replays, plan_of};
 ghost use Rattle.explain_core.specs.Sound.{IsSound};
 ghost use Rattle.explain_core.specs.Group.{groups_of};
-ghost use Rattle.explain_core.specs.Worked.{two, swapped, half_flushed, after_steps, swap_node, swap_logged, swap_flushed, swap_removed, swap_checked, swap_redone, swap_installed, swap_redone_again, group_opened, group_lost, group_kept, identity_node, both_copied, copied_flushed, stale_copied};
+ghost use Rattle.explain_core.specs.Worked.{two, swapped, half_flushed, after_steps, swap_node, swap_logged, swap_flushed, swap_removed, swap_checkpointed, swap_redone, swap_installed, swap_redone_again, group_opened, group_lost, group_kept, identity_node, both_copied, copied_flushed, stale_copied};
 ghost use Rattle.explain_core.specs.World.Step.{Slot_gate};
 ghost use Rattle.explain_core.specs.Backup.{MayWhileCopied, backup_of, installed_in_copy};
 
 use crate::{
-    ByteOp, append_keeps, begin_keeps, block_gate_keeps, check_keeps, copy_stands, copying_goes_on,
-    crash_keeps, crash_takes_the_group, end_keeps, every_run_keeps, exactly_no_edge,
-    forced_splits_no_group, graph_is_within, header_gate_keeps, history_gives_the_map,
-    live_cache_is_the_map, minimal_nodes_are_whole, one_state, redo_gives_the_map, removal_keeps,
-    replay_keeps, slot_gate_keeps, some_node_is_minimal, stable_parts_stand, turns_keep,
-    wider_bounds_keep_stable_parts,
+    ByteOp, append_keeps, begin_keeps, block_gate_keeps, checkpoint_keeps, copy_stands,
+    copying_goes_on, crash_keeps, crash_takes_the_group, end_keeps, every_run_keeps,
+    exactly_no_edge, forced_splits_no_group, graph_is_within, header_gate_keeps,
+    history_gives_the_map, live_cache_is_the_map, minimal_nodes_are_whole, one_state,
+    redo_gives_the_map, removal_keeps, replay_keeps, slot_gate_keeps, some_node_is_minimal,
+    stable_parts_stand, turns_keep, wider_bounds_keep_stable_parts,
 };
 
 /// The laws at one operation type: every run of small operations from a new store is sound, and replayed to its end it
@@ -37,7 +37,7 @@ pub fn runs_of_bytes()
     end_keeps::<ByteOp>();
     append_keeps::<ByteOp>();
     block_gate_keeps::<ByteOp>();
-    check_keeps::<ByteOp>();
+    checkpoint_keeps::<ByteOp>();
     slot_gate_keeps::<ByteOp>();
     removal_keeps::<ByteOp>();
     header_gate_keeps::<ByteOp>();
@@ -71,10 +71,10 @@ pub fn half_a_swap_is_not_explained()
 /// Two objects are put and swapped; 1 is logged as an identity write, 0 is flushed, and the swap's node is removed.
 pub fn swap_is_flushed()
     ensures allowed { AreAllowed (byte_meaning two) (new_world ByteOp) swap_removed }
-    ensures slots { ((after_steps swap_removed).slots 0 ≡ record { id = 3; value = 187 ∷ [] })
-        × ((after_steps swap_removed).slots 1 ≡ record { id = 0; value = [] }) }
-    ensures cache { ((after_steps swap_removed).cache 0 ≡ record { id = 3; value = 187 ∷ [] })
-        × ((after_steps swap_removed).cache 1 ≡ record { id = 4; value = 170 ∷ [] }) }
+    ensures slots { ((after_steps swap_removed).slots 0 ≡ record { lsn = 3; value = 187 ∷ [] })
+        × ((after_steps swap_removed).slots 1 ≡ record { lsn = 0; value = [] }) }
+    ensures cache { ((after_steps swap_removed).cache 0 ≡ record { lsn = 3; value = 187 ∷ [] })
+        × ((after_steps swap_removed).cache 1 ≡ record { lsn = 4; value = 170 ∷ [] }) }
     // only the identity write is left to install
     ensures graph { ((after_steps swap_removed).graph 1 ≡ false) × ((after_steps swap_removed).graph 2 ≡ false)
         × ((after_steps swap_removed).graph 3 ≡ false) × ((after_steps swap_removed).graph 4 ≡ true) }
@@ -82,32 +82,32 @@ pub fn swap_is_flushed()
         ≡ state_after (byte_meaning two) (commands_of (after_steps swap_removed).history) x }
 {}
 
-/// Then a check is taken and forced, the log is cut before the identity write, and the store stops: the redo begins
+/// Then a checkpoint is taken and forced, the log is cut before the identity write, and the store stops: the redo begins
 /// with that record, and needs it for 1 alone.
-pub fn swap_is_checked()
-    ensures allowed { AreAllowed (byte_meaning two) (new_world ByteOp) swap_checked }
-    ensures plan { ((plan_of (after_steps swap_checked).tables 4).redo_from 0 ≡ 5)
-        × ((plan_of (after_steps swap_checked).tables 4).redo_from 1 ≡ 4)
-        × ((plan_of (after_steps swap_checked).tables 4).next ≡ 5) }
-    ensures base { ((after_steps swap_checked).base ≡ 4) × ((after_steps swap_checked).commands_before ≡ 3)
-        × ((after_steps swap_checked).next ≡ 4) }
-    ensures map { (x : ℕ) → ((run (byte_meaning two) (after_steps swap_checked) (redo_of (after_steps swap_checked))).cache x).value
-        ≡ state_after (byte_meaning two) (commands_of (after_steps swap_checked).history) x }
+pub fn swap_is_checkpointed()
+    ensures allowed { AreAllowed (byte_meaning two) (new_world ByteOp) swap_checkpointed }
+    ensures plan { ((plan_of (after_steps swap_checkpointed).tables 4).redo_from 0 ≡ 5)
+        × ((plan_of (after_steps swap_checkpointed).tables 4).redo_from 1 ≡ 4)
+        × ((plan_of (after_steps swap_checkpointed).tables 4).next ≡ 5) }
+    ensures base { ((after_steps swap_checkpointed).base ≡ 4) × ((after_steps swap_checkpointed).commands_before ≡ 3)
+        × ((after_steps swap_checkpointed).next ≡ 4) }
+    ensures map { (x : ℕ) → ((run (byte_meaning two) (after_steps swap_checkpointed) (redo_of (after_steps swap_checkpointed))).cache x).value
+        ≡ state_after (byte_meaning two) (commands_of (after_steps swap_checkpointed).history) x }
 {}
 
 /// The same, stopped just after the flush and replayed.
 pub fn swap_is_redone()
     ensures allowed { AreAllowed (byte_meaning two) (new_world ByteOp) (swap_redone 4) }
     // the slot of 0 is newer than the first put, which is skipped
-    ensures skipped { ((after_steps (swap_redone 1)).cache 0 ≡ record { id = 3; value = 187 ∷ [] })
+    ensures skipped { ((after_steps (swap_redone 1)).cache 0 ≡ record { lsn = 3; value = 187 ∷ [] })
         × ((after_steps (swap_redone 1)).graph 1 ≡ false) }
-    ensures applied { ((after_steps (swap_redone 2)).cache 1 ≡ record { id = 2; value = 187 ∷ [] })
+    ensures applied { ((after_steps (swap_redone 2)).cache 1 ≡ record { lsn = 2; value = 187 ∷ [] })
         × ((after_steps (swap_redone 2)).graph 2 ≡ true) }
     // the swap finds its own result in 0, and so makes bb of 1, where it had made aa
-    ensures wrong { (after_steps (swap_redone 3)).cache 1 ≡ record { id = 3; value = 187 ∷ [] } }
+    ensures wrong { (after_steps (swap_redone 3)).cache 1 ≡ record { lsn = 3; value = 187 ∷ [] } }
     // nobody reads it before the identity write makes it right
-    ensures healed { ((after_steps (swap_redone 4)).cache 0 ≡ record { id = 3; value = 187 ∷ [] })
-        × ((after_steps (swap_redone 4)).cache 1 ≡ record { id = 4; value = 170 ∷ [] }) }
+    ensures healed { ((after_steps (swap_redone 4)).cache 0 ≡ record { lsn = 3; value = 187 ∷ [] })
+        × ((after_steps (swap_redone 4)).cache 1 ≡ record { lsn = 4; value = 170 ∷ [] }) }
     ensures live { IsLive (after_steps (swap_redone 4)) }
     ensures map { (x : ℕ) → ((after_steps (swap_redone 4)).cache x).value
         ≡ state_after (byte_meaning two) (commands_of (after_steps (swap_redone 4)).history) x }
@@ -117,12 +117,12 @@ pub fn swap_is_redone()
 /// before the identity write is replayed, in this redo and in one after a further stop.
 pub fn swap_is_installed_in_a_redo()
     ensures allowed { AreAllowed (byte_meaning two) (new_world ByteOp) (swap_installed ++ replays 1) }
-    ensures wrong { (after_steps swap_installed).slots 1 ≡ record { id = 3; value = 187 ∷ [] } }
+    ensures wrong { (after_steps swap_installed).slots 1 ≡ record { lsn = 3; value = 187 ∷ [] } }
     ensures map { (x : ℕ) → ((after_steps (swap_installed ++ replays 1)).cache x).value
         ≡ state_after (byte_meaning two) (commands_of (after_steps (swap_installed ++ replays 1)).history) x }
     ensures allowed_again { AreAllowed (byte_meaning two) (new_world ByteOp) (swap_redone_again 4) }
-    ensures healed { ((after_steps (swap_redone_again 4)).cache 0 ≡ record { id = 3; value = 187 ∷ [] })
-        × ((after_steps (swap_redone_again 4)).cache 1 ≡ record { id = 4; value = 170 ∷ [] }) }
+    ensures healed { ((after_steps (swap_redone_again 4)).cache 0 ≡ record { lsn = 3; value = 187 ∷ [] })
+        × ((after_steps (swap_redone_again 4)).cache 1 ≡ record { lsn = 4; value = 170 ∷ [] }) }
     ensures map_again { (x : ℕ) → ((after_steps (swap_redone_again 4)).cache x).value
         ≡ state_after (byte_meaning two) (commands_of (after_steps (swap_redone_again 4)).history) x }
 {}
@@ -131,17 +131,17 @@ pub fn swap_is_installed_in_a_redo()
 /// where it ends and is forced first, all of it is.
 pub fn group_is_lost_or_kept()
     ensures lost_allowed { AreAllowed (byte_meaning two) (new_world ByteOp) group_lost }
-    ensures inside { ((after_steps group_opened).group ≡ Some 2) × ((after_steps group_opened).cache 0 ≡ record { id = 3; value = 187 ∷ [] })
-        × ((after_steps group_opened).cache 1 ≡ record { id = 3; value = 170 ∷ [] }) }
-    ensures lost { ((after_steps group_lost).group ≡ None) × ((after_steps group_lost).cache 0 ≡ record { id = 1; value = 170 ∷ [] })
-        × ((after_steps group_lost).cache 1 ≡ record { id = 0; value = [] }) }
+    ensures inside { ((after_steps group_opened).group ≡ Some 2) × ((after_steps group_opened).cache 0 ≡ record { lsn = 3; value = 187 ∷ [] })
+        × ((after_steps group_opened).cache 1 ≡ record { lsn = 3; value = 170 ∷ [] }) }
+    ensures lost { ((after_steps group_lost).group ≡ None) × ((after_steps group_lost).cache 0 ≡ record { lsn = 1; value = 170 ∷ [] })
+        × ((after_steps group_lost).cache 1 ≡ record { lsn = 0; value = [] }) }
     ensures lost_history { ((after_steps group_lost).history ≡ Command (Put 0 170) ∷ []) × ((after_steps group_lost).forced ≡ 1) }
     ensures lost_groups { groups_of (byte_meaning two) (new_world ByteOp) [] group_lost ≡ [] }
     ensures lost_map { (x : ℕ) → ((after_steps group_lost).cache x).value
         ≡ state_after (byte_meaning two) (commands_of (after_steps group_lost).history) x }
     ensures kept_allowed { AreAllowed (byte_meaning two) (new_world ByteOp) (group_kept 3) }
-    ensures kept { ((after_steps (group_kept 3)).cache 0 ≡ record { id = 3; value = 187 ∷ [] })
-        × ((after_steps (group_kept 3)).cache 1 ≡ record { id = 3; value = 170 ∷ [] }) }
+    ensures kept { ((after_steps (group_kept 3)).cache 0 ≡ record { lsn = 3; value = 187 ∷ [] })
+        × ((after_steps (group_kept 3)).cache 1 ≡ record { lsn = 3; value = 170 ∷ [] }) }
     ensures kept_groups { groups_of (byte_meaning two) (new_world ByteOp) [] (group_kept 3)
         ≡ record { begun = 2; ended = 4 } ∷ [] }
     ensures kept_map { (x : ℕ) → ((after_steps (group_kept 3)).cache x).value
@@ -153,8 +153,8 @@ pub fn group_is_lost_or_kept()
 pub fn identity_is_flushed_beside_a_copy()
     ensures allowed { AreAllowed (byte_meaning two) (new_world ByteOp) copied_flushed }
     ensures rule { MayWhileCopied (after_steps swap_removed) 2 (Slot_gate identity_node 1) }
-    ensures slot { ((after_steps copied_flushed).slots 1 ≡ record { id = 4; value = 170 ∷ [] })
-        × (both_copied 0 ≡ record { id = 3; value = 187 ∷ [] }) × (both_copied 1 ≡ record { id = 0; value = [] }) }
+    ensures slot { ((after_steps copied_flushed).slots 1 ≡ record { lsn = 4; value = 170 ∷ [] })
+        × (both_copied 0 ≡ record { lsn = 3; value = 187 ∷ [] }) × (both_copied 1 ≡ record { lsn = 0; value = [] }) }
     ensures installed { ((after_steps copied_flushed).installed 4 ≡ true)
         × (installed_in_copy (byte_meaning two) (after_steps copied_flushed) 2 both_copied 4 ≡ false)
         × (installed_in_copy (byte_meaning two) (after_steps copied_flushed) 2 both_copied 3 ≡ true) }
@@ -167,7 +167,7 @@ pub fn identity_is_flushed_beside_a_copy()
 /// Why the slot of a copied object is set from an identity write alone: where 0 is copied before the swap's node is
 /// flushed, and 1 after the identity write is, no set of installed records explains the copy.
 pub fn stale_copy_is_not_explained()
-    ensures cells { (stale_copied 0 ≡ record { id = 0; value = [] }) × (stale_copied 1 ≡ record { id = 4; value = 170 ∷ [] }) }
+    ensures cells { (stale_copied 0 ≡ record { lsn = 0; value = [] }) × (stale_copied 1 ≡ record { lsn = 4; value = 170 ∷ [] }) }
     ensures rule { MayWhileCopied (after_steps swap_logged) 1 (Slot_gate swap_node 0) → ⊥ }
     ensures unexplained { (installed : ℕ → Bool) →
         Explains (accesses_of (byte_meaning two) (after_steps copied_flushed).history)

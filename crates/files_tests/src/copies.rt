@@ -1,11 +1,11 @@
-// Copies of logs on another machine, and what the blocks of a log have from a number on.
+// Copies of logs on another machine, and what the blocks of a log have from an LSN on.
 
 use crate::records::{BOUNDS, counts, four_records, loaded, new_store};
 use crate::shortening::shorten;
+use dirty_page_table::Starts;
 use disk_model::{Crash, FileNo, MemMachine};
 use formats::ReadErr;
 use log_records::RewriteErr;
-use redo_tables::Starts;
 use std::alloc::Global;
 use std::test::Fail;
 
@@ -102,7 +102,7 @@ fn a_copy_is_as_worked(rt: HostRuntime) -> Result<(), Fail> {
     Ok(())
 }
 
-// What the blocks of a row's log have from a number on, each after a stroke.
+// What the blocks of a row's log have from an LSN on, each after a stroke.
 const BLOCKS: [(u64, u64, &[u8]); 6] = [
     (0, 1, b""),
     (
@@ -123,7 +123,7 @@ const BLOCKS: [(u64, u64, &[u8]); 6] = [
     (4, 1, b""),
 ];
 
-// What the blocks of a machine's log have from a number on.
+// What the blocks of a machine's log have from an LSN on.
 fn blocks_in(alloc: Global, machine: &mut MemMachine, from: u64) -> Result<Vec<u8>, Fail> {
     let log = loaded(alloc, machine, BOUNDS)?;
     let mut reader = log.block_reader(machine, from)?;
@@ -144,7 +144,7 @@ fn has_blocks(alloc: Global, base: u64, from: u64, wanted: &[u8]) -> Result<bool
 }
 
 #[test]
-fn blocks_are_read_from_a_number_on(rt: HostRuntime) -> Result<(), Fail> {
+fn blocks_are_read_from_an_lsn_on(rt: HostRuntime) -> Result<(), Fail> {
     for (base, from, wanted) in BLOCKS {
         assert!(rt;
             has_blocks(rt.alloc(), base, from, wanted)?,

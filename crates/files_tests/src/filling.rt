@@ -1,7 +1,7 @@
 // A log file that grows by small blocks is filled ahead by zeros.
 use crate::log::{CRASHES, add};
 use disk_model::{FileNo, Fuse, MemMachine};
-use log_frames::LogFile;
+use log_blocks::LogFile;
 use std::alloc::Global;
 use std::test::Fail;
 

@@ -1,4 +1,4 @@
-//! A test crate: the tests of redo_tables, log_frames and log_records. The library is empty.
+//! A test crate: the tests of dirty_page_table, log_blocks and log_records. The library is empty.
 //!
 //! They stand apart so that the proofs of those crates are made once, and not a second time with their tests.
 #![tactic(auto)]

@@ -1,7 +1,7 @@
 // A log on a machine in memory: that calls succeed, and worked bytes.
 use disk_model::{Crash, FileNo, Fuse, Machine, MemMachine};
 use formats::ReadErr;
-use log_frames::{LogFile, PayloadReader};
+use log_blocks::{LogFile, PayloadReader};
 use std::alloc::{AllocError, Global};
 use std::test::Fail;
 

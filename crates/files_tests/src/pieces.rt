@@ -1,7 +1,7 @@
 // The pieces in which a log is read: records across two of them, records longer than one, and several blocks.
 ghost use Rattle.std.specs.Prelude.{◌≡◌};
 
-use crate::records::{loaded, numbered};
+use crate::records::{loaded, with_lsn};
 use disk_model::{FileNo, Machine, MemMachine};
 use formats::Record;
 use log_records::RecordLog;
@@ -35,27 +35,27 @@ const LOGS: [(Blocks, &str); 6] = [
 ];
 
 // The byte of a put's value at a place in it.
-fn byte_at(number: u64, place: usize) -> u8 {
-    ((number % 251 + place as u64 % 251) % 251) as u8
+fn byte_at(lsn: u64, place: usize) -> u8 {
+    ((lsn % 251 + place as u64 % 251) % 251) as u8
 }
 
-// Appends the code of a put with this number and a value of so many bytes.
-fn put_code(out: &mut Vec<u8>, number: u64, length: usize) -> Result<(), Fail> {
+// Appends the code of a put with this LSN and a value of so many bytes.
+fn put_code(out: &mut Vec<u8>, lsn: u64, length: usize) -> Result<(), Fail> {
     out.push(1)?;
-    out.extend_from_slice(&number.to_le_bytes())?;
+    out.extend_from_slice(&lsn.to_le_bytes())?;
     out.extend_from_slice(b"\x01\0\0\0\0")?;
     out.extend_from_slice(&u32::try_from(length).unwrap_or(0).to_le_bytes())?;
     for place in 0..length {
-        out.push(byte_at(number, place))?;
+        out.push(byte_at(lsn, place))?;
     }
     Ok(())
 }
 
-// Appends the block of puts with values of these lengths, the first of which has this number.
+// Appends the block of puts with values of these lengths, the first of which has this LSN.
 fn put_block(alloc: Global, out: &mut Vec<u8>, first: u64, lengths: &[usize]) -> Result<(), Fail> {
     let mut payload = Vec::new(alloc);
-    for (length, number) in lengths.iter().zip(first..u64::MAX) {
-        put_code(&mut payload, number, *length)?;
+    for (length, lsn) in lengths.iter().zip(first..u64::MAX) {
+        put_code(&mut payload, lsn, *length)?;
     }
     out.push(1)?;
     out.extend_from_slice(&u32::try_from(payload.len()).unwrap_or(0).to_le_bytes())?;
@@ -87,24 +87,24 @@ fn with_blocks(alloc: Global, blocks: Blocks) -> Result<MemMachine, Fail> {
     Ok(machine)
 }
 
-// Whether a record is the put with this number, with its value of so many bytes.
-fn is_put(record: &Record<PlainOp>, number: u64, length: usize) -> bool {
+// Whether a record is the put with this LSN, with its value of so many bytes.
+fn is_put(record: &Record<PlainOp>, lsn: u64, length: usize) -> bool {
     let Record::Command(n, PlainOp::Put { object, value }) = record else {
         return false;
     };
     let value = value.as_slice();
-    let mut is = *n == number && *object == 0 && value.len() == length;
+    let mut is = *n == lsn && *object == 0 && value.len() == length;
     for (place, byte) in value.iter().enumerate() {
-        is &= *byte == byte_at(number, place);
+        is &= *byte == byte_at(lsn, place);
     }
     is
 }
 
-// Whether records are the puts with values of these lengths, the first of which has this number.
+// Whether records are the puts with values of these lengths, the first of which has this LSN.
 fn are_puts(records: &[Record<PlainOp>], first: u64, lengths: &[usize]) -> bool {
     let mut are = records.len() == lengths.len();
-    for ((record, length), number) in records.iter().zip(lengths).zip(first..u64::MAX) {
-        are &= is_put(record, number, *length);
+    for ((record, length), lsn) in records.iter().zip(lengths).zip(first..u64::MAX) {
+        are &= is_put(record, lsn, *length);
     }
     are
 }
@@ -116,7 +116,7 @@ fn are_read(alloc: Global, blocks: Blocks) -> Result<[bool; 3], Fail> {
     let log = loaded(alloc, &mut machine, BOUNDS)?;
     let is_loaded = log.accepted() == lengths.len() as u64;
     let all = log.stable(&mut machine)?;
-    let last = numbered(alloc, &log, &mut machine, 2)?;
+    let last = with_lsn(alloc, &log, &mut machine, 2)?;
     let behind = lengths.get(1..).unwrap_or(&[]);
     Ok([
         is_loaded,

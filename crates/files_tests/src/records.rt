@@ -1,12 +1,12 @@
 // The codec of records and their log: that calls succeed, and worked bytes.
 ghost use Rattle.std.specs.Prelude.{◌≡◌, ◌<◌, ◌^◌, ◌∷◌, [], IfOk, length};
 
+use dirty_page_table::{DirtyPageTable, Starts};
 use disk_model::{Crash, FileNo, Fuse, Machine, MemMachine};
 use formats::{ReadErr, Record};
 use log_records::{RecordLog, decode, encode, one_record};
 use op_meaning::PlainOp;
 use oper_core::{Bounds, ByteList, Oper};
-use redo_tables::{Starts, Table};
 use std::alloc::Global;
 use std::test::Fail;
 
@@ -16,7 +16,7 @@ pub const BOUNDS: Bounds = Bounds {
     more: false,
 };
 
-// A record: its kind, its number, its object and its value; of a check its next number and the object of its only start,
+// A record: its kind, its LSN, its object and its value; of a checkpoint its next LSN and the object of its only start,
 // which is 1.
 type Row = (u8, u64, u32, &'static [u8]);
 
@@ -37,7 +37,7 @@ const CODES: [(Row, &[u8]); 3] = [
 ];
 
 // The code of a record after two other bytes.
-fn coded(alloc: Global, number: u64, object: u32, value: &[u8]) -> Result<Vec<u8>, Fail>
+fn coded(alloc: Global, lsn: u64, object: u32, value: &[u8]) -> Result<Vec<u8>, Fail>
     requires { length value.now < 2 ^ 32 }
 {
     let op = PlainOp::Put {
@@ -45,13 +45,13 @@ fn coded(alloc: Global, number: u64, object: u32, value: &[u8]) -> Result<Vec<u8
         value: ByteList::new(value.to_vec(alloc)?),
     };
     let mut out = b"..".to_vec(alloc)?;
-    encode(&Record::Command(number, op), &mut out)?;
+    encode(&Record::Command(lsn, op), &mut out)?;
     Ok(out)
 }
 
 // Whether a record is that of a row.
 fn is_of(record: &Record<PlainOp>, row: Row) -> bool {
-    let (kind, number, object, value) = row;
+    let (kind, lsn, object, value) = row;
     match record {
         Record::Command(
             n,
@@ -59,13 +59,13 @@ fn is_of(record: &Record<PlainOp>, row: Row) -> bool {
                 object: x,
                 value: held,
             },
-        ) => { kind == 1 && *n == number && *x == object && held.as_slice() == value }
+        ) => { kind == 1 && *n == lsn && *x == object && held.as_slice() == value }
         Record::Command(_, _) => false,
         Record::Identity(n, x, held) => {
-            kind == 2 && *n == number && *x == object && held.as_slice() == value
+            kind == 2 && *n == lsn && *x == object && held.as_slice() == value
         }
-        Record::Check(table) => {
-            kind == 3 && table.next == number && table.starts.as_slice() == [(object, 1)].as_slice()
+        Record::Checkpoint(table) => {
+            kind == 3 && table.next == lsn && table.starts.as_slice() == [(object, 1)].as_slice()
         }
     }
 }
@@ -80,11 +80,11 @@ fn reads(alloc: Global, bytes: &[u8], row: Row, length: usize) -> Result<bool, F
 
 // Whether a record has this code, and is read back where another byte follows.
 fn is_coded(alloc: Global, row: Row, code: &[u8]) -> Result<bool, Fail> {
-    let (_, number, object, value) = row;
+    let (_, lsn, object, value) = row;
     if value.len() > 3 {
         return Ok(false);
     }
-    let mut out = coded(alloc, number, object, value)?;
+    let mut out = coded(alloc, lsn, object, value)?;
     let written = out.as_slice().strip_prefix(b"..") == Some(code);
     out.push(7)?;
     let behind = out.as_slice().strip_prefix(b"..").unwrap_or(b"");
@@ -180,36 +180,36 @@ fn put(alloc: Global, object: u32, value: &[u8]) -> Result<PlainOp, Fail> {
     })
 }
 
-// Appends a put with the next number.
+// Appends a put with the next LSN.
 fn add(log: &mut RecordLog<PlainOp>, b: Bounds, op: PlainOp) -> Result<(), Fail>
     requires { log.old.bounds ≡ b }
     ensures { log.new.bounds ≡ b }
 {
-    let number = log.next();
+    let lsn = log.next();
     if op.code_length() > 12 {
         return Ok(());
     }
-    if op.shape(b).is_ok() && number < 1 << 20 && log.used() < 1 << 20 {
-        log.append(Record::Command(number, op))?;
+    if op.shape(b).is_ok() && lsn < 1 << 20 && log.used() < 1 << 20 {
+        log.append(Record::Command(lsn, op))?;
     }
     Ok(())
 }
 
-// Appends an identity write of object 1 with the next number.
+// Appends an identity write of object 1 with the next LSN.
 fn add_identity(log: &mut RecordLog<PlainOp>, b: Bounds, value: ByteList) -> Result<(), Fail>
     requires { log.old.bounds ≡ b }
     ensures { log.new.bounds ≡ b }
 {
-    let number = log.next();
+    let lsn = log.next();
     let is_small = value.as_slice().len() <= b.cap as usize && b.objects > 1 && b.cap < 1 << 20;
-    if is_small && number < 1 << 20 && log.used() < 1 << 20 {
-        log.append(Record::Identity(number, 1, value))?;
+    if is_small && lsn < 1 << 20 && log.used() < 1 << 20 {
+        log.append(Record::Identity(lsn, 1, value))?;
     }
     Ok(())
 }
 
-// Appends a check with the redo start 1 of object 0.
-fn add_check(log: &mut RecordLog<PlainOp>, b: Bounds, starts: Starts) -> Result<(), Fail>
+// Appends a checkpoint with the redo start 1 of object 0.
+fn add_checkpoint(log: &mut RecordLog<PlainOp>, b: Bounds, starts: Starts) -> Result<(), Fail>
     requires bounds { log.old.bounds ≡ b }
     requires starts { starts ≡ (0, 1) ∷ [] }
     ensures { log.new.bounds ≡ b }
@@ -217,12 +217,12 @@ fn add_check(log: &mut RecordLog<PlainOp>, b: Bounds, starts: Starts) -> Result<
     let next = log.next();
     let is_placed = b.objects > 0 && log.base() <= 1 && next > 1;
     if is_placed && next < 1 << 20 && log.used() < 1 << 20 {
-        log.append(Record::Check(Table { next, starts }))?;
+        log.append(Record::Checkpoint(DirtyPageTable { next, starts }))?;
     }
     Ok(())
 }
 
-// The log's length, the next number, and how many commands are accepted and forced.
+// The log's length, the next LSN, and how many commands are accepted and forced.
 pub fn counts(log: &RecordLog<PlainOp>) -> [u64; 4] {
     [log.used(), log.next(), log.accepted(), log.forced()]
 }
@@ -243,7 +243,7 @@ fn write_four(
     log.force(machine)?;
     let two = counts(log);
     let starts = Starts::new(Vec::from_slice(alloc, &[(0, 1)])?);
-    add_check(log, b, starts)?;
+    add_checkpoint(log, b, starts)?;
     let three = counts(log);
     add(log, b, put(alloc, 3, b"abc")?)?;
     log.force(machine)?;
@@ -297,14 +297,14 @@ fn blocks_are_as_worked(rt: HostRuntime) -> Result<(), Fail> {
     Ok(())
 }
 
-// The commands and identity writes of a log from a number on.
-pub fn numbered<M: Machine>(
+// The commands and identity writes of a log from an LSN on.
+pub fn with_lsn<M: Machine>(
     alloc: Global,
     log: &RecordLog<PlainOp>,
     machine: &mut M,
     from: u64,
 ) -> Result<Vec<Record<PlainOp>>, Fail> {
-    let mut reader = log.numbered_reader(machine, from)?;
+    let mut reader = log.lsn_reader(machine, from)?;
     let mut found = Vec::new(alloc);
     while let Some(record) = reader.next(machine)? {
         found.push(record)?;
@@ -327,7 +327,7 @@ fn are_four(records: &[Record<PlainOp>]) -> bool {
     are
 }
 
-// Whether records are the last of the three with numbers, so many.
+// Whether records are the last of the three with an LSN, so many.
 fn are_last(records: &[Record<PlainOp>], count: usize) -> bool {
     const ALL: [Row; 3] = [(1, 1, 2, b"a"), (2, 2, 1, b"ab"), (1, 3, 3, b"abc")];
     let mut are = records.len() == count;
@@ -340,7 +340,7 @@ fn are_last(records: &[Record<PlainOp>], count: usize) -> bool {
     are
 }
 
-// Appends a put; whether the four records are found before it, and from a number on the last of the three with numbers,
+// Appends a put; whether the four records are found before it, and from a number on the last of the three with an LSN,
 // so many.
 fn finds(
     alloc: Global,
@@ -354,11 +354,11 @@ fn finds(
 {
     add(log, b, put(alloc, 1, b"")?)?;
     let all = are_four(&log.stable(machine)?);
-    let found = numbered(alloc, log, machine, from)?;
+    let found = with_lsn(alloc, log, machine, from)?;
     Ok(all && are_last(&found, count))
 }
 
-// Whether the four records are found again, and from a number on the last of the three with numbers, so many; what
+// Whether the four records are found again, and from a number on the last of the three with an LSN, so many; what
 // waits is not among them.
 fn are_found(alloc: Global, from: u64, count: usize) -> Result<bool, Fail> {
     let (mut machine, _) = four_records(alloc)?;
@@ -377,24 +377,24 @@ fn what_waits_is_not_read(rt: HostRuntime) -> Result<(), Fail> {
     Ok(())
 }
 
-// Whether the commands and identity writes from a number on are the last of three, so many.
-fn are_numbered(alloc: Global, from: u64, count: usize) -> Result<bool, Fail> {
+// Whether the commands and identity writes from an LSN on are the last of three, so many.
+fn are_with_lsn(alloc: Global, from: u64, count: usize) -> Result<bool, Fail> {
     let (mut machine, _) = four_records(alloc)?;
     let log = loaded(alloc, &mut machine, BOUNDS)?;
-    let found = numbered(alloc, &log, &mut machine, from)?;
+    let found = with_lsn(alloc, &log, &mut machine, from)?;
     Ok(are_last(&found, count))
 }
 
 #[test]
-fn what_is_done_again_begins_at_its_number(rt: HostRuntime) -> Result<(), Fail> {
+fn what_is_done_again_begins_at_its_lsn(rt: HostRuntime) -> Result<(), Fail> {
     for (from, count) in [(0, 3), (1, 3), (2, 2), (3, 1), (4, 0)] {
-        assert!(rt; are_numbered(rt.alloc(), from, count)?, "from {from}");
+        assert!(rt; are_with_lsn(rt.alloc(), from, count)?, "from {from}");
     }
     Ok(())
 }
 
-// Appends a check with the redo start 1 of object 0, and forces it.
-fn force_check(
+// Appends a checkpoint with the redo start 1 of object 0, and forces it.
+fn force_checkpoint(
     alloc: Global,
     log: &mut RecordLog<PlainOp>,
     machine: &mut MemMachine,
@@ -403,23 +403,23 @@ fn force_check(
     requires { log.old.bounds ≡ b }
 {
     let starts = Starts::new(Vec::from_slice(alloc, &[(0, 1)])?);
-    add_check(log, b, starts)?;
+    add_checkpoint(log, b, starts)?;
     log.force(machine)?;
     Ok(())
 }
 
-// The next number of the last check of a machine's log.
+// The next LSN of the last checkpoint of a machine's log.
 fn last_next(alloc: Global, mut machine: MemMachine) -> Result<Option<u64>, ReadErr> {
     let (log, last) = RecordLog::<PlainOp>::load_checked(alloc, &mut machine, BOUNDS)?;
     drop(log);
     Ok(last.map(|table| table.next))
 }
 
-// Whether the last of two checks is found, by its next number.
+// Whether the last of two checkpoints is found, by its next LSN.
 fn last_is_found(alloc: Global) -> Result<bool, Fail> {
     let (mut machine, _) = four_records(alloc)?;
     let mut log = loaded(alloc, &mut machine, BOUNDS)?;
-    let forced = force_check(alloc, &mut log, &mut machine, BOUNDS);
+    let forced = force_checkpoint(alloc, &mut log, &mut machine, BOUNDS);
     drop(log);
     let next = last_next(alloc, machine);
     forced?;
@@ -427,7 +427,7 @@ fn last_is_found(alloc: Global) -> Result<bool, Fail> {
 }
 
 #[test]
-fn the_last_check_is_found(rt: HostRuntime) -> Result<(), Fail> {
+fn the_last_checkpoint_is_found(rt: HostRuntime) -> Result<(), Fail> {
     assert!(rt; last_is_found(rt.alloc())?);
     Ok(())
 }
@@ -502,7 +502,7 @@ fn damaged(place: u64) -> Result<[u64; 4], ReadErr> {
     })
 }
 
-// A put, an identity write and a check in one block.
+// A put, an identity write and a checkpoint in one block.
 const THREE_KINDS: &[u8] = b"\x01\x40\0\0\0\
     \x01\x01\0\0\0\0\0\0\0\x01\0\0\0\0\x01\0\0\0\xaa\
     \x02\x02\0\0\0\0\0\0\0\x01\0\0\0\x03\0\0\0abc\
@@ -545,7 +545,7 @@ fn a_broken_record_is_damaged(rt: HostRuntime) -> Result<(), Fail> {
     Ok(())
 }
 
-// Blocks with a put and after it an identity write or a check that is not right in its place, and why.
+// Blocks with a put and after it an identity write or a checkpoint that is not right in its place, and why.
 const MISPLACED: [(&[u8], &str); 7] = [
     (
         b"\x01\x23\0\0\0\x01\x01\0\0\0\0\0\0\0\x01\0\0\0\0\0\0\0\0\

@@ -2,8 +2,8 @@
 use crate::log::CRASHES;
 use crate::records::{BOUNDS, four_records, loaded};
 use crate::shortening::shorten;
+use dirty_page_table::Starts;
 use disk_model::{Crash, Fuse};
-use redo_tables::Starts;
 use std::alloc::Global;
 use std::test::Fail;
 

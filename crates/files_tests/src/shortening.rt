@@ -3,11 +3,11 @@ ghost use Rattle.std.specs.Prelude.{◌≡◌, []};
 
 use crate::log::{NEW_LOG, empty_store};
 use crate::records::{BOUNDS, counts, four_records, loaded};
+use dirty_page_table::{DirtyPageTable, Starts};
 use disk_model::{Crash, FileNo, Machine, MemMachine};
 use formats::ReadErr;
 use log_records::{RecordLog, RewriteErr};
 use op_meaning::PlainOp;
-use redo_tables::{Starts, Table};
 use std::alloc::Global;
 use std::test::Fail;
 
@@ -35,7 +35,7 @@ const REWRITTEN: [Row; 2] = [
     ),
 ];
 
-// Puts a log from a base on, with an empty check for its end, in the place of this one, where it has that base and
+// Puts a log from a base on, with an empty checkpoint for its end, in the place of this one, where it has that base and
 // nothing waits.
 pub fn shorten<M: Machine>(
     log: &mut RecordLog<PlainOp>,
@@ -47,7 +47,7 @@ pub fn shorten<M: Machine>(
 {
     let next = log.next();
     if log.buffered() == 0 && log.base() <= base && base <= next {
-        log.rewrite(machine, base, Table { next, starts })?;
+        log.rewrite(machine, base, DirtyPageTable { next, starts })?;
     }
     Ok(())
 }

@@ -1,22 +1,22 @@
 ghost use Rattle.std.specs.Prelude.{◌<◌, ◌≤◌, ◌^◌, IfOk, length};
 
-// The codec of a check's table, and where the redo of an object starts by it.
-use oper_core::Memory;
-use redo_tables::{
-    Starts, Table, decode, encode, one_table, redo_from, starts_at_the_least_writer, take,
+// The codec of a checkpoint's table, and where the redo of an object starts by it.
+use dirty_page_table::{
+    DirtyPageTable, Starts, decode, encode, one_table, redo_from, starts_at_the_least_writer, take,
 };
+use oper_core::Memory;
 use std::alloc::Global;
 
 // A table of these pairs, in whatever order.
-fn table(alloc: Global, next: u64, starts: &[(u32, u64)]) -> Result<Table, Memory>
+fn table(alloc: Global, next: u64, starts: &[(u32, u64)]) -> Result<DirtyPageTable, Memory>
     ensures { IfOk result (λ table. length table.starts ≤ length starts.now) }
 {
     let starts = Starts::new(Vec::from_slice(alloc, starts)?);
-    Ok(Table { next, starts })
+    Ok(DirtyPageTable { next, starts })
 }
 
 // Its code, between other bytes.
-fn coded(alloc: Global, table: &Table) -> Result<Vec<u8>, Memory>
+fn coded(alloc: Global, table: &DirtyPageTable) -> Result<Vec<u8>, Memory>
     requires { length table.now.starts < 2 ^ 32 }
 {
     let mut out = b"before".to_vec(alloc)?;
@@ -25,7 +25,7 @@ fn coded(alloc: Global, table: &Table) -> Result<Vec<u8>, Memory>
     Ok(out)
 }
 
-// Next numbers, pairs, and the codes of their tables, between other bytes.
+// Next LSNs, pairs, and the codes of their tables, between other bytes.
 const CODES: [(u64, &[(u32, u64)], &[u8]); 4] = [
     (1, &[], b"before\x01\0\0\0\0\0\0\0\0\0\0\0behind"),
     (
@@ -121,10 +121,10 @@ fn other_bytes_are_no_table(rt: HostRuntime) {
     assert!(rt; others_are_none(rt.alloc()));
 }
 
-// Objects, and where their redo starts by a table of (2, 5) and (7, 3) whose next number is 9.
+// Objects, and where their redo starts by a table of (2, 5) and (7, 3) whose next LSN is 9.
 const STARTS: [(u32, u64); 5] = [(2, 5), (7, 3), (0, 9), (3, 9), (u32::MAX, 9)];
 
-fn all_start(table: &Table, starts: &[(u32, u64)]) -> bool {
+fn all_start(table: &DirtyPageTable, starts: &[(u32, u64)]) -> bool {
     let mut good = true;
     for (object, start) in starts {
         good = good && redo_from(table, *object) == *start;
@@ -140,7 +140,7 @@ fn redos_start(alloc: Global) -> Result<bool, Memory> {
 }
 
 #[test]
-fn a_redo_starts_at_the_pair_or_at_the_next_number(rt: HostRuntime) {
+fn a_redo_starts_at_the_pair_or_at_the_next_lsn(rt: HostRuntime) {
     assert!(rt; matches!(redos_start(rt.alloc()), Ok(true)));
 }
 

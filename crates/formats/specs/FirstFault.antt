@@ -7,7 +7,7 @@ use Rattle.disk_model.specs.Disk.{Files}
 use Rattle.disk_model.specs.declared.machine.FileNo.{FileNo}
 use Rattle.disk_model.specs.declared.machine.FileNo.TheVariants.{Objects, LogA, LogB}
 use Rattle.formats.specs.Bytes.{number_at, IsOpenAt}
-use Rattle.formats.specs.Objects.{IsObjectsFile, bounds_of, form_in, params_in, layout_in, place_in, last_slot, identifier_at, length_at}
+use Rattle.formats.specs.Objects.{IsObjectsFile, bounds_of, form_in, params_in, layout_in, place_in, last_slot, lsn_at, length_at}
 use Rattle.formats.specs.Log.{Header, IsClosedLog}
 use Rattle.formats.specs.InForce.{HasHeader, IsInForce}
 use Rattle.formats.specs.declared.form.Form.{Form}
@@ -36,24 +36,24 @@ one_check at p q one (goes_on holds later) (goes_on also behind) = one later beh
 abbrev pub NoMore : ℕ → Type 0
 NoMore place = ⊥
 
--- where its gate is open the slot at this place has the number of a record
-abbrev pub HasNumber : ℕ → List ℕ → Type 0
-HasNumber place file = IsOpenAt place file → IsWithin 1 (2 ^ 62 - 1) (identifier_at place file)
+-- where its gate is open the slot at this place has the LSN of a record
+abbrev pub HasLsnWithin : ℕ → List ℕ → Type 0
+HasLsnWithin place file = IsOpenAt place file → IsWithin 1 (2 ^ 62 - 1) (lsn_at place file)
 
 -- where its gate is open it has a value within CAP and, where that has some byte, within the file
 abbrev pub HasValue : ℕ → ℕ → List ℕ → Type 0
 HasValue cap place file = IsOpenAt place file → (length_at place file ≤ cap) × (0 < length_at place file → place + 13 + length_at place file ≤ length file)
 
--- where both gates are open the identifiers differ
+-- where both gates are open the LSNs differ
 abbrev pub AreApart : ℕ → ℕ → List ℕ → Type 0
-AreApart one other file = IsOpenAt one file → IsOpenAt other file → identifier_at one file ≢ identifier_at other file
+AreApart one other file = IsOpenAt one file → IsOpenAt other file → lsn_at one file ≢ lsn_at other file
 
 -- the checks of an object's slots
 abbrev pub PairChecks : List ℕ → ℕ → ℕ → Type 0
 PairChecks file x =
-    Checks (place_in file x 0 + 1) (HasNumber (place_in file x 0) file) (
+    Checks (place_in file x 0 + 1) (HasLsnWithin (place_in file x 0) file) (
     Checks (place_in file x 0 + 9) (HasValue (params_in file).cap (place_in file x 0) file) (
-    Checks (place_in file x 1 + 1) (HasNumber (place_in file x 1) file) (
+    Checks (place_in file x 1 + 1) (HasLsnWithin (place_in file x 1) file) (
     Checks (place_in file x 1 + 9) (HasValue (params_in file).cap (place_in file x 1) file) (
     Checks (place_in file x 1 + 1) (AreApart (place_in file x 0) (place_in file x 1) file) NoMore))))
 
@@ -112,10 +112,10 @@ pub data IsFirstLogFault (files : Files) : FileNo → ℕ → Type 0 where
   at_block : (active : FileNo) (header : Header) (place : ℕ) → IsInForce active header.epoch files → HasHeader header (files active) → IsBlockFault (files active) place
       → IsFirstLogFault files active place
 
--- an open slot has the next number or a later one, and no open slot before it in the file has
+-- an open slot has the next LSN or a later one, and no open slot before it in the file has
 pub record IsFirstLateSlot {O : Type 0} (m : Meaning O) (files : Files) (place : ℕ) : Type 0 where
   pub late : IsLateSlot m files place
-  pub first : (y t : ℕ) → IsOpenSlot (files Objects) y t → late.next ≤ identifier_at (place_in (files Objects) y t) (files Objects) → 2 * late.x + late.s ≤ 2 * y + t
+  pub first : (y t : ℕ) → IsOpenSlot (files Objects) y t → late.next ≤ lsn_at (place_in (files Objects) y t) (files Objects) → 2 * late.x + late.s ≤ 2 * y + t
 
 -- the objects file by itself has no fault
 abbrev pub AreObjectsWhole : Files → Type 0

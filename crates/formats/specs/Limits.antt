@@ -1,9 +1,9 @@
 -- The limits of the files.
 use Rattle.std.specs.Prelude.{ℕ, ◌^◌}
 
--- a record's number is below this one; it is the greatest epoch and the greatest base
-abbrev pub numbers_end : ℕ
-numbers_end = 2 ^ 62
+-- a record's LSN is below this one; it is the greatest epoch and the greatest base
+abbrev pub lsn_end : ℕ
+lsn_end = 2 ^ 62
 
 -- how many bytes of records stand in a block at most
 abbrev pub block_limit : ℕ

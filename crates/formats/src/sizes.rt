@@ -1,7 +1,7 @@
 // Lengths and limits of the files that several crates need.
 
-/// A record's number is below this one, and so is the identifier of a slot. It is the greatest epoch and the greatest base.
-pub const NUMBERS_END: u64 = 1 << 62;
+/// A record's LSN is below this one, and so is the LSN of a slot. It is the greatest epoch and the greatest base.
+pub const LSN_END: u64 = 1 << 62;
 
 /// How long a log may be, with what waits for a force. What stands behind its end does not count.
 pub const MAX_LOG: u64 = 1 << 48;
@@ -18,8 +18,8 @@ pub const RECORD_HEAD: usize = 9;
 /// How many bytes stand in an identity write before its value: a kind, a number, an object, and the value's length.
 pub const IDENTITY_HEAD: usize = 17;
 
-/// How many bytes stand in a check before its redo starts: a kind, a number, and their count.
+/// How many bytes stand in a checkpoint before its redo starts: a kind, a number, and their count.
 pub const CHECK_HEAD: usize = 13;
 
-/// How many bytes a redo start has in a check: an object, and a number.
+/// How many bytes a redo start has in a checkpoint: an object, and a number.
 pub const START_BYTES: usize = 12;

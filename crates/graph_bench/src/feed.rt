@@ -1,5 +1,5 @@
 use crate::dice::Dice;
-use crate::works::{Plan, Removal, Work, accesses};
+use crate::works::{Plan, Removal, Workload, accesses};
 use install_order::Entry;
 use oper_core::{Memory, Objs};
 use std::alloc::Global;
@@ -18,13 +18,13 @@ pub struct Feed {
 
 impl Model for Feed {
     ghost use Rattle.std.specs.Prelude.{ℕ, ◌<◌, All};
-    ghost use Rattle.write_graph.specs.Graph.{numbers};
+    ghost use Rattle.write_graph.specs.Graph.{lsns};
 
     ghost Value = { ℕ };
 
     ghost view = { λ f. f.next };
 
-    ghost invariant = { λ f. All (λ n. n < f.next) (numbers f.graph.entries) };
+    ghost invariant = { λ f. All (λ n. n < f.next) (lsns f.graph.entries) };
 }
 
 impl Feed {
@@ -42,7 +42,7 @@ impl Feed {
     }
 
     /// Adds the operations, and takes nodes out when the plan says.
-    pub fn run(&mut self, work: Work, plan: Plan) -> Result<(), Memory> {
+    pub fn run(&mut self, work: Workload, plan: Plan) -> Result<(), Memory> {
         let mut dice = Dice::new();
         for k in 0..plan.count {
             let (reads, writes) = accesses(work, k, plan.count, &mut dice);
@@ -60,12 +60,12 @@ impl Feed {
 
     /// Adds an operation, numbered with the next number; the first is 0.
     fn add(&mut self, reads: Objs, writes: Objs) -> Result<(), Memory> {
-        let number = self.next;
-        let Some(next) = number.checked_add(1) else {
+        let lsn = self.next;
+        let Some(next) = lsn.checked_add(1) else {
             return Err(Memory);
         };
         let entry = Entry {
-            number,
+            lsn,
             reads,
             writes,
             identity: false,

@@ -16,7 +16,7 @@ use std::alloc::{AllocError, Global};
 use std::env;
 use std::process::ExitCode;
 use std::rt::Env;
-use works::{Plan, Work, works};
+use works::{Plan, Workload, works};
 
 /// The words of the command line; none where one of them is no text.
 fn words<R: Env + AllocGlobal>(rt: &R) -> Result<Vec<String>, AllocError> {
@@ -27,7 +27,7 @@ fn words<R: Env + AllocGlobal>(rt: &R) -> Result<Vec<String>, AllocError> {
 }
 
 /// What the words ask for: a kind of work, how many operations, and how often all of it is done.
-fn asked(words: &[String]) -> Option<(Work, Plan, u32)> {
+fn asked(words: &[String]) -> Option<(Workload, Plan, u32)> {
     let [_, name, count, times] = words else {
         return None;
     };
@@ -38,7 +38,7 @@ fn asked(words: &[String]) -> Option<(Work, Plan, u32)> {
 }
 
 /// Does the work once, and answers how many entries were added and nodes taken out.
-fn done_once(alloc: Global, work: Work, plan: Plan) -> Result<u64, Memory> {
+fn done_once(alloc: Global, work: Workload, plan: Plan) -> Result<u64, Memory> {
     let mut feed = Feed::new(alloc)?;
     let ran = feed.run(work, plan);
     let calls = feed.calls();
@@ -48,7 +48,7 @@ fn done_once(alloc: Global, work: Work, plan: Plan) -> Result<u64, Memory> {
 }
 
 /// Does the work so often, and answers how many entries were added and nodes taken out.
-fn done(alloc: Global, work: Work, plan: Plan, times: u32) -> Result<u64, Memory> {
+fn done(alloc: Global, work: Workload, plan: Plan, times: u32) -> Result<u64, Memory> {
     let mut calls = 0u64;
     for _ in 0..times {
         calls = calls.saturating_add(done_once(alloc, work, plan)?);

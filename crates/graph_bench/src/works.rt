@@ -4,7 +4,7 @@ use oper_core::Objs;
 
 /// What the operations of a run read and write.
 #[derive(Clone, Copy)]
-pub enum Work {
+pub enum Workload {
     /// Each writes an object of its own.
     Independent,
     /// All write one object.
@@ -52,53 +52,56 @@ pub struct Plan {
 }
 
 /// The kind of work of the name, or of the number of a script, and when nodes are taken out in it.
-pub fn works(name: &str) -> Option<(Work, Removal)> {
+pub fn works(name: &str) -> Option<(Workload, Removal)> {
     match name {
-        "independent" => Some((Work::Independent, Removal::AtEnd)),
-        "put" => Some((Work::Put, Removal::AtEnd)),
-        "append" => Some((Work::Append, Removal::AtEnd)),
-        "chain" => Some((Work::Chain, Removal::AtEnd)),
-        "random_16_held_64" => Some((Work::Random(15), Removal::Beyond(64))),
-        "random_4096_held_64" => Some((Work::Random(4095), Removal::Beyond(64))),
-        "random_65536_held_64" => Some((Work::Random(65535), Removal::Beyond(64))),
-        "random_16" => Some((Work::Random(15), Removal::Never)),
-        "random_4096" => Some((Work::Random(4095), Removal::Never)),
-        "random_65536" => Some((Work::Random(65535), Removal::Never)),
-        "random_16_emptied" => Some((Work::Random(15), Removal::AtEnd)),
-        "random_4096_emptied" => Some((Work::Random(4095), Removal::AtEnd)),
-        "random_65536_emptied" => Some((Work::Random(65535), Removal::AtEnd)),
-        "close" => Some((Work::Close, Removal::AtEnd)),
-        "readers" => Some((Work::Readers, Removal::AtEnd)),
-        "pipe64" => Some((Work::ShiftDown(63), Removal::AtEnd)),
-        "pipeup1000" => Some((Work::ShiftUp(999), Removal::AtEnd)),
-        "shift_down4096" => Some((Work::ShiftDown(4095), Removal::AtEnd)),
-        "snap10" => Some((Work::Snap(10), Removal::AtEnd)),
-        "snap1000" => Some((Work::Snap(1000), Removal::AtEnd)),
-        "snap100000" => Some((Work::Snap(100000), Removal::AtEnd)),
-        "late" => Some((Work::Late, Removal::AtEnd)),
-        "fan" => Some((Work::Fan, Removal::AtEnd)),
-        number => Some((Work::Script(number.parse::<u64>().ok()?), Removal::AtEnd)),
+        "independent" => Some((Workload::Independent, Removal::AtEnd)),
+        "put" => Some((Workload::Put, Removal::AtEnd)),
+        "append" => Some((Workload::Append, Removal::AtEnd)),
+        "chain" => Some((Workload::Chain, Removal::AtEnd)),
+        "random_16_held_64" => Some((Workload::Random(15), Removal::Beyond(64))),
+        "random_4096_held_64" => Some((Workload::Random(4095), Removal::Beyond(64))),
+        "random_65536_held_64" => Some((Workload::Random(65535), Removal::Beyond(64))),
+        "random_16" => Some((Workload::Random(15), Removal::Never)),
+        "random_4096" => Some((Workload::Random(4095), Removal::Never)),
+        "random_65536" => Some((Workload::Random(65535), Removal::Never)),
+        "random_16_emptied" => Some((Workload::Random(15), Removal::AtEnd)),
+        "random_4096_emptied" => Some((Workload::Random(4095), Removal::AtEnd)),
+        "random_65536_emptied" => Some((Workload::Random(65535), Removal::AtEnd)),
+        "close" => Some((Workload::Close, Removal::AtEnd)),
+        "readers" => Some((Workload::Readers, Removal::AtEnd)),
+        "pipe64" => Some((Workload::ShiftDown(63), Removal::AtEnd)),
+        "pipeup1000" => Some((Workload::ShiftUp(999), Removal::AtEnd)),
+        "shift_down4096" => Some((Workload::ShiftDown(4095), Removal::AtEnd)),
+        "snap10" => Some((Workload::Snap(10), Removal::AtEnd)),
+        "snap1000" => Some((Workload::Snap(1000), Removal::AtEnd)),
+        "snap100000" => Some((Workload::Snap(100000), Removal::AtEnd)),
+        "late" => Some((Workload::Late, Removal::AtEnd)),
+        "fan" => Some((Workload::Fan, Removal::AtEnd)),
+        number => Some((
+            Workload::Script(number.parse::<u64>().ok()?),
+            Removal::AtEnd,
+        )),
     }
 }
 
 /// What operation k of so many reads, and what it writes.
-pub fn accesses(work: Work, k: u32, count: u32, dice: &mut Dice) -> (Objs, Objs) {
+pub fn accesses(work: Workload, k: u32, count: u32, dice: &mut Dice) -> (Objs, Objs) {
     let is_end = k == 0 || k == count.saturating_sub(1);
     match work {
-        Work::Independent => put(k),
-        Work::Put => put(0),
-        Work::Append => (two(0, 1), Objs::one(0)),
-        Work::Chain => link(k, count / 2),
-        Work::Random(most) => random(most, dice),
-        Work::Close => close(k == 0, is_end),
-        Work::Readers if is_end => put(0),
-        Work::Readers => copy(0, k),
-        Work::ShiftUp(most) => shift(place(k, most)),
-        Work::ShiftDown(most) => shift(most.saturating_sub(place(k, most))),
-        Work::Snap(turns) => snap(k as u64 % (2 * turns as u64 + 1), turns as u64),
-        Work::Late => late(k as u64, count as u64 / 3, is_end),
-        Work::Fan => fan(k, count / 4),
-        Work::Script(number) => scripted(number, k),
+        Workload::Independent => put(k),
+        Workload::Put => put(0),
+        Workload::Append => (two(0, 1), Objs::one(0)),
+        Workload::Chain => link(k, count / 2),
+        Workload::Random(most) => random(most, dice),
+        Workload::Close => close(k == 0, is_end),
+        Workload::Readers if is_end => put(0),
+        Workload::Readers => copy(0, k),
+        Workload::ShiftUp(most) => shift(place(k, most)),
+        Workload::ShiftDown(most) => shift(most.saturating_sub(place(k, most))),
+        Workload::Snap(turns) => snap(k as u64 % (2 * turns as u64 + 1), turns as u64),
+        Workload::Late => late(k as u64, count as u64 / 3, is_end),
+        Workload::Fan => fan(k, count / 4),
+        Workload::Script(number) => scripted(number, k),
     }
 }
 

@@ -1,5 +1,5 @@
 ghost use Rattle.std.specs.Prelude.{◌+◌, ◌<◌, All, OnOk};
-ghost use Rattle.write_graph.specs.Graph.{numbers};
+ghost use Rattle.write_graph.specs.Graph.{lsns};
 
 use install_order::Entry;
 use oper_core::{Memory, Objs};
@@ -9,13 +9,13 @@ use write_graph::WriteGraph;
 pub(crate) type Accesses<'a> = (&'a [u32], &'a [u32]);
 
 /// Adds an operation, whose number is above all others.
-pub(crate) fn add(graph: &mut WriteGraph, number: u64, operation: Accesses) -> Result<(), Memory>
-    requires { All (λ n. n < number) (numbers graph.old.entries) }
-    ensures { OnOk result (All (λ n. n < number + 1) (numbers graph.new.entries)) }
+pub(crate) fn add(graph: &mut WriteGraph, lsn: u64, operation: Accesses) -> Result<(), Memory>
+    requires { All (λ n. n < lsn) (lsns graph.old.entries) }
+    ensures { OnOk result (All (λ n. n < lsn + 1) (lsns graph.new.entries)) }
 {
     let (reads, writes) = operation;
     let entry = Entry {
-        number,
+        lsn,
         reads: objs(reads),
         writes: objs(writes),
         identity: false,

@@ -7,9 +7,9 @@
 #[cfg(test)]
 mod adding;
 #[cfg(test)]
-mod million;
+mod lsns;
 #[cfg(test)]
-mod numbers;
+mod million;
 #[cfg(test)]
 mod order;
 #[cfg(test)]

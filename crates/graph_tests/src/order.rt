@@ -20,7 +20,7 @@ fn both(left: u32, right: u32) -> Objs {
     objects
 }
 
-fn entry(number: u64, kind: Kind) -> Entry {
+fn entry(lsn: u64, kind: Kind) -> Entry {
     let (reads, writes) = match kind {
         Kind::Put(x) | Kind::Identity(x) => (Objs::new(), Objs::one(x)),
         Kind::Copy(from, to) => (Objs::one(from), Objs::one(to)),
@@ -28,7 +28,7 @@ fn entry(number: u64, kind: Kind) -> Entry {
         Kind::Swap(left, right) => (both(left, right), both(left, right)),
     };
     Entry {
-        number,
+        lsn,
         reads,
         writes,
         identity: matches!(kind, Kind::Identity(_)),

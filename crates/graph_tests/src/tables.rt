@@ -133,31 +133,31 @@ fn is_answered(graph: &mut WriteGraph, row: &Row) -> Result<bool, Memory> {
     let mut good = (counts == [row.operations.len() as u64, row.nodes.len() as u64])
         & (starts.as_slice() == row.starts)
         & (graph.minimal_from(2) == row.minimal_from_2);
-    for (numbers, objects) in row.nodes {
-        good = good & is_next(graph, numbers, objects)?;
+    for (lsns, objects) in row.nodes {
+        good = good & is_next(graph, lsns, objects)?;
     }
     Ok(good & graph.minimal().is_none() & (graph.len() == 0))
 }
 
 /// Takes the next node out, and answers whether it is this one.
-fn is_next(graph: &mut WriteGraph, numbers: &[u64], objects: &[u32]) -> Result<bool, Memory> {
+fn is_next(graph: &mut WriteGraph, lsns: &[u64], objects: &[u32]) -> Result<bool, Memory> {
     let Some(name) = graph.minimal() else {
         return Ok(false);
     };
     let ops = graph.ops(name)?;
     let flushed = graph.flush_set(name)?;
     graph.remove_minimal(name);
-    Ok((ops.as_slice() == numbers) & (flushed.as_slice() == objects))
+    Ok((ops.as_slice() == lsns) & (flushed.as_slice() == objects))
 }
 
 /// Adds the operations, numbered from `first`, to a graph without entries.
 fn add_all(graph: &mut WriteGraph, first: u32, operations: &[Accesses]) -> Result<(), Memory>
     requires { graph.old.entries ≡ [] }
 {
-    let mut number = first as u64;
+    let mut lsn = first as u64;
     for operation in operations {
-        add(graph, number, *operation)?;
-        number += 1;
+        add(graph, lsn, *operation)?;
+        lsn += 1;
     }
     Ok(())
 }

@@ -10,11 +10,11 @@ use Rattle.graph_view.proofs.EdgeLemmas.{edge_exactly}
 pub is_graph : (entries in_graph : List Entry) (empty head with_nodes with_edges whole : List ℕ) → in_graph ≡ entries
     → empty ≡ [] → head ≡ empty ++ codes "digraph write_graph {\n"
     → (nodes : List Node) × AreNodes in_graph nodes × (with_nodes ≡ head ++ flat_map node_text nodes)
-    → with_edges ≡ with_nodes ++ flat_map (λ e. edges_from entries e.number) entries
+    → with_edges ≡ with_nodes ++ flat_map (λ e. edges_from entries e.lsn) entries
     → whole ≡ with_edges ++ codes "}\n" → IsGraph entries whole
 is_graph entries in_graph empty head with_nodes with_edges whole same none begun (nodes, are, said) edges ended = record {
   nodes = nodes;
   are_nodes = subst (λ (es : List Entry). AreNodes es nodes) same are;
-  text_is = ended ∙ ap (λ t. t ++ codes "}\n") (edges ∙ ap (λ t. t ++ flat_map (λ e. edges_from entries e.number) entries) (said ∙ ap (λ t. t ++ flat_map node_text nodes) (begun ∙ ap (λ t. t ++ codes "digraph write_graph {\n") none)));
+  text_is = ended ∙ ap (λ t. t ++ codes "}\n") (edges ∙ ap (λ t. t ++ flat_map (λ e. edges_from entries e.lsn) entries) (said ∙ ap (λ t. t ++ flat_map node_text nodes) (begun ∙ ap (λ t. t ++ codes "digraph write_graph {\n") none)));
   edges = edge_exactly entries;
 }

@@ -38,12 +38,12 @@ edges_between entries o p = edge_text entries o p ReadWrite ++ edge_text entries
 
 -- the edges from o
 abbrev pub edges_from : List Entry → ℕ → List ℕ
-edges_from entries o = flat_map (λ e. edges_between entries o e.number) entries
+edges_from entries o = flat_map (λ e. edges_between entries o e.lsn) entries
 
 -- nodes, and all edges
 abbrev pub dot_of : List Node → List Entry → List ℕ
 dot_of nodes entries =
-    codes "digraph write_graph {\n" ++ flat_map node_text nodes ++ flat_map (λ e. edges_from entries e.number) entries ++ codes "}\n"
+    codes "digraph write_graph {\n" ++ flat_map node_text nodes ++ flat_map (λ e. edges_from entries e.lsn) entries ++ codes "}\n"
 
 -- the text says the nodes of the entries and their edges; the test of an edge is what the order defines
 pub record IsGraph (entries : List Entry) (text : List ℕ) : Type 0 where

@@ -28,7 +28,7 @@ is_over entries LostVersion o p x =
 
 -- the same as a test
 abbrev pub has_edge : List Entry → Kind → ℕ → ℕ → Bool
-has_edge entries kind o p = list_any (λ e. (e.number == p) && list_any (is_over entries kind o p) e.writes) entries
+has_edge entries kind o p = list_any (λ e. (e.lsn == p) && list_any (is_over entries kind o p) e.writes) entries
 
 -- how an edge of the kind looks, in the DOT language
 abbrev pub kind_text : Kind → List ℕ

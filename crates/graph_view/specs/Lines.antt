@@ -57,7 +57,7 @@ IsAsked line asked = (request : Request) × AsksFor line request × (asked_by re
 
 -- the entry of a command
 abbrev pub entry_of : ℕ → Accesses → Entry
-entry_of n accesses = record { number = n; reads = accesses.reads; writes = accesses.writes; identity = false }
+entry_of n accesses = record { lsn = n; reads = accesses.reads; writes = accesses.writes; identity = false }
 
 -- the lines ask for these commands, numbered from n on, and for nothing that is refused
 pub data AreEntries : ℕ → List (List ℕ) → List Entry → Type 0 where

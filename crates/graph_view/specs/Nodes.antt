@@ -27,7 +27,7 @@ pub record IsRow (entries : List Entry) (set : ℕ → Bool) (node : Node) : Typ
 pub data AreInstalled (all : List Entry) : List Entry → List Node → Type 0 where
   none : AreInstalled all [] []
   next : {rest : List Entry} {nodes : List Node} (set : ℕ → Bool) (node : Node) → IsRow all set node → IsLeast (NamesMinimal rest) node.name
-      → AreInstalled all (filter (λ e. not (set e.number)) rest) nodes → AreInstalled all rest (node ∷ nodes)
+      → AreInstalled all (filter (λ e. not (set e.lsn)) rest) nodes → AreInstalled all rest (node ∷ nodes)
 
 -- the rows of the nodes of the entries
 abbrev pub AreNodes : List Entry → List Node → Type 0

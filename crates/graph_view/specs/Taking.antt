@@ -15,7 +15,7 @@ pub record TakesNode (old new : List Entry) (name : ℕ) (before after : List �
   pub row : IsRow old set node
   pub is_named : node.name ≡ name
   pub text : after ≡ before ++ node_text node
-  pub entries : new ≡ filter (λ e. not (set e.number)) old
+  pub entries : new ≡ filter (λ e. not (set e.lsn)) old
   pub others : (n : ℕ) (other : ℕ → Bool) → IsNodeNamed new n other → IsNodeNamed old n other
   pub flush_sets : (n : ℕ) (other : ℕ → Bool) (x : ℕ) → IsNodeNamed new n other → flush_set_of (accesses new) other x ↔ flush_set_of (accesses old) other x
   pub fewer : length new < length old

@@ -35,11 +35,11 @@ impl Accesses {
     }
 
     /// The entry of the command under the number.
-    pub fn entry(&self, number: u64) -> Entry
-        ensures { result ≡ entry_of number self.now }
+    pub fn entry(&self, lsn: u64) -> Entry
+        ensures { result ≡ entry_of lsn self.now }
     {
         Entry {
-            number,
+            lsn,
             reads: copied(&self.reads),
             writes: copied(&self.writes),
             identity: false,

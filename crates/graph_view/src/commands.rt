@@ -21,13 +21,13 @@ impl Model for Commands {
     ghost use Rattle.std.specs.Prelude.{◌≡◌, ◌<◌, ◌+◌, List, length};
     ghost use Rattle.std.specs.List.{All};
     ghost use Rattle.install_order.specs.declared.entry.Entry.{Entry};
-    ghost use Rattle.write_graph.specs.Graph.{numbers};
+    ghost use Rattle.write_graph.specs.Graph.{lsns};
 
     ghost Value = { List Entry };
 
     ghost view = { λ c. c.entries.items };
 
-    ghost invariant = { λ c. (c.graph.entries ≡ c.entries.items) × All (λ n. n < length c.entries.items + 1) (numbers c.entries.items) };
+    ghost invariant = { λ c. (c.graph.entries ≡ c.entries.items) × All (λ n. n < length c.entries.items + 1) (lsns c.entries.items) };
 }
 
 impl Commands {
@@ -45,10 +45,10 @@ impl Commands {
     pub fn add(&mut self, accesses: &Accesses) -> Result<(), Memory>
         ensures { OnOk result (self.new ≡ self.old ++ entry_of (length self.old + 1) accesses.now ∷ []) }
     {
-        let number = self.entries.len() as u64 + 1;
-        let entry = accesses.entry(number);
+        let lsn = self.entries.len() as u64 + 1;
+        let entry = accesses.entry(lsn);
         self.graph.make_room(&entry)?;
-        self.entries.push(accesses.entry(number))?;
+        self.entries.push(accesses.entry(lsn))?;
         self.graph.add(entry);
         Ok(())
     }

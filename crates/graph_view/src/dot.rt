@@ -90,17 +90,17 @@ fn push_from(text: &mut String, from: u64, entries: &[Entry]) -> Result<(), Memo
     ensures { OnOk result (string_bytes text.new ≡ string_bytes text.old ++ edges_from entries.now from) }
 {
     for to in entries {
-        push_between(text, from, to.number, entries)?;
+        push_between(text, from, to.lsn, entries)?;
     }
     Ok(())
 }
 
 /// Adds all edges.
 fn push_edges(text: &mut String, entries: &[Entry]) -> Result<(), Memory>
-    ensures { OnOk result (string_bytes text.new ≡ string_bytes text.old ++ flat_map (λ e. edges_from entries.now e.number) entries.now) }
+    ensures { OnOk result (string_bytes text.new ≡ string_bytes text.old ++ flat_map (λ e. edges_from entries.now e.lsn) entries.now) }
 {
     for from in entries {
-        push_from(text, from.number, entries)?;
+        push_from(text, from.lsn, entries)?;
     }
     Ok(())
 }

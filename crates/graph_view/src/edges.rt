@@ -13,7 +13,7 @@ use oper_core::Objs;
 pub fn has_edge(kind: Kind, from: u64, to: u64, entries: &[Entry]) -> bool
     ensures { result ≡ has_edge entries.now kind from to }
 {
-    entries.iter().any(|e| e.number == to && is_over_any(kind, from, to, &e.writes, entries))
+    entries.iter().any(|e| e.lsn == to && is_over_any(kind, from, to, &e.writes, entries))
 }
 
 /// Whether such an edge goes over one of the objects, which the operation of the second number writes.
@@ -46,14 +46,14 @@ fn is_over(kind: Kind, from: u64, to: u64, x: u32, entries: &[Entry]) -> bool
 fn reads(n: u64, x: u32, entries: &[Entry]) -> bool
     ensures { result ≡ reads_at entries.now n x }
 {
-    entries.iter().any(|e| e.number == n && has(&e.reads, x))
+    entries.iter().any(|e| e.lsn == n && has(&e.reads, x))
 }
 
 /// Whether the operation of this number writes the object.
 fn writes(n: u64, x: u32, entries: &[Entry]) -> bool
     ensures { result ≡ writes_at entries.now n x }
 {
-    entries.iter().any(|e| e.number == n && has(&e.writes, x))
+    entries.iter().any(|e| e.lsn == n && has(&e.writes, x))
 }
 
 /// Whether an operation strictly between the two numbers writes the object.
@@ -62,14 +62,14 @@ fn is_written_between(low: u64, high: u64, x: u32, entries: &[Entry]) -> bool
 {
     entries
         .iter()
-        .any(|e| low < e.number && e.number < high && has(&e.writes, x))
+        .any(|e| low < e.lsn && e.lsn < high && has(&e.writes, x))
 }
 
 /// Whether an operation at the number or after it writes the object.
 fn is_written_from(low: u64, x: u32, entries: &[Entry]) -> bool
     ensures { result ≡ is_written_from entries.now low x }
 {
-    entries.iter().any(|e| low <= e.number && has(&e.writes, x))
+    entries.iter().any(|e| low <= e.lsn && has(&e.writes, x))
 }
 
 /// Whether the object is one of them.

@@ -11,7 +11,7 @@ use Rattle.std.proofs.lemmas.Grind.{get_or_default_zero}
 use Rattle.std.proofs.lemmas.Option.{slice_get_read}
 use Rattle.identity_writes.specs.Plan.{IsKeptBeside, IsFirstLongest}
 
--- rising numbers do not fall
+-- rising LSNs do not fall
 pub rises : (objects : List ℕ) → IsStrictlyIncreasing objects → IsNonDecreasingBy (λ x. x) objects
 rises objects rising = IsNonDecreasingBy-from_default (λ (x : ℕ). x) objects 0 (λ i j low high. elim (cases_eq i j) [
   | inl same ↦ let e : get_or objects i 0 ≡ get_or objects j 0 = ap (λ (k : ℕ). get_or objects k 0) same in omega (arith, e)
@@ -26,8 +26,8 @@ module _ (objects lengths : List ℕ) (copied first place x : ℕ) (rising : IsS
   pub there : first + place < length objects
   there = let low = is.there in let n = length-drop first lengths in omega (arith, low, n, beside, within)
 
-  number : x ≡ slice_index objects (first + place)
-  number = here ∙ get_or_default_zero objects (first + place) x there
+  lsn : x ≡ slice_index objects (first + place)
+  lsn = here ∙ get_or_default_zero objects (first + place) x there
 
   moved : (k : ℕ) → slice_index (drop first lengths) k ≡ slice_index lengths (first + k)
   moved k = get_or-drop first lengths k 0
@@ -57,8 +57,8 @@ module _ (objects lengths : List ℕ) (copied first place x : ℕ) (rising : IsS
         let to = moved place in
         absurd (omega (arith, less, from, to, same))
     | inr late ↦ elim (cases_eq (first + place) other) [
-      | inl q ↦ let e : slice_index objects (first + place) ≡ slice_index objects other = ap (λ (k : ℕ). slice_index objects k) q in omega (arith, number, e)
-      | inr ne ↦ let up = AllPairs-from_increasing objects rising (first + place) other 0 (omega (arith, late, ne)) low in omega (arith, number, up)
+      | inl q ↦ let e : slice_index objects (first + place) ≡ slice_index objects other = ap (λ (k : ℕ). slice_index objects k) q in omega (arith, lsn, e)
+      | inr ne ↦ let up = AllPairs-from_increasing objects rising (first + place) other 0 (omega (arith, late, ne)) low in omega (arith, lsn, up)
     ]
   ]
 
@@ -66,7 +66,7 @@ module _ (objects lengths : List ℕ) (copied first place x : ℕ) (rising : IsS
   kept_beside = record {
     place = first + place;
     here = slice_get_read objects (length objects) (first + place) x refl there here;
-    late = let low = above (first + place) (omega arith) there in omega (arith, number, low);
+    late = let low = above (first + place) (omega arith) there in omega (arith, lsn, low);
     longest = λ other low late. longest_at other (behind other low late) low;
     least = λ other low late same. least_at other (behind other low late) low same;
   }
@@ -82,7 +82,7 @@ module _ (objects lengths : List ℕ) (copied first place x : ℕ) (rising : IsS
 pub all_copied : (objects : List ℕ) (copied first : ℕ) → length objects ≤ first → ((k : ℕ) → k < first → slice_index objects k < copied) → All (λ x. x < copied) objects
 all_copied objects copied first all below = All-from_get_or (λ x. x < copied) objects 0 (λ k low. below k (omega (arith, low, all)))
 
--- no number is below 0
+-- no LSN is below 0
 pub none_below_zero : (objects : List ℕ) → All (λ x. x < 0) objects ↔ (objects ≡ [])
 none_below_zero objects = (none objects, λ e. subst (λ (l : List ℕ). All (λ x. x < 0) l) (sym e) (All-from_get_or (λ x. x < 0) [] 0 (λ k low. absurd (omega (arith, low)))))
   where

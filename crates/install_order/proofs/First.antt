@@ -28,8 +28,8 @@ pub exposed-first : (a : Access) (objects end : ℕ) (installed : ℕ → Bool) 
 exposed-first a objects end i x is = (
   (λ shown. elim (first a i x end) [
     | inl none ↦ inl (λ o out. (
-      false_from_ne_true _ (λ r. both_ways _ (none o (is.reads_number o x r) out).0 r),
-      false_from_ne_true _ (λ w. both_ways _ (none o (is.writes_number o x w) out).1 w),
+      false_from_ne_true _ (λ r. both_ways _ (none o (is.reads_lsn o x r) out).0 r),
+      false_from_ne_true _ (λ w. both_ways _ (none o (is.writes_lsn o x w) out).1 w),
     ))
     | inr f ↦ elim f.3 [
       | inl r ↦ inr (f.0, f.2, r, f.4)

@@ -12,33 +12,33 @@ use Rattle.install_order.specs.NodeLaws.{test-gives, test-from, edge-start, edge
 use Rattle.install_order.specs.Tables.{Arrow, is_listed}
 use Rattle.install_order.specs.ListLaws.{any-gives, all-gives, all_below, all_below-gives, second}
 
--- the entries' numbers and objects are below these
+-- the entries' LSNs and objects are below these
 abbrev pub is_within : List Entry → ℕ → ℕ → Bool
-is_within entries objects end = list_all (λ e. nat_lt e.number end && list_all (λ x. nat_lt x objects) e.writes) entries
+is_within entries objects end = list_all (λ e. nat_lt e.lsn end && list_all (λ x. nat_lt x objects) e.writes) entries
 
 pub within-gives : (entries : List Entry) (objects end : ℕ) → IsTrue (is_within entries objects end) → IsWithin (accesses entries) objects end
 within-gives entries objects end e =
-    let row : Entry → Bool = λ e. nat_lt e.number end && list_all (λ x. nat_lt x objects) e.writes in
+    let row : Entry → Bool = λ e. nat_lt e.lsn end && list_all (λ x. nat_lt x objects) e.writes in
     record {
-      writes_number = λ n x w.
-          let m = any-gives (λ e. (e.number == n) && is_among x e.writes) entries w in
-          let same : m.0.number ≡ n = eqb-true m.0.number n (and_parts _ _ m.1).0 in
+      writes_lsn = λ n x w.
+          let m = any-gives (λ e. (e.lsn == n) && is_among x e.writes) entries w in
+          let same : m.0.lsn ≡ n = eqb-true m.0.lsn n (and_parts _ _ m.1).0 in
           subst (λ (k : ℕ). k < end) same (ltb-true _ _ (and_parts _ _ (m.3 row e)).0);
       writes_object = λ n x w.
-          let m = any-gives (λ e. (e.number == n) && is_among x e.writes) entries w in
+          let m = any-gives (λ e. (e.lsn == n) && is_among x e.writes) entries w in
           ltb-true _ _ (all-gives (λ x. nat_lt x objects) m.0.writes x (and_parts _ _ (m.3 row e)).1 (and_parts _ _ m.1).1);
-      reads_number = λ n x r.
-          let m = any-gives (λ e. (e.number == n) && is_among x e.reads) entries r in
-          let same : m.0.number ≡ n = eqb-true m.0.number n (and_parts _ _ m.1).0 in
+      reads_lsn = λ n x r.
+          let m = any-gives (λ e. (e.lsn == n) && is_among x e.reads) entries r in
+          let same : m.0.lsn ≡ n = eqb-true m.0.lsn n (and_parts _ _ m.1).0 in
           subst (λ (k : ℕ). k < end) same (ltb-true _ _ (and_parts _ _ (m.3 row e)).0);
     }
 
 -- the same of the operations that are left
 pub within-left : (chosen : ℕ → Bool) (a : Access) (objects end : ℕ) → IsWithin a objects end → IsWithin (within chosen a) objects end
 within-left chosen a objects end is = record {
-  writes_number = λ n x w. is.writes_number n x (and_parts (chosen n) _ w).1;
+  writes_lsn = λ n x w. is.writes_lsn n x (and_parts (chosen n) _ w).1;
   writes_object = λ n x w. is.writes_object n x (and_parts (chosen n) _ w).1;
-  reads_number = λ n x r. is.reads_number n x (and_parts (chosen n) _ r).1;
+  reads_lsn = λ n x r. is.reads_lsn n x (and_parts (chosen n) _ r).1;
 }
 
 -- the arrows are the edges

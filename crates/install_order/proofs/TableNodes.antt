@@ -102,7 +102,7 @@ are_nodes a objects end arrows earlier (row ∷ rows) =
 
 are_nodes-gives : (a : Access) (objects end : ℕ) (arrows : List Arrow) → IsWithin a objects end → ((o p : ℕ) → IsTrue (is_listed arrows o p) ↔ Edge a o p) → (earlier : List ℕ) (rows : List Row) → IsTrue (are_nodes a objects end arrows earlier rows) → AreNodes a earlier rows
 are_nodes-gives a objects end arrows is iff earlier [] e = λ n x w.
-    second (a.writes n x) (is_among n earlier) (all_below-gives objects (λ x. not (a.writes n x) || is_among n earlier) x (all_below-gives end (λ n. all_below objects (λ x. not (a.writes n x) || is_among n earlier)) n e (is.writes_number n x w)) (is.writes_object n x w)) w
+    second (a.writes n x) (is_among n earlier) (all_below-gives objects (λ x. not (a.writes n x) || is_among n earlier) x (all_below-gives end (λ n. all_below objects (λ x. not (a.writes n x) || is_among n earlier)) n e (is.writes_lsn n x w)) (is.writes_object n x w)) w
 are_nodes-gives a objects end arrows is iff earlier (row ∷ rows) e =
     let u = and_parts (is_node arrows earlier row.members (members_of rows)) _ e in
     let v = and_parts (is_free (within (λ n. not (is_among n earlier)) a) objects end row.members) _ u.1 in

@@ -36,7 +36,7 @@ reached-back a e edge members one (suc k) n there = elim (or_cases (reached e me
       walk-on a n m.0 one (Then n m.0 Here (edge m.0 n u.1)) (reached-back a e edge members one k m.0 u.0)
 ]
 
--- the first of the numbers, or 0
+-- the first of the LSNs, or 0
 abbrev pub first : List ℕ → ℕ
 first [] = 0
 first (x ∷ xs) = x

@@ -1,19 +1,19 @@
--- Edges, nodes, names and flush sets, computed where all numbers and objects are below given ones.
+-- Edges, nodes, names and flush sets, computed where all LSNs and objects are below given ones.
 use Rattle.std.specs.Prelude.{ℕ, zero, suc, ◌==◌, nat_lt, nat_le, not, Bool, false, ◌&&◌, ◌||◌, IsTrue, ◌<◌, if◌then◌else◌}
 use Rattle.install_order.specs.Order.{Access}
 
 -- all accesses are of numbers and objects below these
 pub record IsWithin (a : Access) (objects end : ℕ) : Type 0 where
-  pub writes_number : (n x : ℕ) → IsTrue (a.writes n x) → n < end
+  pub writes_lsn : (n x : ℕ) → IsTrue (a.writes n x) → n < end
   pub writes_object : (n x : ℕ) → IsTrue (a.writes n x) → x < objects
-  pub reads_number : (n x : ℕ) → IsTrue (a.reads n x) → n < end
+  pub reads_lsn : (n x : ℕ) → IsTrue (a.reads n x) → n < end
 
 -- one of the numbers below n passes
 abbrev pub some_below : ℕ → (ℕ → Bool) → Bool
 some_below zero p = false
 some_below (suc n) p = p n || some_below n p
 
--- the least number below n that passes, or n
+-- the least LSN below n that passes, or n
 abbrev pub least_below : ℕ → (ℕ → Bool) → ℕ
 least_below zero p = zero
 least_below (suc n) p = if nat_lt (least_below n p) n then least_below n p else (if p n then n else suc n)
@@ -31,7 +31,7 @@ abbrev pub reach : (ℕ → ℕ → Bool) → ℕ → ℕ → ℕ → Bool
 reach e zero o p = (o == p) || e o p
 reach e (suc k) o p = reach e k o p || (reach e k o k && reach e k k p)
 
--- the node that has the number one in it
+-- the node that has the LSN one in it
 abbrev pub node_of : (ℕ → ℕ → Bool) → ℕ → ℕ → ℕ → Bool
 node_of e end one n = reach e end one n && reach e end n one
 

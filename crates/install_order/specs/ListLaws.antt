@@ -1,4 +1,4 @@
--- Tests over lists and over the numbers below a bound.
+-- Tests over lists and over the LSNs below a bound.
 use Rattle.std.proofs.Common.{sym, subst, ℕ, zero, suc, ◌<◌, Bool, true, not, List, [], ◌∷◌, refl, arith, inl, inr}
 use Rattle.std.specs.Prelude.{IsTrue, ◌||◌, ◌&&◌, ◌==◌}
 use Rattle.std.specs.List.{list_any, list_all}
@@ -23,7 +23,7 @@ all-from t (x ∷ xs) each = and_from (t x) (list_all t xs) (each x (λ u p. or_
 pub in-from : (y : ℕ) (ys : List ℕ) → ((u : ℕ → Bool) → IsTrue (u y) → IsTrue (list_any u ys)) → IsTrue (is_among y ys)
 in-from y ys there = there (λ z. y == z) (eq-eqb y y refl)
 
--- all numbers below n pass
+-- all LSNs below n pass
 abbrev pub all_below : ℕ → (ℕ → Bool) → Bool
 all_below zero p = true
 all_below (suc n) p = p n && all_below n p

@@ -59,7 +59,7 @@ pub walk-levels : (E : ℕ → ℕ → Type 0) (level : ℕ → ℕ) (o p : ℕ)
 walk-levels E level o p are Here = omega arith
 walk-levels E level o p are (Then m q walk arc) = omega (arith, walk-levels E level o m are walk, are m q arc)
 
--- what reaches a found number from no lower level is found, or reaches a stop that is found
+-- what reaches a found LSN from no lower level is found, or reaches a stop that is found
 pub found-or-stop : (E : ℕ → ℕ → Type 0) (level : ℕ → ℕ) (stop found : ℕ → Bool) (v i p : ℕ) → AreLevels E level → IsReached E level stop found v → IsTrue (found p) → level v ≤ level i → Walk E i p →
     IsTrue (found i) ⊎ ((s : ℕ) × IsTrue (stop s) × IsTrue (found s) × Walk E i s)
 found-or-stop E level stop found v i p are is held le Here = inl held

@@ -54,23 +54,23 @@ test-from a objects end o p is (Lost_version x later lt w none r le wl) =
     let q = some-gives o (λ q. nat_lt p q && a.writes q x) e in
     let u = and_parts _ _ q.2 in
     both_ways _ (none q.0 (ltb-true p q.0 u.0) q.1) u.1)))
-    (some-from end (λ q. nat_le o q && a.writes q x) later (is.writes_number later x wl) (and_from _ _ (le-leb o later le) wl))))))
+    (some-from end (λ q. nat_le o q && a.writes q x) later (is.writes_lsn later x wl) (and_from _ _ (le-leb o later le) wl))))))
 
 -- the computed edges are the edges
 pub edge-iff : (a : Access) (objects end o p : ℕ) → IsWithin a objects end → IsTrue (edge_test a objects end o p) ↔ Edge a o p
 edge-iff a objects end o p is = (test-gives a objects end o p, test-from a objects end o p is)
 
--- an edge's first number is below the end
+-- an edge's first LSN is below the end
 pub edge-start : (a : Access) (objects end o p : ℕ) → IsWithin a objects end → Edge a o p → o < end
-edge-start a objects end o p is (Read_write x lt r w) = is.reads_number o x r
-edge-start a objects end o p is (Write_write x lt r w) = is.writes_number o x r
-edge-start a objects end o p is (Lost_version x later lt w none r le wl) = is.reads_number o x r
+edge-start a objects end o p is (Read_write x lt r w) = is.reads_lsn o x r
+edge-start a objects end o p is (Write_write x lt r w) = is.writes_lsn o x r
+edge-start a objects end o p is (Lost_version x later lt w none r le wl) = is.reads_lsn o x r
 
 -- and so is its last
 pub edge-end : (a : Access) (objects end o p : ℕ) → IsWithin a objects end → Edge a o p → p < end
-edge-end a objects end o p is (Read_write x lt r w) = is.writes_number p x w
-edge-end a objects end o p is (Write_write x lt r w) = is.writes_number p x w
-edge-end a objects end o p is (Lost_version x later lt w none r le wl) = is.writes_number p x w
+edge-end a objects end o p is (Read_write x lt r w) = is.writes_lsn p x w
+edge-end a objects end o p is (Write_write x lt r w) = is.writes_lsn p x w
+edge-end a objects end o p is (Lost_version x later lt w none r le wl) = is.writes_lsn p x w
 
 reach-more : (e : ℕ → ℕ → Bool) (k o p : ℕ) → IsTrue (reach e zero o p) → IsTrue (reach e k o p)
 reach-more e zero o p h = h
@@ -155,7 +155,7 @@ node-unique a s t n f g in_s in_t =
       | inr off ↦ off ∙ sym (false_from_ne_true (t k) (λ held. both_ways _ off (into t s g f in_t in_s k held)))
     ])
 
--- of the chosen numbers below n, and c, one that no other reaches but those that it reaches
+-- of the chosen LSNs below n, and c, one that no other reaches but those that it reaches
 abbrev source : (ℕ → ℕ → Bool) → ℕ → (ℕ → Bool) → ℕ → ℕ → ℕ
 source e end chosen zero c = c
 source e end chosen (suc n) c = let s = source e end chosen n c in if chosen n && reach e end n s then n else s
@@ -187,7 +187,7 @@ source-is e end chosen join (suc n) c there =
       )
     ]
 
--- where there is a number, there is a minimal node of numbers
+-- where there is an LSN, there is a minimal node of LSNs
 pub minimal-exists : (a : Access) (objects end : ℕ) (chosen : ℕ → Bool) → IsWithin a objects end → ((o p : ℕ) → Edge a o p → IsTrue (chosen o)) → ((n : ℕ) → IsTrue (chosen n) → n < end) → (c : ℕ) → IsTrue (chosen c) →
     (n : ℕ) × IsTrue (chosen n) × IsMinimal a (node_of (edge_test a objects end) end n)
 minimal-exists a objects end chosen is from below c there =
@@ -208,7 +208,7 @@ minimal-exists a objects end chosen is from below c there =
       ),
     )
 
--- the least number below n that passes: it is at most n; it passes where it is below n; and none that passes is below it
+-- the least LSN below n that passes: it is at most n; it passes where it is below n; and none that passes is below it
 pub least-is : (p : ℕ → Bool) (n : ℕ) → (least_below n p ≤ n) × (least_below n p < n → IsTrue (p (least_below n p))) × ((k : ℕ) → k < n → IsTrue (p k) → least_below n p ≤ k)
 least-is p zero = (omega arith, (λ lt. absurd (omega arith)), (λ k lt e. absurd (omega arith)))
 least-is p (suc n) =
@@ -244,8 +244,8 @@ flushed-iff a objects end node x is = (
       let r = some-gives end (λ n. node n && (a.writes n x && not (some_below end (λ q. nat_lt n q && a.writes q x)))) e in
       let p = and_parts (node r.0) _ r.2 in
       let w = and_parts (a.writes r.0 x) _ p.1 in
-      (r.0, p.0, (w.0, λ later lt. false_from_ne_true _ (λ v. both_ways _ (not-true _ w.1) (some-from end (λ q. nat_lt r.0 q && a.writes q x) later (is.writes_number later x v) (and_from _ _ (lt-ltb r.0 later lt) v)))))),
-  (λ f. some-from end (λ n. node n && (a.writes n x && not (some_below end (λ q. nat_lt n q && a.writes q x)))) f.0 (is.writes_number f.0 x f.2.0)
+      (r.0, p.0, (w.0, λ later lt. false_from_ne_true _ (λ v. both_ways _ (not-true _ w.1) (some-from end (λ q. nat_lt r.0 q && a.writes q x) later (is.writes_lsn later x v) (and_from _ _ (lt-ltb r.0 later lt) v)))))),
+  (λ f. some-from end (λ n. node n && (a.writes n x && not (some_below end (λ q. nat_lt n q && a.writes q x)))) f.0 (is.writes_lsn f.0 x f.2.0)
       (and_from _ _ f.1 (and_from _ _ f.2.0 (not_from_false _ (false_from_ne_true _ (λ e.
       let r = some-gives end (λ q. nat_lt f.0 q && a.writes q x) e in
       let p = and_parts _ _ r.2 in

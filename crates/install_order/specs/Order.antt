@@ -37,7 +37,7 @@ pub data Reaches (a : Access) (o : ℕ) : ℕ → Type 0 where
 abbrev pub IsNode : Access → (ℕ → Bool) → Type 0
 IsNode a node = (one : ℕ) × IsTrue (node one) × ((n : ℕ) → IsTrue (node n) → Reaches a one n × Reaches a n one) × ((n : ℕ) → Reaches a one n → Reaches a n one → IsTrue (node n))
 
--- a node is named by its least number
+-- a node is named by its least LSN
 abbrev pub IsName : (ℕ → Bool) → ℕ → Type 0
 IsName node name = IsTrue (node name) × ((n : ℕ) → IsTrue (node n) → name ≤ n)
 

@@ -34,9 +34,9 @@ pub record IsTable (entries : List Entry) (arrows : List Arrow) (rows : List Row
   pub edges : (o p : ℕ) → IsTrue (is_listed arrows o p) ↔ Edge (accesses entries) o p
   pub nodes : AreNodes (accesses entries) [] rows
 
--- an entry of no identity write, from its number, what it reads and what it writes
+-- an entry of no identity write, from its LSN, what it reads and what it writes
 abbrev pub entry : ℕ → List ℕ → List ℕ → Entry
-entry n reads writes = record { number = n; reads = reads; writes = writes; identity = false }
+entry n reads writes = record { lsn = n; reads = reads; writes = writes; identity = false }
 
 -- an edge
 abbrev pub arrow : ℕ → ℕ → Arrow
@@ -46,7 +46,7 @@ arrow from to = record { from = from; to = to }
 abbrev pub node : List ℕ → List ℕ → Row
 node members flush_set = record { members = members; flush_set = flush_set }
 
--- the operations of the tables, by their numbers
+-- the operations of the tables, by their LSNs
 abbrev pub put : ℕ → ℕ → Entry
 put n x = entry n [] (x ∷ [])
 

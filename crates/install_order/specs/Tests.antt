@@ -7,11 +7,11 @@ use Rattle.install_order.specs.Entries.{reads_at, writes_at}
 
 -- an entry strictly between the two numbers writes x
 abbrev pub is_written_between : List Entry → ℕ → ℕ → ℕ → Bool
-is_written_between entries low high x = list_any (λ e. nat_lt low e.number && (nat_lt e.number high && is_among x e.writes)) entries
+is_written_between entries low high x = list_any (λ e. nat_lt low e.lsn && (nat_lt e.lsn high && is_among x e.writes)) entries
 
--- an entry at the number or after it writes x
+-- an entry at the LSN or after it writes x
 abbrev pub is_written_from : List Entry → ℕ → ℕ → Bool
-is_written_from entries low x = list_any (λ e. nat_le low e.number && is_among x e.writes) entries
+is_written_from entries low x = list_any (λ e. nat_le low e.lsn && is_among x e.writes) entries
 
 -- an edge goes from a to b over x, which b writes
 abbrev pub is_edge_at : List Entry → ℕ → ℕ → ℕ → Bool
@@ -23,15 +23,15 @@ is_edge_over entries a b objects = list_any (λ x. is_edge_at entries a b x) obj
 
 -- an edge goes from a to b
 abbrev pub is_edge : List Entry → ℕ → ℕ → Bool
-is_edge entries a b = list_any (λ e. (e.number == b) && is_edge_over entries a b e.writes) entries
+is_edge entries a b = list_any (λ e. (e.lsn == b) && is_edge_over entries a b e.writes) entries
 
 -- an entry outside the installed ones, at n or before it, reads x
 abbrev pub is_read_by : List Entry → List ℕ → ℕ → ℕ → Bool
-is_read_by entries installed n x = list_any (λ o. nat_le o.number n && (not (is_among o.number installed) && is_among x o.reads)) entries
+is_read_by entries installed n x = list_any (λ o. nat_le o.lsn n && (not (is_among o.lsn installed) && is_among x o.reads)) entries
 
 -- each entry is installed, doesn't write x, or has one outside the installed ones at or before it that reads x
 abbrev pub is_exposed : ℕ → List ℕ → List Entry → Bool
-is_exposed x installed entries = list_all (λ p. is_among p.number installed || (not (is_among x p.writes) || is_read_by entries installed p.number x)) entries
+is_exposed x installed entries = list_all (λ p. is_among p.lsn installed || (not (is_among x p.writes) || is_read_by entries installed p.lsn x)) entries
 
 -- the entry accesses none of the objects
 abbrev pub is_untouched : Entry → List ℕ → Bool
@@ -39,8 +39,8 @@ is_untouched o objects = list_all (λ x. not (is_among x o.reads || is_among x o
 
 -- no installed entry after o writes what o accesses
 abbrev pub is_in_order : Entry → List ℕ → List Entry → Bool
-is_in_order o installed entries = list_all (λ p. not (is_among p.number installed) || (nat_le p.number o.number || is_untouched o p.writes)) entries
+is_in_order o installed entries = list_all (λ p. not (is_among p.lsn installed) || (nat_le p.lsn o.lsn || is_untouched o p.writes)) entries
 
 -- each entry is installed, or no later installed one writes what it accesses
 abbrev pub is_closed : List ℕ → List Entry → Bool
-is_closed installed entries = list_all (λ o. is_among o.number installed || is_in_order o installed entries) entries
+is_closed installed entries = list_all (λ o. is_among o.lsn installed || is_in_order o installed entries) entries

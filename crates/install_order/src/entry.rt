@@ -3,11 +3,11 @@ ghost use Rattle.oper_core.specs.State.{is_among};
 
 use oper_core::Objs;
 
-/// A logged operation as the order sees it: its number, the objects that it reads and those that it writes, and
+/// A logged operation as the order sees it: its LSN, the objects that it reads and those that it writes, and
 /// whether it is an identity write, which makes no difference to the order.
 #[derive(Drop)]
 pub struct Entry {
-    pub number: u64,
+    pub lsn: u64,
     pub reads: Objs,
     pub writes: Objs,
     pub identity: bool,

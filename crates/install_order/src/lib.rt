@@ -18,6 +18,6 @@ pub use laws::{
 pub use order::{closed, edge, exposed};
 pub use sparse::{
     arcs_left_by_a_removal, arcs_of_one_more, arcs_reach_the_same, no_arc_is_no_edge,
-    nodes_left_by_a_removal, nodes_stand_for_nodes, one_arc_more, places_stand_for_numbers,
+    nodes_left_by_a_removal, nodes_stand_for_nodes, one_arc_more, places_stand_for_lsns,
     representatives_tell_nodes,
 };

@@ -27,11 +27,11 @@ pub fn closed(installed: &[u64], entries: &[Entry]) -> bool
     is_closed(installed, entries)
 }
 
-/// The test of `edge`: some entry with the second number writes an object over which an edge goes.
+/// The test of `edge`: some entry with the second LSN writes an object over which an edge goes.
 fn is_edge(a: u64, b: u64, entries: &[Entry]) -> bool
     ensures { result ≡ is_edge entries.now a b }
 {
-    entries.iter().any(|e| e.number == b && is_edge_over(a, b, e.writes.as_slice(), entries))
+    entries.iter().any(|e| e.lsn == b && is_edge_over(a, b, e.writes.as_slice(), entries))
 }
 
 /// Whether an edge goes over one of the objects, which the second operation writes.
@@ -52,34 +52,34 @@ fn is_edge_at(a: u64, b: u64, x: u32, entries: &[Entry]) -> bool
             && is_written_from(a, x, entries))
 }
 
-/// Whether the entry of this number reads the object.
+/// Whether the entry of this LSN reads the object.
 fn reads(n: u64, x: u32, entries: &[Entry]) -> bool
     ensures { result ≡ reads_at entries.now n x }
 {
-    entries.iter().any(|e| e.number == n && e.reads_object(x))
+    entries.iter().any(|e| e.lsn == n && e.reads_object(x))
 }
 
-/// Whether the entry of this number writes the object.
+/// Whether the entry of this LSN writes the object.
 fn writes(n: u64, x: u32, entries: &[Entry]) -> bool
     ensures { result ≡ writes_at entries.now n x }
 {
-    entries.iter().any(|e| e.number == n && e.writes_object(x))
+    entries.iter().any(|e| e.lsn == n && e.writes_object(x))
 }
 
 /// Whether an entry strictly between the two numbers writes the object.
 fn is_written_between(low: u64, high: u64, x: u32, entries: &[Entry]) -> bool
     ensures { result ≡ is_written_between entries.now low high x }
 {
-    entries.iter().any(|e| low < e.number && e.number < high && e.writes_object(x))
+    entries
+        .iter()
+        .any(|e| low < e.lsn && e.lsn < high && e.writes_object(x))
 }
 
-/// Whether an entry at the number or after it writes the object.
+/// Whether an entry at the LSN or after it writes the object.
 fn is_written_from(low: u64, x: u32, entries: &[Entry]) -> bool
     ensures { result ≡ is_written_from entries.now low x }
 {
-    entries
-        .iter()
-        .any(|e| low <= e.number && e.writes_object(x))
+    entries.iter().any(|e| low <= e.lsn && e.writes_object(x))
 }
 
 /// The test of `exposed`: each entry is installed, doesn't write the object, or has one at or before it that reads it.
@@ -87,24 +87,22 @@ fn is_exposed(x: u32, installed: &[u64], entries: &[Entry]) -> bool
     ensures { result ≡ is_exposed x installed.now entries.now }
 {
     entries.iter().all(|p| {
-        has(installed, p.number)
-            || !p.writes_object(x)
-            || is_read_by(p.number, x, installed, entries)
+        has(installed, p.lsn) || !p.writes_object(x) || is_read_by(p.lsn, x, installed, entries)
     })
 }
 
-/// Whether an entry outside the installed ones, at the number or before it, reads the object.
+/// Whether an entry outside the installed ones, at the LSN or before it, reads the object.
 fn is_read_by(n: u64, x: u32, installed: &[u64], entries: &[Entry]) -> bool
     ensures { result ≡ is_read_by entries.now installed.now n x }
 {
-    entries.iter().any(|o| o.number <= n && !has(installed, o.number) && o.reads_object(x))
+    entries.iter().any(|o| o.lsn <= n && !has(installed, o.lsn) && o.reads_object(x))
 }
 
 /// The test of `closed`: each entry is installed, or no later installed one writes what it accesses.
 fn is_closed(installed: &[u64], entries: &[Entry]) -> bool
     ensures { result ≡ is_closed installed.now entries.now }
 {
-    entries.iter().all(|o| has(installed, o.number) || is_in_order(o, installed, entries))
+    entries.iter().all(|o| has(installed, o.lsn) || is_in_order(o, installed, entries))
 }
 
 /// Whether no installed entry after this one writes what it accesses.
@@ -112,9 +110,7 @@ fn is_in_order(entry: &Entry, installed: &[u64], entries: &[Entry]) -> bool
     ensures { result ≡ is_in_order entry.now installed.now entries.now }
 {
     entries.iter().all(|p| {
-        !has(installed, p.number)
-            || p.number <= entry.number
-            || is_untouched(entry, p.writes.as_slice())
+        !has(installed, p.lsn) || p.lsn <= entry.lsn || is_untouched(entry, p.writes.as_slice())
     })
 }
 
@@ -127,9 +123,9 @@ fn is_untouched(entry: &Entry, objects: &[u32]) -> bool
         .all(|x| !(entry.reads_object(*x) || entry.writes_object(*x)))
 }
 
-/// Whether the number is one of them.
-fn has(numbers: &[u64], n: u64) -> bool
-    ensures { result ≡ is_among n numbers.now }
+/// Whether the LSN is one of them.
+fn has(lsns: &[u64], n: u64) -> bool
+    ensures { result ≡ is_among n lsns.now }
 {
-    numbers.iter().any(|k| n == *k)
+    lsns.iter().any(|k| n == *k)
 }

@@ -1,5 +1,5 @@
 ghost use Rattle.std.specs.Prelude.{◌≡◌, ℕ, ◌<◌, ◌≤◌, ◌==◌, ◌↔◌, ◌⊎◌, Bool, not, IsTrue, IsFalse};
-ghost use Rattle.install_order.specs.Renamed.{IsRenamed, numbers_of, places_of};
+ghost use Rattle.install_order.specs.Renamed.{IsRenamed, lsns_of, places_of};
 ghost use Rattle.install_order.specs.More.{IsAdded, NewArc};
 ghost use Rattle.install_order.specs.Digraph.{Walk, Joined, AreNodes, AreLevels, with_arc, outside, IsOnWay, merged, IsReached, AreWhole, arcs};
 ghost use Rattle.install_order.specs.Order.{Access, Reaches, within, NoEdgeInto, IsNode, IsName, IsLastWriter};
@@ -51,24 +51,24 @@ pub fn one_arc_more()
 {}
 
 /// Under other numbers in the same order the same operations reach each other.
-pub fn places_stand_for_numbers()
-    ensures { (a b : Access) (dom : ℕ → Bool) (end : ℕ) (number : ℕ → ℕ) (i j : ℕ) → IsRenamed a b dom end number → IsTrue (dom i) → IsTrue (dom j) →
-        Reaches b (number i) (number j) ↔ Reaches a i j }
+pub fn places_stand_for_lsns()
+    ensures { (a b : Access) (dom : ℕ → Bool) (end : ℕ) (lsn : ℕ → ℕ) (i j : ℕ) → IsRenamed a b dom end lsn → IsTrue (dom i) → IsTrue (dom j) →
+        Reaches b (lsn i) (lsn j) ↔ Reaches a i j }
 {}
 
 /// Under other numbers in the same order, nodes, names, minimal nodes and last writers are the same too.
 pub fn nodes_stand_for_nodes()
-    ensures numbers { (a b : Access) (dom : ℕ → Bool) (end : ℕ) (number : ℕ → ℕ) (set : ℕ → Bool) (i : ℕ) → IsRenamed a b dom end number →
+    ensures lsns { (a b : Access) (dom : ℕ → Bool) (end : ℕ) (lsn : ℕ → ℕ) (set : ℕ → Bool) (i : ℕ) → IsRenamed a b dom end lsn →
         IsNode a set → IsTrue (set i) → IsTrue (dom i) →
-        IsNode b (numbers_of dom end number set) × IsTrue (numbers_of dom end number set (number i)) }
-    ensures places { (a b : Access) (dom : ℕ → Bool) (end : ℕ) (number : ℕ → ℕ) (node : ℕ → Bool) (i : ℕ) → IsRenamed a b dom end number →
-        IsNode b node → IsTrue (dom i) → IsTrue (node (number i)) → IsNode a (places_of dom number node) }
-    ensures name { (a b : Access) (dom : ℕ → Bool) (end : ℕ) (number : ℕ → ℕ) (set : ℕ → Bool) (i : ℕ) → IsRenamed a b dom end number →
-        IsTrue (dom i) → IsName set i → IsName (numbers_of dom end number set) (number i) }
-    ensures free { (a b : Access) (dom : ℕ → Bool) (end : ℕ) (number : ℕ → ℕ) (set : ℕ → Bool) → IsRenamed a b dom end number →
-        NoEdgeInto a set ↔ NoEdgeInto b (numbers_of dom end number set) }
-    ensures last { (a b : Access) (dom : ℕ → Bool) (end : ℕ) (number : ℕ → ℕ) (x i : ℕ) → IsRenamed a b dom end number → IsTrue (dom i) →
-        IsLastWriter b x (number i) ↔ IsLastWriter a x i }
+        IsNode b (lsns_of dom end lsn set) × IsTrue (lsns_of dom end lsn set (lsn i)) }
+    ensures places { (a b : Access) (dom : ℕ → Bool) (end : ℕ) (lsn : ℕ → ℕ) (node : ℕ → Bool) (i : ℕ) → IsRenamed a b dom end lsn →
+        IsNode b node → IsTrue (dom i) → IsTrue (node (lsn i)) → IsNode a (places_of dom lsn node) }
+    ensures name { (a b : Access) (dom : ℕ → Bool) (end : ℕ) (lsn : ℕ → ℕ) (set : ℕ → Bool) (i : ℕ) → IsRenamed a b dom end lsn →
+        IsTrue (dom i) → IsName set i → IsName (lsns_of dom end lsn set) (lsn i) }
+    ensures free { (a b : Access) (dom : ℕ → Bool) (end : ℕ) (lsn : ℕ → ℕ) (set : ℕ → Bool) → IsRenamed a b dom end lsn →
+        NoEdgeInto a set ↔ NoEdgeInto b (lsns_of dom end lsn set) }
+    ensures last { (a b : Access) (dom : ℕ → Bool) (end : ℕ) (lsn : ℕ → ℕ) (x i : ℕ) → IsRenamed a b dom end lsn → IsTrue (dom i) →
+        IsLastWriter b x (lsn i) ↔ IsLastWriter a x i }
 {}
 
 /// Where a set into which no arc leads from outside is taken out, the other nodes are as they were.

@@ -3,8 +3,8 @@ use Rattle.std.proofs.Common.{◌≡◌, ℕ, ◌+◌, ◌^◌, ◌≤◌, List,
 use Rattle.oper_core.specs.Meaning.{Meaning}
 use Rattle.formats.specs.Records.{next_behind, IsPlaced}
 use Rattle.formats.specs.declared.record.Record.{Record}
-use Rattle.formats.specs.declared.record.Record.TheVariants.{Command, Identity, Check}
-use Rattle.log_frames.specs.LogView.{LogView}
+use Rattle.formats.specs.declared.record.Record.TheVariants.{Command, Identity, Checkpoint}
+use Rattle.log_blocks.specs.LogView.{LogView}
 use Rattle.log_records.specs.RecordLog.{RecordLogView, counts}
 
 -- what waits, when room was made for a code and the code was added
@@ -26,8 +26,8 @@ appended inside now log next accepted code new same log_is next_is accepted_is =
     let counted = accepted_is ∙ ap (λ (v : RecordLogView). v.accepted + counts new) same in
     λ i. record { bounds = (same i).bounds; log = logs i; next = nexts i; accepted = counted i; forced = (same i).forced }
 
--- the next number after one record ends at 2^62
+-- the next LSN after one record ends at 2^62
 pub next_within : {O : Type 0} (m : Meaning O) (base next : ℕ) (r : Record O) → next ≤ 2 ^ 62 → IsPlaced m base next r → next_behind next r ≤ 2 ^ 62
-next_within m base next (Command number op) small place = omega (arith, place.0, place.1)
-next_within m base next (Identity number x value) small place = omega (arith, place.0, place.1)
-next_within m base next (Check table) small place = small
+next_within m base next (Command lsn op) small place = omega (arith, place.0, place.1)
+next_within m base next (Identity lsn x value) small place = omega (arith, place.0, place.1)
+next_within m base next (Checkpoint table) small place = small

@@ -12,14 +12,14 @@ use Rattle.oper_core.specs.declared.bounds.Bounds.{Bounds}
 use Rattle.formats.specs.Log.{end_of}
 use Rattle.formats.specs.Records.{payload_of, record_code, records_of, AreRecords}
 use Rattle.formats.specs.declared.record.Record.{Record}
-use Rattle.log_frames.specs.Forcing.{with_block}
-use Rattle.log_frames.specs.LogView.{LogView}
-use Rattle.log_frames.specs.Payloads.{PayloadReaderView, HasNext, IsInLog, ahead, remaining, untaken}
+use Rattle.log_blocks.specs.Forcing.{with_block}
+use Rattle.log_blocks.specs.LogView.{LogView}
+use Rattle.log_blocks.specs.Payloads.{PayloadReaderView, HasNext, IsInLog, ahead, remaining, untaken}
 use Rattle.log_records.specs.BlockReader.{AreAllBlocks, GoesOn, IsReadingBlocks, IsReadingIn, TakesRecord, blocks_from, is_some_list, payloads_from}
 use Rattle.log_records.specs.Codec.{AreShort, StartsWithRecord}
 use Rattle.log_records.specs.RecordLaws.{payload_push, payloads-with_group, records-with_group, with_group, with_group-none, with_group-some}
 use Rattle.log_records.specs.RecordReader.{RecordReaderView, IsReading, HasEnded, HasFound}
-use Rattle.log_records.specs.Rewriting.{is_numbered_from, numbered_from}
+use Rattle.log_records.specs.Rewriting.{is_from_lsn, from_lsn}
 use Rattle.log_records.proofs.Laid.{code_some}
 
 nil_of : (l : List ℕ) → length l ≡ 0 → l ≡ []
@@ -113,8 +113,8 @@ module _ {O : Type 0} (m : Meaning O) where
       }
 
   -- what one group more gives
-  from_push : (from : ℕ) (groups : List (List (Record O))) (g : List (Record O)) → blocks_from from (groups ++ g ∷ []) ≡ blocks_from from groups ++ filter is_some_list (numbered_from from g ∷ [])
-  from_push from groups g = ap (filter is_some_list) (map-append (numbered_from from) groups (g ∷ [])) ∙ filter-append is_some_list (map (numbered_from from) groups) (numbered_from from g ∷ [])
+  from_push : (from : ℕ) (groups : List (List (Record O))) (g : List (Record O)) → blocks_from from (groups ++ g ∷ []) ≡ blocks_from from groups ++ filter is_some_list (from_lsn from g ∷ [])
+  from_push from groups g = ap (filter is_some_list) (map-append (from_lsn from) groups (g ∷ [])) ∙ filter-append is_some_list (map (from_lsn from) groups) (from_lsn from g ∷ [])
 
   one_kept : (g : List (Record O)) → 0 < length (payload_of m g) → filter is_some_list (g ∷ []) ≡ g ∷ []
   one_kept [] some = absurd (omega (arith, some))
@@ -124,15 +124,15 @@ module _ {O : Type 0} (m : Meaning O) where
   none_in [] none = refl
   none_in (r ∷ g) none = absurd (omega (arith, none, code_some m r, length-append (record_code m r) (payload_of m g)))
 
-  given_more : (from : ℕ) (groups : List (List (Record O))) (part : List (Record O)) → 0 < length (payload_of m (numbered_from from part)) → payloads_from m from (with_group groups part) ≡ payloads_from m from groups ++ payload_of m (numbered_from from part) ∷ []
+  given_more : (from : ℕ) (groups : List (List (Record O))) (part : List (Record O)) → 0 < length (payload_of m (from_lsn from part)) → payloads_from m from (with_group groups part) ≡ payloads_from m from groups ++ payload_of m (from_lsn from part) ∷ []
   given_more from groups [] some = absurd (omega (arith, some))
   given_more from groups (r ∷ part) some =
-      let mine = numbered_from from (r ∷ part) in
+      let mine = from_lsn from (r ∷ part) in
       ap (payloads_from m from) (with_group-some groups r part)
       ∙ ap (map (payload_of m)) (from_push from groups (r ∷ part) ∙ ap (λ (l : List (List (Record O))). blocks_from from groups ++ l) (one_kept mine some))
       ∙ map-append (payload_of m) (blocks_from from groups) (mine ∷ [])
 
-  given_same : (from : ℕ) (groups : List (List (Record O))) (part : List (Record O)) → numbered_from from part ≡ [] → payloads_from m from (with_group groups part) ≡ payloads_from m from groups
+  given_same : (from : ℕ) (groups : List (List (Record O))) (part : List (Record O)) → from_lsn from part ≡ [] → payloads_from m from (with_group groups part) ≡ payloads_from m from groups
   given_same from groups [] none = ap (payloads_from m from) (with_group-none groups)
   given_same from groups (r ∷ part) none =
       ap (payloads_from m from) (with_group-some groups r part)
@@ -143,7 +143,7 @@ pub record Gathered {O : Type 0} (m : Meaning O) (d : Disk) (log : LogView) (it 
   pub groups : List (List (Record O))
   pub part : List (Record O)
   pub given_are : given ≡ payloads_from m from groups
-  pub into_are : into ≡ payload_of m (numbered_from from part)
+  pub into_are : into ≡ payload_of m (from_lsn from part)
   pub reading : IsReadingIn m d log it groups part
 
 -- and it took none where nothing is left of the block in hand
@@ -169,17 +169,17 @@ module _ {O : Type 0} (m : Meaning O) where
 
   -- one record more
   pub gathered_more : (old new : Disk) (log : LogView) (it now : RecordReaderView) (from : ℕ) (given : List (List ℕ)) (into into' : List ℕ) (found : Option (Record O)) (r : Record O) → found ≡ Some r → Stays old new → IsGathered m old log it from given into
-      → into' ≡ into ++ payload_of m (numbered_from from (r ∷ [])) → ((log : LogView) (records : List (Record O)) → IsReading m old log it records → HasFound m new log now records found) → Takes m new it now found → Gathered m new log now from given into'
+      → into' ≡ into ++ payload_of m (from_lsn from (r ∷ [])) → ((log : LogView) (records : List (Record O)) → IsReading m old log it records → HasFound m new log now records found) → Takes m new it now found → Gathered m new log now from given into'
   gathered_more old new log it now from given into into' found r is kept was more finds takes =
       let g = was.so_far in
-      let mine = numbered_from from g.part in
-      let one = numbered_from from (r ∷ []) in
+      let mine = from_lsn from g.part in
+      let one = from_lsn from (r ∷ []) in
       let reading = subst (λ (o : Option (Record O)). HasFound m new log now (records_of g.groups ++ g.part) o) is (finds log (records_of g.groups ++ g.part) g.reading.reading) in
       record {
         groups = g.groups;
         part = g.part ++ r ∷ [];
         given_are = g.given_are;
-        into_are = more ∙ ap (λ (l : List ℕ). l ++ payload_of m one) g.into_are ∙ sym (flat_map-append (record_code m) mine one) ∙ ap (payload_of m) (sym (filter-append (is_numbered_from from) g.part (r ∷ [])));
+        into_are = more ∙ ap (λ (l : List ℕ). l ++ payload_of m one) g.into_are ∙ sym (flat_map-append (record_code m) mine one) ∙ ap (payload_of m) (sym (filter-append (is_from_lsn from) g.part (r ∷ [])));
         reading = record_taken m old new log it now g.groups g.part r kept g.reading was.through reading (subst (Takes m new it now) is takes);
       }
 
@@ -192,7 +192,7 @@ module _ {O : Type 0} (m : Meaning O) where
   gathered_on d log it from given into g open_still = elim (cases_eq (remaining it.payloads) 0) [
     | inl none ↦
         let empty : length into ≡ 0 = empty_of it into none open_still in
-        let mine = none_in m (numbered_from from g.part) (sym (ap length g.into_are) ∙ empty) in
+        let mine = none_in m (from_lsn from g.part) (sym (ap length g.into_are) ∙ empty) in
         record {
           so_far = record {
             groups = with_group g.groups g.part;
@@ -224,12 +224,12 @@ module _ {O : Type 0} (m : Meaning O) where
       let reading = subst (λ (l : List (Record O)). IsReadingIn m old log it g.groups l) part g.reading in
       let ended = subst (λ (o : Option (Record O)). HasFound m new log now (records_of g.groups ++ []) o) is (finds log (records_of g.groups ++ []) reading.reading) in (
         blocks_end m old new log it now from given g.groups kept g.given_are reading ended (subst (Takes m new it now) is takes),
-        g.into_are ∙ ap (λ (l : List (Record O)). payload_of m (numbered_from from l)) part,
+        g.into_are ∙ ap (λ (l : List (Record O)). payload_of m (from_lsn from l)) part,
       )
 
 -- What is known between two records, with one more of the block taken.
 module _ {O : Type 0} (meaning : Bounds → Meaning O) (first mid new : Disk) (from : ℕ) (old it now : RecordReaderView) (into into' : List ℕ) (found : Option (Record O)) (r : Record O) (is : found ≡ Some r) (inv : IsGathering (meaning old.bounds) first mid from old it into)
-    (kept : Stays mid new) (more : into' ≡ into ++ payload_of (meaning old.bounds) (numbered_from from (r ∷ []))) (finds : (log : LogView) (records : List (Record O)) → IsReading (meaning it.bounds) mid log it records → HasFound (meaning it.bounds) new log now records found)
+    (kept : Stays mid new) (more : into' ≡ into ++ payload_of (meaning old.bounds) (from_lsn from (r ∷ []))) (finds : (log : LogView) (records : List (Record O)) → IsReading (meaning it.bounds) mid log it records → HasFound (meaning it.bounds) new log now records found)
     (takes : Takes (meaning it.bounds) new it now found) where
   pub gathering_more : (log : LogView) (given : List (List ℕ)) → IsReadingBlocks (meaning old.bounds) first log (record { records = old; from = from }) given → Gathered (meaning old.bounds) new log now from given into'
   gathering_more log given reading = gathered_more (meaning old.bounds) mid new log it now from given into into' found r is kept (inv.gathered log given reading) more

@@ -12,17 +12,17 @@ use Rattle.formats.specs.Log.{Header, blocks, header_fields, IsWholeLog}
 use Rattle.formats.specs.Records.{record_code, payload_of, AreRecords, IsRecordLog, records_of}
 use Rattle.formats.specs.Reading.{FailsBy}
 use Rattle.formats.specs.declared.record.Record.{Record}
-use Rattle.log_frames.specs.LogView.{LogView}
-use Rattle.log_frames.specs.Rewriting.{IsFront, KeepsClosed}
-use Rattle.log_frames.specs.Writing.{LogWriterView, HasPut, HasPutLog, put_of}
+use Rattle.log_blocks.specs.LogView.{LogView}
+use Rattle.log_blocks.specs.Rewriting.{IsFront, KeepsClosed}
+use Rattle.log_blocks.specs.Writing.{LogWriterView, HasPut, HasPutLog, put_of}
 use Rattle.log_records.specs.CodecLaws.{HasCodes}
 use Rattle.log_records.specs.Copying.{HasCopied, HasFilled, IsFilled, IsLaid, IsPlanned, PutFails, later_of, read_from_put}
 use Rattle.log_records.specs.Laying.{Fits, codes_of, laid, room_of}
 use Rattle.log_records.specs.Loading.{IsTailFault}
 use Rattle.log_records.specs.Measuring.{block_lengths}
-use Rattle.log_records.specs.NumberedLaws.{reading_beside}
+use Rattle.log_records.specs.LsnReaderLaws.{reading_beside}
 use Rattle.log_records.specs.RecordReader.{RecordReaderView, AreAll, IsReading}
-use Rattle.log_records.specs.Rewriting.{code_lengths, in_full_blocks, is_numbered_from, numbered_from}
+use Rattle.log_records.specs.Rewriting.{code_lengths, in_full_blocks, is_from_lsn, from_lsn}
 use Rattle.log_records.specs.Uniqueness.{first_records, one_grouping}
 use Rattle.log_records.specs.declared.blocks_left.BlocksLeft.{BlocksLeft}
 use Rattle.log_records.specs.declared.new_log.NewLog.{NewLog}
@@ -166,24 +166,24 @@ module _ {O : Type 0} (m : Meaning O) where
       (front.more, so.records_are ∙ front.all_are ∙ ap (λ (l : List (Record O)). l ++ front.more) (sym first.records_are))
 
   -- the codes of records, and of others after them
-  pub codes_then : (base : ℕ) (records more : List (Record O)) → codes_of m (numbered_from base (records ++ more)) ≡ codes_of m (numbered_from base records) ++ codes_of m (numbered_from base more)
-  codes_then base records more = ap (codes_of m) (filter-append (is_numbered_from base) records more) ∙ map-append _ (numbered_from base records) (numbered_from base more)
+  pub codes_then : (base : ℕ) (records more : List (Record O)) → codes_of m (from_lsn base (records ++ more)) ≡ codes_of m (from_lsn base records) ++ codes_of m (from_lsn base more)
+  codes_then base records more = ap (codes_of m) (filter-append (is_from_lsn base) records more) ∙ map-append _ (from_lsn base records) (from_lsn base more)
 
   -- a record that has no room where it comes next: the log reads otherwise than when it was measured
   pub no_room : HasCodes m → (old now : Disk) (log : LogView) (it : RecordReaderView) (out out' : LogWriterView) (blocks blocks' : BlocksLeft) (base : ℕ) (all records : List (Record O)) (r : Record O) (last : List (List ℕ)) (before : Disk)
-      → AreAll m now log all → IsReading m now log it (records ++ r ∷ []) → IsLaid old before out out' blocks blocks' (codes_of m (numbered_from base records))
-      → ((rest : List (List ℕ)) → Fits blocks'.left (later_of blocks') (codes_of m (numbered_from base (r ∷ [])) ++ rest) → ⊥)
-      → Fits blocks.left (later_of blocks) (codes_of m (numbered_from base all) ++ last) → (place : ℕ) → IsTailFault m now log log.active place
+      → AreAll m now log all → IsReading m now log it (records ++ r ∷ []) → IsLaid old before out out' blocks blocks' (codes_of m (from_lsn base records))
+      → ((rest : List (List ℕ)) → Fits blocks'.left (later_of blocks') (codes_of m (from_lsn base (r ∷ [])) ++ rest) → ⊥)
+      → Fits blocks.left (later_of blocks) (codes_of m (from_lsn base all) ++ last) → (place : ℕ) → IsTailFault m now log log.active place
   no_room codes old now log it out out' blocks blocks' base all records r last before are reading put none fits place = (
     refl,
     λ files agree payloads whole.
         let more = first_of_all codes now log it all (records ++ r ∷ []) files payloads are reading agree whole in
-        let one = codes_of m (numbered_from base (r ∷ [])) in
-        let rest = codes_of m (numbered_from base more.0) in
-        let done = codes_of m (numbered_from base records) in
-        let split : codes_of m (numbered_from base all) ++ last ≡ done ++ (one ++ (rest ++ last)) =
-        ap (λ (l : List (Record O)). codes_of m (numbered_from base l) ++ last) more.1 ∙ ap (λ (l : List (List ℕ)). l ++ last) (codes_then base (records ++ r ∷ []) more.0)
-        ∙ append_assoc (codes_of m (numbered_from base (records ++ r ∷ []))) rest last
+        let one = codes_of m (from_lsn base (r ∷ [])) in
+        let rest = codes_of m (from_lsn base more.0) in
+        let done = codes_of m (from_lsn base records) in
+        let split : codes_of m (from_lsn base all) ++ last ≡ done ++ (one ++ (rest ++ last)) =
+        ap (λ (l : List (Record O)). codes_of m (from_lsn base l) ++ last) more.1 ∙ ap (λ (l : List (List ℕ)). l ++ last) (codes_then base (records ++ r ∷ []) more.0)
+        ∙ append_assoc (codes_of m (from_lsn base (records ++ r ∷ []))) rest last
         ∙ ap (λ (l : List (List ℕ)). l ++ (rest ++ last)) (codes_then base records (r ∷ [])) ∙ append_assoc done one (rest ++ last) in
         absurd (none (rest ++ last) (put.fits (one ++ (rest ++ last)) (subst (Fits blocks.left (later_of blocks)) split fits))),
   )
@@ -210,13 +210,13 @@ module _ {O : Type 0} (m : Meaning O) where
   codes_are : (records more : List (Record O)) → codes_of m (records ++ more) ≡ codes_of m records ++ codes_of m more
   codes_are records more = map-append (record_code m) records more
 
-  -- with a check there are some
+  -- with a checkpoint there are some
   pub some_with : (records : List (Record O)) (r : Record O) → 0 < length (records ++ r ∷ [])
   some_with records r = omega (arith, length-append records (r ∷ []))
 
-  module _ (d : Disk) (log : LogView) (base : ℕ) (more : List (Record O)) (it : NewLog) (is : IsPlanned m d log base more it) (some : 0 < length (numbered_from base is.records ++ more)) where
+  module _ (d : Disk) (log : LogView) (base : ℕ) (more : List (Record O)) (it : NewLog) (is : IsPlanned m d log base more it) (some : 0 < length (from_lsn base is.records ++ more)) where
     abbrev kept : List (Record O)
-    kept = numbered_from base is.records
+    kept = from_lsn base is.records
 
     -- its records have room in its blocks
     pub planned_fits : Fits 0 it.lengths.items (codes_of m kept ++ codes_of m more)
@@ -225,16 +225,16 @@ module _ {O : Type 0} (m : Meaning O) where
 
     -- and are laid there as the new log's payloads are
     pub planned_laid : (records : List (Record O)) → is.records ≡ records
-        → laid 0 it.lengths.items (codes_of m (numbered_from base records ++ more)) ≡ blocks (map (payload_of m) (in_full_blocks m (numbered_from base records ++ more)))
-    planned_laid records same = subst (λ (l : List (Record O)). laid 0 it.lengths.items (codes_of m (numbered_from base l ++ more)) ≡ blocks (map (payload_of m) (in_full_blocks m (numbered_from base l ++ more)))) same
+        → laid 0 it.lengths.items (codes_of m (from_lsn base records ++ more)) ≡ blocks (map (payload_of m) (in_full_blocks m (from_lsn base records ++ more)))
+    planned_laid records same = subst (λ (l : List (Record O)). laid 0 it.lengths.items (codes_of m (from_lsn base l ++ more)) ≡ blocks (map (payload_of m) (in_full_blocks m (from_lsn base l ++ more)))) same
         (ap (λ (l : List ℕ). laid 0 l (codes_of m (kept ++ more))) is.lengths ∙ (are_laid m (kept ++ more) some is.short).laid_are)
 
   -- all were put, and the blocks are full
   pub has_copied : (d old one new : Disk) (log : LogView) (base : ℕ) (more : List (Record O)) (lengths : List ℕ) (out out' out'' : LogWriterView) (blocks blocks' : BlocksLeft) (records : List (Record O))
-      → blocks.left ≡ 0 → later_of blocks ≡ lengths → (old.tells_files → one.tells_files) → AreAll m d log records → IsLaid old one out out' blocks blocks' (codes_of m (numbered_from base records))
+      → blocks.left ≡ 0 → later_of blocks ≡ lengths → (old.tells_files → one.tells_files) → AreAll m d log records → IsLaid old one out out' blocks blocks' (codes_of m (from_lsn base records))
       → IsFilled one new out' out'' blocks' (codes_of m more) → HasCopied m d old new log base more lengths out out''
   has_copied d old one new log base more lengths out out' out'' blocks blocks' records none lengths_are tells all first last =
-      let kept = numbered_from base records in
+      let kept = from_lsn base records in
       let behind = laid blocks'.left (later_of blocks') (codes_of m more) in
       let bytes : laid 0 lengths (codes_of m (kept ++ more)) ≡ first.bytes ++ behind = (λ i. laid (sym none i) (sym lengths_are i) (codes_are kept more i)) ∙ first.laid_are (codes_of m more) in
       record {
@@ -247,26 +247,26 @@ module _ {O : Type 0} (m : Meaning O) where
 
   -- the last records have no room, or leave room: the log reads otherwise than when it was measured
   pub not_filled : HasCodes m → (old one now : Disk) (log : LogView) (base : ℕ) (more : List (Record O)) (it : NewLog) (out out' : LogWriterView) (blocks blocks' : BlocksLeft) (records : List (Record O)) (planned : IsPlanned m now log base more it)
-      → 0 < length (numbered_from base planned.records ++ more) → blocks.left ≡ 0 → later_of blocks ≡ it.lengths.items → AreAll m now log records → IsLaid old one out out' blocks blocks' (codes_of m (numbered_from base records))
+      → 0 < length (from_lsn base planned.records ++ more) → blocks.left ≡ 0 → later_of blocks ≡ it.lengths.items → AreAll m now log records → IsLaid old one out out' blocks blocks' (codes_of m (from_lsn base records))
       → (Fits blocks'.left (later_of blocks') (codes_of m more) → ⊥) → (place : ℕ) → IsTailFault m now log log.active place
   not_filled codes old one now log base more it out out' blocks blocks' records planned some none lengths_are all put never place = (
     refl,
     λ files agree payloads whole.
         let same = all_same codes now log planned.records records files payloads planned.all all agree whole in
-        absurd (never (put.fits (codes_of m more) (subst (λ (k : ℕ). Fits k (later_of blocks) (codes_of m (numbered_from base records) ++ codes_of m more)) (sym none)
-        (subst (λ (l : List ℕ). Fits 0 l (codes_of m (numbered_from base records) ++ codes_of m more)) (sym lengths_are)
-        (subst (λ (l : List (Record O)). Fits 0 it.lengths.items (codes_of m (numbered_from base l) ++ codes_of m more)) same (planned_fits now log base more it planned some)))))),
+        absurd (never (put.fits (codes_of m more) (subst (λ (k : ℕ). Fits k (later_of blocks) (codes_of m (from_lsn base records) ++ codes_of m more)) (sym none)
+        (subst (λ (l : List ℕ). Fits 0 l (codes_of m (from_lsn base records) ++ codes_of m more)) (sym lengths_are)
+        (subst (λ (l : List (Record O)). Fits 0 it.lengths.items (codes_of m (from_lsn base l) ++ codes_of m more)) same (planned_fits now log base more it planned some)))))),
   )
 
   -- the new log is put, but for its header gate and the closed gate after it
   pub put_log : HasCodes m → (d one two : Disk) (log : LogView) (base : ℕ) (more : List (Record O)) (it : NewLog) (out out' : LogWriterView) (header : Header) (groups : List (List (Record O))) → one.tells_files → d.agrees d.reads
-      → IsRecordLog m log.header groups (d.reads log.active) → (planned : IsPlanned m d log base more it) → 0 < length (numbered_from base planned.records ++ more) → HasPutLog one out header [] → HasCopied m d one two log base more it.lengths.items out out'
-      → HasPutLog two out' header (blocks (map (payload_of m) (in_full_blocks m (numbered_from base (records_of groups) ++ more))))
+      → IsRecordLog m log.header groups (d.reads log.active) → (planned : IsPlanned m d log base more it) → 0 < length (from_lsn base planned.records ++ more) → HasPutLog one out header [] → HasCopied m d one two log base more it.lengths.items out out'
+      → HasPutLog two out' header (blocks (map (payload_of m) (in_full_blocks m (from_lsn base (records_of groups) ++ more))))
   put_log codes d one two log base more it out out' header groups told agree holds planned some begun copied =
       let copied_are = all_of_groups codes d log copied.records groups d.reads copied.all agree holds in
       let planned_are = all_of_groups codes d log planned.records groups d.reads planned.all agree holds in
-      let bytes : laid 0 it.lengths.items (codes_of m (numbered_from base copied.records ++ more)) ≡ blocks (map (payload_of m) (in_full_blocks m (numbered_from base (records_of groups) ++ more))) =
-      ap (λ (l : List (Record O)). laid 0 it.lengths.items (codes_of m (numbered_from base l ++ more))) copied_are ∙ planned_laid d log base more it planned some (records_of groups) planned_are in
+      let bytes : laid 0 it.lengths.items (codes_of m (from_lsn base copied.records ++ more)) ≡ blocks (map (payload_of m) (in_full_blocks m (from_lsn base (records_of groups) ++ more))) =
+      ap (λ (l : List (Record O)). laid 0 it.lengths.items (codes_of m (from_lsn base l ++ more))) copied_are ∙ planned_laid d log base more it planned some (records_of groups) planned_are in
       record {
         gate = begun.gate;
         closed = begun.closed;

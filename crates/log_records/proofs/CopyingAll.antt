@@ -9,15 +9,15 @@ use Rattle.formats.specs.Reading.{FailsBy, TellsDamage}
 use Rattle.formats.specs.declared.read_err.ReadErr.{ReadErr}
 use Rattle.formats.specs.declared.read_err.ReadErr.TheVariants as of_read
 use Rattle.formats.specs.declared.record.Record.{Record}
-use Rattle.log_frames.specs.LogView.{LogView}
-use Rattle.log_frames.specs.RewriteLaws.{keeps_twice}
-use Rattle.log_frames.specs.Rewriting.{KeepsClosed}
-use Rattle.log_frames.specs.Writing.{LogWriterView}
+use Rattle.log_blocks.specs.LogView.{LogView}
+use Rattle.log_blocks.specs.RewriteLaws.{keeps_twice}
+use Rattle.log_blocks.specs.Rewriting.{KeepsClosed}
+use Rattle.log_blocks.specs.Writing.{LogWriterView}
 use Rattle.log_records.specs.Copying.{IsLaid, PutFails}
 use Rattle.log_records.specs.Laying.{codes_of}
 use Rattle.log_records.specs.LogCopy.{CopyFails, CopyFindsDamage, copy_from_put, copy_from_read}
 use Rattle.log_records.specs.RecordReader.{RecordReaderView, AreAll, IsReading, HasFound}
-use Rattle.log_records.specs.Rewriting.{numbered_from}
+use Rattle.log_records.specs.Rewriting.{from_lsn}
 use Rattle.log_records.specs.declared.blocks_left.BlocksLeft.{BlocksLeft}
 use Rattle.log_records.specs.declared.copy_err.CopyErr.{CopyErr}
 use Rattle.log_records.specs.declared.copy_err.CopyErr.TheVariants.{LogFull, DiskFault, TargetFault, Damaged, Memory}
@@ -26,7 +26,7 @@ use Rattle.log_records.specs.declared.put_err.PutErr.TheVariants as put_err
 use Rattle.log_records.proofs.Copies.{codes_then, laid_then}
 use Rattle.log_records.proofs.Passing.{next_found}
 
--- the numbered ones of the records that were read of one machine were put into the other's log
+-- those with an LSN of the records that were read of one machine were put into the other's log
 pub record IsCopyingAll {O : Type 0} (meaning : Bounds → Meaning O) (b : Bounds) (log : LogView) (source here first now : Disk) (it : RecordReaderView) (out out' : LogWriterView) (blocks blocks' : BlocksLeft) : Type 0 where
   pub stays : Stays source here
   pub kept : Runs (In out.file KeepsClosed) Same first now
@@ -34,18 +34,18 @@ pub record IsCopyingAll {O : Type 0} (meaning : Bounds → Meaning O) (b : Bound
   pub bounds : it.bounds ≡ b
   pub records : List (Record O)
   pub reading : IsReading (meaning b) here log it records
-  pub laid : IsLaid first now out out' blocks blocks' (codes_of (meaning b) (numbered_from log.header.base records))
+  pub laid : IsLaid first now out out' blocks blocks' (codes_of (meaning b) (from_lsn log.header.base records))
 
 -- one record more
 pub copied_more : {O : Type 0} (meaning : Bounds → Meaning O) (b : Bounds) (log : LogView) (source here read first now new : Disk) (it it' : RecordReaderView) (out out' out'' : LogWriterView) (blocks blocks' blocks'' : BlocksLeft) (found : Option (Record O)) (r : Record O) (base : ℕ)
     → base ≡ log.header.base → found ≡ Some r → IsCopyingAll meaning b log source here first now it out out' blocks blocks' → Stays here read → it'.bounds ≡ it.bounds
     → ((log : LogView) (records : List (Record O)) → IsReading (meaning it.bounds) here log it records → HasFound (meaning it.bounds) read log it' records found)
-    → Runs (In out'.file KeepsClosed) Same now new → out''.file ≡ out'.file → IsLaid now new out' out'' blocks' blocks'' (codes_of (meaning b) (numbered_from base (r ∷ [])))
+    → Runs (In out'.file KeepsClosed) Same now new → out''.file ≡ out'.file → IsLaid now new out' out'' blocks' blocks'' (codes_of (meaning b) (from_lsn base (r ∷ [])))
     → IsCopyingAll meaning b log source read first new it' out out'' blocks blocks''
 copied_more {O = O} meaning b log source here read first now new it it' out out' out'' blocks blocks' blocks'' found r base base_is is inv kept same finds run file put =
     let m = meaning b in
-    let done = codes_of m (numbered_from log.header.base inv.records) in
-    let one = codes_of m (numbered_from log.header.base (r ∷ [])) in
+    let done = codes_of m (from_lsn log.header.base inv.records) in
+    let one = codes_of m (from_lsn log.header.base (r ∷ [])) in
     record {
       stays = stays_twice source here read inv.stays kept;
       kept = keeps_twice first now new out.file inv.kept (subst (λ (f : FileNo). Runs (In f KeepsClosed) Same now new) inv.file run);
@@ -55,7 +55,7 @@ copied_more {O = O} meaning b log source here read first now new it it' out out'
       reading = next_found meaning b here read log it it' inv.records inv.bounds inv.reading found r is finds;
       laid = subst (λ (l : List (List ℕ)). IsLaid first new out out'' blocks blocks'' l) (sym (codes_then m log.header.base inv.records (r ∷ [])))
           (laid_then first now new out out' out'' blocks blocks' blocks'' done one inv.kept.time.files_told.0 inv.laid
-          (subst (λ (k : ℕ). IsLaid now new out' out'' blocks' blocks'' (codes_of m (numbered_from k (r ∷ [])))) base_is put));
+          (subst (λ (k : ℕ). IsLaid now new out' out'' blocks' blocks'' (codes_of m (from_lsn k (r ∷ [])))) base_is put));
     }
 
 -- the records of a log stay its records where no file changes

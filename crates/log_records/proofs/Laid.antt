@@ -9,8 +9,8 @@ use Rattle.oper_core.specs.Meaning.{Meaning}
 use Rattle.formats.specs.Log.{block, blocks, IsPayload}
 use Rattle.formats.specs.Records.{record_code, payload_of}
 use Rattle.formats.specs.declared.record.Record.{Record}
-use Rattle.formats.specs.declared.record.Record.TheVariants.{Command, Identity, Check}
-use Rattle.log_frames.specs.Laws.{length-block}
+use Rattle.formats.specs.declared.record.Record.TheVariants.{Command, Identity, Checkpoint}
+use Rattle.log_blocks.specs.Laws.{length-block}
 use Rattle.log_records.specs.Codec.{AreShort}
 use Rattle.log_records.specs.Laying.{Fits, codes_of, laid, room_of}
 use Rattle.log_records.specs.Measuring.{block_lengths, blocks_measured, has_room, is_full, lengths_of}
@@ -44,7 +44,7 @@ first_fits : (left n : ℕ) (lengths : List ℕ) (code : List ℕ) (codes : List
 first_fits zero n lengths code codes none within fits = (within, fits)
 first_fits (suc left) n lengths code codes none within fits = absurd (omega (arith, none))
 
--- the numbers from an index on: the one that stands there, and then those after it
+-- the LSNs from an index on: the one that stands there, and then those after it
 pub drop_one : (xs : List ℕ) (i x : ℕ) → i < length xs → x ≡ get_or xs i x → drop i xs ≡ x ∷ drop (i + 1) xs
 drop_one xs i x within here =
     let more : suc i ≡ i + 1 = omega arith in
@@ -57,9 +57,9 @@ drop_next xs i within =
 
 module _ {O : Type 0} (m : Meaning O) where
   pub code_some : (r : Record O) → 0 < length (record_code m r)
-  code_some (Command number op) = omega arith
-  code_some (Identity number x value) = omega arith
-  code_some (Check table) = omega arith
+  code_some (Command lsn op) = omega arith
+  code_some (Identity lsn x value) = omega arith
+  code_some (Checkpoint table) = omega arith
 
   -- with the block in hand begun by some records, the others have room behind them, and all are laid as the blocks are
   record IsBegun (hand records : List (Record O)) : Type 0 where

@@ -10,7 +10,7 @@ mod Copies
 mod CopyingAll
 mod LogCopies
 mod Blocks
-mod Numbered
-mod NumberedReading
+mod FromLsn
+mod LsnReading
 mod Rewrites
 mod Replaced

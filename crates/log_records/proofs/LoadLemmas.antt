@@ -11,12 +11,12 @@ use Rattle.formats.specs.Log.{Header, end_of, IsWholeLog}
 use Rattle.formats.specs.Records.{payload_of, records_of, commands_of, next_after, AreRecords, IsRecordLog, HoldsRecordLog}
 use Rattle.formats.specs.Image.{IsRecordFault}
 use Rattle.formats.specs.declared.record.Record.{Record}
-use Rattle.log_frames.specs.Laws.{has_header, no_first_log_fault, one_place}
+use Rattle.log_blocks.specs.Laws.{has_header, no_first_log_fault, one_place}
 use Rattle.log_records.specs.RecordLog.{RecordLogView, Keeps, IsHeldIn, IsLoaded}
 use Rattle.log_records.specs.Loading.{IsLoadFault, IsTailFault, in_blocks, in_record}
 use Rattle.log_records.specs.RecordReader.{AreGroups, AreAll}
 use Rattle.log_records.specs.CodecLaws.{HasCodes}
-use Rattle.log_records.specs.RecordLaws.{numbers_end, next_rises}
+use Rattle.log_records.specs.RecordLaws.{lsn_end, next_rises}
 use Rattle.log_records.specs.Uniqueness.{log_of, one_grouping, no_record_fault}
 
 -- a fault that was counted since a later moment was counted since an earlier one
@@ -64,7 +64,7 @@ module _ {O : Type 0} (m : Meaning O) where
       let base = log.log.header.base in
       let records = records_of so.groups in
       let file = groups_log log.log.header ps (old.reads log.log.active) found whole so placed in
-      let fits = numbers_end m base base found (omega (arith, whole.in_range.base_high)) placed in
+      let fits = lsn_end m base base found (omega (arith, whole.in_range.base_high)) placed in
       let rises = next_rises m base found in
       let all : found ≡ records ++ [] = so.records_are ∙ sym (append-nil records) in
       let accepted_is : log.accepted ≡ log.log.header.commands + length (commands_of found) = omega (arith, accepted, count_is, fits, rises, whole.in_range.commands) in (

@@ -7,37 +7,37 @@ use Rattle.std.proofs.lemmas.List.Elements.{All-filter, All-nil, All-push}
 use Rattle.disk_model.specs.Disk.{Files, Disk, Any, HoldsAt, In, Runs, Same, Stays}
 use Rattle.disk_model.specs.declared.machine.FileNo.{FileNo}
 use Rattle.disk_model.specs.declared.machine.FileNo.TheVariants.{Objects, LogA, LogB}
-use Rattle.redo_tables.specs.declared.table.Table.{Table}
+use Rattle.dirty_page_table.specs.declared.table.DirtyPageTable.{DirtyPageTable}
 use Rattle.oper_core.specs.Meaning.{Meaning}
 use Rattle.oper_core.specs.declared.bounds.Bounds.{Bounds}
 use Rattle.formats.specs.InForce.{HasHeader}
 use Rattle.formats.specs.Log.{IsClosedLog, IsHeader, IsWholeLog, blocks, new_header}
 use Rattle.formats.specs.Records.{commands_of, payload_of, record_code, records_of, AreRecords, IsRecord, IsRecordLog}
 use Rattle.formats.specs.declared.record.Record.{Record}
-use Rattle.formats.specs.declared.record.Record.TheVariants.{Check}
-use Rattle.log_frames.specs.Creating.{IsNewLog}
-use Rattle.log_frames.specs.Laws.{has_header}
-use Rattle.log_frames.specs.LogView.{LogView}
-use Rattle.log_frames.specs.RewriteLaws.{opened_whole}
-use Rattle.log_frames.specs.Rewriting.{IsPrepared, second_header}
-use Rattle.log_frames.specs.Writing.{LogWriterView, HasPutLog}
+use Rattle.formats.specs.declared.record.Record.TheVariants.{Checkpoint}
+use Rattle.log_blocks.specs.Creating.{IsNewLog}
+use Rattle.log_blocks.specs.Laws.{has_header}
+use Rattle.log_blocks.specs.LogView.{LogView}
+use Rattle.log_blocks.specs.RewriteLaws.{opened_whole}
+use Rattle.log_blocks.specs.Rewriting.{IsPrepared, second_header}
+use Rattle.log_blocks.specs.Writing.{LogWriterView, HasPutLog}
 use Rattle.log_records.specs.Codec.{AreShort, IsEncodable}
 use Rattle.log_records.specs.CodecLaws.{HasCodes, encodable-from_grammar}
 use Rattle.log_records.specs.Copying.{HasCopied}
 use Rattle.log_records.specs.Laying.{room_of}
-use Rattle.log_records.specs.LogCopy.{HasLast, HoldsCopy, IsCopyPlanned, copied_groups, copied_length, copied_records, empty_check, or_check}
+use Rattle.log_records.specs.LogCopy.{HasLast, HoldsCopy, IsCopyPlanned, copied_groups, copied_length, copied_records, empty_checkpoint, or_checkpoint}
 use Rattle.log_records.specs.Measured.{IsMeasured}
 use Rattle.log_records.specs.Measuring.{block_lengths, has_room}
 use Rattle.log_records.specs.RewriteLaws.{blocks_hold}
 use Rattle.log_records.specs.RecordReader.{AreAll}
-use Rattle.log_records.specs.Rewriting.{code_lengths, in_full_blocks, is_numbered_from, left_out, numbered_from}
+use Rattle.log_records.specs.Rewriting.{code_lengths, in_full_blocks, is_from_lsn, left_out, from_lsn}
 use Rattle.log_records.specs.declared.measured.Measured.{Measured}
 use Rattle.log_records.specs.declared.new_log.NewLog.{NewLog}
 use Rattle.log_records.proofs.Copies.{all_of_groups, put_log}
 use Rattle.log_records.proofs.CopyingAll.{all_stays}
 use Rattle.log_records.proofs.Laid.{are_payloads, room_bound, room_measured}
-use Rattle.log_records.proofs.Measures.{check_long}
-use Rattle.log_records.proofs.Numbered.{left_below, numbered_placed}
+use Rattle.log_records.proofs.Measures.{checkpoint_long}
+use Rattle.log_records.proofs.FromLsn.{left_below, from_lsn_placed}
 use Rattle.log_records.proofs.Replaced.{any_once, any_twice}
 
 a_not_b : LogA ≢ LogB
@@ -46,26 +46,26 @@ a_not_b same = cc
 a_log : LogB ≢ Objects
 a_log same = cc
 
--- one number is all that a list ends with
+-- one LSN is all that a list ends with
 only_one : (xs : List ℕ) (x y : ℕ) → y ∷ [] ≡ xs ++ x ∷ [] → (xs ≡ []) × (x ≡ y)
 only_one [] x y same = let here : x ≡ y = cc in (refl, here)
 only_one (z ∷ xs) x y same = absurd (omega (arith, ap length same, length-append xs (x ∷ [])))
 
 module _ {O : Type 0} where
   -- the records of a copy are some
-  pub some_or : (base : ℕ) (records : List (Record O)) → 0 < length (or_check base records)
+  pub some_or : (base : ℕ) (records : List (Record O)) → 0 < length (or_checkpoint base records)
   some_or base [] = omega arith
   some_or base (r ∷ records) = omega arith
 
-  just_these : (base : ℕ) (records : List (Record O)) → (records ≡ [] → ⊥) → records ++ [] ≡ or_check base records
+  just_these : (base : ℕ) (records : List (Record O)) → (records ≡ [] → ⊥) → records ++ [] ≡ or_checkpoint base records
   just_these base [] some = absurd (some refl)
   just_these base (r ∷ records) some = append-nil (r ∷ records)
 
 module _ {O : Type 0} (m : Meaning O) (base : ℕ) (records : List (Record O)) (was : Measured) (is : IsMeasured m base records was) where
   abbrev mine : List (Record O)
-  mine = numbered_from base records
+  mine = from_lsn base records
 
-  -- where there is no numbered record, no block was begun
+  -- where there is no record with an LSN, no block was begun
   no_block : mine ≡ [] → (was.full.items ≡ []) × (was.filled ≡ 0)
   no_block none = only_one was.full.items was.filled 0 (ap (λ (l : List (Record O)). block_lengths 0 (code_lengths m l ++ [])) (sym none) ∙ is.blocks [])
 
@@ -78,28 +78,28 @@ module _ {O : Type 0} (m : Meaning O) (base : ℕ) (records : List (Record O)) (
     short = tt;
   }
 
-  -- where there is none, a check is
-  pub last_some : (now : Measured) (table : Table) → was.filled ≡ 0 → base < 2 ^ 64 → table ≡ empty_check base → now.full.items ≡ was.full.items → now.filled ≡ 13 → HasLast m base records now (Some (Check table))
+  -- where there is none, a checkpoint is
+  pub last_some : (now : Measured) (table : DirtyPageTable) → was.filled ≡ 0 → base < 2 ^ 64 → table ≡ empty_checkpoint base → now.full.items ≡ was.full.items → now.filled ≡ 13 → HasLast m base records now (Some (Checkpoint table))
   last_some now table zero low table_is full filled =
       let none = is.none zero in
-      let check : Record O = Check table in
-      let long : length (record_code m check) ≡ 13 = omega (arith, check_long m check table table.starts refl refl, ap (λ (t : Table). length t.starts) table_is) in
-      let all : mine ++ check ∷ [] ≡ check ∷ [] = ap (λ (l : List (Record O)). l ++ check ∷ []) none in
-      let lengths : block_lengths 0 (length (record_code m check) ∷ []) ≡ 13 ∷ [] = ap (λ (n : ℕ). block_lengths 0 (n ∷ [])) long ∙ has_room 0 13 [] (omega arith) in
+      let checkpoint : Record O = Checkpoint table in
+      let long : length (record_code m checkpoint) ≡ 13 = omega (arith, checkpoint_long m checkpoint table table.starts refl refl, ap (λ (t : DirtyPageTable). length t.starts) table_is) in
+      let all : mine ++ checkpoint ∷ [] ≡ checkpoint ∷ [] = ap (λ (l : List (Record O)). l ++ checkpoint ∷ []) none in
+      let lengths : block_lengths 0 (length (record_code m checkpoint) ∷ []) ≡ 13 ∷ [] = ap (λ (n : ℕ). block_lengths 0 (n ∷ [])) long ∙ has_room 0 13 [] (omega arith) in
       record {
         lengths = (λ i. (full ∙ (no_block none).0) i ++ filled i ∷ []) ∙ sym lengths ∙ ap (λ (l : List (Record O)). block_lengths 0 (code_lengths m l)) (sym all);
-        whole = all ∙ ap (λ (t : Table). Check t ∷ []) table_is ∙ ap (or_check base) (sym none);
-        grammar = subst (λ (t : Table). IsRecord m (Check t)) (sym table_is) (record { next = low; few = omega arith; starts = All-nil _ });
+        whole = all ∙ ap (λ (t : DirtyPageTable). Checkpoint t ∷ []) table_is ∙ ap (or_checkpoint base) (sym none);
+        grammar = subst (λ (t : DirtyPageTable). IsRecord m (Checkpoint t)) (sym table_is) (record { next = low; few = omega arith; starts = All-nil _ });
         short = omega (arith, long);
       }
 
 module _ {O : Type 0} (m : Meaning O) where
   -- with the last one each goes into a block
-  pub short_with : (base : ℕ) (records : List (Record O)) (last : Option (Record O)) → AreShort m records → IfSome last (λ r. length (record_code m r) ≤ 2 ^ 30) → AreShort m (numbered_from base records ++ option_to_list last)
+  pub short_with : (base : ℕ) (records : List (Record O)) (last : Option (Record O)) → AreShort m records → IfSome last (λ r. length (record_code m r) ≤ 2 ^ 30) → AreShort m (from_lsn base records ++ option_to_list last)
   short_with base records None short one =
-      subst (λ (l : List (Record O)). AreShort m l) (sym (append-nil (numbered_from base records))) (All-filter (is_numbered_from base) (λ r. length (record_code m r) ≤ 2 ^ 30) records short)
+      subst (λ (l : List (Record O)). AreShort m l) (sym (append-nil (from_lsn base records))) (All-filter (is_from_lsn base) (λ r. length (record_code m r) ≤ 2 ^ 30) records short)
   short_with base records (Some r) short one =
-      All-push (λ r. length (record_code m r) ≤ 2 ^ 30) (numbered_from base records) r (All-filter (is_numbered_from base) (λ r. length (record_code m r) ≤ 2 ^ 30) records short) one
+      All-push (λ r. length (record_code m r) ≤ 2 ^ 30) (from_lsn base records) r (All-filter (is_from_lsn base) (λ r. length (record_code m r) ≤ 2 ^ 30) records short) one
 
   -- no command of a log stands before its base
   pub none_before : (base : ℕ) (records : List (Record O)) → AreRecords m base base records → length (commands_of (left_out base records)) ≡ 0
@@ -123,7 +123,7 @@ module _ {O : Type 0} (m : Meaning O) where
 
     pub measured_fits : length new.lengths.items ≤ 2 ^ 32 → 34 + room_of new.lengths.items < 2 ^ 63
     measured_fits few =
-        let kept = numbered_from log.header.base records in
+        let kept = from_lsn log.header.base records in
         room_bound m (kept ++ option_to_list last) (omega (arith, ap length has.whole, some_or log.header.base kept)) (short_with log.header.base records last all.short has.short) new.lengths.items (lengths ∙ has.lengths) few
 
   -- what was planned stays so where no file changes
@@ -142,16 +142,16 @@ module _ {O : Type 0} (m : Meaning O) where
 
   module _ (d : Disk) (log : LogView) (it : NewLog) (last : Option (Record O)) (is : IsCopyPlanned m d log it last) where
     -- its records are some
-    pub some_planned : 0 < length (numbered_from log.header.base is.planned.records ++ option_to_list last)
-    some_planned = omega (arith, ap length is.whole, some_or log.header.base (numbered_from log.header.base is.planned.records))
+    pub some_planned : 0 < length (from_lsn log.header.base is.planned.records ++ option_to_list last)
+    some_planned = omega (arith, ap length is.whole, some_or log.header.base (from_lsn log.header.base is.planned.records))
 
     -- where its file has a log of these groups, its records are theirs
     module _ (codes : HasCodes m) (groups : List (List (Record O))) (agree : d.agrees d.reads) (holds : IsRecordLog m log.header groups (d.reads log.active)) where
       planned_same : is.planned.records ≡ records_of groups
       planned_same = all_of_groups m codes d log is.planned.records groups d.reads is.planned.all agree holds
 
-      planned_whole : numbered_from log.header.base (records_of groups) ++ option_to_list last ≡ copied_records log.header.base (records_of groups)
-      planned_whole = subst (λ (l : List (Record O)). numbered_from log.header.base l ++ option_to_list last ≡ copied_records log.header.base l) planned_same is.whole
+      planned_whole : from_lsn log.header.base (records_of groups) ++ option_to_list last ≡ copied_records log.header.base (records_of groups)
+      planned_whole = subst (λ (l : List (Record O)). from_lsn log.header.base l ++ option_to_list last ≡ copied_records log.header.base l) planned_same is.whole
 
       -- and each goes into a block
       pub copy_short : AreShort m (copied_records log.header.base (records_of groups))
@@ -169,15 +169,15 @@ module _ {O : Type 0} (m : Meaning O) where
     planned_length stable same =
         let base = log.header.base in
         let room : room_of it.lengths.items ≡ length (blocks (map (payload_of m) (copied_groups m base stable))) =
-        ap room_of is.planned.lengths ∙ room_measured m (numbered_from base is.planned.records ++ option_to_list last)
+        ap room_of is.planned.lengths ∙ room_measured m (from_lsn base is.planned.records ++ option_to_list last)
         ∙ ap (λ (l : List (Record O)). length (blocks (map (payload_of m) (in_full_blocks m l)))) (is.whole ∙ ap (copied_records base) same) in
         omega (arith, room)
 
   -- the copied records stand in their places in a log of this base
-  copied_placed : (base : ℕ) (records : List (Record O)) → IsRecord m (Check (empty_check base)) → AreRecords m base base records → AreRecords m base base (copied_records base records)
-  copied_placed base records grammar are = or_placed (numbered_from base records) (numbered_placed m base base base base records are (λ low. refl) (λ high. refl)).0
+  copied_placed : (base : ℕ) (records : List (Record O)) → IsRecord m (Checkpoint (empty_checkpoint base)) → AreRecords m base base records → AreRecords m base base (copied_records base records)
+  copied_placed base records grammar are = or_placed (from_lsn base records) (from_lsn_placed m base base base base records are (λ low. refl) (λ high. refl)).0
     where
-      or_placed : (kept : List (Record O)) → AreRecords m base base kept → AreRecords m base base (or_check base kept)
+      or_placed : (kept : List (Record O)) → AreRecords m base base kept → AreRecords m base base (or_checkpoint base kept)
       or_placed [] all = (grammar, record { next_is = refl; rising = λ k less. absurd (omega (arith, less)); there = All-nil _; from_base = All-nil _; before = All-nil _ }, tt)
       or_placed (r ∷ kept) all = all
 
@@ -198,7 +198,7 @@ module _ {O : Type 0} (m : Meaning O) where
           other = inr (new_header, subst (HasHeader new_header) (sym (beside.others LogA a_not_b)) first, omega arith);
         };
         log = record {
-          log = opened_whole header (map (payload_of m) groups) (mid LogB) (new LogB) here (are_payloads m kept (some_or base (numbered_from base records)) short) prepared opened.changed;
+          log = opened_whole header (map (payload_of m) groups) (mid LogB) (new LogB) here (are_payloads m kept (some_or base (from_lsn base records)) short) prepared opened.changed;
           placed = subst (λ (l : List (Record O)). AreRecords m base base l) (sym (blocks_hold m [] kept)) (copied_placed base records (record { next = low; few = omega arith; starts = All-nil _ }) are);
         };
       }

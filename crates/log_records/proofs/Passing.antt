@@ -10,13 +10,13 @@ use Rattle.oper_core.specs.declared.bounds.Bounds.{Bounds}
 use Rattle.formats.specs.Log.{block, blocks, end_of, IsWholeLog}
 use Rattle.formats.specs.Records.{record_code, payload_of, records_of, next_behind, IsPlaced, AreRecords}
 use Rattle.formats.specs.declared.record.Record.{Record}
-use Rattle.log_frames.specs.Forcing.{with_block}
-use Rattle.log_frames.specs.Laws.{with_block-some, blocks-push, length-block}
-use Rattle.log_frames.specs.LogView.{LogView}
-use Rattle.log_frames.specs.Payloads.{PayloadReaderView, IsInLog, IsNoLog, HasNext, remaining}
+use Rattle.log_blocks.specs.Forcing.{with_block}
+use Rattle.log_blocks.specs.Laws.{with_block-some, blocks-push, length-block}
+use Rattle.log_blocks.specs.LogView.{LogView}
+use Rattle.log_blocks.specs.Payloads.{PayloadReaderView, IsInLog, IsNoLog, HasNext, remaining}
 use Rattle.formats.specs.Reading.{FailsBy}
 use Rattle.formats.specs.declared.read_err.ReadErr.{ReadErr}
-use Rattle.log_frames.specs.Reading.{fails_on}
+use Rattle.log_blocks.specs.Reading.{fails_on}
 use Rattle.log_records.specs.Codec.{StartsWithRecord}
 use Rattle.log_records.specs.Loading.{IsTailFault}
 use Rattle.log_records.specs.RecordLaws.{with_group, payloads-with_group, records-with_group, AreRecords-push, AreRecords-behind, payload_push, next-append}

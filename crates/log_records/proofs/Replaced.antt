@@ -5,27 +5,27 @@ use Rattle.std.proofs.lemmas.List.{append-nil}
 use Rattle.disk_model.specs.Disk.{Files, Disk, Any, HoldsAt, In, IsSettled, IsSettledIn, LeavesOnly, Runs, Same, Stays, Torn}
 use Rattle.disk_model.specs.Moments.{runs_on, runs_twice, runs_wider, settled_again, stays_settled, weaker}
 use Rattle.disk_model.specs.declared.machine.FileNo.{FileNo}
-use Rattle.redo_tables.specs.declared.table.Table.{Table}
+use Rattle.dirty_page_table.specs.declared.table.DirtyPageTable.{DirtyPageTable}
 use Rattle.oper_core.specs.Meaning.{Meaning}
 use Rattle.formats.specs.InForce.{other_of}
 use Rattle.formats.specs.Log.{end_of, IsClosedLog}
 use Rattle.formats.specs.Records.{next_after, payload_of, records_of, AreRecords, IsRecordLog}
 use Rattle.formats.specs.declared.record.Record.{Record}
-use Rattle.formats.specs.declared.record.Record.TheVariants.{Check}
-use Rattle.log_frames.specs.LogView.{LogView}
-use Rattle.log_frames.specs.RewriteLaws.{new_in_force, opened_whole, other_apart}
-use Rattle.log_frames.specs.Rewriting.{IsOldOrNew, IsPrepared, KeepsClosed, next_header}
-use Rattle.log_frames.specs.StreamLaws.{closing_still, ending_leaves, writing_still}
-use Rattle.log_frames.specs.Streaming.{HasCome, IsNext, IsStill, MayBegin}
-use Rattle.log_frames.specs.Writing.{LogWriterView, rewritten_to}
+use Rattle.formats.specs.declared.record.Record.TheVariants.{Checkpoint}
+use Rattle.log_blocks.specs.LogView.{LogView}
+use Rattle.log_blocks.specs.RewriteLaws.{new_in_force, opened_whole, other_apart}
+use Rattle.log_blocks.specs.Rewriting.{IsOldOrNew, IsPrepared, KeepsClosed, next_header}
+use Rattle.log_blocks.specs.StreamLaws.{closing_still, ending_leaves, writing_still}
+use Rattle.log_blocks.specs.Streaming.{HasCome, IsNext, IsStill, MayBegin}
+use Rattle.log_blocks.specs.Writing.{LogWriterView, rewritten_to}
 use Rattle.log_records.specs.Codec.{AreShort}
 use Rattle.log_records.specs.CodecLaws.{HasCodes}
 use Rattle.log_records.specs.Copying.{IsPlanned}
 use Rattle.log_records.specs.Laying.{room_of}
 use Rattle.log_records.specs.Loading.{IsTailFault}
-use Rattle.log_records.specs.RecordLaws.{keeps_stay, numbers_end}
+use Rattle.log_records.specs.RecordLaws.{keeps_stay, lsn_end}
 use Rattle.log_records.specs.RecordLog.{RecordLogView, Keeps}
-use Rattle.log_records.specs.Rewriting.{commands_before, in_full_blocks, new_payloads, numbered_from, rewritten_log, rewritten_records, IsOldLog, IsRefused, IsRewrittenPartly}
+use Rattle.log_records.specs.Rewriting.{commands_before, in_full_blocks, new_payloads, from_lsn, rewritten_log, rewritten_records, IsOldLog, IsRefused, IsRewrittenPartly}
 use Rattle.log_records.specs.Uniqueness.{no_record_fault}
 use Rattle.log_records.specs.declared.new_log.NewLog.{NewLog}
 use Rattle.log_records.proofs.Laid.{are_payloads, room_measured}
@@ -128,19 +128,19 @@ module _ {O : Type 0} (m : Meaning O) where
   }
 
   -- what was planned, of the records that the log keeps
-  pub record IsPlan (log : LogView) (base : ℕ) (table : Table) (stable : List (Record O)) (new : NewLog) : Type 0 where
+  pub record IsPlan (log : LogView) (base : ℕ) (table : DirtyPageTable) (stable : List (Record O)) (new : NewLog) : Type 0 where
     pub commands : new.commands ≡ commands_before log base stable
     pub end : 33 + room_of new.lengths.items ≡ end_of (new_payloads m base table stable)
     pub short : AreShort m (rewritten_records base table stable)
 
-  pub is_plan : (d : Disk) (log : LogView) (base : ℕ) (table : Table) (stable : List (Record O)) (new : NewLog) (is : IsPlanned m d log base (Check table ∷ []) new) → is.records ≡ stable → IsPlan log base table stable new
+  pub is_plan : (d : Disk) (log : LogView) (base : ℕ) (table : DirtyPageTable) (stable : List (Record O)) (new : NewLog) (is : IsPlanned m d log base (Checkpoint table ∷ []) new) → is.records ≡ stable → IsPlan log base table stable new
   is_plan d log base table stable new is same = record {
     commands = is.commands ∙ ap (commands_before log base) same;
     end = ap (λ (n : ℕ). 33 + n) (ap room_of is.lengths ∙ room_measured m (rewritten_records base table is.records)) ∙ ap (λ (l : List (Record O)). end_of (new_payloads m base table l)) same;
     short = subst (λ (l : List (Record O)). AreShort m (rewritten_records base table l)) same is.short;
   }
 
-  module _ (old : Disk) (log : RecordLogView) (base : ℕ) (table : Table) (stable : List (Record O)) (is : Rewrites m old log base table stable) (new_log : NewLog) (plan : IsPlan log.log base table stable new_log) (epoch : log.log.header.epoch < 2 ^ 62) where
+  module _ (old : Disk) (log : RecordLogView) (base : ℕ) (table : DirtyPageTable) (stable : List (Record O)) (is : Rewrites m old log base table stable) (new_log : NewLog) (plan : IsPlan log.log base table stable new_log) (epoch : log.log.header.epoch < 2 ^ 62) where
     abbrev commands : ℕ
     commands = commands_before log.log base stable
 
@@ -159,20 +159,20 @@ module _ {O : Type 0} (m : Meaning O) where
             epoch_low = omega arith;
             epoch_high = omega (arith, epoch);
             base_low = omega (arith, range.base_low, is.may.low);
-            base_high = omega (arith, is.may.high, next, numbers_end m hb hb stable range.base_high placed);
+            base_high = omega (arith, is.may.high, next, lsn_end m hb hb stable range.base_high placed);
             commands = new_commands m log.log.header base stable range placed is.may.low;
           };
-          whole = are_payloads m (rewritten_records base table stable) (omega (arith, length-append (numbered_from base stable) (Check table ∷ []))) plan.short;
+          whole = are_payloads m (rewritten_records base table stable) (omega (arith, length-append (from_lsn base stable) (Checkpoint table ∷ []))) plan.short;
         }
 
     -- what was prepared is that log
-    prepared_is : (two : Disk) → IsPrepared (next_header log.log base new_log.commands) (map (payload_of m) (in_full_blocks m (numbered_from base (records_of is.keeps.groups) ++ Check table ∷ []))) (two.reads (other_of log.log.active))
+    prepared_is : (two : Disk) → IsPrepared (next_header log.log base new_log.commands) (map (payload_of m) (in_full_blocks m (from_lsn base (records_of is.keeps.groups) ++ Checkpoint table ∷ []))) (two.reads (other_of log.log.active))
         → IsPrepared (next_header log.log base commands) payloads (two.reads (other_of log.log.active))
     prepared_is two prepared = subst (λ (n : ℕ). IsPrepared (next_header log.log base n) payloads (two.reads (other_of log.log.active))) plan.commands
         (subst (λ (l : List (Record O)). IsPrepared (next_header log.log base new_log.commands) (map (payload_of m) (in_full_blocks m (rewritten_records base table l))) (two.reads (other_of log.log.active))) is.keeps.stable_are prepared)
 
     module _ (one two new : Disk) (closing : IsClosing old one log.log) (run : Runs (In (other_of log.log.active) KeepsClosed) Same one two) (here : IsSettledIn (other_of log.log.active) two)
-        (prepared : IsPrepared (next_header log.log base new_log.commands) (map (payload_of m) (in_full_blocks m (numbered_from base (records_of is.keeps.groups) ++ Check table ∷ []))) (two.reads (other_of log.log.active)))
+        (prepared : IsPrepared (next_header log.log base new_log.commands) (map (payload_of m) (in_full_blocks m (from_lsn base (records_of is.keeps.groups) ++ Checkpoint table ∷ []))) (two.reads (other_of log.log.active)))
         (last : Runs (In (other_of log.log.active) (Torn 0 1)) Same two new) where
       come_two : HasCome old two log.log
       come_two = record { runs = writing_run old one two log.log closing.begun run; settled = written_settled one two (other_of log.log.active) (closing.settled is.keeps.settled) run here }
@@ -202,7 +202,7 @@ module _ {O : Type 0} (m : Meaning O) where
 
   -- what follows calls that change no file
   module _ (old mid new : Disk) (log : RecordLogView) (kept : Stays old mid) where
-    pub planned_partly : (base : ℕ) (table : Table) (stable : List (Record O)) → Keeps m old log stable [] → old.tells_moments
+    pub planned_partly : (base : ℕ) (table : DirtyPageTable) (stable : List (Record O)) → Keeps m old log stable [] → old.tells_moments
         → (mid.tells_moments → Keeps m mid log stable [] → LeavesOnly mid new (IsRewrittenPartly m mid log.log base table stable)) → LeavesOnly old new (IsRewrittenPartly m old log.log base table stable)
     planned_partly base table stable keeps told leaves =
         let files_told = kept.begins.telling told in

@@ -5,7 +5,7 @@ use Rattle.std.proofs.lemmas.List.Elements.{All-push, All-filter}
 use Rattle.disk_model.specs.Disk.{Files, Disk, Stays, Same, LeavesOnly}
 use Rattle.disk_model.specs.Moments.{first_call, from_reads, stays_settled, weaker}
 use Rattle.disk_model.specs.declared.machine.FileNo.{FileNo}
-use Rattle.redo_tables.specs.declared.table.Table.{Table}
+use Rattle.dirty_page_table.specs.declared.table.DirtyPageTable.{DirtyPageTable}
 use Rattle.oper_core.specs.Meaning.{Meaning}
 use Rattle.formats.specs.InForce.{other_of, IsInForce, HoldsLog}
 use Rattle.formats.specs.Log.{Header, IsHeader}
@@ -14,44 +14,44 @@ use Rattle.formats.specs.Records.{record_code, payload_of, records_of, commands_
 use Rattle.formats.specs.declared.read_err.ReadErr.{ReadErr}
 use Rattle.formats.specs.declared.read_err.ReadErr.TheVariants.{DiskFault, Damaged, Memory}
 use Rattle.formats.specs.declared.record.Record.{Record}
-use Rattle.formats.specs.declared.record.Record.TheVariants.{Check}
-use Rattle.log_frames.specs.Forcing.{IsAtRest}
-use Rattle.log_frames.specs.LogView.{LogView}
-use Rattle.log_frames.specs.Rewriting.{IsOldOrNew, next_header}
-use Rattle.log_frames.specs.Streaming.{IsStill}
+use Rattle.formats.specs.declared.record.Record.TheVariants.{Checkpoint}
+use Rattle.log_blocks.specs.Forcing.{IsAtRest}
+use Rattle.log_blocks.specs.LogView.{LogView}
+use Rattle.log_blocks.specs.Rewriting.{IsOldOrNew, next_header}
+use Rattle.log_blocks.specs.Streaming.{IsStill}
 use Rattle.log_records.specs.Codec.{AreShort}
 use Rattle.log_records.specs.RecordLog.{RecordLogView, Keeps}
 use Rattle.log_records.specs.RecordLaws.{AreRecords-push, count-append, keeps_stay, next-append}
 use Rattle.log_records.specs.RewriteLaws.{blocks_hold}
-use Rattle.log_records.specs.Rewriting.{is_numbered_from, numbered_from, left_out, rewritten_records, in_full_blocks, new_payloads, commands_before, rewritten_log, rewrite_from_read, FindsDamage, HoldsInForce, IsOldLog, IsRefused, IsRewritable, IsRewrittenPartly, RewriteFails}
-use Rattle.log_records.proofs.Numbered.{counts_part, left_below, numbered_placed}
+use Rattle.log_records.specs.Rewriting.{is_from_lsn, from_lsn, left_out, rewritten_records, in_full_blocks, new_payloads, commands_before, rewritten_log, rewrite_from_read, FindsDamage, HoldsInForce, IsOldLog, IsRefused, IsRewritable, IsRewrittenPartly, RewriteFails}
+use Rattle.log_records.proofs.FromLsn.{counts_part, left_below, from_lsn_placed}
 
 module _ {O : Type 0} (m : Meaning O) where
   -- a log that keeps these records, and may be rewritten
-  pub record Rewrites (d : Disk) (log : RecordLogView) (base : ℕ) (table : Table) (stable : List (Record O)) : Type 0 where
+  pub record Rewrites (d : Disk) (log : RecordLogView) (base : ℕ) (table : DirtyPageTable) (stable : List (Record O)) : Type 0 where
     pub keeps : Keeps m d log stable []
     pub may : IsRewritable m log base table
 
-  -- the records of the new log stand in their places, and the next number is what it was
+  -- the records of the new log stand in their places, and the next LSN is what it was
   record IsPlacedAnew (base next : ℕ) (records : List (Record O)) : Type 0 where
     are : AreRecords m base base records
     next_is : next ≡ next_after base records
 
-  placed_anew : (d : Disk) (log : RecordLogView) (base : ℕ) (table : Table) (stable : List (Record O)) → Rewrites d log base table stable → IsPlacedAnew base log.next (rewritten_records base table stable)
+  placed_anew : (d : Disk) (log : RecordLogView) (base : ℕ) (table : DirtyPageTable) (stable : List (Record O)) → Rewrites d log base table stable → IsPlacedAnew base log.next (rewritten_records base table stable)
   placed_anew d log base table stable is =
       let hb = log.log.header.base in
       let all : stable ++ [] ≡ stable = append-nil stable in
       let are = subst (λ (l : List (Record O)). AreRecords m hb hb l) all is.keeps.placed in
       let next : log.next ≡ next_after hb stable = is.keeps.next_is ∙ ap (λ (l : List (Record O)). next_after hb l) all in
-      let kept = numbered_placed m base hb hb base stable are (λ low. omega (arith, low, is.may.low)) (λ high. refl) in
-      let same : next_after base (numbered_from base stable) ≡ log.next = kept.1 (omega (arith, next, is.may.high)) ∙ sym next in
+      let kept = from_lsn_placed m base hb hb base stable are (λ low. omega (arith, low, is.may.low)) (λ high. refl) in
+      let same : next_after base (from_lsn base stable) ≡ log.next = kept.1 (omega (arith, next, is.may.high)) ∙ sym next in
       record {
-        are = AreRecords-push m base base (numbered_from base stable) (Check table) kept.0 is.may.grammar (subst (λ (n : ℕ). IsPlaced m base n (Check table)) (sym same) is.may.place);
-        next_is = sym same ∙ sym (next-append m base (numbered_from base stable) (Check table ∷ []));
+        are = AreRecords-push m base base (from_lsn base stable) (Checkpoint table) kept.0 is.may.grammar (subst (λ (n : ℕ). IsPlaced m base n (Checkpoint table)) (sym same) is.may.place);
+        next_is = sym same ∙ sym (next-append m base (from_lsn base stable) (Checkpoint table ∷ []));
       }
 
   -- the new log, once it is in force
-  pub keeps_rewritten : (old new : Disk) (log after : RecordLogView) (base : ℕ) (table : Table) (stable : List (Record O)) → Rewrites old log base table stable
+  pub keeps_rewritten : (old new : Disk) (log after : RecordLogView) (base : ℕ) (table : DirtyPageTable) (stable : List (Record O)) → Rewrites old log base table stable
       → after ≡ record log { log = rewritten_log m log.log base table stable } → IsAtRest new (rewritten_log m log.log base table stable) (new_payloads m base table stable)
       → IsInForce (other_of log.log.active) (log.log.header.epoch + 1) new.reads → Keeps m new after (rewritten_records base table stable) []
   keeps_rewritten old new log after base table stable is same rest in_force =
@@ -61,7 +61,7 @@ module _ {O : Type 0} (m : Meaning O) where
       let held : records_of (in_full_blocks m records) ≡ records = blocks_hold m [] records in
       let all : records ++ [] ≡ records = append-nil records in
       let commands = ap (λ (l : List (Record O)). length (commands_of l)) all in
-      let pushed = count-append m (numbered_from base stable) (Check table ∷ []) in
+      let pushed = count-append m (from_lsn base stable) (Checkpoint table ∷ []) in
       let parts = counts_part m base stable in
       let before = ap (λ (l : List (Record O)). length (commands_of l)) (append-nil stable) in
       subst (λ (v : RecordLogView). Keeps m new v records []) (sym same) (record {
@@ -87,7 +87,7 @@ module _ {O : Type 0} (m : Meaning O) where
   }
 
   -- or the new ones
-  pub partly : (old : Disk) (log : RecordLogView) (base : ℕ) (table : Table) (stable : List (Record O)) (is : Rewrites old log base table stable) → (files : Files) (said : List ℕ)
+  pub partly : (old : Disk) (log : RecordLogView) (base : ℕ) (table : DirtyPageTable) (stable : List (Record O)) (is : Rewrites old log base table stable) → (files : Files) (said : List ℕ)
       → IsOldOrNew old log.log (map (payload_of m) is.keeps.groups) (rewritten_log m log.log base table stable) (new_payloads m base table stable) files said → IsRewrittenPartly m old log.log base table stable files said
   partly old log base table stable is files said so =
       let k = is.keeps in
@@ -110,7 +110,7 @@ module _ {O : Type 0} (m : Meaning O) where
       }
 
   -- where the old log is left alone, it or the new one is
-  pub old_partly : (old new : Disk) (log : LogView) (base : ℕ) (table : Table) (stable : List (Record O)) → LeavesOnly old new (IsOldLog m old log stable) → LeavesOnly old new (IsRewrittenPartly m old log base table stable)
+  pub old_partly : (old new : Disk) (log : LogView) (base : ℕ) (table : DirtyPageTable) (stable : List (Record O)) → LeavesOnly old new (IsOldLog m old log stable) → LeavesOnly old new (IsRewrittenPartly m old log base table stable)
   old_partly old new log base table stable leaves = weaker old new (IsOldLog m old log stable) (IsRewrittenPartly m old log base table stable) leaves
       (λ files said so. record { others = so.others; in_force = inl so.in_force; nothing_said = so.nothing_said })
 
@@ -133,9 +133,9 @@ module _ {O : Type 0} (m : Meaning O) where
   }
 
   -- what the new log is made of
-  pub new_short : (base : ℕ) (table : Table) (records : List (Record O)) → AreShort m records → length (record_code m (Check table)) ≤ 2 ^ 30 → AreShort m (rewritten_records base table records)
-  new_short base table records short check =
-      All-push (λ r. length (record_code m r) ≤ 2 ^ 30) (numbered_from base records) (Check table) (All-filter (is_numbered_from base) (λ r. length (record_code m r) ≤ 2 ^ 30) records short) check
+  pub new_short : (base : ℕ) (table : DirtyPageTable) (records : List (Record O)) → AreShort m records → length (record_code m (Checkpoint table)) ≤ 2 ^ 30 → AreShort m (rewritten_records base table records)
+  new_short base table records short checkpoint =
+      All-push (λ r. length (record_code m r) ≤ 2 ^ 30) (from_lsn base records) (Checkpoint table) (All-filter (is_from_lsn base) (λ r. length (record_code m r) ≤ 2 ^ 30) records short) checkpoint
 
   -- the commands before the new base are less than it
   pub new_commands : (h : Header) (base : ℕ) (records : List (Record O)) → IsHeader h → AreRecords m h.base h.base records → h.base ≤ base → h.commands + length (commands_of (left_out base records)) < base

@@ -6,11 +6,11 @@ use Rattle.oper_core.specs.Meaning.{Meaning}
 use Rattle.formats.specs.Log.{IsWholeLog}
 use Rattle.formats.specs.Records.{payload_of, IsRecordLog}
 use Rattle.formats.specs.declared.record.Record.{Record}
-use Rattle.log_frames.specs.LogView.{LogView}
-use Rattle.log_frames.specs.Payloads.{IsInLog}
+use Rattle.log_blocks.specs.LogView.{LogView}
+use Rattle.log_blocks.specs.Payloads.{IsInLog}
 use Rattle.log_records.specs.BlockReader.{AreAllBlocks, BlockReaderView, IsReadingBlocks, payloads_from}
 use Rattle.log_records.specs.CodecLaws.{HasCodes}
-use Rattle.log_records.specs.NumberedLaws.{reading_beside}
+use Rattle.log_records.specs.LsnReaderLaws.{reading_beside}
 use Rattle.log_records.specs.Uniqueness.{same_groups}
 
 module _ {O : Type 0} (m : Meaning O) where

@@ -5,13 +5,13 @@ use Rattle.oper_core.specs.Meaning.{Meaning}
 use Rattle.formats.specs.Log.{IsWholeLog}
 use Rattle.formats.specs.Records.{payload_of, record_code, records_of, AreRecords}
 use Rattle.formats.specs.declared.record.Record.{Record}
-use Rattle.log_frames.specs.LogView.{LogView}
-use Rattle.log_frames.specs.Payloads.{PayloadReaderView, IsInLog}
+use Rattle.log_blocks.specs.LogView.{LogView}
+use Rattle.log_blocks.specs.Payloads.{PayloadReaderView, IsInLog}
 use Rattle.log_records.specs.Codec.{AreShort}
 use Rattle.log_records.specs.RecordReader.{RecordReaderView, IsReading}
-use Rattle.log_records.specs.Rewriting.{numbered_from}
+use Rattle.log_records.specs.Rewriting.{from_lsn}
 
--- a reader of what blocks have from a number on
+-- a reader of what blocks have from an LSN on
 pub record BlockReaderView : Type 0 where
   pub records : RecordReaderView
   pub from : ℕ
@@ -21,9 +21,9 @@ abbrev pub is_some_list : {A : Type 0} → List A → Bool
 is_some_list [] = false
 is_some_list (x ∷ xs) = true
 
--- of each block the commands and identity writes from a number on, but for blocks that have none
+-- of each block the commands and identity writes from an LSN on, but for blocks that have none
 abbrev pub blocks_from : {O : Type 0} → ℕ → List (List (Record O)) → List (List (Record O))
-blocks_from from groups = filter is_some_list (map (numbered_from from) groups)
+blocks_from from groups = filter is_some_list (map (from_lsn from) groups)
 
 -- the payloads of blocks of these
 abbrev pub payloads_from : {O : Type 0} → Meaning O → ℕ → List (List (Record O)) → List (List ℕ)
@@ -53,7 +53,7 @@ pub record IsReadingBlocks {O : Type 0} (m : Meaning O) (d : Disk) (log : LogVie
   pub given_are : given ≡ payloads_from m it.from groups
   pub reading : IsReadingIn m d log it.records groups []
 
--- These payloads are all that a log has from this number on, each of a block. In files that agree with what was read and in which the
+-- These payloads are all that a log has from this LSN on, each of a block. In files that agree with what was read and in which the
 -- log is whole, the groups are those of its blocks.
 pub record AreAllBlocks {O : Type 0} (m : Meaning O) (d : Disk) (log : LogView) (from : ℕ) (given : List (List ℕ)) : Type 0 where
   pub groups : List (List (Record O))

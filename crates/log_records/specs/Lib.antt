@@ -11,8 +11,8 @@ pub mod Copying
 pub mod LogCopy
 pub mod RecordReader
 pub mod BlockReader
-pub mod NumberedReader
+pub mod LsnReader
 pub mod Loading
 pub mod Uniqueness
-pub mod NumberedLaws
+pub mod LsnReaderLaws
 pub mod BlockLaws

@@ -2,7 +2,7 @@
 use Rattle.std.specs.Prelude.{◌≡◌, ◌<◌, ◌≤◌, All, ℕ, List, length, map}
 use Rattle.std.specs.List.Sorted.{IsStrictlyIncreasing}
 use Rattle.oper_core.specs.Meaning.{Meaning}
-use Rattle.formats.specs.Records.{commands_of, next_after, last_check}
+use Rattle.formats.specs.Records.{commands_of, next_after, last_checkpoint}
 use Rattle.formats.specs.declared.record.Record.{Record}
 use Rattle.disk_model.specs.Disk.{Files, Disk}
 use Rattle.disk_model.specs.declared.machine.FileNo.{FileNo}
@@ -10,14 +10,14 @@ use Rattle.formats.specs.InForce.{IsInForce, HasHeader}
 use Rattle.formats.specs.Log.{Header, IsWholeLog}
 use Rattle.formats.specs.Image.{IsRecordFault}
 use Rattle.formats.specs.FirstFault.{IsFirstLogFault}
-use Rattle.log_frames.specs.LogView.{LogView}
+use Rattle.log_blocks.specs.LogView.{LogView}
 use Rattle.log_records.specs.declared.counted.Counted.{Counted}
 
--- the object is from this one on and there, and its start is from the base on and before the next number
+-- the object is from this one on and there, and its start is from the base on and before the next LSN
 abbrev pub IsStart : ℕ → ℕ → ℕ → ℕ → ℕ × ℕ → Type 0
 IsStart objects base next least s = (least ≤ s.0) × (s.0 < objects) × (base ≤ s.1) × (s.1 < next)
 
--- redo starts of a check: their objects rise and are there, and each start is from the base on and before the next number
+-- redo starts of a checkpoint: their objects rise and are there, and each start is from the base on and before the next LSN
 pub record AreStarts (objects base next : ℕ) (starts : List (ℕ × ℕ)) : Type 0 where
   pub rising : IsStrictlyIncreasing (map (λ s. s.0) starts)
   pub there : All (λ s. s.0 < objects) starts
@@ -40,4 +40,4 @@ IsTailFault m d log file place =
 pub record IsCountOf {O : Type 0} (base : ℕ) (records : List (Record O)) (it : Counted) : Type 0 where
   pub next : it.next ≡ next_after base records
   pub commands : it.commands ≡ length (commands_of records)
-  pub last : it.last ≡ last_check records
+  pub last : it.last ≡ last_checkpoint records

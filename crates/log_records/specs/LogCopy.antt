@@ -4,19 +4,19 @@ use Rattle.std.specs.Option.{option_to_list}
 use Rattle.disk_model.specs.Disk.{Files, Disk}
 use Rattle.disk_model.specs.declared.machine.FileNo.{FileNo}
 use Rattle.disk_model.specs.declared.machine.FileNo.TheVariants.{LogB}
-use Rattle.redo_tables.specs.declared.table.Table.{Table}
+use Rattle.dirty_page_table.specs.declared.table.DirtyPageTable.{DirtyPageTable}
 use Rattle.oper_core.specs.Meaning.{Meaning}
 use Rattle.formats.specs.Records.{payload_of, record_code, IsRecord, HoldsRecordLog}
 use Rattle.formats.specs.declared.read_err.ReadErr.{ReadErr}
 use Rattle.formats.specs.declared.read_err.ReadErr.TheVariants as of_read
 use Rattle.formats.specs.declared.record.Record.{Record}
-use Rattle.formats.specs.declared.record.Record.TheVariants.{Check}
-use Rattle.log_frames.specs.LogView.{LogView, used_of}
-use Rattle.log_frames.specs.Rewriting.{file_length, second_header}
+use Rattle.formats.specs.declared.record.Record.TheVariants.{Checkpoint}
+use Rattle.log_blocks.specs.LogView.{LogView, used_of}
+use Rattle.log_blocks.specs.Rewriting.{file_length, second_header}
 use Rattle.log_records.specs.Copying.{IsPlanned}
 use Rattle.log_records.specs.Measuring.{block_lengths}
 use Rattle.log_records.specs.RecordLog.{RecordLogView, Keeps}
-use Rattle.log_records.specs.Rewriting.{code_lengths, in_full_blocks, numbered_from}
+use Rattle.log_records.specs.Rewriting.{code_lengths, in_full_blocks, from_lsn}
 use Rattle.log_records.specs.declared.copy_err.CopyErr.{CopyErr}
 use Rattle.log_records.specs.declared.copy_err.CopyErr.TheVariants.{LogFull, DiskFault, TargetFault, Damaged, Memory}
 use Rattle.log_records.specs.declared.measured.Measured.{Measured}
@@ -24,18 +24,18 @@ use Rattle.log_records.specs.declared.new_log.NewLog.{NewLog}
 use Rattle.log_records.specs.declared.put_err.PutErr.{PutErr}
 use Rattle.log_records.specs.declared.put_err.PutErr.TheVariants as put_err
 
--- the check that a log has from this base on which has no numbered record: no redo starts
-abbrev pub empty_check : ℕ → Table
-empty_check base = record { next = base; starts = [] }
+-- the checkpoint that a log has from this base on which has no record with an LSN: no redo starts
+abbrev pub empty_checkpoint : ℕ → DirtyPageTable
+empty_checkpoint base = record { next = base; starts = [] }
 
--- these records, or, where there is none, that check
-abbrev pub or_check : {O : Type 0} → ℕ → List (Record O) → List (Record O)
-or_check base [] = Check (empty_check base) ∷ []
-or_check base (r ∷ records) = r ∷ records
+-- these records, or, where there is none, that checkpoint
+abbrev pub or_checkpoint : {O : Type 0} → ℕ → List (Record O) → List (Record O)
+or_checkpoint base [] = Checkpoint (empty_checkpoint base) ∷ []
+or_checkpoint base (r ∷ records) = r ∷ records
 
--- the records of the copy of a log with this base and these records: its commands and identity writes, and no check of its own
+-- the records of the copy of a log with this base and these records: its commands and identity writes, and no checkpoint of its own
 abbrev pub copied_records : {O : Type 0} → ℕ → List (Record O) → List (Record O)
-copied_records base records = or_check base (numbered_from base records)
+copied_records base records = or_checkpoint base (from_lsn base records)
 
 -- and in blocks
 abbrev pub copied_groups : {O : Type 0} → Meaning O → ℕ → List (Record O) → List (List (Record O))
@@ -59,17 +59,17 @@ abbrev pub IsCopyWithin : {O : Type 0} → Meaning O → Disk → RecordLogView 
 IsCopyWithin {O = O} m d log = d.tells_files → (stable pending : List (Record O)) → Keeps m d log stable pending → copied_length m log.log stable ≤ 2 ^ 48
 
 -- With the block in hand ended, these are the lengths of the blocks of a copy that begins at this base, where a log has these
--- records. A check comes last where it has no numbered one.
+-- records. A checkpoint comes last where it has none with an LSN.
 pub record HasLast {O : Type 0} (m : Meaning O) (base : ℕ) (records : List (Record O)) (it : Measured) (last : Option (Record O)) : Type 0 where
-  pub lengths : it.full.items ++ it.filled ∷ [] ≡ block_lengths 0 (code_lengths m (numbered_from base records ++ option_to_list last))
-  pub whole : numbered_from base records ++ option_to_list last ≡ copied_records base records
+  pub lengths : it.full.items ++ it.filled ∷ [] ≡ block_lengths 0 (code_lengths m (from_lsn base records ++ option_to_list last))
+  pub whole : from_lsn base records ++ option_to_list last ≡ copied_records base records
   pub grammar : IfSome last (IsRecord m)
   pub short : IfSome last (λ r. length (record_code m r) ≤ 2 ^ 30)
 
--- What the copy of this log will be: the numbered records, and perhaps a last one that is put after them.
+-- What the copy of this log will be: the records with an LSN, and perhaps a last one that is put after them.
 pub record IsCopyPlanned {O : Type 0} (m : Meaning O) (d : Disk) (log : LogView) (it : NewLog) (last : Option (Record O)) : Type 0 where
   pub planned : IsPlanned m d log log.header.base (option_to_list last) it
-  pub whole : numbered_from log.header.base planned.records ++ option_to_list last ≡ copied_records log.header.base planned.records
+  pub whole : from_lsn log.header.base planned.records ++ option_to_list last ≡ copied_records log.header.base planned.records
   pub grammar : IfSome last (IsRecord m)
 
 -- a copy of this log would be too long

@@ -10,9 +10,9 @@ use Rattle.formats.specs.InForce.{IsInForce}
 use Rattle.formats.specs.Log.{Header, end_of, IsWholeLog}
 use Rattle.formats.specs.Records.{record_code, payload_of, records_of, commands_of, next_behind, next_after, IsRecord, IsPlaced, AreRecords, IsRecordLog}
 use Rattle.formats.specs.declared.record.Record.{Record}
-use Rattle.formats.specs.declared.record.Record.TheVariants.{Command, Identity, Check}
-use Rattle.log_frames.specs.Forcing.{with_block, IsAtRest, IsBeforeOrAfter}
-use Rattle.log_frames.specs.Laws.{in_force_stays}
+use Rattle.formats.specs.declared.record.Record.TheVariants.{Command, Identity, Checkpoint}
+use Rattle.log_blocks.specs.Forcing.{with_block, IsAtRest, IsBeforeOrAfter}
+use Rattle.log_blocks.specs.Laws.{in_force_stays}
 use Rattle.log_records.specs.RecordLog.{RecordLogView, HoldsRecords, Keeps, IsForcedPartly, counts}
 
 -- the groups with one more for a force: none for no records
@@ -38,9 +38,9 @@ module _ {O : Type 0} (m : Meaning O) where
       → with_block (map (payload_of m) groups) (payload_of m records) ≡ map (payload_of m) (with_group groups records)
   unfolding with_group
   payloads-with_group groups [] = refl
-  payloads-with_group groups (Command number op ∷ records) = sym (map_push groups (Command number op ∷ records))
-  payloads-with_group groups (Identity number x value ∷ records) = sym (map_push groups (Identity number x value ∷ records))
-  payloads-with_group groups (Check table ∷ records) = sym (map_push groups (Check table ∷ records))
+  payloads-with_group groups (Command lsn op ∷ records) = sym (map_push groups (Command lsn op ∷ records))
+  payloads-with_group groups (Identity lsn x value ∷ records) = sym (map_push groups (Identity lsn x value ∷ records))
+  payloads-with_group groups (Checkpoint table ∷ records) = sym (map_push groups (Checkpoint table ∷ records))
 
   pub records-with_group : (groups : List (List (Record O))) (records : List (Record O)) → records_of (with_group groups records) ≡ records_of groups ++ records
   unfolding with_group
@@ -48,7 +48,7 @@ module _ {O : Type 0} (m : Meaning O) where
   records-with_group groups (r ∷ records) =
       flat_map-append (λ (g : List (Record O)). g) groups ((r ∷ records) ∷ []) ∙ ap (λ (l : List (Record O)). records_of groups ++ l) (append-nil (r ∷ records))
 
-  -- the next number after some records and then others
+  -- the next LSN after some records and then others
   pub next-append : (next : ℕ) (xs ys : List (Record O)) → next_after next (xs ++ ys) ≡ next_after (next_after next xs) ys
   next-append next [] ys = refl
   next-append next (x ∷ xs) ys = next-append (next_behind next x) xs ys
@@ -63,7 +63,7 @@ module _ {O : Type 0} (m : Meaning O) where
   AreRecords-behind base next [] ys all = all
   AreRecords-behind base next (x ∷ xs) ys all = AreRecords-behind base (next_behind next x) xs ys all.2
 
-  -- records after others go on with the numbers
+  -- records after others go on with the LSNs
   pub placed-append : (base next : ℕ) (xs ys : List (Record O)) → AreRecords m base next xs → AreRecords m base (next_after next xs) ys → AreRecords m base next (xs ++ ys)
   placed-append base next [] ys all more = more
   placed-append base next (x ∷ xs) ys all more = (all.0, all.1, placed-append base (next_behind next x) xs ys all.2 more)
@@ -78,26 +78,26 @@ module _ {O : Type 0} (m : Meaning O) where
   -- the commands of some records and then of others
   pub commands-append : (xs ys : List (Record O)) → commands_of (xs ++ ys) ≡ commands_of xs ++ commands_of ys
   commands-append [] ys = refl
-  commands-append (Command number op ∷ xs) ys = ap (λ (l : List O). op ∷ l) (commands-append xs ys)
-  commands-append (Identity number x value ∷ xs) ys = commands-append xs ys
-  commands-append (Check table ∷ xs) ys = commands-append xs ys
+  commands-append (Command lsn op ∷ xs) ys = ap (λ (l : List O). op ∷ l) (commands-append xs ys)
+  commands-append (Identity lsn x value ∷ xs) ys = commands-append xs ys
+  commands-append (Checkpoint table ∷ xs) ys = commands-append xs ys
 
   pub count-append : (xs ys : List (Record O)) → length (commands_of (xs ++ ys)) ≡ length (commands_of xs) + length (commands_of ys)
   count-append xs ys = ap (λ (l : List O). length l) (commands-append xs ys) ∙ length-append (commands_of xs) (commands_of ys)
 
-  -- the next number never falls
+  -- the next LSN never falls
   pub next_rises : (next : ℕ) (records : List (Record O)) → next + length (commands_of records) ≤ next_after next records
   next_rises next [] = omega arith
-  next_rises next (Command number op ∷ records) = let rest = next_rises (next + 1) records in omega (arith, rest)
-  next_rises next (Identity number x value ∷ records) = let rest = next_rises (next + 1) records in omega (arith, rest)
-  next_rises next (Check table ∷ records) = next_rises next records
+  next_rises next (Command lsn op ∷ records) = let rest = next_rises (next + 1) records in omega (arith, rest)
+  next_rises next (Identity lsn x value ∷ records) = let rest = next_rises (next + 1) records in omega (arith, rest)
+  next_rises next (Checkpoint table ∷ records) = next_rises next records
 
-  -- the numbers of records end at 2^62
-  pub numbers_end : (base next : ℕ) (records : List (Record O)) → next ≤ 2 ^ 62 → AreRecords m base next records → next_after next records ≤ 2 ^ 62
-  numbers_end base next [] small all = small
-  numbers_end base next (Command number op ∷ records) small all = let place = all.1 in numbers_end base (next + 1) records (omega (arith, place.0, place.1)) all.2
-  numbers_end base next (Identity number x value ∷ records) small all = let place = all.1 in numbers_end base (next + 1) records (omega (arith, place.0, place.1)) all.2
-  numbers_end base next (Check table ∷ records) small all = numbers_end base next records small all.2
+  -- the LSNs of records end at 2^62
+  pub lsn_end : (base next : ℕ) (records : List (Record O)) → next ≤ 2 ^ 62 → AreRecords m base next records → next_after next records ≤ 2 ^ 62
+  lsn_end base next [] small all = small
+  lsn_end base next (Command lsn op ∷ records) small all = let place = all.1 in lsn_end base (next + 1) records (omega (arith, place.0, place.1)) all.2
+  lsn_end base next (Identity lsn x value ∷ records) small all = let place = all.1 in lsn_end base (next + 1) records (omega (arith, place.0, place.1)) all.2
+  lsn_end base next (Checkpoint table ∷ records) small all = lsn_end base next records small all.2
 
   -- a file of these payloads holds the stable records
   pub holds_stable : (d : Disk) (log : RecordLogView) (stable pending : List (Record O)) (k : Keeps m d log stable pending) (file : List ℕ)

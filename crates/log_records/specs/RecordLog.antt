@@ -7,7 +7,7 @@ use Rattle.formats.specs.InForce.{IsInForce}
 use Rattle.formats.specs.Log.{Header, IsHeader, end_of}
 use Rattle.formats.specs.Records.{payload_of, records_of, commands_of, next_after, AreRecords, IsRecordLog, HoldsRecordLog}
 use Rattle.formats.specs.declared.record.Record.{Record}
-use Rattle.log_frames.specs.LogView.{LogView}
+use Rattle.log_blocks.specs.LogView.{LogView}
 
 -- a log of records, as contracts see it
 pub record RecordLogView : Type 0 where
@@ -20,14 +20,14 @@ pub record RecordLogView : Type 0 where
   -- so many of them are stable
   pub forced : ℕ
 
--- the bounds are small, and the numbers of the log's header, of the next record and of the accepted commands are within
+-- the bounds are small, and the LSNs of the log's header, of the next record and of the accepted commands are within
 -- their ranges
 pub record IsCounted (b : Bounds) (h : Header) (accepted next : ℕ) : Type 0 where
   pub small : IsSmall b
   pub in_range : IsHeader h
   pub base : h.base ≤ next
   pub last : next ≤ 2 ^ 62
-  -- each of them has a number before the next
+  -- each of them has an LSN before the next
   pub count : accepted < next
 
 -- a file is a log of these records
@@ -59,7 +59,7 @@ pub record IsForcedPartly {O : Type 0} (m : Meaning O) (d : Disk) (log : RecordL
 abbrev pub counts : {O : Type 0} → Record O → ℕ
 counts r = length (commands_of (r ∷ []))
 
--- these files hold the log, and its next number is the one after their records
+-- these files hold the log, and its next LSN is the one after their records
 pub record IsHeldIn {O : Type 0} (m : Meaning O) (files : Files) (log : RecordLogView) : Type 0 where
   pub groups : List (List (Record O))
   pub file : HoldsRecordLog m log.log.active log.log.header groups files

@@ -6,8 +6,8 @@ use Rattle.oper_core.specs.declared.bounds.Bounds.{Bounds}
 use Rattle.formats.specs.Log.{IsWholeLog}
 use Rattle.formats.specs.Records.{payload_of, records_of, next_after, IsPlaced, AreRecords}
 use Rattle.formats.specs.declared.record.Record.{Record}
-use Rattle.log_frames.specs.LogView.{LogView}
-use Rattle.log_frames.specs.Payloads.{PayloadReaderView, IsInLog}
+use Rattle.log_blocks.specs.LogView.{LogView}
+use Rattle.log_blocks.specs.Payloads.{PayloadReaderView, IsInLog}
 use Rattle.log_records.specs.Codec.{StartsWithRecord, AreShort}
 
 -- a reader of records
@@ -28,7 +28,7 @@ pub record AreFirst {O : Type 0} (m : Meaning O) (file : List ℕ) (it : RecordR
   pub stands : IsInLog file it.payloads payloads (map (payload_of m) groups) (payload_of m part) later
   pub records_are : records ≡ records_of groups ++ part
 
--- A reader of this log has read these records: they are right in their places, the next number is that after them, and
+-- A reader of this log has read these records: they are right in their places, the next LSN is that after them, and
 -- each goes into a block. In files that agree with what was read and in which the log is whole, they are its first ones.
 pub record IsReading {O : Type 0} (m : Meaning O) (d : Disk) (log : LogView) (it : RecordReaderView) (records : List (Record O)) : Type 0 where
   pub file : it.payloads.file ≡ log.active
@@ -51,11 +51,11 @@ pub record AreAll {O : Type 0} (m : Meaning O) (d : Disk) (log : LogView) (recor
   pub short : AreShort m records
   pub read : (files : Files) → d.agrees files → (payloads : List (List ℕ)) → IsWholeLog log.header payloads (files log.active) → AreGroups m payloads records
 
--- no record that is right where this number is next begins the bytes
+-- no record that is right where this LSN is next begins the bytes
 abbrev pub StartsWithNone : {O : Type 0} → Meaning O → ℕ → ℕ → List ℕ → Type 0
 StartsWithNone {O = O} m base next bytes = (other : Record O) → StartsWithRecord m bytes other → IsPlaced m base next other → ⊥
 
--- these are all records, up to the reader's next number
+-- these are all records, up to the reader's next LSN
 abbrev pub HasEnded : {O : Type 0} → Meaning O → Disk → LogView → RecordReaderView → List (Record O) → Type 0
 HasEnded m d log it records = AreAll m d log records × (it.next ≡ next_after log.header.base records)
 

@@ -3,12 +3,12 @@ use Rattle.std.proofs.Common.{◌≡◌, ◌+◌, ◌<◌, ◌≤◌, ◌^◌, �
 use Rattle.std.proofs.lemmas.List.{append-nil}
 use Rattle.std.proofs.lemmas.List.Concat.{flat_map-append}
 use Rattle.std.proofs.lemmas.Bool.{cases_lt, cond-true, cond-false, le-leb, lt-leb, lt-ltb, le-ltb}
-use Rattle.redo_tables.specs.declared.table.Table.{Table}
+use Rattle.dirty_page_table.specs.declared.table.DirtyPageTable.{DirtyPageTable}
 use Rattle.oper_core.specs.Meaning.{Meaning}
 use Rattle.formats.specs.Log.{block, blocks, end_of}
 use Rattle.formats.specs.Records.{record_code, payload_of, records_of}
 use Rattle.formats.specs.declared.record.Record.{Record}
-use Rattle.log_frames.specs.Laws.{length-block}
+use Rattle.log_blocks.specs.Laws.{length-block}
 use Rattle.log_records.specs.RecordLaws.{payload_push}
 use Rattle.log_records.specs.Rewriting.{rewritten_records, blocks_behind, AreFull, blocks_length, code_lengths, new_payloads}
 
@@ -94,5 +94,5 @@ module _ {O : Type 0} (m : Meaning O) where
       ]
 
   -- where the new log ends: after its header and the first block's head
-  pub new_end : (base : ℕ) (table : Table) (stable : List (Record O)) → end_of (new_payloads m base table stable) ≡ 38 + blocks_length 0 (code_lengths m (rewritten_records base table stable))
+  pub new_end : (base : ℕ) (table : DirtyPageTable) (stable : List (Record O)) → end_of (new_payloads m base table stable) ≡ 38 + blocks_length 0 (code_lengths m (rewritten_records base table stable))
   new_end base table stable = let long = blocks_long [] (rewritten_records base table stable) in omega (arith, long)

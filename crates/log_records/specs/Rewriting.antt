@@ -2,7 +2,7 @@
 use Rattle.std.specs.Prelude.{◌≡◌, ◌≢◌, ⊤, ◌⊎◌, ◌<◌, ◌≤◌, ◌+◌, ◌^◌, ℕ, Bool, false, not, nat_le, nat_lt, ◌&&◌, if◌then◌else◌, List, [], ◌∷◌, ◌++◌, length, map, filter, Result, OnErr, OnOk, IfErr}
 use Rattle.disk_model.specs.Disk.{Files, Disk, In, Any, IsSettled, LeavesOnly, Stays}
 use Rattle.disk_model.specs.declared.machine.FileNo.{FileNo}
-use Rattle.redo_tables.specs.declared.table.Table.{Table}
+use Rattle.dirty_page_table.specs.declared.table.DirtyPageTable.{DirtyPageTable}
 use Rattle.oper_core.specs.Meaning.{Meaning}
 use Rattle.formats.specs.InForce.{other_of}
 use Rattle.formats.specs.Log.{Header}
@@ -10,40 +10,40 @@ use Rattle.formats.specs.Records.{record_code, payload_of, records_of, commands_
 use Rattle.formats.specs.declared.read_err.ReadErr.{ReadErr}
 use Rattle.formats.specs.declared.read_err.ReadErr.TheVariants as of_read
 use Rattle.formats.specs.declared.record.Record.{Record}
-use Rattle.formats.specs.declared.record.Record.TheVariants.{Command, Identity, Check}
-use Rattle.log_frames.specs.LogView.{LogView, used_of}
-use Rattle.log_frames.specs.Rewriting.{next_header, rewritten, file_length}
+use Rattle.formats.specs.declared.record.Record.TheVariants.{Command, Identity, Checkpoint}
+use Rattle.log_blocks.specs.LogView.{LogView, used_of}
+use Rattle.log_blocks.specs.Rewriting.{next_header, rewritten, file_length}
 use Rattle.log_records.specs.RecordLog.{RecordLogView, Keeps}
 use Rattle.log_records.specs.declared.rewrite_err.RewriteErr.{RewriteErr}
 use Rattle.log_records.specs.declared.rewrite_err.RewriteErr.TheVariants.{DiskFault, LogFull, Damaged, Exhausted, Memory}
 
--- a record has a number, from this one on
-abbrev pub is_numbered_from : {O : Type 0} → ℕ → Record O → Bool
-is_numbered_from from (Command number op) = nat_le from number
-is_numbered_from from (Identity number x value) = nat_le from number
-is_numbered_from from (Check table) = false
+-- a record has an LSN, from this one on
+abbrev pub is_from_lsn : {O : Type 0} → ℕ → Record O → Bool
+is_from_lsn from (Command lsn op) = nat_le from lsn
+is_from_lsn from (Identity lsn x value) = nat_le from lsn
+is_from_lsn from (Checkpoint table) = false
 
--- the commands and identity writes from a number on
-abbrev pub numbered_from : {O : Type 0} → ℕ → List (Record O) → List (Record O)
-numbered_from from records = filter (is_numbered_from from) records
+-- the commands and identity writes from an LSN on
+abbrev pub from_lsn : {O : Type 0} → ℕ → List (Record O) → List (Record O)
+from_lsn from records = filter (is_from_lsn from) records
 
--- a record has a number, from this one on and below that one
+-- a record has an LSN, from this one on and below that one
 abbrev pub is_between : {O : Type 0} → ℕ → ℕ → Record O → Bool
-is_between from end (Command number op) = nat_le from number && nat_lt number end
-is_between from end (Identity number x value) = nat_le from number && nat_lt number end
-is_between from end (Check table) = false
+is_between from end (Command lsn op) = nat_le from lsn && nat_lt lsn end
+is_between from end (Identity lsn x value) = nat_le from lsn && nat_lt lsn end
+is_between from end (Checkpoint table) = false
 
--- the commands and identity writes from a number on, below another
-abbrev pub numbered_between : {O : Type 0} → ℕ → ℕ → List (Record O) → List (Record O)
-numbered_between from end records = filter (is_between from end) records
+-- the commands and identity writes from an LSN on, below another
+abbrev pub between_lsns : {O : Type 0} → ℕ → ℕ → List (Record O) → List (Record O)
+between_lsns from end records = filter (is_between from end) records
 
--- all records but those from a number on
+-- all records but those from an LSN on
 abbrev pub left_out : {O : Type 0} → ℕ → List (Record O) → List (Record O)
-left_out from records = filter (λ r. not (is_numbered_from from r)) records
+left_out from records = filter (λ r. not (is_from_lsn from r)) records
 
--- the records of the new log, where the old one has these: the numbered ones from its base on, and then this check
-abbrev pub rewritten_records : {O : Type 0} → ℕ → Table → List (Record O) → List (Record O)
-rewritten_records base table records = numbered_from base records ++ Check table ∷ []
+-- the records of the new log, where the old one has these: those with an LSN from its base on, and then this checkpoint
+abbrev pub rewritten_records : {O : Type 0} → ℕ → DirtyPageTable → List (Record O) → List (Record O)
+rewritten_records base table records = from_lsn base records ++ Checkpoint table ∷ []
 
 -- Records in blocks, of which the first begins with those in hand: a record goes into the block of the one before it,
 -- where that then has at most 2^30 bytes, and else begins the next.
@@ -73,7 +73,7 @@ abbrev pub code_lengths : {O : Type 0} → Meaning O → List (Record O) → Lis
 code_lengths m records = map (λ r. length (record_code m r)) records
 
 -- the payloads of the new log
-abbrev pub new_payloads : {O : Type 0} → Meaning O → ℕ → Table → List (Record O) → List (List ℕ)
+abbrev pub new_payloads : {O : Type 0} → Meaning O → ℕ → DirtyPageTable → List (Record O) → List (List ℕ)
 new_payloads m base table stable = map (payload_of m) (in_full_blocks m (rewritten_records base table stable))
 
 -- how many commands were accepted before its base
@@ -81,18 +81,18 @@ abbrev pub commands_before : {O : Type 0} → LogView → ℕ → List (Record O
 commands_before log base stable = log.header.commands + length (commands_of (left_out base stable))
 
 -- the log file after the rewrite
-abbrev pub rewritten_log : {O : Type 0} → Meaning O → LogView → ℕ → Table → List (Record O) → LogView
+abbrev pub rewritten_log : {O : Type 0} → Meaning O → LogView → ℕ → DirtyPageTable → List (Record O) → LogView
 rewritten_log m log base table stable = rewritten log base (commands_before log base stable) (new_payloads m base table stable)
 
--- A log may be rewritten from this base on, with this check: nothing waits, the base is a number of the log or the next
--- one, and the check is right after the records from there on, and goes into a block.
-pub record IsRewritable {O : Type 0} (m : Meaning O) (log : RecordLogView) (base : ℕ) (table : Table) : Type 0 where
+-- A log may be rewritten from this base on, with this checkpoint: nothing waits, the base is a number of the log or the next
+-- one, and the checkpoint is right after the records from there on, and goes into a block.
+pub record IsRewritable {O : Type 0} (m : Meaning O) (log : RecordLogView) (base : ℕ) (table : DirtyPageTable) : Type 0 where
   pub waits : log.log.pending ≡ []
   pub low : log.log.header.base ≤ base
   pub high : base ≤ log.next
-  pub place : IsPlaced m base log.next (Check table)
-  pub grammar : IsRecord m (Check table)
-  pub short : length (record_code m (Check table)) ≤ 2 ^ 30
+  pub place : IsPlaced m base log.next (Checkpoint table)
+  pub grammar : IsRecord m (Checkpoint table)
+  pub short : length (record_code m (Checkpoint table)) ≤ 2 ^ 30
 
 -- the log in force stands in this file, with this header, and holds these records
 pub record HoldsInForce {O : Type 0} (m : Meaning O) (active : FileNo) (header : Header) (records : List (Record O)) (files : Files) : Type 0 where
@@ -102,7 +102,7 @@ pub record HoldsInForce {O : Type 0} (m : Meaning O) (active : FileNo) (header :
 
 -- What a crash within a rewrite leaves: the log in force is the old one, or, whole, the new one in the other file. The
 -- objects and the old log are as they were, and nothing was said.
-pub record IsRewrittenPartly {O : Type 0} (m : Meaning O) (d : Disk) (log : LogView) (base : ℕ) (table : Table) (stable : List (Record O)) (files : Files) (said : List ℕ) : Type 0 where
+pub record IsRewrittenPartly {O : Type 0} (m : Meaning O) (d : Disk) (log : LogView) (base : ℕ) (table : DirtyPageTable) (stable : List (Record O)) (files : Files) (said : List ℕ) : Type 0 where
   pub others : In (other_of log.active) Any d.reads files
   pub in_force : HoldsInForce m log.active log.header stable files
       ⊎ HoldsInForce m (other_of log.active) (next_header log base (commands_before log base stable)) (rewritten_records base table stable) files
@@ -122,11 +122,11 @@ pub record IsRefused {O : Type 0} (m : Meaning O) (before after : Disk) (log : R
   pub any_moment : before.tells_moments → (stable : List (Record O)) → Keeps m before log stable [] → LeavesOnly before after (IsOldLog m before log.log stable)
 
 -- over files that are reported, and hold these records, the number is the length of the new log file
-abbrev pub IsNewLength : {O : Type 0} → Meaning O → Disk → RecordLogView → ℕ → Table → ℕ → Type 0
+abbrev pub IsNewLength : {O : Type 0} → Meaning O → Disk → RecordLogView → ℕ → DirtyPageTable → ℕ → Type 0
 IsNewLength {O = O} m d log base table n = d.tells_files → (stable : List (Record O)) → Keeps m d log stable [] → n ≡ file_length (new_payloads m base table stable)
 
 -- and over such files that length is within its range
-abbrev pub IsWithinLength : {O : Type 0} → Meaning O → Disk → RecordLogView → ℕ → Table → Type 0
+abbrev pub IsWithinLength : {O : Type 0} → Meaning O → Disk → RecordLogView → ℕ → DirtyPageTable → Type 0
 IsWithinLength {O = O} m d log base table = d.tells_files → (stable : List (Record O)) → Keeps m d log stable [] → file_length (new_payloads m base table stable) ≤ 2 ^ 48
 
 -- Why a rewrite fails: at the last epoch; or else by a fault of the disk, by damage in the old log, out of memory,
@@ -155,7 +155,7 @@ rewrite_from_read of_read.Memory = Memory
 -- How a rewrite of this log ends. Where it fails the log is as it was, and is in force, unless a fault of the disk is reported.
 -- Where the new file would have more than 2^48 bytes no file is changed. It succeeds only before the last epoch, and with a file
 -- within that length.
-pub record IsRewriteEnd {O T : Type 0} (m : Meaning O) (before after : Disk) (log now : RecordLogView) (base : ℕ) (table : Table) (result : Result T RewriteErr) : Type 0 where
+pub record IsRewriteEnd {O T : Type 0} (m : Meaning O) (before after : Disk) (log now : RecordLogView) (base : ℕ) (table : DirtyPageTable) (result : Result T RewriteErr) : Type 0 where
   pub kept : OnErr result (now ≡ log)
   pub refused : IfErr result (λ e. e ≢ DiskFault → IsRefused m before after log)
   pub long : before.tells_files → (stable : List (Record O)) → Keeps m before log stable [] → 2 ^ 48 < file_length (new_payloads m base table stable) → Stays before after

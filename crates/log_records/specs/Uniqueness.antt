@@ -9,9 +9,9 @@ use Rattle.formats.specs.Log.{Header, IsWholeLog, end_of}
 use Rattle.formats.specs.Records.{record_code, payload_of, records_of, next_behind, next_after, IsRecord, AreRecords, IsRecordLog, HoldsRecordLog}
 use Rattle.formats.specs.Image.{IsRecordFault}
 use Rattle.formats.specs.declared.record.Record.{Record}
-use Rattle.formats.specs.declared.record.Record.TheVariants.{Command, Identity, Check}
-use Rattle.log_frames.specs.Forcing.{with_block}
-use Rattle.log_frames.specs.Laws.{one_log, one_in_force, same_header, has_header}
+use Rattle.formats.specs.declared.record.Record.TheVariants.{Command, Identity, Checkpoint}
+use Rattle.log_blocks.specs.Forcing.{with_block}
+use Rattle.log_blocks.specs.Laws.{one_log, one_in_force, same_header, has_header}
 use Rattle.log_records.specs.CodecLaws.{HasCodes, same_record}
 use Rattle.log_records.specs.RecordLaws.{AreRecords-front, AreRecords-behind, placed-append, next-append}
 
@@ -28,9 +28,9 @@ module _ {O : Type 0} (m : Meaning O) (codes : HasCodes m) where
       (first, append_cancel_left (record_code m r) x y (same ∙ ap (λ (t : Record O). record_code m t ++ y) (sym first)))
 
   no_code : (r : Record O) (x : List ℕ) → [] ≡ record_code m r ++ x → ⊥
-  no_code (Command number op) x same = cc
-  no_code (Identity number y value) x same = cc
-  no_code (Check table) x same = cc
+  no_code (Command lsn op) x same = cc
+  no_code (Identity lsn y value) x same = cc
+  no_code (Checkpoint table) x same = cc
 
   -- what follows the first records of a payload
   pub record IsRest (before all : List (Record O)) (wrong : List ℕ) : Type 0 where
@@ -93,9 +93,9 @@ module _ {O : Type 0} (m : Meaning O) (codes : HasCodes m) where
   with_first x xs (byte ∷ bytes) = refl
 
   some_code : (r : Record O) (bytes : List ℕ) → with_block [] (record_code m r ++ bytes) ≡ (record_code m r ++ bytes) ∷ []
-  some_code (Command number op) bytes = refl
-  some_code (Identity number x value) bytes = refl
-  some_code (Check table) bytes = refl
+  some_code (Command lsn op) bytes = refl
+  some_code (Identity lsn x value) bytes = refl
+  some_code (Checkpoint table) bytes = refl
 
   one_block : (r : Record O) (part : List (Record O)) (rest : List ℕ) → with_block [] (payload_of m (r ∷ part) ++ rest) ≡ (payload_of m (r ∷ part) ++ rest) ∷ []
   one_block r part rest =
@@ -188,7 +188,7 @@ module _ {O : Type 0} (m : Meaning O) (codes : HasCodes m) where
       none_broken fault.header.base [] gs fault.groups fault.before fault.wrong fault.later
       (subst (λ (n : ℕ). AreRecords m n n (records_of gs)) base is.placed) fault.placed tt same.1 fault.some fault.no_record
 
-  -- no record that the bytes begin with is right where this number is next
+  -- no record that the bytes begin with is right where this LSN is next
   abbrev NoneNext : ℕ → ℕ → List ℕ → Type 0
   NoneNext base next wrong = (other : Record O) (rest : List ℕ) → wrong ≡ record_code m other ++ rest → AreRecords m base next (other ∷ []) → ⊥
 

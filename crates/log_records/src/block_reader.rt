@@ -1,27 +1,27 @@
-// Reads what the blocks of a log have from a number on, one block after the other.
+// Reads what the blocks of a log have from an LSN on, one block after the other.
 ghost use Rattle.std.specs.Prelude.{◌≡◌, ◌<◌, ◌↔◌, ◌∷◌, ◌++◌, [], List, ℕ, IsTrue, IfErr, IfOk, OnOk, length};
 ghost use Rattle.disk_model.specs.Disk.{Rises, Stays};
 ghost use Rattle.oper_core.specs.Meaning.{IsSmall};
 ghost use Rattle.oper_core.specs.declared.bounds.Bounds.{Bounds};
 ghost use Rattle.formats.specs.Reading.{FailsBy};
 ghost use Rattle.formats.specs.Records.{payload_of};
-ghost use Rattle.log_frames.specs.LogView.{LogView};
-ghost use Rattle.log_frames.specs.Payloads.{ahead, remaining};
+ghost use Rattle.log_blocks.specs.LogView.{LogView};
+ghost use Rattle.log_blocks.specs.Payloads.{ahead, remaining};
 ghost use Rattle.log_records.specs.BlockReader.{IsReadingBlocks, HasGivenBlock};
 ghost use Rattle.log_records.specs.Codec.{IsEncodable};
 ghost use Rattle.log_records.specs.Loading.{IsTailFault};
-ghost use Rattle.log_records.specs.Rewriting.{numbered_from};
+ghost use Rattle.log_records.specs.Rewriting.{from_lsn};
 
 use crate::RecordLog;
 use crate::codec::encode;
 use crate::record_reader::RecordReader;
-use crate::rewriting::is_numbered_from;
+use crate::rewriting::is_from_lsn;
 use disk_model::Machine;
 use formats::{ReadErr, Record};
 use oper_core::{Memory, Oper};
 use std::marker::Model;
 
-/// Stands in the blocks of a log, and gives the commands and identity writes that they have from a number on. One block of these
+/// Stands in the blocks of a log, and gives the commands and identity writes that they have from an LSN on. One block of these
 /// is in memory at a time.
 #[derive(Drop)]
 pub struct BlockReader<O: Oper> {
@@ -40,12 +40,12 @@ impl<O: Oper> Model for BlockReader<O> {
     ghost invariant = { λ r. IsSmall r.records.bounds };
 }
 
-// Appends the code of a record that is numbered, from this number on.
-fn push_numbered<O: Oper>(it: &Record<O>, from: u64, into: &mut Vec<u8>) -> Result<(), Memory>
+// Appends the code of a record that is numbered, from this LSN on.
+fn push_from_lsn<O: Oper>(it: &Record<O>, from: u64, into: &mut Vec<u8>) -> Result<(), Memory>
     requires { IsEncodable O.meaning it.now }
-    ensures { (b : Bounds) → OnOk result (into.new.items ≡ into.old.items ++ payload_of (O.meaning b) (numbered_from from (it.now ∷ []))) }
+    ensures { (b : Bounds) → OnOk result (into.new.items ≡ into.old.items ++ payload_of (O.meaning b) (from_lsn from (it.now ∷ []))) }
 {
-    if !is_numbered_from(it, from) {
+    if !is_from_lsn(it, from) {
         return Ok(());
     }
     encode(it, into)?;
@@ -78,7 +78,7 @@ fn push_block<O: Oper, M: Machine>(
         → IfErr result (FailsBy (Rises (M.disk m.old).disk_faults (M.disk m.new).disk_faults) (IsTailFault (O.meaning records.old.bounds) (M.disk m.new) log)) }
 {
     while let Some(record) = records.next(m)? {
-        push_numbered(&record, from, into)?;
+        push_from_lsn(&record, from, into)?;
         if is_whole(records, into) {
             return Ok(true);
         }
@@ -87,7 +87,7 @@ fn push_block<O: Oper, M: Machine>(
 }
 
 impl<O: Oper> BlockReader<O> {
-    /// Makes of the bytes the payload of the next block that has any command or identity write from the reader's number on: these
+    /// Makes of the bytes the payload of the next block that has any command or identity write from the reader's LSN on: these
     /// alone, as the log has them. False, and no byte, after the last one.
     pub fn next_block<M: Machine>(&mut self, m: &mut M, into: &mut Vec<u8>) -> Result<bool, ReadErr>
         ensures kept { Stays (M.disk m.old) (M.disk m.new) }
@@ -107,7 +107,7 @@ impl<O: Oper> BlockReader<O> {
 }
 
 impl<O: Oper> RecordLog<O> {
-    /// A reader of the blocks' commands and identity writes from a number on, that has given none.
+    /// A reader of the blocks' commands and identity writes from an LSN on, that has given none.
     pub fn block_reader<M: Machine>(&self, m: &mut M, from: u64) -> Result<BlockReader<O>, ReadErr>
         ensures kept { Stays (M.disk m.old) (M.disk m.new) }
         ensures from { IfOk result (λ it. it.from ≡ from) }

@@ -39,37 +39,37 @@ fn append<O: Oper>(record: &Record<O>, out: &mut Vec<u8>) -> Result<(), Memory>
     ensures err { OnErr result (take (length out.old.items) out.new.items ≡ out.old.items) }
 {
     match record {
-        Record::Command(number, op) => push_command(*number, op, out)?,
-        Record::Identity(number, object, value) => {
-            append_identity(*number, *object, value.as_slice(), out)?
+        Record::Command(lsn, op) => push_command(*lsn, op, out)?,
+        Record::Identity(lsn, object, value) => {
+            append_identity(*lsn, *object, value.as_slice(), out)?
         }
-        Record::Check(table) => {
+        Record::Checkpoint(table) => {
             out.push(CHECK)?;
-            redo_tables::encode(table, out)?
+            dirty_page_table::encode(table, out)?
         }
     }
     Ok(())
 }
 
 /// Appends the code of a command's record. Without memory a part of it may stay after the bytes.
-pub(crate) fn push_command<O: Oper>(number: u64, op: &O, out: &mut Vec<u8>) -> Result<(), Memory>
-    requires { IsEncodable O.meaning (Record.Command number op.now) }
-    ensures ok { (b : Bounds) → OnOk result (out.new.items ≡ out.old.items ++ record_code (O.meaning b) (Record.Command number op.now)) }
+pub(crate) fn push_command<O: Oper>(lsn: u64, op: &O, out: &mut Vec<u8>) -> Result<(), Memory>
+    requires { IsEncodable O.meaning (Record.Command lsn op.now) }
+    ensures ok { (b : Bounds) → OnOk result (out.new.items ≡ out.old.items ++ record_code (O.meaning b) (Record.Command lsn op.now)) }
     ensures err { OnErr result (take (length out.old.items) out.new.items ≡ out.old.items) }
 {
     out.push(COMMAND)?;
-    out.extend_from_slice(&number.to_le_bytes())?;
+    out.extend_from_slice(&lsn.to_le_bytes())?;
     op.encode(out)?;
     Ok(())
 }
 
-fn append_identity(number: u64, object: u32, value: &[u8], out: &mut Vec<u8>) -> Result<(), Memory>
+fn append_identity(lsn: u64, object: u32, value: &[u8], out: &mut Vec<u8>) -> Result<(), Memory>
     requires { length value.now < 2 ^ 32 }
-    ensures ok { OnOk result (out.new.items ≡ out.old.items ++ (2 ∷ (little_bytes 8 number ++ (little_bytes 4 object ++ (little_bytes 4 (length value.now) ++ value.now))))) }
+    ensures ok { OnOk result (out.new.items ≡ out.old.items ++ (2 ∷ (little_bytes 8 lsn ++ (little_bytes 4 object ++ (little_bytes 4 (length value.now) ++ value.now))))) }
     ensures err { OnErr result (take (length out.old.items) out.new.items ≡ out.old.items) }
 {
     out.push(IDENTITY)?;
-    out.extend_from_slice(&number.to_le_bytes())?;
+    out.extend_from_slice(&lsn.to_le_bytes())?;
     out.extend_from_slice(&object.to_le_bytes())?;
     out.extend_from_slice(&(value.len() as u32).to_le_bytes())?;
     out.extend_from_slice(value)?;
@@ -98,7 +98,7 @@ pub fn decode<O: Oper>(
         return decode_identity(alloc, b, bytes);
     }
     if kind == CHECK {
-        return decode_check(alloc, b, bytes);
+        return decode_checkpoint(alloc, b, bytes);
     }
     Ok(None)
 }
@@ -117,9 +117,9 @@ fn decode_command<O: Oper>(
     if bytes.len() < RECORD_HEAD {
         return Ok(None);
     }
-    let number = LittleEndian::read_u64(&bytes[1..]);
+    let lsn = LittleEndian::read_u64(&bytes[1..]);
     match O::decode(alloc, b, &bytes[RECORD_HEAD..])? {
-        Some((op, length)) => Ok(Some((Record::Command(number, op), RECORD_HEAD + length))),
+        Some((op, length)) => Ok(Some((Record::Command(lsn, op), RECORD_HEAD + length))),
         None => Ok(None),
     }
 }
@@ -145,7 +145,7 @@ fn decode_identity<O: Oper>(
     if bytes.len() < IDENTITY_HEAD {
         return Ok(None);
     }
-    let number = LittleEndian::read_u64(&bytes[1..]);
+    let lsn = LittleEndian::read_u64(&bytes[1..]);
     let object = LittleEndian::read_u32(&bytes[9..]);
     let length = LittleEndian::read_u32(&bytes[13..]);
     let behind = &bytes[IDENTITY_HEAD..];
@@ -153,12 +153,12 @@ fn decode_identity<O: Oper>(
         return Ok(None);
     }
     let value = behind[..length as usize].to_vec(alloc)?;
-    let found = Record::Identity(number, object, ByteList::new(value));
+    let found = Record::Identity(lsn, object, ByteList::new(value));
     Ok(Some((found, IDENTITY_HEAD + length as usize)))
 }
 
-// The same, where they begin with the kind of a check.
-fn decode_check<O: Oper>(
+// The same, where they begin with the kind of a checkpoint.
+fn decode_checkpoint<O: Oper>(
     alloc: Global,
     b: Bounds,
     bytes: &[u8],
@@ -169,8 +169,8 @@ fn decode_check<O: Oper>(
         StartsWithRecord (O.meaning b) bytes.now pair.0 × (pair.1 ≡ length (record_code (O.meaning b) pair.0)))) }
     ensures none { IfOk result (λ found. IfNone found ((other : Record O) → StartsWithRecord (O.meaning b) bytes.now other → ⊥)) }
 {
-    match redo_tables::decode(alloc, &bytes[1..])? {
-        Some((table, length)) => Ok(Some((Record::Check(table), 1 + length))),
+    match dirty_page_table::decode(alloc, &bytes[1..])? {
+        Some((table, length)) => Ok(Some((Record::Checkpoint(table), 1 + length))),
         None => Ok(None),
     }
 }

@@ -7,15 +7,15 @@ ghost use Rattle.formats.specs.Reading.{FailsBy};
 ghost use Rattle.formats.specs.Records.{record_code, IsRecord};
 ghost use Rattle.formats.specs.declared.read_err.ReadErr.TheVariants.{Damaged};
 ghost use Rattle.formats.specs.declared.record.Record.{Record};
-ghost use Rattle.log_frames.specs.Rewriting.{KeepsClosed};
-ghost use Rattle.log_frames.specs.Writing.{put_of};
+ghost use Rattle.log_blocks.specs.Rewriting.{KeepsClosed};
+ghost use Rattle.log_blocks.specs.Writing.{put_of};
 ghost use Rattle.log_records.specs.Codec.{IsEncodable};
 ghost use Rattle.log_records.specs.Copying.{HasCopied, HasFilled, HasLaid, IsLaid, IsPlanned, PutFails, later_of, room_left};
 ghost use Rattle.log_records.specs.Laying.{Fits, codes_of, room_of};
 ghost use Rattle.log_records.specs.Loading.{IsTailFault};
 ghost use Rattle.log_records.specs.LogCopy.{CopyFails, IsCopyPlanned};
 ghost use Rattle.log_records.specs.RecordReader.{AreAll};
-ghost use Rattle.log_records.specs.Rewriting.{numbered_from};
+ghost use Rattle.log_records.specs.Rewriting.{from_lsn};
 
 use crate::RecordLog;
 use crate::blocks_left::BlocksLeft;
@@ -24,10 +24,10 @@ use crate::copy_err::CopyErr;
 use crate::new_log::NewLog;
 use crate::put_err::PutErr;
 use crate::record_reader::RecordReader;
-use crate::rewriting::is_numbered_from;
+use crate::rewriting::is_from_lsn;
 use disk_model::{Failed, Machine};
 use formats::{ReadErr, Record};
-use log_frames::{LogFile, LogWriter};
+use log_blocks::{LogFile, LogWriter};
 use oper_core::{Bounds, Oper};
 use std::alloc::Global;
 
@@ -136,10 +136,10 @@ fn copy_record<O: Oper, M: Machine>(
     requires fits { put_of out.old + room_left blocks.old < 2 ^ 63 }
     ensures runs { Runs (In out.old.file KeepsClosed) Same (M.disk m.old) (M.disk m.new) }
     ensures file { out.new.file ≡ out.old.file }
-    ensures laid { (b : Bounds) → IfOk result (HasLaid (M.disk m.old) (M.disk m.new) out.old out.new blocks.old blocks.new (codes_of (O.meaning b) (numbered_from base (it.now ∷ [])))) }
+    ensures laid { (b : Bounds) → IfOk result (HasLaid (M.disk m.old) (M.disk m.new) out.old out.new blocks.old blocks.new (codes_of (O.meaning b) (from_lsn base (it.now ∷ [])))) }
     ensures cause { IfErr result (PutFails (Rises (M.disk m.old).disk_faults (M.disk m.new).disk_faults)) }
 {
-    if !is_numbered_from(it, base) {
+    if !is_from_lsn(it, base) {
         return Ok(true);
     }
     let laid = put_record(m, it, code, blocks, out)?;
@@ -188,8 +188,8 @@ fn changed(log: &LogFile) -> ReadErr
     }
 }
 
-// Puts the numbered records of a log from a base on: one at a time is in memory.
-fn copy_numbered<O: Oper, M: Machine>(
+// Puts the records with an LSN of a log from a base on: one at a time is in memory.
+fn copy_from_lsn<O: Oper, M: Machine>(
     alloc: Global,
     m: &mut M,
     b: Bounds,
@@ -204,11 +204,11 @@ fn copy_numbered<O: Oper, M: Machine>(
     ensures runs { Runs (In out.old.file KeepsClosed) Same (M.disk m.old) (M.disk m.new) }
     ensures file { out.new.file ≡ out.old.file }
     ensures copied { OnOk result ((records : List (Record O)) × AreAll (O.meaning b) (M.disk m.new) log.now records
-        × IsLaid (M.disk m.old) (M.disk m.new) out.old out.new blocks.old blocks.new (codes_of (O.meaning b) (numbered_from base records))) }
+        × IsLaid (M.disk m.old) (M.disk m.new) out.old out.new blocks.old blocks.new (codes_of (O.meaning b) (from_lsn base records))) }
 
     // They have room, where all records of the log had.
     ensures cause { (all : List (Record O)) (last : List (List ℕ)) → AreAll (O.meaning b) (M.disk m.old) log.now all
-        → Fits blocks.old.left (later_of blocks.old) (codes_of (O.meaning b) (numbered_from base all) ++ last)
+        → Fits blocks.old.left (later_of blocks.old) (codes_of (O.meaning b) (from_lsn base all) ++ last)
         → IfErr result (FailsBy (Rises (M.disk m.old).disk_faults (M.disk m.new).disk_faults) (IsTailFault (O.meaning b) (M.disk m.new) log.now)) }
 {
     let mut reader = RecordReader::<O>::new(alloc, m, b, log)?;
@@ -238,11 +238,11 @@ fn copy_all<O: Oper, M: Machine, T: Machine>(
     ensures runs { Runs (In out.old.file KeepsClosed) Same (T.disk target.old) (T.disk target.new) }
     ensures file { out.new.file ≡ out.old.file }
     ensures copied { OnOk result ((records : List (Record O)) × AreAll (O.meaning b) (M.disk m.new) log.now records
-        × IsLaid (T.disk target.old) (T.disk target.new) out.old out.new blocks.old blocks.new (codes_of (O.meaning b) (numbered_from log.now.header.base records))) }
+        × IsLaid (T.disk target.old) (T.disk target.new) out.old out.new blocks.old blocks.new (codes_of (O.meaning b) (from_lsn log.now.header.base records))) }
 
     // They have room, where all records of the log had.
     ensures cause { (all : List (Record O)) (last : List (List ℕ)) → AreAll (O.meaning b) (M.disk m.old) log.now all
-        → Fits blocks.old.left (later_of blocks.old) (codes_of (O.meaning b) (numbered_from log.now.header.base all) ++ last)
+        → Fits blocks.old.left (later_of blocks.old) (codes_of (O.meaning b) (from_lsn log.now.header.base all) ++ last)
         → IfErr result (CopyFails (Rises (M.disk m.old).disk_faults (M.disk m.new).disk_faults) (Rises (T.disk target.old).disk_faults (T.disk target.new).disk_faults)
         (IsTailFault (O.meaning b) (M.disk m.new) log.now) (λ u n l. ⊥)) }
 {
@@ -257,22 +257,22 @@ fn copy_all<O: Oper, M: Machine, T: Machine>(
 }
 
 impl<O: Oper> RecordLog<O> {
-    // Puts the blocks of a new log that was planned: the numbered records from the base on, and the check.
+    // Puts the blocks of a new log that was planned: the records with an LSN from the base on, and the checkpoint.
     pub(crate) fn copy<M: Machine>(
         &self,
         m: &mut M,
         base: u64,
-        check: &Record<O>,
+        checkpoint: &Record<O>,
         new: NewLog,
         out: &mut LogWriter,
     ) -> Result<(), ReadErr>
         requires apart { self.now.log.active ≢ out.old.file }
-        requires planned { IsPlanned (O.meaning self.now.bounds) (M.disk m.old) self.now.log base (check.now ∷ []) new }
-        requires grammar { IsRecord (O.meaning self.now.bounds) check.now }
+        requires planned { IsPlanned (O.meaning self.now.bounds) (M.disk m.old) self.now.log base (checkpoint.now ∷ []) new }
+        requires grammar { IsRecord (O.meaning self.now.bounds) checkpoint.now }
         requires fits { put_of out.old + room_of new.lengths.items < 2 ^ 63 }
         ensures runs { Runs (In out.old.file KeepsClosed) Same (M.disk m.old) (M.disk m.new) }
         ensures file { out.new.file ≡ out.old.file }
-        ensures copied { OnOk result (HasCopied (O.meaning self.now.bounds) (M.disk m.new) (M.disk m.old) (M.disk m.new) self.now.log base (check.now ∷ []) new.lengths.items out.old out.new) }
+        ensures copied { OnOk result (HasCopied (O.meaning self.now.bounds) (M.disk m.new) (M.disk m.old) (M.disk m.new) self.now.log base (checkpoint.now ∷ []) new.lengths.items out.old out.new) }
         ensures cause { IfErr result (FailsBy (Rises (M.disk m.old).disk_faults (M.disk m.new).disk_faults) (IsTailFault (O.meaning self.now.bounds) (M.disk m.new) self.now.log)) }
     {
         let mut blocks = BlocksLeft {
@@ -280,7 +280,7 @@ impl<O: Oper> RecordLog<O> {
             lengths: new.lengths,
             next: 0,
         };
-        copy_numbered::<O, M>(
+        copy_from_lsn::<O, M>(
             self.alloc,
             m,
             self.bounds,
@@ -289,13 +289,13 @@ impl<O: Oper> RecordLog<O> {
             &mut blocks,
             out,
         )?;
-        if !put_last(self.alloc, m, Some(check), &mut blocks, out)? {
+        if !put_last(self.alloc, m, Some(checkpoint), &mut blocks, out)? {
             return Err(changed(&self.log));
         }
         Ok(())
     }
 
-    // Puts the blocks of the copy that was planned into a log of another machine: the numbered records, and the last one, if there is
+    // Puts the blocks of the copy that was planned into a log of another machine: the records with an LSN, and the last one, if there is
     // one.
     pub(crate) fn copy_into<M: Machine, T: Machine>(
         &self,

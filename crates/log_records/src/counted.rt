@@ -1,9 +1,9 @@
-use redo_tables::Table;
+use dirty_page_table::DirtyPageTable;
 
-// What a pass over a log keeps of its records: the number after them, how many are commands, and the last check's table.
+// What a pass over a log keeps of its records: the number after them, how many are commands, and the last checkpoint's table.
 #[derive(Drop)]
 pub struct Counted {
     pub next: u64,
     pub commands: u64,
-    pub last: Option<Table>,
+    pub last: Option<DirtyPageTable>,
 }

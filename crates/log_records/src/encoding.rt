@@ -39,7 +39,7 @@ impl<O: Oper> RecordLog<O> {
 
     /// Adds the code of the next record after those that wait, and counts its command. Room was made for it. No memory.
     pub fn append_encoded(&mut self, command: EncodedCommand)
-        requires number { self.old.next < 2 ^ 62 }
+        requires lsn { self.old.next < 2 ^ 62 }
         requires room { length command ≤ self.old.log.room }
         requires short { length self.old.log.pending + length command ≤ 2 ^ 30 }
         requires place { self.old.log.end + 5 + length self.old.log.pending + length command < 2 ^ 49 }

@@ -2,7 +2,7 @@
 ghost use Rattle.std.specs.Prelude.{◌≡◌, [], ◌++◌, List, OnOk, OnErr, IsErr};
 ghost use Rattle.disk_model.specs.Disk.{Rises, Runs, LeavesOnly, In, Any, Same, IsSettled};
 ghost use Rattle.formats.specs.declared.record.Record.{Record};
-ghost use Rattle.log_frames.specs.LogView.{used_of};
+ghost use Rattle.log_blocks.specs.LogView.{used_of};
 ghost use Rattle.log_records.specs.RecordLog.{Keeps, IsForcedPartly};
 
 use crate::RecordLog;

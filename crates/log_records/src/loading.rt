@@ -5,7 +5,7 @@ ghost use Rattle.disk_model.specs.Disk.{Files, Rises, Stays};
 ghost use Rattle.disk_model.specs.declared.machine.FileNo.{FileNo};
 ghost use Rattle.formats.specs.Log.{Header};
 ghost use Rattle.formats.specs.Reading.{FailsBy, TellsDamage};
-ghost use Rattle.formats.specs.Records.{next_after, last_check, records_of, HoldsRecordLog};
+ghost use Rattle.formats.specs.Records.{next_after, last_checkpoint, records_of, HoldsRecordLog};
 ghost use Rattle.formats.specs.declared.record.Record.{Record};
 ghost use Rattle.log_records.specs.Loading.{IsLoadFault, IsTailFault, IsCountOf};
 ghost use Rattle.log_records.specs.RecordLog.{IsHeldIn, IsLoaded};
@@ -15,25 +15,25 @@ use crate::RecordLog;
 use crate::counted::Counted;
 use crate::placing::commands_in;
 use crate::record_reader::RecordReader;
+use dirty_page_table::DirtyPageTable;
 use disk_model::Machine;
 use formats::{ReadErr, Record};
-use log_frames::LogFile;
+use log_blocks::LogFile;
 use oper_core::{Bounds, Oper};
-use redo_tables::Table;
 use std::alloc::Global;
 use std::marker::PhantomData;
 
-// The table of a record that is a check, and else the one before it.
-fn last_table<O: Oper>(record: Record<O>, before: Option<Table>) -> Option<Table>
-    ensures { result ≡ option_or (last_check («record» ∷ [])) before }
+// The table of a record that is a checkpoint, and else the one before it.
+fn last_table<O: Oper>(record: Record<O>, before: Option<DirtyPageTable>) -> Option<DirtyPageTable>
+    ensures { result ≡ option_or (last_checkpoint («record» ∷ [])) before }
 {
     match record {
-        Record::Check(table) => Some(table),
+        Record::Checkpoint(table) => Some(table),
         Record::Command(_, _) | Record::Identity(_, _, _) => before,
     }
 }
 
-// Counts the records of a log, of which it keeps the last check's table.
+// Counts the records of a log, of which it keeps the last checkpoint's table.
 fn count_records<O: Oper, M: Machine>(
     alloc: Global,
     m: &mut M,
@@ -54,7 +54,7 @@ fn count_records<O: Oper, M: Machine>(
         last = last_table(record, last);
     }
     Ok(Counted {
-        next: reader.next_number(),
+        next: reader.next_lsn(),
         commands,
         last,
     })
@@ -62,18 +62,18 @@ fn count_records<O: Oper, M: Machine>(
 
 impl<O: Oper> RecordLog<O> {
     /// The log in force, whose records are of the grammar for these bounds and right in their places, and the table of the
-    /// last check among them. No record is kept in memory.
+    /// last checkpoint among them. No record is kept in memory.
     pub fn load_checked<M: Machine>(
         alloc: Global,
         m: &mut M,
         b: Bounds,
-    ) -> Result<(RecordLog<O>, Option<Table>), ReadErr>
+    ) -> Result<(RecordLog<O>, Option<DirtyPageTable>), ReadErr>
         ensures kept { Stays (M.disk m.old) (M.disk m.new) }
         ensures read { (M.disk m.old).tells_files → IfOk result (λ found. (it : IsLoaded (O.meaning b) b (M.disk m.old) (M.disk m.new) found.0)
-            × (found.1 ≡ last_check (records_of it.groups))) }
+            × (found.1 ≡ last_checkpoint (records_of it.groups))) }
         ensures held { (files : Files) → (M.disk m.new).agrees files → IfOk result (λ found. IsHeldIn (O.meaning b) files found.0) }
         ensures counted { IfOk result (λ found. (records : List (Record O)) × AreAll (O.meaning b) (M.disk m.new) found.0.log records
-            × (found.0.next ≡ next_after found.0.log.header.base records) × (found.1 ≡ last_check records)) }
+            × (found.0.next ≡ next_after found.0.log.header.base records) × (found.1 ≡ last_checkpoint records)) }
         ensures bounds { IfOk result (λ found. found.0.bounds ≡ b) }
         ensures next { IfOk result (λ found. (1 ≤ found.0.next) × (found.0.next ≤ 2 ^ 62)) }
         ensures cause { IfErr result (FailsBy (Rises (M.disk m.old).disk_faults (M.disk m.new).disk_faults)

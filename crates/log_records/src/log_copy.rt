@@ -5,7 +5,7 @@ ghost use Rattle.disk_model.specs.declared.machine.FileNo.TheVariants.{LogB};
 ghost use Rattle.formats.specs.Reading.{FailsBy, TellsDamage};
 ghost use Rattle.formats.specs.Records.{IsRecordLog, records_of};
 ghost use Rattle.formats.specs.declared.record.Record.{Record};
-ghost use Rattle.log_frames.specs.Creating.{IsNewLog};
+ghost use Rattle.log_blocks.specs.Creating.{IsNewLog};
 ghost use Rattle.log_records.specs.Laying.{room_of};
 ghost use Rattle.log_records.specs.Loading.{IsTailFault};
 ghost use Rattle.log_records.specs.LogCopy.{copied_length, CopyFails, CopyFindsDamage, HasLast, HoldsCopy, IsCopyLength, IsCopyPlanned, IsCopyWithin, IsTooLong};
@@ -16,33 +16,33 @@ ghost use Rattle.log_records.specs.declared.copy_err.CopyErr.TheVariants as of_c
 use crate::RecordLog;
 use crate::copy_err::CopyErr;
 use crate::measured::Measured;
-use crate::measuring::{check_length, measure};
+use crate::measuring::{checkpoint_length, measure};
 use crate::new_log::NewLog;
 use crate::planning::{MAX_BLOCKS, file_length};
+use dirty_page_table::{DirtyPageTable, Starts};
 use disk_model::{FileNo, Machine};
 use formats::{MAX_LOG, ReadErr, Record};
-use log_frames::LogWriter;
+use log_blocks::LogWriter;
 use oper_core::{Bounds, Oper};
-use redo_tables::{Starts, Table};
 use std::alloc::Global;
 
-// The check that a copy has where it has nothing else, counted into its block: one without redo starts.
+// The checkpoint that a copy has where it has nothing else, counted into its block: one without redo starts.
 fn count_last<O: Oper>(alloc: Global, base: u64, so_far: &mut Measured) -> Option<Record<O>>
     ensures { (b : Bounds) (records : List (Record O)) → IsMeasured (O.meaning b) base records so_far.old → HasLast (O.meaning b) base records so_far.new result }
 {
     if so_far.filled > 0 {
         return None;
     }
-    let table = Table {
+    let table = DirtyPageTable {
         next: base,
         starts: Starts::new(Vec::new(alloc)),
     };
-    so_far.filled = check_length(&table);
-    Some(Record::Check(table))
+    so_far.filled = checkpoint_length(&table);
+    Some(Record::Checkpoint(table))
 }
 
 impl<O: Oper> RecordLog<O> {
-    // What the copy of this log will be, and the check that comes last in it, if one does.
+    // What the copy of this log will be, and the checkpoint that comes last in it, if one does.
     fn measure_copy<M: Machine>(&self, m: &mut M) -> Result<(NewLog, Option<Record<O>>), ReadErr>
         ensures kept { Stays (M.disk m.old) (M.disk m.new) }
         ensures planned { IfOk result (λ it. IsCopyPlanned (O.meaning self.now.bounds) (M.disk m.new) self.now.log it.0 it.1) }
@@ -120,7 +120,7 @@ impl<O: Oper> RecordLog<O> {
 
     /// Puts a copy of this log into another machine, whose log files are those of a new store: log B becomes the second log
     /// of that store, with this log's base and as many commands before it. It has all stable commands and identity writes,
-    /// in blocks each as full as whole records allow, and no check; where there are none it has one check, without redo
+    /// in blocks each as full as whole records allow, and no checkpoint; where there are none it has one checkpoint, without redo
     /// starts. The copy counts once it is whole. Nothing changes on this log's machine, where the log is read twice. No more
     /// than one record and 64 KiB of the copy are in memory at a time. After any error but `TargetFault` the call may be
     /// made again.

@@ -12,12 +12,12 @@ ghost use Rattle.log_records.specs.RecordReader.{AreAll};
 use crate::measured::Measured;
 use crate::placing::commands_in;
 use crate::record_reader::RecordReader;
-use crate::rewriting::is_numbered_from;
+use crate::rewriting::is_from_lsn;
+use dirty_page_table::DirtyPageTable;
 use disk_model::Machine;
 use formats::{CHECK_HEAD, IDENTITY_HEAD, MAX_PAYLOAD, RECORD_HEAD, ReadErr, Record, START_BYTES};
-use log_frames::LogFile;
+use log_blocks::LogFile;
 use oper_core::{Bounds, Memory, Oper};
-use redo_tables::Table;
 use std::alloc::Global;
 
 // How many bytes the code of a record has, which goes into a block.
@@ -28,12 +28,12 @@ pub fn code_length<O: Oper>(it: &Record<O>) -> u32
     match it {
         Record::Command(_, op) => RECORD_HEAD as u32 + op.code_length() as u32,
         Record::Identity(_, _, value) => (IDENTITY_HEAD + value.as_slice().len()) as u32,
-        Record::Check(table) => check_length(table),
+        Record::Checkpoint(table) => checkpoint_length(table),
     }
 }
 
-// How many bytes the code of a check with this table has, which goes into a block.
-pub fn check_length(table: &Table) -> u32
+// How many bytes the code of a checkpoint with this table has, which goes into a block.
+pub fn checkpoint_length(table: &DirtyPageTable) -> u32
     requires { 13 + 12 * length table.now.starts ≤ 2 ^ 30 }
     ensures { result ≡ 13 + 12 * length table.now.starts }
 {
@@ -65,7 +65,7 @@ fn measure_record<O: Oper>(it: &Record<O>, base: u64, so_far: &mut Measured) -> 
     ensures { (b : Bounds) (records : List (Record O)) → IsMeasured (O.meaning b) base records so_far.old
         → OnOk result (IsMeasured (O.meaning b) base (records ++ it.now ∷ []) so_far.new) }
 {
-    if is_numbered_from(it, base) {
+    if is_from_lsn(it, base) {
         count_record(code_length(it), &mut so_far.filled, &mut so_far.full)?;
         return Ok(());
     }

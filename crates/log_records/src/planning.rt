@@ -3,21 +3,21 @@ ghost use Rattle.std.specs.Prelude.{◌≡◌, ◌<◌, ◌+◌, ◌^◌, ◌∷
 ghost use Rattle.disk_model.specs.Disk.{Rises, Stays};
 ghost use Rattle.formats.specs.Reading.{FailsBy, TellsDamage};
 ghost use Rattle.formats.specs.declared.record.Record.{Record};
-ghost use Rattle.formats.specs.declared.record.Record.TheVariants.{Check};
+ghost use Rattle.formats.specs.declared.record.Record.TheVariants.{Checkpoint};
 ghost use Rattle.log_records.specs.Copying.{IsPlanned, MayReplace};
 ghost use Rattle.log_records.specs.Laying.{room_of};
 ghost use Rattle.log_records.specs.Loading.{IsTailFault};
 ghost use Rattle.log_records.specs.RecordLog.{Keeps};
 ghost use Rattle.log_records.specs.Rewriting.{FindsDamage, IsNewLength, IsRewritable, IsWithinLength, RewriteFails};
 
-use crate::measuring::{check_length, count_record, measure};
+use crate::measuring::{checkpoint_length, count_record, measure};
 use crate::new_log::NewLog;
 use crate::{RecordLog, RewriteErr};
+use dirty_page_table::DirtyPageTable;
 use disk_model::Machine;
-use formats::{BLOCK_HEAD, MAX_LOG, NUMBERS_END, ReadErr};
-use log_frames::LogWriter;
+use formats::{BLOCK_HEAD, LSN_END, MAX_LOG, ReadErr};
+use log_blocks::LogWriter;
 use oper_core::Oper;
-use redo_tables::Table;
 
 // No memory holds the lengths of so many blocks.
 pub const MAX_BLOCKS: usize = 1 << 32;
@@ -38,16 +38,16 @@ pub fn file_length(lengths: &[u32]) -> u64
 }
 
 impl<O: Oper> RecordLog<O> {
-    // What a log from this base on, with a check of this table at its end, will be.
+    // What a log from this base on, with a checkpoint of this table at its end, will be.
     fn measure_new<M: Machine>(
         &self,
         m: &mut M,
         base: u64,
-        table: &Table,
+        table: &DirtyPageTable,
     ) -> Result<NewLog, ReadErr>
         requires { IsRewritable (O.meaning self.now.bounds) self.now base table.now }
         ensures kept { Stays (M.disk m.old) (M.disk m.new) }
-        ensures planned { IfOk result (λ it. IsPlanned (O.meaning self.now.bounds) (M.disk m.new) self.now.log base (Check table.now ∷ []) it) }
+        ensures planned { IfOk result (λ it. IsPlanned (O.meaning self.now.bounds) (M.disk m.new) self.now.log base (Checkpoint table.now ∷ []) it) }
         ensures fits { IfOk result (λ it. 34 + room_of it.lengths.items < 2 ^ 63) }
         ensures undamaged { (M.disk m.old).tells_files → (stable : List (Record O)) → Keeps (O.meaning self.now.bounds) (M.disk m.old) self.now stable []
             → IfErr result (λ e. TellsDamage e → ⊥) }
@@ -55,7 +55,7 @@ impl<O: Oper> RecordLog<O> {
             (IsTailFault (O.meaning self.now.bounds) (M.disk m.new) self.now.log)) }
     {
         let mut it = measure::<O, M>(self.alloc, m, self.bounds, &self.log, base)?;
-        count_record(check_length(table), &mut it.filled, &mut it.full)?;
+        count_record(checkpoint_length(table), &mut it.filled, &mut it.full)?;
         it.full.push(it.filled)?;
         if it.full.len() > MAX_BLOCKS {
             return Err(ReadErr::Memory);
@@ -71,7 +71,7 @@ impl<O: Oper> RecordLog<O> {
         &self,
         m: &mut M,
         base: u64,
-        table: &Table,
+        table: &DirtyPageTable,
     ) -> Result<(NewLog, LogWriter), RewriteErr>
         requires { IsRewritable (O.meaning self.now.bounds) self.now base table.now }
         ensures kept { Stays (M.disk m.old) (M.disk m.new) }
@@ -84,7 +84,7 @@ impl<O: Oper> RecordLog<O> {
             (IsTailFault (O.meaning self.now.bounds) (M.disk m.new) self.now.log) (IsNewLength (O.meaning self.now.bounds) (M.disk m.old) self.now base table.now) self.now.log) }
     {
         let epoch = self.log.epoch();
-        if epoch >= NUMBERS_END {
+        if epoch >= LSN_END {
             return Err(RewriteErr::Exhausted { epoch });
         }
         let new = self.measure_new(m, base, table)?;

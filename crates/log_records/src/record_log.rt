@@ -2,15 +2,15 @@
 ghost use Rattle.std.specs.Prelude.{◌≡◌, ◌≤◌, ◌<◌, ◌+◌, ◌^◌, ◌++◌, length, OnOk, OnErr, IsErr};
 ghost use Rattle.disk_model.specs.Disk.{Rises, Runs, Same, IsSettled};
 ghost use Rattle.formats.specs.Records.{record_code, next_behind, IsRecord, IsPlaced};
-ghost use Rattle.log_frames.specs.LogView.{used_of, growth_of};
-ghost use Rattle.log_frames.specs.Creating.{LogsAlone, IsNewLog};
+ghost use Rattle.log_blocks.specs.LogView.{used_of, growth_of};
+ghost use Rattle.log_blocks.specs.Creating.{LogsAlone, IsNewLog};
 ghost use Rattle.log_records.specs.RecordLog.{counts};
 
 use crate::codec::encode;
 use crate::placing::{commands_in, next_behind};
 use disk_model::{Failed, Machine};
 use formats::Record;
-use log_frames::LogFile;
+use log_blocks::LogFile;
 use oper_core::{Bounds, Memory, Oper};
 use std::alloc::Global;
 use std::marker::{Model, PhantomData};
@@ -109,7 +109,7 @@ impl<O: Oper> RecordLog<O> {
         LogFile::create(m)
     }
 
-    /// Adds a record after those that wait. A command is counted; a check takes no number. Without memory nothing changes
+    /// Adds a record after those that wait. A command is counted; a checkpoint takes no LSN. Without memory nothing changes
     /// but the room.
     pub fn append(&mut self, new: Record<O>) -> Result<(), Memory>
         requires placed { IsPlaced (O.meaning self.old.bounds) self.old.log.header.base self.old.next new }

@@ -5,8 +5,8 @@ ghost use Rattle.formats.specs.Log.{IsWholeLog};
 ghost use Rattle.formats.specs.Reading.{FailsBy};
 ghost use Rattle.formats.specs.Records.{record_code, IsPlaced, IsRecord};
 ghost use Rattle.formats.specs.declared.record.Record.{Record};
-ghost use Rattle.log_frames.specs.LogView.{LogView};
-ghost use Rattle.log_frames.specs.Payloads.{remaining, ahead, IsInLog};
+ghost use Rattle.log_blocks.specs.LogView.{LogView};
+ghost use Rattle.log_blocks.specs.Payloads.{remaining, ahead, IsInLog};
 ghost use Rattle.log_records.specs.BlockReader.{GoesOn, TakesRecord};
 ghost use Rattle.log_records.specs.Codec.{StartsWithRecord};
 ghost use Rattle.log_records.specs.Loading.{IsTailFault};
@@ -16,7 +16,7 @@ use crate::codec::decode;
 use crate::placing::{is_placed, next_behind};
 use disk_model::Machine;
 use formats::{ReadErr, Record};
-use log_frames::{LogFile, PayloadReader};
+use log_blocks::{LogFile, PayloadReader};
 use oper_core::{Bounds, Memory, Oper};
 use std::alloc::Global;
 use std::marker::{Model, PhantomData};
@@ -126,8 +126,8 @@ impl<O: Oper> RecordReader<O> {
         self.payloads.remaining() == 0
     }
 
-    /// The number after the records that were read.
-    pub fn next_number(&self) -> u64
+    /// The LSN after the records that were read.
+    pub fn next_lsn(&self) -> u64
         ensures { result ≡ self.now.next }
     {
         self.next

@@ -1,4 +1,4 @@
-// Puts a log of the numbered records from a base on, and of a check, in the place of the log in force.
+// Puts a log of the records with an LSN from a base on, and of a checkpoint, in the place of the log in force.
 ghost use Rattle.std.specs.Prelude.{◌≡◌, ◌≢◌, ◌<◌, ◌≤◌, ◌+◌, ◌^◌, ◌∷◌, ◌++◌, [], List, ℕ, IfErr, IfOk, OnErr, OnOk, map};
 ghost use Rattle.disk_model.specs.Disk.{Rises, Runs, LeavesOnly, In, Any, IsSettled, IsSettledIn, Same};
 ghost use Rattle.formats.specs.InForce.{other_of};
@@ -7,27 +7,27 @@ ghost use Rattle.formats.specs.Reading.{FailsBy, TellsDamage};
 ghost use Rattle.formats.specs.Records.{IsRecord, IsRecordLog, payload_of, records_of};
 ghost use Rattle.formats.specs.declared.read_err.ReadErr.TheVariants as of_read;
 ghost use Rattle.formats.specs.declared.record.Record.{Record};
-ghost use Rattle.log_frames.specs.Rewriting.{IsPrepared, KeepsClosed, next_header, rewritten};
+ghost use Rattle.log_blocks.specs.Rewriting.{IsPrepared, KeepsClosed, next_header, rewritten};
 ghost use Rattle.log_records.specs.Copying.{IsPlanned, MayReplace};
 ghost use Rattle.log_records.specs.Laying.{room_of};
 ghost use Rattle.log_records.specs.Loading.{IsTailFault};
 ghost use Rattle.log_records.specs.RecordLog.{Keeps};
-ghost use Rattle.log_records.specs.Rewriting.{is_numbered_from, numbered_from, in_full_blocks, rewritten_records, rewritten_log, FindsDamage, IsRefused, IsRewritable, IsRewrittenPartly, IsNewLength, IsRewriteEnd, RewriteFails};
+ghost use Rattle.log_records.specs.Rewriting.{is_from_lsn, from_lsn, in_full_blocks, rewritten_records, rewritten_log, FindsDamage, IsRefused, IsRewritable, IsRewrittenPartly, IsNewLength, IsRewriteEnd, RewriteFails};
 
 use crate::new_log::NewLog;
 use crate::{RecordLog, RewriteErr};
+use dirty_page_table::DirtyPageTable;
 use disk_model::Machine;
 use formats::{ReadErr, Record};
-use log_frames::LogWriter;
+use log_blocks::LogWriter;
 use oper_core::Oper;
-use redo_tables::Table;
 
-// Whether a record has a number, from this one on.
-pub fn is_numbered_from<O: Oper>(it: &Record<O>, from: u64) -> bool
-    ensures { result ≡ is_numbered_from from it.now }
+// Whether a record has an LSN, from this one on.
+pub fn is_from_lsn<O: Oper>(it: &Record<O>, from: u64) -> bool
+    ensures { result ≡ is_from_lsn from it.now }
 {
-    match it.number() {
-        Some(number) => from <= number,
+    match it.lsn() {
+        Some(lsn) => from <= lsn,
         None => false,
     }
 }
@@ -38,26 +38,26 @@ impl<O: Oper> RecordLog<O> {
         &self,
         m: &mut M,
         base: u64,
-        check: &Record<O>,
+        checkpoint: &Record<O>,
         new: NewLog,
         out: &mut LogWriter,
     ) -> Result<u64, ReadErr>
         requires apart { self.now.log.active ≢ out.old.file }
         requires new { out.old ≡ record { file = out.old.file; place = 1; bytes = [] } }
         requires epoch { self.now.log.header.epoch < 2 ^ 62 }
-        requires planned { IsPlanned (O.meaning self.now.bounds) (M.disk m.old) self.now.log base (check.now ∷ []) new }
-        requires grammar { IsRecord (O.meaning self.now.bounds) check.now }
+        requires planned { IsPlanned (O.meaning self.now.bounds) (M.disk m.old) self.now.log base (checkpoint.now ∷ []) new }
+        requires grammar { IsRecord (O.meaning self.now.bounds) checkpoint.now }
         requires fits { 34 + room_of new.lengths.items ≤ 2 ^ 48 }
         ensures runs { Runs (In out.old.file KeepsClosed) Same (M.disk m.old) (M.disk m.new) }
         ensures prepared { (M.disk m.old).tells_files → IsClosedLog ((M.disk m.old).reads out.old.file) → (groups : List (List (Record O))) → IsRecordLog (O.meaning self.now.bounds) self.now.log.header groups ((M.disk m.old).reads self.now.log.active)
-            → OnOk result (IsPrepared (next_header self.now.log base new.commands) (map (payload_of (O.meaning self.now.bounds)) (in_full_blocks (O.meaning self.now.bounds) (numbered_from base (records_of groups) ++ check.now ∷ []))) ((M.disk m.new).reads out.old.file)) }
+            → OnOk result (IsPrepared (next_header self.now.log base new.commands) (map (payload_of (O.meaning self.now.bounds)) (in_full_blocks (O.meaning self.now.bounds) (from_lsn base (records_of groups) ++ checkpoint.now ∷ []))) ((M.disk m.new).reads out.old.file)) }
         ensures settled { OnOk result (IsSettledIn out.old.file (M.disk m.new)) }
         ensures file { out.new.file ≡ out.old.file }
         ensures end { IfOk result (λ end. end ≡ 33 + room_of new.lengths.items) }
         ensures cause { IfErr result (FailsBy (Rises (M.disk m.old).disk_faults (M.disk m.new).disk_faults) (IsTailFault (O.meaning self.now.bounds) (M.disk m.new) self.now.log)) }
     {
         self.log.begin_log(m, out, base, new.commands)?;
-        self.copy(m, base, check, new, out)?;
+        self.copy(m, base, checkpoint, new, out)?;
         let end = out.end();
         out.finish(m)?;
         Ok(end)
@@ -68,25 +68,25 @@ impl<O: Oper> RecordLog<O> {
         &self,
         m: &mut M,
         base: u64,
-        check: &Record<O>,
+        checkpoint: &Record<O>,
         new: NewLog,
         out: &mut LogWriter,
     ) -> Result<u64, ReadErr>
         requires apart { self.now.log.active ≢ out.old.file }
         requires new { out.old ≡ record { file = out.old.file; place = 1; bytes = [] } }
         requires epoch { self.now.log.header.epoch < 2 ^ 62 }
-        requires planned { IsPlanned (O.meaning self.now.bounds) (M.disk m.old) self.now.log base (check.now ∷ []) new }
-        requires grammar { IsRecord (O.meaning self.now.bounds) check.now }
+        requires planned { IsPlanned (O.meaning self.now.bounds) (M.disk m.old) self.now.log base (checkpoint.now ∷ []) new }
+        requires grammar { IsRecord (O.meaning self.now.bounds) checkpoint.now }
         requires fits { 34 + room_of new.lengths.items ≤ 2 ^ 48 }
         ensures runs { Runs (In out.old.file KeepsClosed) Same (M.disk m.old) (M.disk m.new) }
         ensures prepared { (M.disk m.old).tells_files → IsClosedLog ((M.disk m.old).reads out.old.file) → (groups : List (List (Record O))) → IsRecordLog (O.meaning self.now.bounds) self.now.log.header groups ((M.disk m.old).reads self.now.log.active)
-            → OnOk result (IsPrepared (next_header self.now.log base new.commands) (map (payload_of (O.meaning self.now.bounds)) (in_full_blocks (O.meaning self.now.bounds) (numbered_from base (records_of groups) ++ check.now ∷ []))) ((M.disk m.new).reads out.old.file)) }
+            → OnOk result (IsPrepared (next_header self.now.log base new.commands) (map (payload_of (O.meaning self.now.bounds)) (in_full_blocks (O.meaning self.now.bounds) (from_lsn base (records_of groups) ++ checkpoint.now ∷ []))) ((M.disk m.new).reads out.old.file)) }
         ensures settled { OnOk result (IsSettledIn out.old.file (M.disk m.new)) }
         ensures refused { IfErr result (λ e. e ≢ of_read.DiskFault → IsSettledIn out.old.file (M.disk m.new)) }
         ensures end { IfOk result (λ end. end ≡ 33 + room_of new.lengths.items) }
         ensures cause { IfErr result (FailsBy (Rises (M.disk m.old).disk_faults (M.disk m.new).disk_faults) (IsTailFault (O.meaning self.now.bounds) (M.disk m.new) self.now.log)) }
     {
-        match self.put_log(m, base, check, new, out) {
+        match self.put_log(m, base, checkpoint, new, out) {
             Ok(end) => Ok(end),
             Err(e) => {
                 m.sync(out.file())?;
@@ -100,7 +100,7 @@ impl<O: Oper> RecordLog<O> {
         &mut self,
         m: &mut M,
         base: u64,
-        table: Table,
+        table: DirtyPageTable,
         new: NewLog,
         out: LogWriter,
     ) -> Result<(), ReadErr>
@@ -120,15 +120,15 @@ impl<O: Oper> RecordLog<O> {
         ensures cause { IfErr result (FailsBy (Rises (M.disk m.old).disk_faults (M.disk m.new).disk_faults) (IsTailFault (O.meaning self.old.bounds) (M.disk m.new) self.old.log)) }
     {
         let commands = new.commands;
-        let check = Record::Check(table);
+        let checkpoint = Record::Checkpoint(table);
         let mut out = out;
         self.log.begin_rewrite(m)?;
-        let end = self.write_log(m, base, &check, new, &mut out)?;
+        let end = self.write_log(m, base, &checkpoint, new, &mut out)?;
         self.log.end_rewrite(m, base, commands, end)?;
         Ok(())
     }
 
-    /// Puts a new log in the place of this one: the commands and identity writes from a base on, and after them a check.
+    /// Puts a new log in the place of this one: the commands and identity writes from a base on, and after them a checkpoint.
     /// They stand in blocks of whole records, each as full as these allow. The new log is in force once it is whole, so
     /// at any moment it is that one or the old one. No more than one record and 64 KiB of the new log are in memory at a
     /// time. At `DiskFault` of a write, load the log again.
@@ -136,7 +136,7 @@ impl<O: Oper> RecordLog<O> {
         &mut self,
         m: &mut M,
         base: u64,
-        table: Table,
+        table: DirtyPageTable,
     ) -> Result<(), RewriteErr>
         requires { IsRewritable (O.meaning self.old.bounds) self.old base table }
         ensures runs { Runs (In (other_of self.old.log.active) Any) Same (M.disk m.old) (M.disk m.new) }

@@ -13,7 +13,7 @@ use crate::RecordLog;
 use crate::record_reader::RecordReader;
 use disk_model::Machine;
 use formats::{ReadErr, Record};
-use log_frames::LogFile;
+use log_blocks::LogFile;
 use oper_core::{Bounds, Oper};
 use std::alloc::Global;
 

@@ -10,18 +10,18 @@ use Rattle.formats.specs.FirstFault.IsFirstFault.{at_late_slot}
 use Rattle.formats.specs.InForce.{HoldsLog}
 use Rattle.formats.specs.Log.{Header, end_of}
 use Rattle.formats.specs.Objects.{bounds_of}
-use Rattle.formats.specs.Records.{HoldsRecordLog, last_check, next_after, payload_of, records_of}
+use Rattle.formats.specs.Records.{HoldsRecordLog, last_checkpoint, next_after, payload_of, records_of}
 use Rattle.formats.specs.declared.params.Params.{Params}
 use Rattle.formats.specs.declared.record.Record.{Record}
-use Rattle.log_frames.specs.Laws.{one_in_force}
-use Rattle.log_frames.specs.LogView.{LogView, used_of}
+use Rattle.log_blocks.specs.Laws.{one_in_force}
+use Rattle.log_blocks.specs.LogView.{LogView, used_of}
 use Rattle.log_records.specs.CodecLaws.{HasCodes}
 use Rattle.log_records.specs.RecordLog.{IsHeldIn, RecordLogView}
 use Rattle.log_records.specs.Uniqueness.{log_of, one_records}
 use Rattle.op_codec.specs.AllOps.{all_meaning}
 use Rattle.oper_core.specs.Meaning.{Meaning}
 use Rattle.oper_core.specs.declared.bounds.Bounds.{Bounds}
-use Rattle.redo_tables.specs.declared.table.Table.{Table}
+use Rattle.dirty_page_table.specs.declared.table.DirtyPageTable.{DirtyPageTable}
 use Rattle.stable_objects.specs.Laws.{start_is_open}
 use Rattle.stable_objects.specs.SlotLaws.{is_late, late_slot, none_late, place_of_file}
 use Rattle.stable_objects.specs.SlotsView.{AreOf, IsLate, SlotsView, place_of}
@@ -58,15 +58,15 @@ pub records_found : {O : Type 0} (m : Meaning O) {active : FileNo} {header : Hea
 records_found m {active = active} {header = header} {groups = groups} same is = subst (λ (f : Files). HoldsRecordLog m active header groups f) same is
 
 -- the counts of a log that was read, and of the plan that its last check makes
-pub has_records : {O : Type 0} (m : Meaning O) → HasCodes m → (files : Files) (log : RecordLogView) (groups : List (List (Record O))) (check : Option Table) (plan : PlanView) (file : FileNo) (base begins number end : ℕ)
-    → EndsLog files file end → HoldsRecordLog m log.log.active log.log.header groups files → check ≡ last_check (records_of groups) → IsHeldIn m files log → 1 ≤ log.next
+pub has_records : {O : Type 0} (m : Meaning O) → HasCodes m → (files : Files) (log : RecordLogView) (groups : List (List (Record O))) (check : Option DirtyPageTable) (plan : PlanView) (file : FileNo) (base begins number end : ℕ)
+    → EndsLog files file end → HoldsRecordLog m log.log.active log.log.header groups files → check ≡ last_checkpoint (records_of groups) → IsHeldIn m files log → 1 ≤ log.next
     → base ≡ log.log.header.base → plan.table ≡ table_or base check → plan.start ≡ least_start plan.table.next plan.table.starts → begins ≡ plan.start → number ≡ log.next
     → HasRecords m files (record { file = file; end = end; start = begins; next = number })
 has_records m codes files log groups check plan file base begins number end at_end is check_is held some base_is table start begins_is number_is =
     let header = log.log.header in
     let one = one_records m codes log.log.active log.log.active header header groups held.groups files is held.file in
     let in_force = one_in_force file log.log.active at_end.0 header at_end.1 (map (payload_of m) groups) files at_end.2 (log_of m is) in
-    let plan_is : plan.table ≡ table_or header.base (last_check (records_of groups)) = table ∙ λ i. table_or (base_is i) (check_is i) in
+    let plan_is : plan.table ≡ table_or header.base (last_checkpoint (records_of groups)) = table ∙ λ i. table_or (base_is i) (check_is i) in
     record {
       active = log.log.active;
       header = header;

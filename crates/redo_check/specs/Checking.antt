@@ -9,7 +9,7 @@ use Rattle.formats.specs.FirstFault.{IsDamaged}
 use Rattle.formats.specs.Image.{IsOpenSlot}
 use Rattle.formats.specs.InForce.{HoldsLog}
 use Rattle.formats.specs.Log.{Header, end_of}
-use Rattle.formats.specs.Objects.{identifier_at, place_in}
+use Rattle.formats.specs.Objects.{lsn_at, place_in}
 use Rattle.formats.specs.Records.{HoldsRecordLog, next_after, payload_of, records_of}
 use Rattle.formats.specs.declared.record.Record.{Record}
 use Rattle.log_records.specs.Loading.{IsLoadFault}
@@ -58,7 +58,7 @@ pub data IsRecordsLine (files : Files) (text : List ℕ) : Type 0 where
 pub record IsRestart (files : Files) (it : Restart) : Type 0 where
   pub store : HasStore files it.bounds
   pub records : HasRecords (all_meaning it.bounds) files it.records
-  pub none_late : (x s : ℕ) → IsOpenSlot (files Objects) x s → identifier_at (place_in (files Objects) x s) (files Objects) < it.records.next
+  pub none_late : (x s : ℕ) → IsOpenSlot (files Objects) x s → lsn_at (place_in (files Objects) x s) (files Objects) < it.records.next
 
 -- the memory that is told, reckoned from counts: 240 bytes for each record, and for values those of all objects at CAP bytes each, or
 -- 64 MiB where that is less. It is no bound: values that wait in nodes of several objects, or were only read, are left out. (The

@@ -12,11 +12,11 @@ use Rattle.redo_check.specs.declared.slot.Found.{Found}
 
 -- what the 13 bytes at the front of a slot say; a closed one has the identifier 0 and no bytes
 abbrev pub slot_of : List ℕ → Slot
-slot_of head = if nat_eq (byte_at 0 head) 1 then record { is_open = true; id = number_at 8 1 head; length = number_at 4 9 head } else record { is_open = false; id = 0; length = 0 }
+slot_of head = if nat_eq (byte_at 0 head) 1 then record { is_open = true; lsn = number_at 8 1 head; length = number_at 4 9 head } else record { is_open = false; lsn = 0; length = 0 }
 
 -- the identifier is the number of a record, and not that of the slot before it
-abbrev pub has_own_id : Found → Bool
-has_own_id it = nat_le 1 it.slot.id && nat_lt it.slot.id (2 ^ 62) && not (nat_eq it.slot.id it.rival)
+abbrev pub has_own_lsn : Found → Bool
+has_own_lsn it = nat_le 1 it.slot.lsn && nat_lt it.slot.lsn (2 ^ 62) && not (nat_eq it.slot.lsn it.rival)
 
 -- the value is no longer than CAP and, where it has some byte, within the file
 abbrev pub has_value : ℕ → ℕ → Found → Bool
@@ -29,7 +29,7 @@ slot_words it = codes "object" ++ spaced it.object ++ codes " slot" ++ spaced it
 -- of an open one
 abbrev pub open_lines : ℕ → ℕ → Found → List ℕ
 open_lines cap size it =
-    number_line Objects (it.place + 1) (slot_words it ++ codes " identifier") it.slot.id (has_own_id it) ++ number_line Objects (it.place + 9) (slot_words it ++ codes " length") it.slot.length (has_value cap size it)
+    number_line Objects (it.place + 1) (slot_words it ++ codes " identifier") it.slot.lsn (has_own_lsn it) ++ number_line Objects (it.place + 9) (slot_words it ++ codes " length") it.slot.length (has_value cap size it)
 
 abbrev pub slot_lines : ℕ → ℕ → Found → List ℕ
 slot_lines cap size it = if it.slot.is_open then open_lines cap size it else []
@@ -37,8 +37,8 @@ slot_lines cap size it = if it.slot.is_open then open_lines cap size it else []
 -- those of both slots of an object: of two that are open the one with the greater identifier holds it
 abbrev pub pair_lines : Layout → ℕ → ℕ → Slot → Slot → List ℕ
 pair_lines layout size x first second =
-    slot_lines layout.params.cap size (record { object = x; number = 0; place = slot_place layout x 0; slot = first; rival = 0; holds = nat_le second.id first.id })
-    ++ slot_lines layout.params.cap size (record { object = x; number = 1; place = slot_place layout x 1; slot = second; rival = first.id; holds = nat_lt first.id second.id })
+    slot_lines layout.params.cap size (record { object = x; number = 0; place = slot_place layout x 0; slot = first; rival = 0; holds = nat_le second.lsn first.lsn })
+    ++ slot_lines layout.params.cap size (record { object = x; number = 1; place = slot_place layout x 1; slot = second; rival = first.lsn; holds = nat_lt first.lsn second.lsn })
 
 -- those of the first n objects of a file
 abbrev pub pairs_lines : Layout → List ℕ → ℕ → List ℕ

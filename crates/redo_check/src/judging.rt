@@ -17,7 +17,7 @@ use crate::restart::Restart;
 use analysis_pass::analyse;
 use disk_model::{FileNo, Machine};
 use formats::ReadErr;
-use log_frames::LogFile;
+use log_blocks::LogFile;
 use log_records::RecordLog;
 use op_codec::AllOps;
 use oper_core::{Bounds, Oper};

@@ -8,7 +8,7 @@ ghost use Rattle.redo_check.specs.Files.{log_file_lines};
 use crate::numbers::{has_magic, is_gate, long_number};
 use crate::text::{push_found, push_line};
 use disk_model::{FileNo, Machine, read_padded};
-use formats::{NUMBERS_END, ReadErr};
+use formats::{LSN_END, ReadErr};
 use oper_core::Memory;
 use std::alloc::Global;
 
@@ -19,7 +19,7 @@ const HEAD: u64 = 33;
 fn is_numbered(number: u64) -> bool
     ensures { result ≡ number_fits number }
 {
-    1 <= number && number <= NUMBERS_END
+    1 <= number && number <= LSN_END
 }
 
 fn is_below(number: u64, other: u64) -> bool

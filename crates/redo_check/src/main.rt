@@ -5,8 +5,8 @@
 //! itself, and goes on where a check fails; and it ends with what a restart is of files without a fault, or with the first fault
 //! in the order of the format, or that there is no store. Where the disk, the output or memory fails it has said a front of that.
 //! The lines of the files are a definition, in specs/Files.antt, over their bytes alone. It depends on tool_output, which says text
-//! and the last line, on stable_objects, log_frames, log_records and analysis_pass, whose calls judge the files as a restart does, on
-//! redo_tables for the last check's table, on op_codec for the operations, on script_lines for the words of a number, on byteorder
+//! and the last line, on stable_objects, log_blocks, log_records and analysis_pass, whose calls judge the files as a restart does, on
+//! dirty_page_table for the last check's table, on op_codec for the operations, on script_lines for the words of a number, on byteorder
 //! for the numbers in the bytes, and on formats, oper_core and the machine of disk_model.
 #![tactic(auto)]
 

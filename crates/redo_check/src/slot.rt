@@ -3,7 +3,7 @@
 pub struct Slot {
     pub is_open: bool,
     /// The number of the record that wrote the value.
-    pub id: u64,
+    pub lsn: u64,
     /// How many bytes the value has.
     pub length: u32,
 }

@@ -6,13 +6,13 @@ ghost use Rattle.disk_model.specs.declared.machine.FileNo.TheVariants.{Objects};
 ghost use Rattle.formats.specs.Objects.{last_slot, slot_place};
 ghost use Rattle.formats.specs.Reading.{FailsBy};
 ghost use Rattle.redo_check.specs.Lines.{number_line};
-ghost use Rattle.redo_check.specs.Slots.{has_own_id as id_fits, has_value as value_fits, open_lines, pair_lines, slot_lines, slot_of, slot_words, slots_lines};
+ghost use Rattle.redo_check.specs.Slots.{has_own_lsn as lsn_fits, has_value as value_fits, open_lines, pair_lines, slot_lines, slot_of, slot_words, slots_lines};
 
 use crate::numbers::{is_gate, long_number, short_number};
 use crate::slot::{Found, Slot};
 use crate::text::push_found;
 use disk_model::{FileNo, Machine, read_padded};
-use formats::{Layout, NUMBERS_END, ReadErr};
+use formats::{LSN_END, Layout, ReadErr};
 use oper_core::Memory;
 use std::alloc::Global;
 use tool_output::push_spaced;
@@ -40,13 +40,13 @@ fn parse_slot(head: &[u8]) -> Slot
     if is_gate(head[0]) {
         Slot {
             is_open: true,
-            id: long_number(head, 1),
+            lsn: long_number(head, 1),
             length: short_number(head, 9),
         }
     } else {
         Slot {
             is_open: false,
-            id: 0,
+            lsn: 0,
             length: 0,
         }
     }
@@ -63,10 +63,10 @@ fn read_slot<M: Machine>(machine: &mut M, place: u64) -> Result<Slot, ReadErr>
     Ok(parse_slot(&head))
 }
 
-fn has_own_id(it: Found) -> bool
-    ensures { result ≡ id_fits it }
+fn has_own_lsn(it: Found) -> bool
+    ensures { result ≡ lsn_fits it }
 {
-    1 <= it.slot.id && it.slot.id < NUMBERS_END && !(it.slot.id == it.rival)
+    1 <= it.slot.lsn && it.slot.lsn < LSN_END && !(it.slot.lsn == it.rival)
 }
 
 fn has_value(cap: u32, size: u64, it: Found) -> bool
@@ -141,8 +141,8 @@ fn push_open(
         it,
         it.place + 1,
         b" identifier",
-        it.slot.id,
-        has_own_id(it),
+        it.slot.lsn,
+        has_own_lsn(it),
     )?;
     let length = u64::from(it.slot.length);
     push_about(
@@ -196,7 +196,7 @@ fn push_pair(
         place: place_of(layout, object, 0),
         slot: first,
         rival: 0,
-        holds: second.id <= first.id,
+        holds: second.lsn <= first.lsn,
     };
     push_slot(alloc, text, layout.params.cap, size, one)?;
     let other = Found {
@@ -204,8 +204,8 @@ fn push_pair(
         number: 1,
         place: place_of(layout, object, 1),
         slot: second,
-        rival: first.id,
-        holds: first.id < second.id,
+        rival: first.lsn,
+        holds: first.lsn < second.lsn,
     };
     push_slot(alloc, text, layout.params.cap, size, other)?;
     Ok(())

@@ -8,8 +8,8 @@ use Rattle.disk_model.specs.declared.machine.FileNo.{FileNo}
 use Rattle.formats.specs.InForce.{HoldsLog}
 use Rattle.formats.specs.Log.{Header, end_of}
 use Rattle.formats.specs.Records.{payload_of}
-use Rattle.log_frames.specs.Forcing.{with_block}
-use Rattle.log_frames.specs.Payloads.{HasNext, IsInLog, IsNoLog, PayloadReaderView, remaining, untaken}
+use Rattle.log_blocks.specs.Forcing.{with_block}
+use Rattle.log_blocks.specs.Payloads.{HasNext, IsInLog, IsNoLog, PayloadReaderView, remaining, untaken}
 use Rattle.op_codec.specs.AllOps.{AllOps}
 use Rattle.oper_core.specs.Meaning.{Meaning}
 use Rattle.redo_log.specs.Unreadable.{AreUnreadable, FindsNone, IsBroken}

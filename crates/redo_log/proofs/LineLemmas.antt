@@ -7,7 +7,7 @@ use Rattle.op_codec.specs.AllOps.{AllOps}
 use Rattle.formats.specs.Log.{block, blocks}
 use Rattle.formats.specs.Records.{payload_of, record_code}
 use Rattle.formats.specs.declared.record.Record.{Record}
-use Rattle.log_frames.specs.Laws.{length-block}
+use Rattle.log_blocks.specs.Laws.{length-block}
 use Rattle.redo_log.specs.Lines.{block_lines, blocks_lines, line, record_lines, record_words}
 
 module _ (m : Meaning AllOps) (file : FileNo) where

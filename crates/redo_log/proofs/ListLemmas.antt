@@ -18,7 +18,7 @@ use Rattle.formats.specs.Records.{HoldsRecordLog, IsRecord, payload_of}
 use Rattle.formats.specs.declared.record.Record.{Record}
 use Rattle.formats.specs.declared.read_err.ReadErr.{ReadErr}
 use Rattle.formats.specs.declared.read_err.ReadErr.TheVariants as reads
-use Rattle.log_frames.specs.Payloads.{IsInLog, PayloadReaderView}
+use Rattle.log_blocks.specs.Payloads.{IsInLog, PayloadReaderView}
 use Rattle.stable_objects.specs.Reading.{OpensNot}
 use Rattle.stable_objects.specs.declared.open_err.OpenErr.{OpenErr}
 use Rattle.stable_objects.specs.declared.open_err.OpenErr.TheVariants as opens
@@ -96,11 +96,11 @@ log_head m files active header payloads before after front =
     )
 
 -- of a log whose header was said, no more than its first blocks
-pub log_blocks : (m : Meaning AllOps) (first one two : Disk) (after : List ℕ) (active : FileNo) (header : Header) (payloads : List (List ℕ)) (it : PayloadReaderView) → first.tells_files → OnlySays first one → Stays one two
+pub blocks_of_log : (m : Meaning AllOps) (first one two : Disk) (after : List ℕ) (active : FileNo) (header : Header) (payloads : List (List ℕ)) (it : PayloadReaderView) → first.tells_files → OnlySays first one → Stays one two
     → one.said ≡ first.said ++ line active 0 33 (header_words header) → it.file ≡ active → IsInLog (first.reads active) it payloads [] [] payloads
     → (two.tells_files → (all : List (List ℕ)) → IsInLog (two.reads it.file) it all [] [] all → (text : List ℕ) × AreFirstLines m it.file all text × SaysFront text two.said after)
     → (text : List ℕ) × AreLogLines m first.reads active header payloads text × SaysFront text first.said after
-log_blocks m first one two after active header payloads it told head kept said same stands blocks =
+blocks_of_log m first one two after active header payloads it told head kept said same stands blocks =
     let told_one = head.time.files_told.0 told in
     let reads_two : two.reads ≡ first.reads = kept.reads told_one ∙ head.reads told in
     let at : two.reads it.file ≡ first.reads active = λ i. reads_two i (same i) in

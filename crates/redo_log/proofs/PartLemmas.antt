@@ -11,9 +11,9 @@ use Rattle.op_codec.specs.AllOps.{AllOps}
 use Rattle.formats.specs.Log.{end_of}
 use Rattle.formats.specs.Records.{IsRecord, payload_of, record_code}
 use Rattle.formats.specs.declared.record.Record.{Record}
-use Rattle.log_frames.specs.Forcing.{with_block}
-use Rattle.log_frames.specs.Laws.{with_block-some}
-use Rattle.log_frames.specs.Payloads.{HasNext, IsInLog, PayloadReaderView, remaining, untaken}
+use Rattle.log_blocks.specs.Forcing.{with_block}
+use Rattle.log_blocks.specs.Laws.{with_block-some}
+use Rattle.log_blocks.specs.Payloads.{HasNext, IsInLog, PayloadReaderView, remaining, untaken}
 use Rattle.log_records.specs.Codec.{StartsWithRecord}
 use Rattle.redo_log.specs.Fronts.{AreFirstLines, SaysSomeOfBlock, SaysSomeRecords}
 use Rattle.redo_log.specs.Fronts.AreFirstLines.{to_block, to_record}

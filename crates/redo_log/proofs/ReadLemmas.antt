@@ -12,10 +12,10 @@ use Rattle.op_codec.specs.AllOps.{AllOps}
 use Rattle.formats.specs.Log.{block, blocks, end_of}
 use Rattle.formats.specs.Records.{IsRecord, payload_of, record_code, records_of}
 use Rattle.formats.specs.declared.record.Record.{Record}
-use Rattle.formats.specs.declared.record.Record.TheVariants.{Command, Identity, Check}
-use Rattle.log_frames.specs.Forcing.{with_block}
-use Rattle.log_frames.specs.Laws.{blocks-push, length-block, with_block-some}
-use Rattle.log_frames.specs.Payloads.{PayloadReaderView, IsInLog, ahead, remaining, untaken}
+use Rattle.formats.specs.declared.record.Record.TheVariants.{Command, Identity, Checkpoint}
+use Rattle.log_blocks.specs.Forcing.{with_block}
+use Rattle.log_blocks.specs.Laws.{blocks-push, length-block, with_block-some}
+use Rattle.log_blocks.specs.Payloads.{PayloadReaderView, IsInLog, ahead, remaining, untaken}
 use Rattle.log_records.specs.Codec.{StartsWithRecord}
 use Rattle.redo_log.specs.Lines.{block_lines, blocks_lines, line, record_lines, record_words}
 use Rattle.redo_log.specs.Reading.{SaysBlock, SaysRecord}
@@ -39,9 +39,9 @@ place_is file it all passed taken later place is some here =
 
 -- a code has a byte
 pub code_some : (m : Meaning AllOps) (r : Record AllOps) → 0 < length (record_code m r)
-code_some m (Command number op) = omega arith
-code_some m (Identity number x value) = omega arith
-code_some m (Check table) = omega arith
+code_some m (Command lsn op) = omega arith
+code_some m (Identity lsn x value) = omega arith
+code_some m (Checkpoint table) = omega arith
 
 -- the code is within the bytes that it begins
 pub code_within : (m : Meaning AllOps) (bytes : List ℕ) (r : Record AllOps) (n : ℕ) → StartsWithRecord m bytes r → n ≡ length (record_code m r) → n ≤ length bytes

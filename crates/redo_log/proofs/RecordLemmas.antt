@@ -12,8 +12,8 @@ use Rattle.formats.specs.InForce.{HoldsLog}
 use Rattle.formats.specs.Log.{Header}
 use Rattle.formats.specs.Records.{AreRecords, HoldsRecordLog, IsRecord, next_behind, payload_of, record_code, records_of}
 use Rattle.formats.specs.declared.record.Record.{Record}
-use Rattle.formats.specs.declared.record.Record.TheVariants.{Command, Identity, Check}
-use Rattle.log_frames.specs.Laws.{one_in_force, with_block-some}
+use Rattle.formats.specs.declared.record.Record.TheVariants.{Command, Identity, Checkpoint}
+use Rattle.log_blocks.specs.Laws.{one_in_force, with_block-some}
 use Rattle.log_records.specs.Codec.{StartsWithRecord}
 use Rattle.log_records.specs.CodecLaws.{HasCodes, same_record}
 use Rattle.redo_log.specs.Unreadable.{AreReadable, IsUnreadable}
@@ -25,9 +25,9 @@ both_parts P (x ∷ xs) ys all = let rest = both_parts P xs ys (All-tail P x (xs
 
 module _ {O : Type 0} (m : Meaning O) (codes : HasCodes m) where
   no_code : (r : Record O) (rest : List ℕ) → [] ≡ record_code m r ++ rest → ⊥
-  no_code (Command number op) rest same = omega (arith, ap length same)
-  no_code (Identity number x value) rest same = omega (arith, ap length same)
-  no_code (Check table) rest same = omega (arith, ap length same)
+  no_code (Command lsn op) rest same = omega (arith, ap length same)
+  no_code (Identity lsn x value) rest same = omega (arith, ap length same)
+  no_code (Checkpoint table) rest same = omega (arith, ap length same)
 
   -- bytes are those of one list of records of the grammar
   one_payload : (rs ss : List (Record O)) → All (IsRecord m) rs → All (IsRecord m) ss → payload_of m rs ≡ payload_of m ss → rs ≡ ss

@@ -11,8 +11,8 @@ use Rattle.op_codec.specs.AllOps.{AllOps}
 use Rattle.formats.specs.Log.{end_of}
 use Rattle.formats.specs.Records.{IsRecord, payload_of, record_code}
 use Rattle.formats.specs.declared.record.Record.{Record}
-use Rattle.log_frames.specs.Forcing.{with_block}
-use Rattle.log_frames.specs.Payloads.{PayloadReaderView, HasNext, IsInLog, ahead, remaining}
+use Rattle.log_blocks.specs.Forcing.{with_block}
+use Rattle.log_blocks.specs.Payloads.{PayloadReaderView, HasNext, IsInLog, ahead, remaining}
 use Rattle.log_records.specs.Codec.{StartsWithRecord}
 use Rattle.redo_log.specs.Lines.{line, record_words}
 use Rattle.redo_log.specs.Reading.{SaysBlock, SaysBlocks, SaysRecord}

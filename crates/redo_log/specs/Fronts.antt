@@ -11,7 +11,7 @@ use Rattle.formats.specs.InForce.{HoldsLog}
 use Rattle.formats.specs.Log.{Header, end_of}
 use Rattle.formats.specs.Records.{IsRecord, payload_of, records_of}
 use Rattle.formats.specs.declared.record.Record.{Record}
-use Rattle.log_frames.specs.Forcing.{with_block}
+use Rattle.log_blocks.specs.Forcing.{with_block}
 use Rattle.redo_log.specs.Unreadable.{HasNoRecord, IsUnreadable}
 use Rattle.redo_log.specs.Lines.{begun_lines, blocks_lines, header_words, line, log_lines, record_lines, used}
 use Rattle.tool_output.specs.Lines.{damaged, not_a_store}

@@ -8,7 +8,7 @@ use Rattle.op_codec.specs.AllOps.{AllOps}
 use Rattle.formats.specs.Log.{Header, end_of}
 use Rattle.formats.specs.Records.{payload_of, record_code}
 use Rattle.formats.specs.declared.record.Record.{Record}
-use Rattle.formats.specs.declared.record.Record.TheVariants.{Command, Identity, Check}
+use Rattle.formats.specs.declared.record.Record.TheVariants.{Command, Identity, Checkpoint}
 use Rattle.script_lines.specs.Replies.{spaced}
 use Rattle.tool_output.specs.Lines.{name_of_file}
 use Rattle.redo_log.specs.Words.{op_words}
@@ -20,15 +20,15 @@ line file place count what = name_of_file file ++ spaced place ++ spaced count +
 abbrev pub header_words : Header → List ℕ
 header_words h = codes "header epoch" ++ spaced h.epoch ++ codes " base" ++ spaced h.base ++ codes " commands" ++ spaced h.commands
 
--- an object of a check, and where its redo starts
+-- an object of a checkpoint, and where its redo starts
 abbrev pub start_words : ℕ × ℕ → List ℕ
 start_words s = spaced s.0 ++ 58 ∷ decimal s.1
 
--- a command has its operation, an identity write its object and the length of its value, a check its redo starts
+-- a command has its operation, an identity write its object and the length of its value, a checkpoint its redo starts
 abbrev pub record_words : Record AllOps → List ℕ
-record_words (Command number op) = codes "command" ++ spaced number ++ 32 ∷ op_words op
-record_words (Identity number x value) = codes "identity" ++ spaced number ++ codes " object" ++ spaced x ++ codes " length" ++ spaced (length value)
-record_words (Check table) = codes "check" ++ spaced table.next ++ codes " starts" ++ flat_map start_words table.starts
+record_words (Command lsn op) = codes "command" ++ spaced lsn ++ 32 ∷ op_words op
+record_words (Identity lsn x value) = codes "identity" ++ spaced lsn ++ codes " object" ++ spaced x ++ codes " length" ++ spaced (length value)
+record_words (Checkpoint table) = codes "check" ++ spaced table.next ++ codes " starts" ++ flat_map start_words table.starts
 
 -- the lines of records, the first of which stands at this place
 abbrev pub record_lines : Meaning AllOps → FileNo → ℕ → List (Record AllOps) → List ℕ

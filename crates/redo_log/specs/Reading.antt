@@ -5,7 +5,7 @@ use Rattle.op_codec.specs.AllOps.{AllOps}
 use Rattle.formats.specs.Log.{end_of}
 use Rattle.formats.specs.Records.{IsRecord, payload_of, record_code, records_of}
 use Rattle.formats.specs.declared.record.Record.{Record}
-use Rattle.log_frames.specs.Payloads.{PayloadReaderView, IsInLog, remaining}
+use Rattle.log_blocks.specs.Payloads.{PayloadReaderView, IsInLog, remaining}
 use Rattle.redo_log.specs.Lines.{line, record_words, block_lines, blocks_lines}
 
 -- of the payload in hand, of which these bytes were taken, one record was taken more, and its line was said

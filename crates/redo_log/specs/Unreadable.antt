@@ -8,8 +8,8 @@ use Rattle.formats.specs.InForce.{HoldsLog}
 use Rattle.formats.specs.Log.{Header}
 use Rattle.formats.specs.Records.{IsRecord, payload_of}
 use Rattle.formats.specs.declared.record.Record.{Record}
-use Rattle.log_frames.specs.Forcing.{with_block}
-use Rattle.log_frames.specs.Payloads.{IsInLog, PayloadReaderView, remaining}
+use Rattle.log_blocks.specs.Forcing.{with_block}
+use Rattle.log_blocks.specs.Payloads.{IsInLog, PayloadReaderView, remaining}
 use Rattle.log_records.specs.Codec.{StartsWithRecord}
 use Rattle.tool_output.specs.declared.stop.Stop.{Stop}
 use Rattle.tool_output.specs.declared.stop.Stop.TheVariants as stops

@@ -3,7 +3,7 @@ ghost use Rattle.std.specs.Prelude.{◌≡◌, List, ℕ, IfErr, IfNone, IfOk, I
 ghost use Rattle.disk_model.specs.Disk.{Files, Rises, Stays};
 ghost use Rattle.formats.specs.Reading.{FailsBy};
 ghost use Rattle.formats.specs.Records.{record_code};
-ghost use Rattle.log_frames.specs.Payloads.{IsInLog, ahead, remaining};
+ghost use Rattle.log_blocks.specs.Payloads.{IsInLog, ahead, remaining};
 ghost use Rattle.log_records.specs.Codec.{StartsWithRecord};
 ghost use Rattle.op_codec.specs.AllOps.{all_meaning};
 ghost use Rattle.redo_log.specs.Unreadable.{FindsNone, StartsWithNone};
@@ -11,7 +11,7 @@ ghost use Rattle.tool_output.specs.Faults.{StopsBy};
 
 use disk_model::Machine;
 use formats::{ReadErr, Record};
-use log_frames::PayloadReader;
+use log_blocks::PayloadReader;
 use log_records::decode;
 use op_codec::AllOps;
 use oper_core::{Bounds, Memory};

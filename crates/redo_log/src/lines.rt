@@ -61,7 +61,7 @@ pub fn header_line(
     line_of(alloc, file, 0, HEADER, text.as_slice())
 }
 
-/// Adds the redo starts of a check.
+/// Adds the redo starts of a checkpoint.
 fn push_starts(alloc: Global, text: &mut Vec<u8>, starts: &[(u32, u64)]) -> Result<(), Memory>
     ensures { OnOk result (text.new.items ≡ text.old.items ++ flat_map start_words starts.now) }
 {
@@ -86,17 +86,17 @@ fn push_record(alloc: Global, text: &mut Vec<u8>, it: &Record<AllOps>) -> Result
     ensures { OnOk result (text.new.items ≡ text.old.items ++ record_words it.now) }
 {
     match it {
-        Record::Command(number, op) => {
-            push_counted(alloc, text, b"command", *number)?;
+        Record::Command(lsn, op) => {
+            push_counted(alloc, text, b"command", *lsn)?;
             text.push(b' ')?;
             push_op(alloc, text, op)?;
         }
-        Record::Identity(number, object, value) => {
-            push_counted(alloc, text, b"identity", *number)?;
+        Record::Identity(lsn, object, value) => {
+            push_counted(alloc, text, b"identity", *lsn)?;
             push_counted(alloc, text, b" object", u64::from(*object))?;
             push_counted(alloc, text, b" length", value.as_slice().len() as u64)?;
         }
-        Record::Check(table) => {
+        Record::Checkpoint(table) => {
             push_counted(alloc, text, b"check", table.next)?;
             text.extend_from_slice(b" starts")?;
             push_starts(alloc, text, table.starts.as_slice())?;

@@ -25,7 +25,7 @@ use crate::lines::{header_line, line_of};
 use crate::saying::say_blocks;
 use disk_model::{FileNo, Machine};
 use formats::ReadErr;
-use log_frames::LogFile;
+use log_blocks::LogFile;
 use log_records::RecordLog;
 use op_codec::AllOps;
 use oper_core::{Bounds, Memory, Oper};

@@ -4,7 +4,7 @@
 //! The one contract is that of `list_store`: no call of it changes a file, and what it says is exactly the lines of the records
 //! that the log holds, in their order, or that there is no store, or, after the lines of the records before it, where the files
 //! break their format. Where the disk, the output or memory fails it has said a front of that. One record is in memory at a time.
-//! It depends on tool_output, which says text and the last line, on stable_objects for the bounds of the store, on log_frames, whose
+//! It depends on tool_output, which says text and the last line, on stable_objects for the bounds of the store, on log_blocks, whose
 //! reader gives the payloads, on log_records, which decodes the records and checks them, on op_codec and the families of operations,
 //! whose words these are, on the hexadecimal of script_lines, and on formats, oper_core and the machine of disk_model.
 #![tactic(auto)]

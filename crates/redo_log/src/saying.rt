@@ -1,7 +1,7 @@
 // Says what a log holds, record by record.
 ghost use Rattle.std.specs.Prelude.{◌≡◌, ◌<◌, ◌≤◌, ◌++◌, [], List, ℕ, IfErr, OnErr, OnOk, codes};
 ghost use Rattle.disk_model.specs.Disk.{SaysFront};
-ghost use Rattle.log_frames.specs.Payloads.{IsInLog, ahead, remaining};
+ghost use Rattle.log_blocks.specs.Payloads.{IsInLog, ahead, remaining};
 ghost use Rattle.formats.specs.Log.{end_of};
 ghost use Rattle.op_codec.specs.AllOps.{all_meaning};
 ghost use Rattle.tool_output.specs.Faults.{StopsBy};
@@ -14,7 +14,7 @@ use crate::finding::find_record;
 use crate::lines::{line_of, record_line};
 use disk_model::Machine;
 use formats::BLOCK_HEAD;
-use log_frames::PayloadReader;
+use log_blocks::PayloadReader;
 use oper_core::Bounds;
 use std::alloc::Global;
 use tool_output::{Stop, say_text};

@@ -9,7 +9,7 @@ use Rattle.disk_model.specs.declared.machine.FileNo.TheVariants.{Objects}
 use Rattle.oper_core.specs.Cell.{Cell}
 use Rattle.oper_core.specs.Meaning.{Meaning}
 use Rattle.oper_core.specs.State.{is_among}
-use Rattle.redo_tables.specs.declared.table.Table.{Table}
+use Rattle.dirty_page_table.specs.declared.table.DirtyPageTable.{DirtyPageTable}
 use Rattle.formats.specs.Objects.{cell_of}
 use Rattle.formats.specs.declared.params.Params.{Params}
 use Rattle.formats.specs.declared.record.Record.{Record}
@@ -19,16 +19,16 @@ use Rattle.dirty_cache.specs.declared.entry.Entry.{Entry as Pair}
 use Rattle.install_order.specs.Entries.{accesses}
 use Rattle.install_order.specs.Order.{within}
 use Rattle.install_order.specs.declared.entry.Entry.{Entry}
-use Rattle.write_graph.specs.Graph.{numbers}
-use Rattle.explain_core.specs.History.{Member, numbered, writes_of, writes_some, accesses_of}
+use Rattle.write_graph.specs.Graph.{lsns}
+use Rattle.explain_core.specs.History.{Member, with_lsn, writes_of, writes_some, accesses_of}
 use Rattle.explain_core.specs.World.{World, is_redone}
 use Rattle.explain_core.specs.World as core
 use Rattle.standing.specs.Crashed.{crashed-cache, crashed-graph}
 use Rattle.standing.specs.Standing.{stored}
 use Rattle.analysis_pass.specs.Analysis.{PlanView}
 use Rattle.running_store.specs.Courses.{is_identity_at}
-use Rattle.running_store.specs.Laid.{cell_or, id_at}
-use Rattle.running_store.specs.LaidLaws.{id_told}
+use Rattle.running_store.specs.Laid.{cell_or, object_lsn}
+use Rattle.running_store.specs.LaidLaws.{lsn_told}
 use Rattle.running_store.specs.Parts.{Volatile, ShowsVolatile}
 use Rattle.redo_pass.specs.Redo.{IsRedoDue}
 use Rattle.redo_pass.specs.Replayed.{IsNext, is_due}
@@ -50,26 +50,26 @@ empty_shows m p files slots plan records w due it same none empty = record {
   cache = λ x. ap (λ (o : Option Pair). cell_or o (stored p (files Objects) x)) (none x) ∙ due.found.shows.cells x
       ∙ ap (λ (c : ℕ → Cell). c x) (sym (crashed-cache m w due.found.crashed));
   dirty = λ x is. absurd (some_held _ _ is (none x));
-  members = λ n. ap (λ (es : List Entry). is_among n (numbers es)) empty ∙ ap (λ (g : ℕ → Bool). g n) (sym (crashed-graph m w due.found.crashed));
+  members = λ n. ap (λ (es : List Entry). is_among n (lsns es)) empty ∙ ap (λ (g : ℕ → Bool). g n) (sym (crashed-graph m w due.found.crashed));
   accesses = ap accesses empty ∙ ap (λ (g : ℕ → Bool). within g (accesses_of m w.history)) (sym (crashed-graph m w due.found.crashed));
-  identities = λ n. ap (λ (es : List Entry). list_any (λ e. (e.number == n) && e.identity) es) empty ∙ ap (λ (g : ℕ → Bool). g n && is_identity_at w.history n) (sym (crashed-graph m w due.found.crashed));
+  identities = λ n. ap (λ (es : List Entry). list_any (λ e. (e.lsn == n) && e.identity) es) empty ∙ ap (λ (g : ℕ → Bool). g n && is_identity_at w.history n) (sym (crashed-graph m w due.found.crashed));
 }
 
 module _ {O : Type 0} (m : Meaning O) (p : Params) (file : List ℕ) (it : Volatile) (w : World O) (shows : ShowsVolatile m p file it w) where
-  -- the identifier that is reported without the file is the world's
-  pub id_shown : (x : ℕ) → x < p.objects → id_at it.objects x ≡ (w.cache x).id
-  id_shown x below =
+  -- the LSN that is reported without the file is the world's
+  pub lsn_shown : (x : ℕ) → x < p.objects → object_lsn it.objects x ≡ (w.cache x).lsn
+  lsn_shown x below =
       let here : x < it.objects.slots.params.objects = subst (λ (q : Params). x < q.objects) (sym shows.params) below in
       let cell : cell_of x file ≡ stored p file x =
-      sym (cond-true (nat_lt x p.objects) (cell_of x file) (record { id = 0; value = [] }) (lt-ltb x p.objects below)) in
-      id_told file it.objects x shows.laid here
-      ∙ ap (λ (c : Cell). (cell_or (held it.objects.cache x) c).id) cell
-      ∙ ap (λ (c : Cell). c.id) (shows.cache x)
+      sym (cond-true (nat_lt x p.objects) (cell_of x file) (record { lsn = 0; value = [] }) (lt-ltb x p.objects below)) in
+      lsn_told file it.objects x shows.laid here
+      ∙ ap (λ (c : Cell). (cell_or (held it.objects.cache x) c).lsn) cell
+      ∙ ap (λ (c : Cell). c.lsn) (shows.cache x)
 
   -- so what is due in the store is what the world's replay sets
-  pub due_shown : (table : Table) (n : ℕ) (member : Member O) (x : ℕ) → IsNext w table n member → x < p.objects → is_due table it.objects n (writes_of m member) x ≡ is_redone m w x
+  pub due_shown : (table : DirtyPageTable) (n : ℕ) (member : Member O) (x : ℕ) → IsNext w table n member → x < p.objects → is_due table it.objects n (writes_of m member) x ≡ is_redone m w x
   due_shown table n member x next below =
-      let there : numbered w.history w.next ≡ Some member = ap (λ (k : ℕ). numbered w.history k) (sym next.here) ∙ next.member_is in
-      let same = id_shown x below in
+      let there : with_lsn w.history w.next ≡ Some member = ap (λ (k : ℕ). with_lsn w.history k) (sym next.here) ∙ next.member_is in
+      let same = lsn_shown x below in
       (λ i. is_among x (writes_of m member) && (nat_lt (same i) (next.here i) && nat_le ((next.plan i).redo_from x) (next.here i)))
-      ∙ ap (λ (o : Option (Member O)). writes_some m o x && (nat_lt (w.cache x).id w.next && nat_le ((core.plan_of w.tables w.base).redo_from x) w.next)) (sym there)
+      ∙ ap (λ (o : Option (Member O)). writes_some m o x && (nat_lt (w.cache x).lsn w.next && nat_le ((core.plan_of w.tables w.base).redo_from x) w.next)) (sym there)

@@ -17,14 +17,14 @@ use Rattle.formats.specs.declared.params.Params.{Params}
 use Rattle.formats.specs.declared.read_err.ReadErr.{ReadErr}
 use Rattle.formats.specs.declared.record.Record.{Record}
 use Rattle.log_records.specs.CodecLaws.{HasCodes}
-use Rattle.log_records.specs.NumberedLaws.{given_first, given_all, given_rise, last_in_grammar, goes_on_beside}
-use Rattle.log_records.specs.NumberedReader.{NumberedReaderView, IsReadingNumbered, AreAllNumbered, HasGiven}
+use Rattle.log_records.specs.LsnReaderLaws.{given_first, given_all, given_rise, last_in_grammar, goes_on_beside}
+use Rattle.log_records.specs.LsnReader.{LsnReaderView, IsReadingFromLsn, AreAllFromLsn, HasGiven}
 use Rattle.log_records.specs.RecordLog.{RecordLogView, Keeps}
-use Rattle.log_records.specs.Rewriting.{numbered_from}
+use Rattle.log_records.specs.Rewriting.{from_lsn}
 use Rattle.stable_objects.specs.SlotsView.{SlotsView, layout_of}
 use Rattle.dirty_cache.specs.Contents.{held}
 use Rattle.install_order.specs.declared.entry.Entry.{Entry}
-use Rattle.write_graph.specs.Graph.{numbers}
+use Rattle.write_graph.specs.Graph.{lsns}
 use Rattle.explain_core.specs.History.{commands_of}
 use Rattle.explain_core.specs.KeptLog.{kept_stable, turns_kept}
 use Rattle.explain_core.specs.Sound.{IsSound}
@@ -86,21 +86,21 @@ IsToDo meaning plan first old p w = IsLogDue (meaning (bounds_of p)) p old first
 -- Since the redo of this store began, so many records of its log were done.
 pub record IsDone {O : Type 0} (meaning : Bounds → Meaning O) (limit : ℕ) (plan : PlanView) (first : StoreView) (old mid : Disk) (now : StoreView) (given : List (Record O)) : Type 0 where
   pub part : IsPart meaning old mid first now Done
-  pub above : All (λ n. n < reached 0 given) (numbers now.parts.volatile.entries)
+  pub above : All (λ n. n < reached 0 given) (lsns now.parts.volatile.entries)
   pub shown : old.tells_files → IsSettled old → (p : Params) (w : World O) → (to : IsToDo meaning plan first old p w)
-      → IsLeft (meaning (bounds_of p)) p mid.reads now.parts.volatile limit w (numbered_from plan.start to.stable) given
+      → IsLeft (meaning (bounds_of p)) p mid.reads now.parts.volatile limit w (from_lsn plan.start to.stable) given
   pub steps : old.tells_moments → IsSettled old → (p : Params) (w : World O) → IsToDo meaning plan first old p w
       → (n : ℕ) × TakesSome (meaning (bounds_of p)) p old mid w (turns (meaning (bounds_of p)) limit n w)
 
 -- some records were done, and the reader has given these
-pub record IsAt {O : Type 0} (meaning : Bounds → Meaning O) (limit : ℕ) (plan : PlanView) (first : StoreView) (old mid : Disk) (now : StoreView) (reader : NumberedReaderView) (done given : List (Record O)) : Type 0 where
+pub record IsAt {O : Type 0} (meaning : Bounds → Meaning O) (limit : ℕ) (plan : PlanView) (first : StoreView) (old mid : Disk) (now : StoreView) (reader : LsnReaderView) (done given : List (Record O)) : Type 0 where
   pub so_far : IsDone meaning limit plan first old mid now done
   pub from : reader.from ≡ plan.start
   pub bounds : reader.records.bounds ≡ first.parts.log.bounds
-  pub reading : IsReadingNumbered (meaning reader.records.bounds) mid first.parts.log reader given
+  pub reading : IsReadingFromLsn (meaning reader.records.bounds) mid first.parts.log reader given
 
 -- those that it has given were done
-abbrev pub IsDoing : {O : Type 0} → (Bounds → Meaning O) → ℕ → PlanView → StoreView → Disk → Disk → StoreView → NumberedReaderView → Type 0
+abbrev pub IsDoing : {O : Type 0} → (Bounds → Meaning O) → ℕ → PlanView → StoreView → Disk → Disk → StoreView → LsnReaderView → Type 0
 IsDoing {O} meaning limit plan first old mid now reader = (given : List (Record O)) × IsAt meaning limit plan first old mid now reader given given
 
 -- some turns are some of the steps of the redo
@@ -113,14 +113,14 @@ module _ {O : Type 0} {meaning : Bounds → Meaning O} {limit : ℕ} {plan : Pla
   pub done_none : IsDisk old → first.broken ≡ false → ((x : ℕ) → held first.parts.volatile.objects.cache x ≡ None) × (first.parts.volatile.entries ≡ []) → IsDone meaning limit plan first old old first []
   done_none lawful fine empty = record {
     part = record { call = call_none meaning old first Never lawful fine; objects = objects_none old first lawful };
-    above = subst (λ (es : List Entry). All (λ n. n < 0) (numbers es)) (sym empty.1) (All-nil (λ n. n < 0));
+    above = subst (λ (es : List Entry). All (λ n. n < 0) (lsns es)) (sym empty.1) (All-nil (λ n. n < 0));
     shown = λ told settled p w to.
         let m = meaning (bounds_of p) in
         let slots = first.parts.volatile.objects.slots in
         record {
-          later = numbered_from plan.start to.stable;
+          later = from_lsn plan.start to.stable;
           split = refl;
-          so_far = begun m p limit w old.reads slots plan (numbered_from plan.start to.stable) first.parts.volatile to.due refl empty.0 empty.1
+          so_far = begun m p limit w old.reads slots plan (from_lsn plan.start to.stable) first.parts.volatile to.due refl empty.0 empty.1
               (due_members m p old.reads slots plan to.stable w to.due);
         };
     steps = λ told settled p w to. let m = meaning (bounds_of p) in (0, takes_none m p limit w old lawful told settled to.due.found.shows (turns m limit 0 w));
@@ -149,7 +149,7 @@ module _ {O : Type 0} {meaning : Bounds → Meaning O} {limit : ℕ} {plan : Pla
         let read = part_fetch meaning Done (fetch_log {fault = ⊥} kept same (λ is. cc, λ none. absurd none)) (λ none. none, λ none. none) (λ stop is. cc) (λ none. absurd none) in
         record {
           part = part_twice done.part read;
-          above = subst (λ (it : Parts). All (λ n. n < reached 0 given) (numbers it.volatile.entries)) (sym parts) done.above;
+          above = subst (λ (it : Parts). All (λ n. n < reached 0 given) (lsns it.volatile.entries)) (sym parts) done.above;
           shown = λ told settled p w to.
               let left = done.shown told settled p w to in
               let told_mid = done.part.objects.runs.time.files_told.0 told in
@@ -190,49 +190,49 @@ module _ {O : Type 0} {meaning : Bounds → Meaning O} {limit : ℕ} {plan : Pla
       same_bounds = used.bounds ∙ ap (λ (q : Params). bounds_of q) to.due.params
 
       -- the reader has given one more
-      pub next_left : {reader : NumberedReaderView} {r : Record O} → reader.from ≡ plan.start → reader.records.bounds ≡ log.bounds → IsReadingNumbered (meaning reader.records.bounds) mid log reader (given ++ r ∷ [])
-          → IsLeftWith (meaning (bounds_of p)) p mid.reads now.parts.volatile limit w (numbered_from plan.start to.stable) given r
+      pub next_left : {reader : LsnReaderView} {r : Record O} → reader.from ≡ plan.start → reader.records.bounds ≡ log.bounds → IsReadingFromLsn (meaning reader.records.bounds) mid log reader (given ++ r ∷ [])
+          → IsLeftWith (meaning (bounds_of p)) p mid.reads now.parts.volatile limit w (from_lsn plan.start to.stable) given r
       next_left {reader} {r} from bounds reading =
           let m = meaning (bounds_of p) in
-          let own = subst (λ (b : Bounds). IsReadingNumbered (meaning b) mid log reader (given ++ r ∷ [])) (bounds ∙ same_bounds) reading in
+          let own = subst (λ (b : Bounds). IsReadingFromLsn (meaning b) mid log reader (given ++ r ∷ [])) (bounds ∙ same_bounds) reading in
           let front = given_first m codes mid log reader (given ++ r ∷ []) to.stable [] agree keeps own in
-          let all : numbered_from plan.start to.stable ≡ (given ++ r ∷ []) ++ front.0 = ap (λ (n : ℕ). numbered_from n to.stable) (sym from) ∙ front.1 in
+          let all : from_lsn plan.start to.stable ≡ (given ++ r ∷ []) ++ front.0 = ap (λ (n : ℕ). from_lsn n to.stable) (sym from) ∙ front.1 in
           let left = done.shown told settled p w to in
           let here : left.later ≡ r ∷ front.0 = append_cancel_left given left.later (r ∷ front.0) (sym left.split ∙ all ∙ append_assoc given (r ∷ []) front.0) in
           record { rest = front.0; split = all; so_far = subst (λ (l : List (Record O)). SoFar m p mid.reads now.parts.volatile limit w l) here left.so_far }
 
       -- or it has given all, and the redo is over
-      pub all_done : {from : ℕ} → from ≡ plan.start → AreAllNumbered (meaning log.bounds) mid log from given
+      pub all_done : {from : ℕ} → from ≡ plan.start → AreAllFromLsn (meaning log.bounds) mid log from given
           → ((n x : ℕ) → IsLive (at (meaning (bounds_of p)) limit w n) → ((at (meaning (bounds_of p)) limit w n).cache x).value ≡ state_after (meaning (bounds_of p)) (commands_of w.history) x)
           → IsRedone (meaning (bounds_of p)) p mid.reads now.parts.volatile limit w
       all_done {from} is ended_there map =
           let m = meaning (bounds_of p) in
-          let own = subst (λ (b : Bounds). AreAllNumbered (meaning b) mid log from given) same_bounds ended_there in
-          let all : numbered_from plan.start to.stable ≡ given = ap (λ (n : ℕ). numbered_from n to.stable) (sym is) ∙ given_all m codes mid log from given to.stable [] agree keeps own in
+          let own = subst (λ (b : Bounds). AreAllFromLsn (meaning b) mid log from given) same_bounds ended_there in
+          let all : from_lsn plan.start to.stable ≡ given = ap (λ (n : ℕ). from_lsn n to.stable) (sym is) ∙ given_all m codes mid log from given to.stable [] agree keeps own in
           let left = done.shown told settled p w to in
           let none : left.later ≡ [] = append_cancel_left given left.later [] (sym left.split ∙ all ∙ sym (append-nil given)) in
           ended m limit w p mid.reads now.parts.volatile (λ n. ap (λ (f : ℕ → Bool). f n) (crashed-graph m w to.due.found.crashed)) map
           (subst (λ (l : List (Record O)). SoFar m p mid.reads now.parts.volatile limit w l) none left.so_far)
 
   -- what the next call of the reader gives
-  module _ {mid : Disk} (next : Disk) {now : StoreView} {before : NumberedReaderView} (after : NumberedReaderView) (found : Option (Record O)) (is : IsDoing meaning limit plan first old mid now before)
-      (gives : (other : RecordLogView) (given : List (Record O)) → IsReadingNumbered (meaning before.records.bounds) mid other before given → HasGiven (meaning before.records.bounds) next other after given found) where
+  module _ {mid : Disk} (next : Disk) {now : StoreView} {before : LsnReaderView} (after : LsnReaderView) (found : Option (Record O)) (is : IsDoing meaning limit plan first old mid now before)
+      (gives : (other : RecordLogView) (given : List (Record O)) → IsReadingFromLsn (meaning before.records.bounds) mid other before given → HasGiven (meaning before.records.bounds) next other after given found) where
     pub next_given : {r : Record O} {later : StoreView} → Stays mid next → later ≡ record now { broken = false } → after ≡ record before { records = after.records } → after.records.bounds ≡ before.records.bounds → found ≡ Some r
         → IsAt meaning limit plan first old next later after is.0 (is.0 ++ r ∷ [])
     next_given {r} kept still same bounds one = record {
       so_far = done_still is.1.so_far kept still;
-      from = ap (λ (v : NumberedReaderView). v.from) same ∙ is.1.from;
+      from = ap (λ (v : LsnReaderView). v.from) same ∙ is.1.from;
       bounds = bounds ∙ is.1.bounds;
-      reading = subst (λ (b : Bounds). IsReadingNumbered (meaning b) next first.parts.log after (is.0 ++ r ∷ [])) (sym bounds)
+      reading = subst (λ (b : Bounds). IsReadingFromLsn (meaning b) next first.parts.log after (is.0 ++ r ∷ [])) (sym bounds)
           (subst (λ (o : Option (Record O)). HasGiven (meaning before.records.bounds) next first.parts.log after is.0 o) one (gives first.parts.log is.0 is.1.reading));
     }
 
-    pub none_given : found ≡ None → AreAllNumbered (meaning first.parts.log.bounds) next first.parts.log after.from is.0
-    none_given none = subst (λ (b : Bounds). AreAllNumbered (meaning b) next first.parts.log after.from is.0) is.1.bounds
+    pub none_given : found ≡ None → AreAllFromLsn (meaning first.parts.log.bounds) next first.parts.log after.from is.0
+    none_given none = subst (λ (b : Bounds). AreAllFromLsn (meaning b) next first.parts.log after.from is.0) is.1.bounds
         (subst (λ (o : Option (Record O)). HasGiven (meaning before.records.bounds) next first.parts.log after is.0 o) none (gives first.parts.log is.0 is.1.reading))
 
-  module _ {mid : Disk} {now : StoreView} {reader : NumberedReaderView} {given : List (Record O)} (r : Record O) (is : IsAt meaning limit plan first old mid now reader given (given ++ r ∷ [])) (used : ArePartsInUse first.parts) where
-    -- it is of the grammar, and its number is above those before
+  module _ {mid : Disk} {now : StoreView} {reader : LsnReaderView} {given : List (Record O)} (r : Record O) (is : IsAt meaning limit plan first old mid now reader given (given ++ r ∷ [])) (used : ArePartsInUse first.parts) where
+    -- it is of the grammar, and its LSN is above those before
     pub next_in_grammar : IsRecord (meaning (bounds_of (store_params now))) r
     next_in_grammar = subst (λ (l : Layout). IsRecord (meaning (bounds_of l.params)) r) (sym is.so_far.part.call.layout)
         (subst (λ (b : Bounds). IsRecord (meaning b) r) (is.bounds ∙ used.bounds) (last_in_grammar (meaning reader.records.bounds) mid first.parts.log reader given r is.reading))
@@ -251,15 +251,15 @@ module _ {O : Type 0} {meaning : Bounds → Meaning O} {limit : ℕ} {plan : Pla
         (sound : (b : Bounds) (w : World O) (limit n : ℕ) → IsSmall b → IsSound (meaning b) w → IsAllStable w → IsSound (meaning b) (run (meaning b) w (turns (meaning b) limit n w)))
         (unseen : (p : Params) (files : Files) (w : World O) (next : Step O) → IsSound (meaning (bounds_of p)) w → IsUnseen next → FilesShow (meaning (bounds_of p)) p files w → FilesShow (meaning (bounds_of p)) p files (step (meaning (bounds_of p)) w next)) where
       abbrev all_of : (p : Params) (w : World O) → IsToDo meaning plan first old p w → List (Record O)
-      all_of p w to = numbered_from plan.start to.stable
+      all_of p w to = from_lsn plan.start to.stable
 
       pub part_on : IsPart meaning old next first after Done
       part_on = part_twice is.so_far.part (part_replay meaning Done replayed (λ stop ends. cc) (λ none. absurd none))
 
-      above_on : All (λ n. n < reached 0 (given ++ r ∷ [])) (numbers after.parts.volatile.entries)
-      above_on = subst (λ (k : ℕ). All (λ n. n < k) (numbers after.parts.volatile.entries)) (sym (reached_more 0 given r))
+      above_on : All (λ n. n < reached 0 (given ++ r ∷ [])) (lsns after.parts.volatile.entries)
+      above_on = subst (λ (k : ℕ). All (λ n. n < k) (lsns after.parts.volatile.entries)) (sym (reached_more 0 given r))
           (behind_above (reached 0 given) (next_of first) now.parts.volatile.entries after.parts.volatile.entries r is.so_far.above rising
-          (λ k low all. replayed.set.entries k low (subst (λ (es : List Entry). All (λ n. n < k) (numbers es)) (sym replayed.read.entries) all)))
+          (λ k low all. replayed.set.entries k low (subst (λ (es : List Entry). All (λ n. n < k) (lsns es)) (sym replayed.read.entries) all)))
 
       sound_at : (p : Params) (w : World O) → IsToDo meaning plan first old p w → (n : ℕ) → IsSound (meaning (bounds_of p)) (at (meaning (bounds_of p)) limit w n)
       sound_at p w to n =
@@ -307,7 +307,7 @@ module _ {O : Type 0} {meaning : Bounds → Meaning O} {limit : ℕ} {plan : Pla
             let installs = takes (runs.time.moments_told.0 steps) p (at m limit w turned) (shows_on told settled p w to) (stable_at p w to turned) in
             join_moments m p limit w old next new still.0 turned installs.0 (runs.said told) still.1 installs.1
 
-        pub done_on : {last : StoreView} → IsPart meaning next new after last Done → ((k : ℕ) → All (λ n. n < k) (numbers after.parts.volatile.entries) → All (λ n. n < k) (numbers last.parts.volatile.entries))
+        pub done_on : {last : StoreView} → IsPart meaning next new after last Done → ((k : ℕ) → All (λ n. n < k) (lsns after.parts.volatile.entries) → All (λ n. n < k) (lsns last.parts.volatile.entries))
             → ((p : Params) (w : World O) → VolatileShows (meaning (bounds_of p)) p next after.parts.volatile w → IsAllStable w → IsLimited (meaning (bounds_of p)) p new.reads last.parts.volatile limit w)
             → IsDone meaning limit plan first old new last (given ++ r ∷ [])
         done_on {last} part entries limited = record {
@@ -325,7 +325,7 @@ module _ {O : Type 0} {meaning : Bounds → Meaning O} {limit : ℕ} {plan : Pla
         }
 
     -- and the reader may go on when the objects have changed
-    pub reads_on : {next new : Disk} → Stays mid next → Runs (In Objects Any) Same next new → IsReadingNumbered (meaning reader.records.bounds) new first.parts.log reader (given ++ r ∷ [])
+    pub reads_on : {next new : Disk} → Stays mid next → Runs (In Objects Any) Same next new → IsReadingFromLsn (meaning reader.records.bounds) new first.parts.log reader (given ++ r ∷ [])
     reads_on {next} {new} kept runs =
         goes_on_beside (meaning reader.records.bounds) mid new first.parts.log reader (given ++ r ∷ [])
         (λ files agrees. let was = runs.agreed files agrees in (was.0, agreed_before kept was.0 was.1, was.2.others)) is.reading

@@ -8,7 +8,7 @@ use Rattle.disk_model.specs.declared.machine.FileNo.TheVariants.{Objects}
 use Rattle.oper_core.specs.Meaning.{Meaning}
 use Rattle.formats.specs.declared.params.Params.{Params}
 use Rattle.formats.specs.declared.record.Record.{Record}
-use Rattle.explain_core.specs.History.{Member, numbered}
+use Rattle.explain_core.specs.History.{Member, with_lsn}
 use Rattle.explain_core.specs.KeptLog.{turns_kept}
 use Rattle.explain_core.specs.TurnBound.{redo_over}
 use Rattle.explain_core.specs.TurnLaws.{turns_join, run_join, run_replay}
@@ -23,10 +23,10 @@ use Rattle.redo_pass.specs.Redo.{redo_steps}
 use Rattle.redo_pass.specs.Rising.{AreMembers}
 use Rattle.redo_pass.proofs.Ends.{at, no_more}
 
--- a number that some member has is within the history
-pub numbered_within : {O : Type 0} (h : List (Member O)) (n : ℕ) (it : Member O) → numbered h n ≡ Some it → n ≤ length h
-numbered_within h zero it is = omega arith
-numbered_within h (suc n) it is = let r = slice_get_within h n it is in omega (arith, r)
+-- an LSN that some member has is within the history
+pub with_lsn_within : {O : Type 0} (h : List (Member O)) (n : ℕ) (it : Member O) → with_lsn h n ≡ Some it → n ≤ length h
+with_lsn_within h zero it is = omega arith
+with_lsn_within h (suc n) it is = let r = slice_get_within h n it is in omega (arith, r)
 
 module _ {O : Type 0} (m : Meaning O) (p : Params) (limit : ℕ) (w : World O) where
   -- the next member is replayed: that is one turn more

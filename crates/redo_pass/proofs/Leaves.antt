@@ -12,7 +12,7 @@ use Rattle.formats.specs.declared.read_err.ReadErr.{ReadErr}
 use Rattle.install_order.specs.declared.entry.Entry.{Entry}
 use Rattle.log_records.specs.RecordLog.{RecordLogView}
 use Rattle.stable_objects.specs.SlotsView.{SlotsView, layout_of}
-use Rattle.write_graph.specs.Graph.{numbers}
+use Rattle.write_graph.specs.Graph.{lsns}
 use Rattle.running_store.specs.Beside.{IsOnObjects, objects_fetch, objects_twice}
 use Rattle.running_store.specs.Calls.{IsCall, IsFailed, Never, call_twice, ending_of_read}
 use Rattle.running_store.specs.Courses.{Stop}
@@ -50,7 +50,7 @@ module _ {within : ℕ → Type 0} where
   memory_none it = record { slots = refl; log = refl; identities = refl; flag = refl; laid = λ file is. is; entries = λ k low all. all }
 
   -- a record is entered
-  pub memory_entered : {before after : StoreView} {due : List ℕ} {e : Entry} {made : List (List ℕ)} → ((k : ℕ) → within k → e.number < k) → IsEntry before after due e made → IsInMemory before after within
+  pub memory_entered : {before after : StoreView} {due : List ℕ} {e : Entry} {made : List (List ℕ)} → ((k : ℕ) → within k → e.lsn < k) → IsEntry before after due e made → IsInMemory before after within
   memory_entered {before} {after} {due} {e} below is = record {
     slots = is.entered.slots;
     log = is.log;
@@ -58,8 +58,8 @@ module _ {within : ℕ → Type 0} where
     flag = is.flag;
     laid = is.laid;
     entries = λ k low all.
-        subst (λ (l : List ℕ). All (λ n. n < k) l) (sym (ap numbers is.entered.entries ∙ map-append (λ (f : Entry). f.number) before.parts.volatile.entries (e ∷ [])))
-        (All-append (λ n. n < k) (numbers before.parts.volatile.entries) (e.number ∷ []) all (All-cons (λ n. n < k) e.number [] (below k low) (All-nil (λ n. n < k))));
+        subst (λ (l : List ℕ). All (λ n. n < k) l) (sym (ap lsns is.entered.entries ∙ map-append (λ (f : Entry). f.lsn) before.parts.volatile.entries (e ∷ [])))
+        (All-append (λ n. n < k) (lsns before.parts.volatile.entries) (e.lsn ∷ []) all (All-cons (λ n. n < k) e.lsn [] (below k low) (All-nil (λ n. n < k))));
   }
 
   -- or is not, for want of memory
@@ -70,7 +70,7 @@ module _ {within : ℕ → Type 0} where
     identities = is.left.counted;
     flag = is.left.flag;
     laid = is.left.untaken.laid;
-    entries = λ k low all. subst (λ (es : List Entry). All (λ n. n < k) (numbers es)) (sym is.left.untaken.entries) all;
+    entries = λ k low all. subst (λ (es : List Entry). All (λ n. n < k) (lsns es)) (sym is.left.untaken.entries) all;
   }
 
   -- no slot is read

@@ -11,14 +11,14 @@ use Rattle.oper_core.specs.Meaning.{Meaning}
 use Rattle.formats.specs.Records.{Rise}
 use Rattle.formats.specs.declared.params.Params.{Params}
 use Rattle.formats.specs.declared.record.Record.{Record}
-use Rattle.formats.specs.declared.record.Record.TheVariants.{Command, Identity, Check}
+use Rattle.formats.specs.declared.record.Record.TheVariants.{Command, Identity, Checkpoint}
 use Rattle.stable_objects.specs.SlotsView.{SlotsView}
 use Rattle.dirty_cache.specs.Contents.{held}
 use Rattle.install_order.specs.declared.entry.Entry.{Entry}
-use Rattle.write_graph.specs.Graph.{numbers}
-use Rattle.redo_tables.specs.declared.table.Table.{Table}
+use Rattle.write_graph.specs.Graph.{lsns}
+use Rattle.dirty_page_table.specs.declared.table.DirtyPageTable.{DirtyPageTable}
 use Rattle.explain_core.specs.CountLaws.{count_same, count_none}
-use Rattle.explain_core.specs.History.{Member, numbered}
+use Rattle.explain_core.specs.History.{Member, with_lsn}
 use Rattle.explain_core.specs.KeptLog.{run_zero, turns_kept}
 use Rattle.explain_core.specs.Taken.{after_longer, after_behind}
 use Rattle.explain_core.specs.TurnLaws.{turns_join}
@@ -39,20 +39,20 @@ use Rattle.redo_pass.specs.Rising.{AreMembers, IsBelow}
 use Rattle.redo_pass.proofs.Begins.{empty_shows}
 use Rattle.redo_pass.proofs.Ends.{at}
 use Rattle.redo_pass.proofs.Fronts.{behind}
-use Rattle.redo_pass.proofs.Goes.{numbered_within, replay_on, replay_turned}
+use Rattle.redo_pass.proofs.Goes.{with_lsn_within, replay_on, replay_turned}
 
--- a record's number is above all in the graph
-pub is_above : {O : Type 0} (low : ℕ) (it : StoreView) (r : Record O) → All (λ n. n < low) (numbers it.parts.volatile.entries) → Rise low (next_of it) (r ∷ []) → IsAbove it r
-is_above low it (Command number op) all rise = (λ k d within. omega (arith, all k d within, rise.0), rise.1)
-is_above low it (Identity number x value) all rise = (λ k d within. omega (arith, all k d within, rise.0), rise.1)
-is_above low it (Check t) all rise = tt
+-- a record's LSN is above all in the graph
+pub is_above : {O : Type 0} (low : ℕ) (it : StoreView) (r : Record O) → All (λ n. n < low) (lsns it.parts.volatile.entries) → Rise low (next_of it) (r ∷ []) → IsAbove it r
+is_above low it (Command lsn op) all rise = (λ k d within. omega (arith, all k d within, rise.0), rise.1)
+is_above low it (Identity lsn x value) all rise = (λ k d within. omega (arith, all k d within, rise.0), rise.1)
+is_above low it (Checkpoint t) all rise = tt
 
 -- and those in it are below the next one after it
-pub behind_above : {O : Type 0} (low end : ℕ) (before after : List Entry) (r : Record O) → All (λ n. n < low) (numbers before) → Rise low end (r ∷ [])
-    → ((k : ℕ) → IsBelow k r → All (λ n. n < k) (numbers before) → All (λ n. n < k) (numbers after)) → All (λ n. n < behind low r) (numbers after)
-behind_above low end before after (Command number op) all rise goes = goes (number + 1) (omega arith) (λ k d within. omega (arith, all k d within, rise.0))
-behind_above low end before after (Identity number x value) all rise goes = goes (number + 1) (omega arith) (λ k d within. omega (arith, all k d within, rise.0))
-behind_above low end before after (Check t) all rise goes = goes low tt all
+pub behind_above : {O : Type 0} (low end : ℕ) (before after : List Entry) (r : Record O) → All (λ n. n < low) (lsns before) → Rise low end (r ∷ [])
+    → ((k : ℕ) → IsBelow k r → All (λ n. n < k) (lsns before) → All (λ n. n < k) (lsns after)) → All (λ n. n < behind low r) (lsns after)
+behind_above low end before after (Command lsn op) all rise goes = goes (lsn + 1) (omega arith) (λ k d within. omega (arith, all k d within, rise.0))
+behind_above low end before after (Identity lsn x value) all rise goes = goes (lsn + 1) (omega arith) (λ k d within. omega (arith, all k d within, rise.0))
+behind_above low end before after (Checkpoint t) all rise goes = goes low tt all
 
 module _ {O : Type 0} (m : Meaning O) (p : Params) (limit : ℕ) (w : World O) where
   -- no record is replayed yet
@@ -60,7 +60,7 @@ module _ {O : Type 0} (m : Meaning O) (p : Params) (limit : ℕ) (w : World O) w
       → it.objects.slots ≡ slots → ((x : ℕ) → held it.objects.cache x ≡ None) → it.entries ≡ [] → AreMembers w.history plan.start records → SoFar m p files it limit w records
   begun files slots plan records it due same none empty members =
       let here = run_zero m limit w in
-      let clean : (x : ℕ) → is_dirty_in w x ≡ false = λ x. ap not (eq-eqb (w.slots x).id (w.cache x).id (ap (λ (c : ℕ → Cell). (c x).id) (sym (crashed-cache m w due.found.crashed)))) in
+      let clean : (x : ℕ) → is_dirty_in w x ≡ false = λ x. ap not (eq-eqb (w.slots x).lsn (w.cache x).lsn (ap (λ (c : ℕ → Cell). (c x).lsn) (sym (crashed-cache m w due.found.crashed)))) in
       let few : dirty_in m w ≡ 0 = count_same m.objects (is_dirty_in w) (λ x. false) (λ x below. clean x) ∙ count_none m.objects in
       let enough : must_install m limit w ≡ false = ap (λ (b : Bool). b && has_thin m w) (ap (nat_lt limit) few ∙ le-ltb limit 0 (omega arith)) in
       record {
@@ -74,14 +74,14 @@ module _ {O : Type 0} (m : Meaning O) (p : Params) (limit : ℕ) (w : World O) w
       }
 
   -- the first of the records that are left is the next to be replayed
-  pub next_is : (table : Table) → table_of table ≡ plan_of w.tables w.base → (n : ℕ) (r : Record O) (rest : List (Record O)) → AreMembers w.history (at m limit w n).next (r ∷ rest) → IsNextRecord (at m limit w n) table r
-  next_is table plan n (Command number op) rest are =
+  pub next_is : (table : DirtyPageTable) → table_of table ≡ plan_of w.tables w.base → (n : ℕ) (r : Record O) (rest : List (Record O)) → AreMembers w.history (at m limit w n).next (r ∷ rest) → IsNextRecord (at m limit w n) table r
+  next_is table plan n (Command lsn op) rest are =
       let kept = turns_kept m limit n w in
-      record { here = are.0; member_is = ap (λ (h : List (Member O)). numbered h number) kept.history ∙ ap (numbered w.history) are.0 ∙ are.1; plan = plan ∙ sym (λ i. plan_of (kept.tables i) (kept.base i)) }
-  next_is table plan n (Identity number x value) rest are =
+      record { here = are.0; member_is = ap (λ (h : List (Member O)). with_lsn h lsn) kept.history ∙ ap (with_lsn w.history) are.0 ∙ are.1; plan = plan ∙ sym (λ i. plan_of (kept.tables i) (kept.base i)) }
+  next_is table plan n (Identity lsn x value) rest are =
       let kept = turns_kept m limit n w in
-      record { here = are.0; member_is = ap (λ (h : List (Member O)). numbered h number) kept.history ∙ ap (numbered w.history) are.0 ∙ are.1; plan = plan ∙ sym (λ i. plan_of (kept.tables i) (kept.base i)) }
-  next_is table plan n (Check t) rest are = tt
+      record { here = are.0; member_is = ap (λ (h : List (Member O)). with_lsn h lsn) kept.history ∙ ap (with_lsn w.history) are.0 ∙ are.1; plan = plan ∙ sym (λ i. plan_of (kept.tables i) (kept.base i)) }
+  next_is table plan n (Checkpoint t) rest are = tt
 
   -- so far, after some turns, and before nodes are installed
   pub record IsOn (files : Files) (it : Volatile) (rest : List (Record O)) : Type 0 where
@@ -89,27 +89,27 @@ module _ {O : Type 0} (m : Meaning O) (p : Params) (limit : ℕ) (w : World O) w
     pub shown : HasTurned m p files it limit w turned
     pub members : AreMembers w.history (at m limit w turned).next rest
 
-  next_number : (v : World O) → (step m v Replay).next ≡ v.next + 1
+  next_lsn : (v : World O) → (step m v Replay).next ≡ v.next + 1
   unfolding step
-  next_number v = refl
+  next_lsn v = refl
 
-  member_on : (files : Files) (after : Volatile) (n : ℕ) (member : Member O) (rest : List (Record O)) → must_install m limit (at m limit w n) ≡ false → numbered w.history (at m limit w n).next ≡ Some member
+  member_on : (files : Files) (after : Volatile) (n : ℕ) (member : Member O) (rest : List (Record O)) → must_install m limit (at m limit w n) ≡ false → with_lsn w.history (at m limit w n).next ≡ Some member
       → AreMembers w.history ((at m limit w n).next + 1) rest → FilesShow m p files (step m (at m limit w n) Replay) → ShowsVolatile m p (files Objects) after (step m (at m limit w n) Replay) → IsOn files after rest
   member_on files after n member rest enough is left files_show store_shows =
       let v = at m limit w n in
-      let within = numbered_within w.history v.next member is in
+      let within = with_lsn_within w.history v.next member is in
       record {
         turned = n + 1;
         shown = replay_turned m p limit w files after n enough within files_show store_shows;
-        members = subst (λ (k : ℕ). AreMembers w.history k rest) (sym (next_number v) ∙ ap (λ (u : World O). u.next) (replay_on m p limit w n enough within)) left;
+        members = subst (λ (k : ℕ). AreMembers w.history k rest) (sym (next_lsn v) ∙ ap (λ (u : World O). u.next) (replay_on m p limit w n enough within)) left;
       }
 
   -- one record more was replayed
   pub on_record : (files : Files) (it after : Volatile) (r : Record O) (rest : List (Record O)) (so : SoFar m p files it limit w (r ∷ rest)) → FilesShow m p files (step m (at m limit w so.turned) Replay)
       → ShowsVolatile m p (files Objects) after (after_record m (at m limit w so.turned) r) → IsOn files after rest
-  on_record files it after (Command number op) rest so files_show store_shows = member_on files after so.turned _ rest so.enough so.members.1 so.members.2 files_show store_shows
-  on_record files it after (Identity number x value) rest so files_show store_shows = member_on files after so.turned _ rest so.enough so.members.1 so.members.2 files_show store_shows
-  on_record files it after (Check t) rest so files_show store_shows = record { turned = so.turned; shown = record { files_show = so.shown.files_show; store_shows = store_shows }; members = so.members }
+  on_record files it after (Command lsn op) rest so files_show store_shows = member_on files after so.turned _ rest so.enough so.members.1 so.members.2 files_show store_shows
+  on_record files it after (Identity lsn x value) rest so files_show store_shows = member_on files after so.turned _ rest so.enough so.members.1 so.members.2 files_show store_shows
+  on_record files it after (Checkpoint t) rest so files_show store_shows = record { turned = so.turned; shown = record { files_show = so.shown.files_show; store_shows = store_shows }; members = so.members }
 
   -- a call that changes nothing
   pub stays_moments : (mid new : Disk) (v : World O) (steps : List (Step O)) → mid.tells_moments → IsSettled mid → Stays mid new → FilesShow m p mid.reads v → TakesSome m p mid new v steps

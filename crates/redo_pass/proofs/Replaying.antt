@@ -7,16 +7,16 @@ use Rattle.std.proofs.lemmas.Map.Views.{All-from_any}
 use Rattle.std.specs.Cmp.{nat_eq_equiv}
 use Rattle.oper_core.specs.Meaning.{Meaning}
 use Rattle.oper_core.specs.State.{is_among, value_for}
-use Rattle.redo_tables.specs.declared.table.Table.{Table}
-use Rattle.redo_tables.specs.RedoStarts.{redo_from}
+use Rattle.dirty_page_table.specs.declared.table.DirtyPageTable.{DirtyPageTable}
+use Rattle.dirty_page_table.specs.RedoStarts.{redo_from}
 use Rattle.formats.specs.declared.params.Params.{Params}
-use Rattle.stable_objects.specs.SlotsView.{id_in}
+use Rattle.stable_objects.specs.SlotsView.{lsn_in}
 use Rattle.dirty_cache.specs.Contents.{held, is_dirty}
 use Rattle.dirty_cache.specs.declared.entry.Entry.{Entry as Pair}
 use Rattle.install_order.specs.Computed.{some_below}
 use Rattle.install_order.specs.NodeLaws.{some-from, some-gives}
 use Rattle.install_order.specs.declared.entry.Entry.{Entry}
-use Rattle.explain_core.specs.History.{Member, numbered, reads_of, writes_of, effect_of, writes_some}
+use Rattle.explain_core.specs.History.{Member, with_lsn, reads_of, writes_of, effect_of, writes_some}
 use Rattle.explain_core.specs.Sound.{IsSound}
 use Rattle.explain_core.specs.World.{World, step, is_redone, plan_of}
 use Rattle.explain_core.specs.World.Step.{Replay}
@@ -24,7 +24,7 @@ use Rattle.running_store.specs.Among.{all_among, slot_most}
 use Rattle.running_store.specs.Entered.{IsEntered}
 use Rattle.running_store.specs.Fetched.{IsFetched, fetched-shows}
 use Rattle.running_store.specs.Joins.{cell_shown}
-use Rattle.running_store.specs.Laid.{Laid, IsLaidOn, KeepsCells, id_at, lsn_or, values_in}
+use Rattle.running_store.specs.Laid.{Laid, IsLaidOn, KeepsCells, object_lsn, lsn_or, values_in}
 use Rattle.running_store.specs.Parts.{Volatile, ShowsVolatile, AreInUse, entry_of, volatile}
 use Rattle.redo_pass.specs.Replayed.{IsNext, is_due, with_entry}
 use Rattle.redo_pass.proofs.Begins.{due_shown}
@@ -43,45 +43,45 @@ and_cases true a there = there refl
 and_cases false a there = refl
 
 module _ (due : List ℕ) (e : Entry) (made : List (List ℕ)) (before after : Volatile) (is : IsEntered before after due e made) (writes : (x : ℕ) → is_among x due ≡ true → is_among x e.writes ≡ true) where
-  held_is : (x : ℕ) → held after.objects.cache x ≡ (if is_among x due then Some (record { lsn = e.number; bytes = value_for x e.writes made }) else held before.objects.cache x)
-  held_is x = is.held x ∙ set_cases (is_among x due) (is_among x e.writes) (Some (record { lsn = e.number; bytes = value_for x e.writes made })) (held before.objects.cache x) (writes x)
+  held_is : (x : ℕ) → held after.objects.cache x ≡ (if is_among x due then Some (record { lsn = e.lsn; bytes = value_for x e.writes made }) else held before.objects.cache x)
+  held_is x = is.held x ∙ set_cases (is_among x due) (is_among x e.writes) (Some (record { lsn = e.lsn; bytes = value_for x e.writes made })) (held before.objects.cache x) (writes x)
 
   dirty_is : (x : ℕ) → is_dirty after.objects.cache x ≡ (is_among x due || is_dirty before.objects.cache x)
   dirty_is x = is.dirty x ∙ ap (λ (b : Bool). b || is_dirty before.objects.cache x) (and_cases (is_among x due) (is_among x e.writes) (writes x))
 
--- reading slots raises no identifier
-pub read_ids : (p : Params) (next : ℕ) (it : Volatile) (after : Laid) (x : ℕ) → AreInUse p next it → IsFetched it.objects after → id_at after x ≤ id_at it.objects x
-read_ids p next it after x used is = by_entry (held after.cache x) refl
+-- reading slots raises no LSN
+pub read_lsns : (p : Params) (next : ℕ) (it : Volatile) (after : Laid) (x : ℕ) → AreInUse p next it → IsFetched it.objects after → object_lsn after x ≤ object_lsn it.objects x
+read_lsns p next it after x used is = by_entry (held after.cache x) refl
   where
-    low : id_in it.objects.slots x ≤ id_at it.objects x
+    low : lsn_in it.objects.slots x ≤ object_lsn it.objects x
     low = slot_most p next it x used
 
-    here : (o : Option Pair) → held after.cache x ≡ o → id_at after x ≡ lsn_or o (id_in it.objects.slots x)
-    here o had = (λ i. lsn_or (had i) (id_in (is.slots i) x))
+    here : (o : Option Pair) → held after.cache x ≡ o → object_lsn after x ≡ lsn_or o (lsn_in it.objects.slots x)
+    here o had = (λ i. lsn_or (had i) (lsn_in (is.slots i) x))
 
-    by_entry : (o : Option Pair) → held after.cache x ≡ o → id_at after x ≤ id_at it.objects x
+    by_entry : (o : Option Pair) → held after.cache x ≡ o → object_lsn after x ≤ object_lsn it.objects x
     by_entry None none = omega (arith, here None none, low)
     by_entry (Some pair) had = elim (is.held x pair had) [
-      | inl was ↦ omega (arith, here (Some pair) had, ap (λ (h : Option Pair). lsn_or h (id_in it.objects.slots x)) was)
-      | inr read ↦ omega (arith, here (Some pair) had, read.id, low)
+      | inl was ↦ omega (arith, here (Some pair) had, ap (λ (h : Option Pair). lsn_or h (lsn_in it.objects.slots x)) was)
+      | inr read ↦ omega (arith, here (Some pair) had, read.lsn, low)
     ]
 
--- an object that is due is one that the record writes, and its identifier is lower
-due_parts : (table : Table) (it : Laid) (n : ℕ) (writes : List ℕ) (x : ℕ) → is_due table it n writes x ≡ true → (is_among x writes ≡ true) × (id_at it x < n)
+-- an object that is due is one that the record writes, and its LSN is lower
+due_parts : (table : DirtyPageTable) (it : Laid) (n : ℕ) (writes : List ℕ) (x : ℕ) → is_due table it n writes x ≡ true → (is_among x writes ≡ true) × (object_lsn it x < n)
 due_parts table it n writes x due =
-    let both = and_parts (is_among x writes) (nat_lt (id_at it x) n && nat_le (redo_from table x) n) due in
-    (both.0, ltb-true (id_at it x) n (and_parts (nat_lt (id_at it x) n) (nat_le (redo_from table x) n) both.1).0)
+    let both = and_parts (is_among x writes) (nat_lt (object_lsn it x) n && nat_le (redo_from table x) n) due in
+    (both.0, ltb-true (object_lsn it x) n (and_parts (nat_lt (object_lsn it x) n) (nat_le (redo_from table x) n) both.1).0)
 
 -- so it is in the store that is entered
-pub due_later : (table : Table) (it after : Laid) (n : ℕ) (writes due : List ℕ) → ((x : ℕ) → is_among x due ≡ is_due table it n writes x) → ((x : ℕ) → id_at after x ≤ id_at it x) → All (λ x. id_at after x < n) due
-due_later table it after n writes due dues ids =
-    All-from_any nat_eq_equiv (λ x. id_at after x < n) due (λ x there. let low = (due_parts table it n writes x (sym (dues x) ∙ there)).1 in let here = ids x in omega (arith, low, here))
+pub due_later : (table : DirtyPageTable) (it after : Laid) (n : ℕ) (writes due : List ℕ) → ((x : ℕ) → is_among x due ≡ is_due table it n writes x) → ((x : ℕ) → object_lsn after x ≤ object_lsn it x) → All (λ x. object_lsn after x < n) due
+due_later table it after n writes due dues lsns_kept =
+    All-from_any nat_eq_equiv (λ x. object_lsn after x < n) due (λ x there. let low = (due_parts table it n writes x (sym (dues x) ∙ there)).1 in let here = lsns_kept x in omega (arith, low, here))
 
-module _ {O : Type 0} (m : Meaning O) (p : Params) (file : List ℕ) (before : Volatile) (w : World O) (table : Table) (n : ℕ) (member : Member O) (due : List ℕ)
+module _ {O : Type 0} (m : Meaning O) (p : Params) (file : List ℕ) (before : Volatile) (w : World O) (table : DirtyPageTable) (n : ℕ) (member : Member O) (due : List ℕ)
     (sound : IsSound m w) (shows : ShowsVolatile m p file before w) (next : IsNext w table n member) (bounds : m.objects ≡ p.objects) (writes : All (λ x. x < p.objects) (writes_of m member))
     (dues : (x : ℕ) → is_among x due ≡ is_due table before.objects n (writes_of m member) x) where
-  member_is : numbered w.history w.next ≡ Some member
-  member_is = ap (numbered w.history) (sym next.here) ∙ next.member_is
+  member_is : with_lsn w.history w.next ≡ Some member
+  member_is = ap (with_lsn w.history) (sym next.here) ∙ next.member_is
 
   there : (x : ℕ) → is_among x (writes_of m member) ≡ true → x < p.objects
   there x = all_among (λ y. y < p.objects) (writes_of m member) x writes
@@ -91,8 +91,8 @@ module _ {O : Type 0} (m : Meaning O) (p : Params) (file : List ℕ) (before : V
   set_is x = dues x ∙ elim (cases_Bool (is_among x (writes_of m member))) [
     | inl is ↦ due_shown m p file before w shows table n member x next (there x is)
     | inr left ↦
-        ap (λ (b : Bool). b && (nat_lt (id_at before.objects x) n && nat_le (redo_from table x) n)) left
-        ∙ sym (ap (λ (b : Bool). b && (nat_lt (w.cache x).id w.next && nat_le ((plan_of w.tables w.base).redo_from x) w.next)) (ap (λ (o : Option (Member O)). writes_some m o x) member_is ∙ left))
+        ap (λ (b : Bool). b && (nat_lt (object_lsn before.objects x) n && nat_le (redo_from table x) n)) left
+        ∙ sym (ap (λ (b : Bool). b && (nat_lt (w.cache x).lsn w.next && nat_le ((plan_of w.tables w.base).redo_from x) w.next)) (ap (λ (o : Option (Member O)). writes_some m o x) member_is ∙ left))
   ]
 
   -- where nothing is due the store shows the world after the replay as it is

@@ -17,10 +17,10 @@ use Rattle.install_order.specs.declared.entry.Entry.{Entry}
 use Rattle.install_order.specs.Order.{Access}
 use Rattle.install_order.specs.Entries.{accesses, reads_at, writes_at}
 use Rattle.install_order.specs.Computed.{some_below}
-use Rattle.write_graph.specs.Graph.{numbers}
+use Rattle.write_graph.specs.Graph.{lsns}
 use Rattle.dirty_cache.specs.Contents.{held, is_dirty}
 use Rattle.dirty_cache.specs.declared.entry.Entry.{Entry as Pair}
-use Rattle.explain_core.specs.History.{Member, numbered, reads_some, writes_some, reads_of, writes_of, effect_of, made_by, accesses_of}
+use Rattle.explain_core.specs.History.{Member, with_lsn, reads_some, writes_some, reads_of, writes_of, effect_of, made_by, accesses_of}
 use Rattle.explain_core.specs.Sound.{IsSound}
 use Rattle.explain_core.specs.World.{World, step, graph_access, is_redone, plan_of}
 use Rattle.explain_core.specs.World.Step.{Replay}
@@ -50,8 +50,8 @@ members_unjoined : (g q : Bool) → g ≡ ((q && false) || g)
 members_unjoined g true = refl
 members_unjoined g false = refl
 
-module _ {O : Type 0} (m : Meaning O) (w : World O) (entries : List Entry) (member : Member O) (sound : IsSound m w) (member_is : numbered w.history w.next ≡ Some member)
-    (members : (n : ℕ) → is_among n (numbers entries) ≡ w.graph n) (same : accesses entries ≡ graph_access m w) where
+module _ {O : Type 0} (m : Meaning O) (w : World O) (entries : List Entry) (member : Member O) (sound : IsSound m w) (member_is : with_lsn w.history w.next ≡ Some member)
+    (members : (n : ℕ) → is_among n (lsns entries) ≡ w.graph n) (same : accesses entries ≡ graph_access m w) where
   abbrev new : Entry
   new = entry_of m w.next member
 
@@ -61,66 +61,66 @@ module _ {O : Type 0} (m : Meaning O) (w : World O) (entries : List Entry) (memb
     | inr none ↦ none
   ]
 
-  side_at : (n : ℕ) (side : Option (Member O) → Bool) (b old : Bool) → old ≡ (w.graph n && side (numbered w.history n)) → side (Some member) ≡ b
-      → (old || (((w.next == n) && b) || false)) ≡ ((((n == w.next) && true) || w.graph n) && side (numbered w.history n))
+  side_at : (n : ℕ) (side : Option (Member O) → Bool) (b old : Bool) → old ≡ (w.graph n && side (with_lsn w.history n)) → side (Some member) ≡ b
+      → (old || (((w.next == n) && b) || false)) ≡ ((((n == w.next) && true) || w.graph n) && side (with_lsn w.history n))
   side_at n side b old o is = elim (cases_eq n w.next) [
-    | inl e ↦ joined (w.next == n) (n == w.next) (w.graph n) old (side (numbered w.history n)) b (eq-eqb w.next n (sym e)) (eq-eqb n w.next e) (ap w.graph e ∙ none_yet) o (ap (λ (k : ℕ). side (numbered w.history k)) e ∙ ap side member_is ∙ is)
-    | inr ne ↦ apart (w.next == n) (n == w.next) (w.graph n) old (side (numbered w.history n)) b (ne_eqb w.next n (λ q. ne (sym q))) (ne_eqb n w.next ne) o
+    | inl e ↦ joined (w.next == n) (n == w.next) (w.graph n) old (side (with_lsn w.history n)) b (eq-eqb w.next n (sym e)) (eq-eqb n w.next e) (ap w.graph e ∙ none_yet) o (ap (λ (k : ℕ). side (with_lsn w.history k)) e ∙ ap side member_is ∙ is)
+    | inr ne ↦ apart (w.next == n) (n == w.next) (w.graph n) old (side (with_lsn w.history n)) b (ne_eqb w.next n (λ q. ne (sym q))) (ne_eqb n w.next ne) o
   ]
 
-  members_after : (some : Bool) (n : ℕ) → is_among n (numbers (with_entry some entries new)) ≡ (((n == w.next) && some) || w.graph n)
+  members_after : (some : Bool) (n : ℕ) → is_among n (lsns (with_entry some entries new)) ≡ (((n == w.next) && some) || w.graph n)
   members_after true n =
-      ap (λ (l : List ℕ). is_among n l) (map-append (λ (e : Entry). e.number) entries (new ∷ [])) ∙ list_any-append (λ y. n == y) (numbers entries) (w.next ∷ [])
+      ap (λ (l : List ℕ). is_among n l) (map-append (λ (e : Entry). e.lsn) entries (new ∷ [])) ∙ list_any-append (λ y. n == y) (lsns entries) (w.next ∷ [])
       ∙ ap (λ (b : Bool). b || ((n == w.next) || false)) (members n) ∙ swapped (w.graph n) (n == w.next)
   members_after false n = members n ∙ members_unjoined (w.graph n) (n == w.next)
 
-  reads_after : (some : Bool) (n y : ℕ) → reads_at (with_entry some entries new) n y ≡ ((((n == w.next) && some) || w.graph n) && reads_some m (numbered w.history n) y)
-  reads_after true n y = list_any-append (λ (e : Entry). (e.number == n) && is_among y e.reads) entries (new ∷ []) ∙ side_at n (λ o. reads_some m o y) (is_among y (reads_of m member)) (reads_at entries n y) (ap (λ (a : Access). a.reads n y) same) refl
-  reads_after false n y = unjoined (n == w.next) (w.graph n) (reads_at entries n y) (reads_some m (numbered w.history n) y) (ap (λ (a : Access). a.reads n y) same)
+  reads_after : (some : Bool) (n y : ℕ) → reads_at (with_entry some entries new) n y ≡ ((((n == w.next) && some) || w.graph n) && reads_some m (with_lsn w.history n) y)
+  reads_after true n y = list_any-append (λ (e : Entry). (e.lsn == n) && is_among y e.reads) entries (new ∷ []) ∙ side_at n (λ o. reads_some m o y) (is_among y (reads_of m member)) (reads_at entries n y) (ap (λ (a : Access). a.reads n y) same) refl
+  reads_after false n y = unjoined (n == w.next) (w.graph n) (reads_at entries n y) (reads_some m (with_lsn w.history n) y) (ap (λ (a : Access). a.reads n y) same)
 
-  writes_after : (some : Bool) (n y : ℕ) → writes_at (with_entry some entries new) n y ≡ ((((n == w.next) && some) || w.graph n) && writes_some m (numbered w.history n) y)
-  writes_after true n y = list_any-append (λ (e : Entry). (e.number == n) && is_among y e.writes) entries (new ∷ []) ∙ side_at n (λ o. writes_some m o y) (is_among y (writes_of m member)) (writes_at entries n y) (ap (λ (a : Access). a.writes n y) same) refl
-  writes_after false n y = unjoined (n == w.next) (w.graph n) (writes_at entries n y) (writes_some m (numbered w.history n) y) (ap (λ (a : Access). a.writes n y) same)
+  writes_after : (some : Bool) (n y : ℕ) → writes_at (with_entry some entries new) n y ≡ ((((n == w.next) && some) || w.graph n) && writes_some m (with_lsn w.history n) y)
+  writes_after true n y = list_any-append (λ (e : Entry). (e.lsn == n) && is_among y e.writes) entries (new ∷ []) ∙ side_at n (λ o. writes_some m o y) (is_among y (writes_of m member)) (writes_at entries n y) (ap (λ (a : Access). a.writes n y) same) refl
+  writes_after false n y = unjoined (n == w.next) (w.graph n) (writes_at entries n y) (writes_some m (with_lsn w.history n) y) (ap (λ (a : Access). a.writes n y) same)
 
-  identities_after : ((n : ℕ) → list_any (λ e. (e.number == n) && e.identity) entries ≡ (w.graph n && is_identity_at w.history n))
-      → (some : Bool) (n : ℕ) → list_any (λ e. (e.number == n) && e.identity) (with_entry some entries new) ≡ ((((n == w.next) && some) || w.graph n) && is_identity_at w.history n)
-  identities_after known true n = list_any-append (λ (e : Entry). (e.number == n) && e.identity) entries (new ∷ [])
-      ∙ side_at n (λ o. is_identity_some o) (is_identity member) (list_any (λ e. (e.number == n) && e.identity) entries) (known n) (of_member member)
+  identities_after : ((n : ℕ) → list_any (λ e. (e.lsn == n) && e.identity) entries ≡ (w.graph n && is_identity_at w.history n))
+      → (some : Bool) (n : ℕ) → list_any (λ e. (e.lsn == n) && e.identity) (with_entry some entries new) ≡ ((((n == w.next) && some) || w.graph n) && is_identity_at w.history n)
+  identities_after known true n = list_any-append (λ (e : Entry). (e.lsn == n) && e.identity) entries (new ∷ [])
+      ∙ side_at n (λ o. is_identity_some o) (is_identity member) (list_any (λ e. (e.lsn == n) && e.identity) entries) (known n) (of_member member)
     where
       of_member : (it : Member O) → is_identity_some (Some it) ≡ is_identity it
       of_member (Command op) = refl
       of_member (Identity x value) = refl
-  identities_after known false n = unjoined (n == w.next) (w.graph n) (list_any (λ e. (e.number == n) && e.identity) entries) (is_identity_at w.history n) (known n)
+  identities_after known false n = unjoined (n == w.next) (w.graph n) (list_any (λ e. (e.lsn == n) && e.identity) entries) (is_identity_at w.history n) (known n)
 
 module _ {O : Type 0} (m : Meaning O) (p : Params) (file : List ℕ) (before after : Volatile) (w : World O) (member : Member O) (made : List (List ℕ)) (sound : IsSound m w) (shows : ShowsVolatile m p file before w) (it : IsReplayed m w member made before after)
-    (member_is : numbered w.history w.next ≡ Some member) (values : made ≡ effect_of m member (map (λ (x : ℕ). (w.cache x).value) (reads_of m member))) (there : (x : ℕ) → is_among x (writes_of m member) ≡ true → x < p.objects) where
-  -- an object that is set is one that the member writes, and its identifiers are older
+    (member_is : with_lsn w.history w.next ≡ Some member) (values : made ≡ effect_of m member (map (λ (x : ℕ). (w.cache x).value) (reads_of m member))) (there : (x : ℕ) → is_among x (writes_of m member) ≡ true → x < p.objects) where
+  -- an object that is set is one that the member writes, and its LSNs are older
   set_writes : (x : ℕ) → is_redone m w x ≡ true → is_among x (writes_of m member) ≡ true
   set_writes x set = sym (ap (λ (o : Option (Member O)). writes_some m o x) member_is) ∙ (and_parts ((accesses_of m w.history).writes w.next x) _ set).0
 
-  set_older : (x : ℕ) → is_redone m w x ≡ true → (w.cache x).id < w.next
-  set_older x set = ltb-true (w.cache x).id w.next (and_parts (nat_lt (w.cache x).id w.next) (nat_le ((plan_of w.tables w.base).redo_from x) w.next) (and_parts ((accesses_of m w.history).writes w.next x) _ set).1).0
+  set_older : (x : ℕ) → is_redone m w x ≡ true → (w.cache x).lsn < w.next
+  set_older x set = ltb-true (w.cache x).lsn w.next (and_parts (nat_lt (w.cache x).lsn w.next) (nat_le ((plan_of w.tables w.base).redo_from x) w.next) (and_parts ((accesses_of m w.history).writes w.next x) _ set).1).0
 
-  slot_older : (x : ℕ) → is_redone m w x ≡ true → (w.slots x).id < w.next
-  slot_older x set = elim (cases_eq (w.slots x).id (w.cache x).id) [
+  slot_older : (x : ℕ) → is_redone m w x ≡ true → (w.slots x).lsn < w.next
+  slot_older x set = elim (cases_eq (w.slots x).lsn (w.cache x).lsn) [
     | inl e ↦ omega (arith, e, set_older x set)
     | inr ne ↦ omega (arith, (sound.dirty x ne).0, set_older x set)
   ]
 
-  cell_set : (y : ℕ) → is_redone m w y ≡ true → (step m w Replay).cache y ≡ record { id = w.next; value = value_for y (writes_of m member) made }
+  cell_set : (y : ℕ) → is_redone m w y ≡ true → (step m w Replay).cache y ≡ record { lsn = w.next; value = value_for y (writes_of m member) made }
   unfolding step
   cell_set y set =
-      let value : made_by m (numbered w.history w.next) (λ (x : ℕ). (w.cache x).value) y ≡ value_for y (writes_of m member) made =
+      let value : made_by m (with_lsn w.history w.next) (λ (x : ℕ). (w.cache x).value) y ≡ value_for y (writes_of m member) made =
       ap (λ (o : Option (Member O)). made_by m o (λ (x : ℕ). (w.cache x).value) y) member_is
       ∙ cond-true (is_among y (writes_of m member)) (value_for y (writes_of m member) (effect_of m member (map (λ (x : ℕ). (w.cache x).value) (reads_of m member)))) (w.cache y).value (set_writes y set)
       ∙ ap (λ (v : List (List ℕ)). value_for y (writes_of m member) v) (sym values) in
-      let cell : Cell = record { id = w.next; value = made_by m (numbered w.history w.next) (λ (x : ℕ). (w.cache x).value) y } in
-      cond-true (is_redone m w y) cell (w.cache y) set ∙ (λ i. record { id = w.next; value = value i })
+      let cell : Cell = record { lsn = w.next; value = made_by m (with_lsn w.history w.next) (λ (x : ℕ). (w.cache x).value) y } in
+      cond-true (is_redone m w y) cell (w.cache y) set ∙ (λ i. record { lsn = w.next; value = value i })
 
   cell_left : (y : ℕ) → is_redone m w y ≡ false → (step m w Replay).cache y ≡ w.cache y
   unfolding step
   cell_left y left =
-      let cell : Cell = record { id = w.next; value = made_by m (numbered w.history w.next) (λ (x : ℕ). (w.cache x).value) y } in
+      let cell : Cell = record { lsn = w.next; value = made_by m (with_lsn w.history w.next) (λ (x : ℕ). (w.cache x).value) y } in
       cond-false (is_redone m w y) cell (w.cache y) left
 
   held_set : (y : ℕ) → is_redone m w y ≡ true → held after.objects.cache y ≡ Some (record { lsn = w.next; bytes = value_for y (writes_of m member) made })
@@ -156,14 +156,14 @@ module _ {O : Type 0} (m : Meaning O) (p : Params) (file : List ℕ) (before aft
       | inr left ↦ ap (λ (o : Option Pair). cell_or o (stored p file y)) (held_left y left) ∙ shows.cache y ∙ sym (cell_left y left)
     ];
     dirty = λ y is_d. elim (cases_Bool (is_redone m w y)) [
-      | inl set ↦ λ same. absurd (omega (arith, slot_older y set, same, ap (λ (c : Cell). c.id) (cell_set y set)))
-      | inr left ↦ λ same. shows.dirty y (sym (dirty_left y left) ∙ is_d) (same ∙ ap (λ (c : Cell). c.id) (cell_left y left))
+      | inl set ↦ λ same. absurd (omega (arith, slot_older y set, same, ap (λ (c : Cell). c.lsn) (cell_set y set)))
+      | inr left ↦ λ same. shows.dirty y (sym (dirty_left y left) ∙ is_d) (same ∙ ap (λ (c : Cell). c.lsn) (cell_left y left))
     ];
-    members = λ n. ap (λ (l : List Entry). is_among n (numbers l)) it.entries ∙ members_after m w before.entries member sound member_is shows.members shows.accesses (some_below m.objects (is_redone m w)) n;
+    members = λ n. ap (λ (l : List Entry). is_among n (lsns l)) it.entries ∙ members_after m w before.entries member sound member_is shows.members shows.accesses (some_below m.objects (is_redone m w)) n;
     accesses = ap accesses it.entries ∙ (λ i. record {
       reads = λ n y. reads_after m w before.entries member sound member_is shows.members shows.accesses (some_below m.objects (is_redone m w)) n y i;
       writes = λ n y. writes_after m w before.entries member sound member_is shows.members shows.accesses (some_below m.objects (is_redone m w)) n y i;
     });
-    identities = λ n. ap (λ (l : List Entry). list_any (λ e. (e.number == n) && e.identity) l) it.entries
+    identities = λ n. ap (λ (l : List Entry). list_any (λ e. (e.lsn == n) && e.identity) l) it.entries
         ∙ identities_after m w before.entries member sound member_is shows.members shows.accesses shows.identities (some_below m.objects (is_redone m w)) n;
   }

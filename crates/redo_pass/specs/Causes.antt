@@ -4,7 +4,7 @@ use Rattle.disk_model.specs.Disk.{Disk}
 use Rattle.disk_model.specs.declared.machine.FileNo.{FileNo}
 use Rattle.disk_model.specs.declared.machine.FileNo.TheVariants.{Objects}
 use Rattle.oper_core.specs.Meaning.{Meaning}
-use Rattle.log_frames.specs.LogView.{LogView}
+use Rattle.log_blocks.specs.LogView.{LogView}
 use Rattle.log_records.specs.Loading.{IsTailFault}
 use Rattle.stable_objects.specs.SlotsView.{SlotsView, AreOf, layout_of}
 use Rattle.running_store.specs.LongSlot.{IsLongSlot}

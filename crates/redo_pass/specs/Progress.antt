@@ -5,8 +5,8 @@ use Rattle.disk_model.specs.declared.machine.FileNo.TheVariants.{Objects}
 use Rattle.oper_core.specs.Meaning.{Meaning}
 use Rattle.formats.specs.declared.params.Params.{Params}
 use Rattle.formats.specs.declared.record.Record.{Record}
-use Rattle.formats.specs.declared.record.Record.TheVariants.{Command, Identity, Check}
-use Rattle.write_graph.specs.Graph.{numbers}
+use Rattle.formats.specs.declared.record.Record.TheVariants.{Command, Identity, Checkpoint}
+use Rattle.write_graph.specs.Graph.{lsns}
 use Rattle.explain_core.specs.Turns.{must_install, turns}
 use Rattle.explain_core.specs.World.{World, run}
 use Rattle.standing.specs.Standing.{FilesShow}
@@ -37,8 +37,8 @@ pub record IsLimited {O : Type 0} (m : Meaning O) (p : Params) (files : Files) (
   pub limiting : IsLimiting m p files it limit w
   pub enough : must_install m limit (run m w (turns m limit limiting.turned w)) ≡ false
 
--- the record's number is one of the store's, and above those of the entries; a check has none
+-- the record's LSN is one of the store's, and above those of the entries; a checkpoint has none
 abbrev pub IsAbove : {O : Type 0} → StoreView → Record O → Type 0
-IsAbove it (Command number op) = All (λ n. n < number) (numbers it.parts.volatile.entries) × (number < next_of it)
-IsAbove it (Identity number x value) = All (λ n. n < number) (numbers it.parts.volatile.entries) × (number < next_of it)
-IsAbove it (Check table) = ⊤
+IsAbove it (Command lsn op) = All (λ n. n < lsn) (lsns it.parts.volatile.entries) × (lsn < next_of it)
+IsAbove it (Identity lsn x value) = All (λ n. n < lsn) (lsns it.parts.volatile.entries) × (lsn < next_of it)
+IsAbove it (Checkpoint table) = ⊤

@@ -6,7 +6,7 @@ use Rattle.oper_core.specs.Meaning.{Meaning, state_after}
 use Rattle.formats.specs.declared.params.Params.{Params}
 use Rattle.formats.specs.declared.record.Record.{Record}
 use Rattle.log_records.specs.RecordLog.{RecordLogView, Keeps}
-use Rattle.log_records.specs.Rewriting.{numbered_from}
+use Rattle.log_records.specs.Rewriting.{from_lsn}
 use Rattle.stable_objects.specs.SlotsView.{SlotsView, AreOf}
 use Rattle.explain_core.specs.History.{commands_of}
 use Rattle.explain_core.specs.Turns.{must_install, turns}
@@ -18,8 +18,8 @@ use Rattle.running_store.specs.Parts.{Volatile, ShowsVolatile}
 use Rattle.redo_pass.specs.Rising.{AreMembers}
 
 -- The world is the one that a restart finds in the files: they show it, it is sound, and it is as a crash leaves it. The
--- slots are those of the objects file, the records are the world's members from a number on that is not above the next to
--- replay, and the plan says what the last of the world's checks says, and starts at the next to replay.
+-- slots are those of the objects file, the records are the world's members from an LSN on that is not above the next to
+-- replay, and the plan says what the last of the world's checkpoints says, and starts at the next to replay.
 pub record IsRedoDue {O : Type 0} (m : Meaning O) (p : Params) (files : Files) (slots : SlotsView) (plan : PlanView) (records : List (Record O)) (w : World O) : Type 0 where
   pub found : IsFound m p files (commands_of w.history) w
   pub params : slots.params ≡ p
@@ -34,7 +34,7 @@ pub record IsRedoDue {O : Type 0} (m : Meaning O) (p : Params) (files : Files) (
 pub record IsLogDue {O : Type 0} (m : Meaning O) (p : Params) (d : Disk) (log : RecordLogView) (slots : SlotsView) (plan : PlanView) (w : World O) : Type 0 where
   pub stable : List (Record O)
   pub keeps : Keeps m d log stable []
-  pub due : IsRedoDue m p d.reads slots plan (numbered_from plan.start stable) w
+  pub due : IsRedoDue m p d.reads slots plan (from_lsn plan.start stable) w
 
 -- the steps of a whole redo: all its turns, of which there are at most twice as many as members are left to replay
 abbrev pub redo_steps : {O : Type 0} → Meaning O → ℕ → World O → List (Step O)

@@ -3,15 +3,15 @@ ghost use Rattle.disk_model.specs.Disk.{Files};
 ghost use Rattle.disk_model.specs.declared.machine.FileNo.TheVariants.{Objects};
 ghost use Rattle.oper_core.specs.State.{is_among};
 ghost use Rattle.oper_core.specs.declared.bounds.Bounds.{Bounds};
-ghost use Rattle.redo_tables.specs.declared.table.Table.{Table};
+ghost use Rattle.dirty_page_table.specs.declared.table.DirtyPageTable.{DirtyPageTable};
 ghost use Rattle.dirty_cache.specs.Contents.{held};
 ghost use Rattle.formats.specs.Objects.{bounds_of};
 ghost use Rattle.formats.specs.Records.{records_of};
 ghost use Rattle.formats.specs.declared.params.Params.{Params};
 ghost use Rattle.formats.specs.declared.record.Record.{Record};
-ghost use Rattle.log_records.specs.Rewriting.{numbered_from};
+ghost use Rattle.log_records.specs.Rewriting.{from_lsn};
 ghost use Rattle.stable_objects.specs.SlotsView.{SlotsView, AreOf};
-ghost use Rattle.explain_core.specs.History.{Member, numbered, reads_of, writes_of, effect_of};
+ghost use Rattle.explain_core.specs.History.{Member, with_lsn, reads_of, writes_of, effect_of};
 ghost use Rattle.explain_core.specs.Sound.{IsSound};
 ghost use Rattle.explain_core.specs.World.{World, step, run, is_redone, IsLive};
 ghost use Rattle.explain_core.specs.World.Step.{Replay, Crash};
@@ -34,13 +34,13 @@ pub fn a_found_world_is_due<O: Oper>()
         slots.params ≡ p → AreOf slots (files Objects) →
         plan.table ≡ plan_table found.shows.header.base (records_of found.shows.groups) →
         plan.start ≡ least_start plan.table.next plan.table.starts →
-        IsRedoDue (O.meaning (bounds_of p)) p files slots plan (numbered_from plan.start (records_of found.shows.groups)) w }
+        IsRedoDue (O.meaning (bounds_of p)) p files slots plan (from_lsn plan.start (records_of found.shows.groups)) w }
 {
     analysis_pass::a_plan_starts_at_the_least_start::<O>();
 }
 
 /// The records of the log in force are the members of the world that a restart finds, from its base on, each with its
-/// number.
+/// LSN.
 pub fn records_are_members<O: Oper>()
     ensures { (p : Params) (files : Files) (commands : List O) (w : World O) →
         (found : IsFound (O.meaning (bounds_of p)) p files commands w) → AreMembers w.history w.base (records_of found.shows.groups) }
@@ -50,7 +50,7 @@ pub fn records_are_members<O: Oper>()
 pub fn a_replay_is_shown<O: Oper>()
     ensures { (p : Params) (file : List ℕ) (before after : Volatile) (w : World O) (it : Member O) (made : List (List ℕ)) →
         IsSound (O.meaning (bounds_of p)) w → ShowsVolatile (O.meaning (bounds_of p)) p file before w →
-        numbered w.history w.next ≡ Some it →
+        with_lsn w.history w.next ≡ Some it →
         made ≡ effect_of (O.meaning (bounds_of p)) it (map (λ x. (w.cache x).value) (reads_of (O.meaning (bounds_of p)) it)) →
         IsReplayed (O.meaning (bounds_of p)) w it made before after → ((x : ℕ) → is_among x (writes_of (O.meaning (bounds_of p)) it) ≡ true → x < p.objects) →
         ShowsVolatile (O.meaning (bounds_of p)) p file after (step (O.meaning (bounds_of p)) w Replay) }
@@ -66,7 +66,7 @@ pub fn an_empty_store_shows_it<O: Oper>()
 
 /// What is due in a store that shows a world is what the replay of the next member sets in the world.
 pub fn what_is_due_is_set<O: Oper>()
-    ensures { (p : Params) (file : List ℕ) (it : Volatile) (w : World O) (table : Table) (n : ℕ) (member : Member O) (x : ℕ) →
+    ensures { (p : Params) (file : List ℕ) (it : Volatile) (w : World O) (table : DirtyPageTable) (n : ℕ) (member : Member O) (x : ℕ) →
         ShowsVolatile (O.meaning (bounds_of p)) p file it w → IsNext w table n member → x < p.objects →
         is_due table it.objects n (writes_of (O.meaning (bounds_of p)) member) x ≡ is_redone (O.meaning (bounds_of p)) w x }
 {}

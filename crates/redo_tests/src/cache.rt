@@ -3,7 +3,7 @@ use dirty_cache::Cache;
 use oper_core::Memory;
 use std::alloc::Global;
 
-/// A call on a cache: of an object, with an identifier and a value of one byte.
+/// A call on a cache: of an object, with an LSN and a value of one byte.
 #[derive(Clone, Copy)]
 enum Call {
     Room(u32),

@@ -41,11 +41,11 @@ pub const LOGGED: &[u8] = &[
     0,
 ];
 
-// After the three puts: a block of an identity write of object 1 and of a check with its redo start, and the closed gate.
+// After the three puts: a block of an identity write of object 1 and of a checkpoint with its redo start, and the closed gate.
 pub const CHECKED: &[u8] = &[
     1, 44, 0, 0, 0, // the gate, and the payload's length
     2, 4, 0, 0, 0, 0, 0, 0, 0, 1, 0, 0, 0, 2, 0, 0, 0, b'z', b'z', // the identity write
-    3, 5, 0, 0, 0, 0, 0, 0, 0, 1, 0, 0, 0, // the check: the next number, and how many redo starts
+    3, 5, 0, 0, 0, 0, 0, 0, 0, 1, 0, 0, 0, // the checkpoint: the next LSN, and how many redo starts
     1, 0, 0, 0, 4, 0, 0, 0, 0, 0, 0, 0, // object 1 from 4 on
     0,
 ];

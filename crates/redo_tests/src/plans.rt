@@ -4,7 +4,7 @@ use explain_core::ByteOp;
 use oper_core::Memory;
 use std::alloc::Global;
 
-// Tables, byte by byte: the next number, how many pairs, and each pair, an object and where its redo starts.
+// Tables, byte by byte: the next LSN, how many pairs, and each pair, an object and where its redo starts.
 const NEXT_3_FROM_1: &[u8] = b"\x03\0\0\0\0\0\0\0\x01\0\0\0\0\0\0\0\x01\0\0\0\0\0\0\0";
 
 const NEXT_4: &[u8] = b"\x04\0\0\0\0\0\0\0\0\0\0\0";
@@ -17,7 +17,7 @@ const NEXT_9_OF_FIVE: &[u8] = b"\x09\0\0\0\0\0\0\0\x05\0\0\0\
 const NEXT_9_OF_THREE: &[u8] = b"\x09\0\0\0\0\0\0\0\x03\0\0\0\
     \x07\0\0\0\x03\0\0\0\0\0\0\0\x02\0\0\0\x05\0\0\0\0\0\0\0\x07\0\0\0\x02\0\0\0\0\0\0\0";
 
-// Where a log begins, the table of its last check, none where it has no bytes, where its redo starts, and for some objects
+// Where a log begins, the table of its last checkpoint, none where it has no bytes, where its redo starts, and for some objects
 // where the redo of each does.
 const LOGS: [(u64, &[u8], u64, &[(u32, u64)]); 6] = [
     (1, b"", 1, &[(0, 1), (4095, 1)]),
@@ -50,7 +50,7 @@ const LOGS: [(u64, &[u8], u64, &[(u32, u64)]); 6] = [
 ];
 
 fn plan(alloc: Global, base: u64, bytes: &[u8]) -> Result<Plan, Memory> {
-    let last = match redo_tables::decode(alloc, bytes)? {
+    let last = match dirty_page_table::decode(alloc, bytes)? {
         Some((table, _)) => Some(table),
         None => None,
     };
@@ -61,7 +61,7 @@ fn all_start(plan: &Plan, starts: &[(u32, u64)]) -> bool {
     let mut good = true;
     for (object, start) in starts {
         good = good && plan.redo_from(*object) == *start;
-        good = good && redo_tables::redo_from(plan.table(), *object) == *start;
+        good = good && dirty_page_table::redo_from(plan.table(), *object) == *start;
     }
     good
 }
@@ -77,6 +77,6 @@ fn plans_are_right(alloc: Global) -> Result<bool, Memory> {
 }
 
 #[test]
-fn a_redo_starts_where_the_last_check_says(rt: HostRuntime) {
+fn a_redo_starts_where_the_last_checkpoint_says(rt: HostRuntime) {
     assert!(rt; matches!(plans_are_right(rt.alloc()), Ok(true)));
 }

@@ -114,8 +114,8 @@ fn an_identity_write_heals_what_a_redo_got_wrong(rt: HostRuntime) -> Result<(), 
     Ok(())
 }
 
-// A store whose three puts are in the slots, and then an identity write of object 1 and a check that starts it there.
-fn with_check(alloc: Global) -> Result<MemMachine, Fail> {
+// A store whose three puts are in the slots, and then an identity write of object 1 and a checkpoint that starts it there.
+fn with_checkpoint(alloc: Global) -> Result<MemMachine, Fail> {
     let mut machine = run_redo(alloc, with_block(alloc, THREE_PUTS)?, 0, ALL)?.into_machine();
     let written = machine.write_at(FileNo::LogA, BEHIND_THREE, CHECKED);
     let left = machine.crash(Crash::New);
@@ -123,16 +123,16 @@ fn with_check(alloc: Global) -> Result<MemMachine, Fail> {
     Ok(left)
 }
 
-// Whether the redo begins at the check's start, and the value of the identity write stands.
+// Whether the redo begins at the checkpoint's start, and the value of the identity write stands.
 fn begins_at_the_start(alloc: Global) -> Result<bool, Fail> {
     let values: &[&[u8]] = &[b"aa", b"zz", b"cc"];
     let slots: &[&[u8]] = &[b"aa", b"bb", b"cc"];
-    let machine = with_check(alloc)?;
+    let machine = with_checkpoint(alloc)?;
     gives(alloc, machine, 64, (4, [1, 1]), [values, slots])
 }
 
 #[test]
-fn a_check_says_where_a_redo_begins(rt: HostRuntime) -> Result<(), Fail> {
+fn a_checkpoint_says_where_a_redo_begins(rt: HostRuntime) -> Result<(), Fail> {
     assert!(rt; begins_at_the_start(rt.alloc())?);
     Ok(())
 }

@@ -4,13 +4,13 @@ ghost use Rattle.dirty_cache.specs.Contents.{held};
 ghost use Rattle.running_store.specs.Flushed.{AreEarly};
 
 use analysis_pass::{Plan, analyse};
+use dirty_page_table::DirtyPageTable;
 use disk_model::{FileNo, Fuse, MemMachine};
 use formats::ReadErr;
 use log_records::RecordLog;
 use op_codec::AllOps;
 use oper_core::Bounds;
 use redo_pass::redo;
-use redo_tables::Table;
 use running_store::{Objects, Store};
 use std::alloc::Global;
 use std::test::Fail;
@@ -19,7 +19,7 @@ use write_graph::WriteGraph;
 // More calls than a redo makes.
 pub const ALL: u64 = 1000;
 
-// What a redo leaves, and whether it ended. It began at the number `start`.
+// What a redo leaves, and whether it ended. It began at the LSN `start`.
 #[derive(Drop)]
 pub struct Redone {
     pub machine: MemMachine,
@@ -35,12 +35,12 @@ impl Redone {
     }
 }
 
-// The log of a machine, and its last check.
+// The log of a machine, and its last checkpoint.
 fn loaded(
     alloc: Global,
     machine: &mut MemMachine,
     b: Bounds,
-) -> Result<(RecordLog<AllOps>, Option<Table>), ReadErr>
+) -> Result<(RecordLog<AllOps>, Option<DirtyPageTable>), ReadErr>
     ensures bounds { IfOk result (λ it. it.0.bounds ≡ b) }
     ensures next { IfOk result (λ it. (1 ≤ it.0.next) × (it.0.next ≤ 2 ^ 62)) }
 {

@@ -24,8 +24,8 @@ const LONG: usize = 20_000;
 
 // The record of a put of such a value.
 fn push_put(alloc: Global, block: &mut Vec<u8>, object: u8) -> Result<(), AllocError> {
-    let number = object.saturating_add(1);
-    block.extend_from_slice(&[1, number, 0, 0, 0, 0, 0, 0, 0, 1, object])?;
+    let lsn = object.saturating_add(1);
+    block.extend_from_slice(&[1, lsn, 0, 0, 0, 0, 0, 0, 0, 1, object])?;
     block.extend_from_slice(&[0, 0, 0, 0x20, 0x4e, 0, 0])?;
     let value = vec![in alloc; object; LONG]?;
     block.extend_from_slice(value.as_slice())

@@ -7,7 +7,7 @@ use Rattle.disk_model.specs.Disk.{Files, Disk, Rises, Stays, IsSettled}
 use Rattle.disk_model.specs.Moments.{agreed_before, stays_settled, stays_twice, told_agrees}
 use Rattle.disk_model.specs.declared.machine.FileNo.{FileNo}
 use Rattle.disk_model.specs.declared.machine.FileNo.TheVariants.{Objects}
-use Rattle.redo_tables.specs.declared.table.Table.{Table}
+use Rattle.dirty_page_table.specs.declared.table.DirtyPageTable.{DirtyPageTable}
 use Rattle.oper_core.specs.Meaning.{Meaning, HasBounds, IsSmall, IsLawful}
 use Rattle.oper_core.specs.declared.bounds.Bounds.{Bounds}
 use Rattle.formats.specs.Bytes.{IsOpenAt}
@@ -16,12 +16,12 @@ use Rattle.formats.specs.Objects.{params_in, IsInRange, IsObjectsFile, bounds_of
 use Rattle.formats.specs.FirstFault.{IsDamaged, AreObjectsWhole, at_objects, at_logs, at_record, at_late_slot}
 use Rattle.formats.specs.Image.{IsRecordFault, IsLateSlot}
 use Rattle.formats.specs.Reading.{FailsBy, TellsDamage}
-use Rattle.formats.specs.Records.{AreRecords, last_check, payload_of, records_of, next_after, HoldsRecordLog}
+use Rattle.formats.specs.Records.{AreRecords, last_checkpoint, payload_of, records_of, next_after, HoldsRecordLog}
 use Rattle.formats.specs.declared.params.Params.{Params}
 use Rattle.formats.specs.declared.read_err.ReadErr.{ReadErr}
 use Rattle.formats.specs.declared.read_err.ReadErr.TheVariants as of_read
 use Rattle.formats.specs.declared.record.Record.{Record}
-use Rattle.log_frames.specs.Reading.{fails_on}
+use Rattle.log_blocks.specs.Reading.{fails_on}
 use Rattle.stable_objects.specs.Laws.{one_store, params_of_file, gate_is_open}
 use Rattle.stable_objects.specs.Reading.{FailsAt, IsDamagedAt, IsNoDamage, OpensNot, open_from_read}
 use Rattle.stable_objects.specs.SlotLaws.{none_late, late_slot, is_late, place_of_file}
@@ -37,7 +37,7 @@ use Rattle.log_records.specs.RecordLog.{RecordLogView, Keeps, IsHeldIn, IsLoaded
 use Rattle.log_records.specs.RecordReader.{AreAll}
 use Rattle.log_records.specs.Uniqueness.{one_grouping}
 use Rattle.analysis_pass.specs.Analysis.{PlanView, table_or, least_start}
-use Rattle.write_graph.specs.Graph.{numbers}
+use Rattle.write_graph.specs.Graph.{lsns}
 use Rattle.running_store.specs.Early as early
 use Rattle.running_store.specs.Laid.{Laid, IsLaidOn}
 use Rattle.running_store.specs.Parts.{Parts, meaning_in, parts}
@@ -92,7 +92,7 @@ slots_gate old d objects has told = gate_is_open objects.slots.params (old.reads
 pub whole_objects : (q : Params) (files : Files) → IsObjectsFile q (files Objects) → AreObjectsWhole files
 whole_objects q files is = subst (λ (p : Params). IsObjectsFile p (files Objects)) (sym (params_of_file q (files Objects) is)) is
 
--- The place is that of the identifier of the first open slot that has this number or a later one.
+-- The place is that of the LSN of the first open slot that has this LSN or a later one.
 abbrev pub IsLateAt : SlotsView → ℕ → ℕ → Type 0
 IsLateAt slots next place =
     (x : ℕ) × (s : ℕ) × IsLate slots next x s × (place ≡ place_of slots x s + 1) × ((y t : ℕ) → IsLate slots next y t → 2 * x + s ≤ 2 * y + t)
@@ -157,66 +157,66 @@ module _ {O : Type 0} (meaning : Bounds → Meaning O) where
       let records = subst (λ (x : Bounds). HoldsRecordLog (meaning x) image.active image.header image.groups old.reads) (ap (λ (q : Params). bounds_of q) same ∙ sym bounds) image.log in
       unharmed e (none image.active image.header image.groups (subst (HoldsRecordLog (meaning b) image.active image.header image.groups) files records))
 
-  -- what the log of a store in these files is, once loaded, and its last check
-  pub record IsLogOfStore (m : Meaning O) (files : Files) (view : RecordLogView) (check : Option Table) : Type 0 where
+  -- what the log of a store in these files is, once loaded, and its last checkpoint
+  pub record IsLogOfStore (m : Meaning O) (files : Files) (view : RecordLogView) (checkpoint : Option DirtyPageTable) : Type 0 where
     pub groups : List (List (Record O))
     pub file : HoldsRecordLog m view.log.active view.log.header groups files
     pub next_is : view.next ≡ next_after view.log.header.base (records_of groups)
-    pub check_is : check ≡ last_check (records_of groups)
+    pub checkpoint_is : checkpoint ≡ last_checkpoint (records_of groups)
 
   -- the records that a pass over the log met are those of the files
-  pub log_of_store : (m : Meaning O) → HasCodes m → (d : Disk) (files : Files) (view : RecordLogView) (check : Option Table) (records : List (Record O)) → d.agrees files
-      → IsHeldIn m files view → AreAll m d view.log records → check ≡ last_check records → IsLogOfStore m files view check
-  log_of_store m codes d files view check records agrees held all last =
+  pub log_of_store : (m : Meaning O) → HasCodes m → (d : Disk) (files : Files) (view : RecordLogView) (checkpoint : Option DirtyPageTable) (records : List (Record O)) → d.agrees files
+      → IsHeldIn m files view → AreAll m d view.log records → checkpoint ≡ last_checkpoint records → IsLogOfStore m files view checkpoint
+  log_of_store m codes d files view checkpoint records agrees held all last =
       let base = view.log.header.base in
       let met = all.read files agrees (map (payload_of m) held.groups) held.file.log.log in
       let same = one_grouping m codes base base base base held.groups met.groups held.file.log.placed (subst (λ (l : List (Record O)). AreRecords m base base l) met.records_are all.placed) met.payloads_are in
-      record { groups = held.groups; file = held.file; next_is = held.next; check_is = last ∙ ap (λ (l : List (Record O)). last_check l) (met.records_are ∙ sym same) }
+      record { groups = held.groups; file = held.file; next_is = held.next; checkpoint_is = last ∙ ap (λ (l : List (Record O)). last_checkpoint l) (met.records_are ∙ sym same) }
 
   -- Objects and log are loaded.
-  pub record HasLog (old last : Disk) (objects : Laid) (view : RecordLogView) (check : Option Table) : Type 0 where
+  pub record HasLog (old last : Disk) (objects : Laid) (view : RecordLogView) (checkpoint : Option DirtyPageTable) : Type 0 where
     pub slots : HasSlots old last objects
     pub bounds : view.bounds ≡ bounds_of objects.slots.params
-    pub numbered : (1 ≤ view.next) × (view.next ≤ 2 ^ 62)
-    pub log : (files : Files) → last.agrees files → IsLogOfStore (meaning_in meaning objects.slots.params) files view check
-    pub read : old.tells_files → (it : IsLogOfStore (meaning_in meaning objects.slots.params) old.reads view check) × Keeps (meaning_in meaning objects.slots.params) last view (records_of it.groups) []
+    pub with_lsn : (1 ≤ view.next) × (view.next ≤ 2 ^ 62)
+    pub log : (files : Files) → last.agrees files → IsLogOfStore (meaning_in meaning objects.slots.params) files view checkpoint
+    pub read : old.tells_files → (it : IsLogOfStore (meaning_in meaning objects.slots.params) old.reads view checkpoint) × Keeps (meaning_in meaning objects.slots.params) last view (records_of it.groups) []
 
   -- a log that is loaded is one of the store
-  loaded_log : (m : Meaning O) (b : Bounds) (mid last : Disk) (files : Files) (view : RecordLogView) (check : Option Table) → mid.reads ≡ files → IsSettled mid
-      → (it : IsLoaded m b mid last view) × (check ≡ last_check (records_of it.groups)) → (it : IsLogOfStore m files view check) × Keeps m last view (records_of it.groups) []
-  loaded_log m b mid last files view check same settled found =
+  loaded_log : (m : Meaning O) (b : Bounds) (mid last : Disk) (files : Files) (view : RecordLogView) (checkpoint : Option DirtyPageTable) → mid.reads ≡ files → IsSettled mid
+      → (it : IsLoaded m b mid last view) × (checkpoint ≡ last_checkpoint (records_of it.groups)) → (it : IsLogOfStore m files view checkpoint) × Keeps m last view (records_of it.groups) []
+  loaded_log m b mid last files view checkpoint same settled found =
       let is = found.0 in
       let keeps = is.keeps settled in (
         record {
           groups = is.groups;
           file = subst (HoldsRecordLog m view.log.active view.log.header is.groups) same is.file;
           next_is = keeps.next_is ∙ ap (λ (l : List (Record O)). next_after view.log.header.base l) (append-nil (records_of is.groups));
-          check_is = found.1;
+          checkpoint_is = found.1;
         },
         keeps,
       )
 
-  pub has_log : ((b : Bounds) → HasBounds b (meaning b)) → ((b : Bounds) → IsSmall b → IsLawful (meaning b)) → (old mid last : Disk) (objects : Laid) (b : Bounds) (view : RecordLogView) (check : Option Table)
+  pub has_log : ((b : Bounds) → HasBounds b (meaning b)) → ((b : Bounds) → IsSmall b → IsLawful (meaning b)) → (old mid last : Disk) (objects : Laid) (b : Bounds) (view : RecordLogView) (checkpoint : Option DirtyPageTable)
       → HasSlots old mid objects → Stays mid last → b ≡ bounds_of objects.slots.params → view.bounds ≡ b → (1 ≤ view.next) × (view.next ≤ 2 ^ 62)
-      → (mid.tells_files → (it : IsLoaded (meaning b) b mid last view) × (check ≡ last_check (records_of it.groups)))
+      → (mid.tells_files → (it : IsLoaded (meaning b) b mid last view) × (checkpoint ≡ last_checkpoint (records_of it.groups)))
       → ((files : Files) → last.agrees files → IsHeldIn (meaning b) files view)
-      → (records : List (Record O)) × AreAll (meaning b) last view.log records × (view.next ≡ next_after view.log.header.base records) × (check ≡ last_check records)
-      → HasLog old last objects view check
-  has_log bounded lawful old mid last objects b view check has kept bounds own numbered loaded held counted = record {
+      → (records : List (Record O)) × AreAll (meaning b) last view.log records × (view.next ≡ next_after view.log.header.base records) × (checkpoint ≡ last_checkpoint records)
+      → HasLog old last objects view checkpoint
+  has_log bounded lawful old mid last objects b view checkpoint has kept bounds own with_lsn loaded held counted = record {
     slots = slots_on old mid last objects has kept;
     bounds = own ∙ bounds;
-    numbered = numbered;
+    with_lsn = with_lsn;
     log = λ files agrees.
         let laid = has.laid files (agreed_before kept files agrees) in
         let codes = subst (λ (x : Bounds). HasCodes (meaning x)) (sym bounds) (codes_in meaning bounded lawful objects.slots.params laid.slots.whole.in_range) in
-        subst (λ (x : Bounds). IsLogOfStore (meaning x) files view check) bounds
-        (log_of_store (meaning b) codes last files view check counted.0 agrees (held files agrees) counted.1 counted.3);
-    read = λ told. subst (λ (x : Bounds). (it : IsLogOfStore (meaning x) old.reads view check) × Keeps (meaning x) last view (records_of it.groups) []) bounds
-        (loaded_log (meaning b) b mid last old.reads view check (has.kept.reads told) has.settled (loaded (has.kept.time.files_told.0 told)));
+        subst (λ (x : Bounds). IsLogOfStore (meaning x) files view checkpoint) bounds
+        (log_of_store (meaning b) codes last files view checkpoint counted.0 agrees (held files agrees) counted.1 counted.3);
+    read = λ told. subst (λ (x : Bounds). (it : IsLogOfStore (meaning x) old.reads view checkpoint) × Keeps (meaning x) last view (records_of it.groups) []) bounds
+        (loaded_log (meaning b) b mid last old.reads view checkpoint (has.kept.reads told) has.settled (loaded (has.kept.time.files_told.0 told)));
   }
 
-  module _ (old last : Disk) (objects : Laid) (view : RecordLogView) (check : Option Table) (has : HasLog old last objects view check) where
-    -- an open slot with the next number, or a later one, is a fault of the files
+  module _ (old last : Disk) (objects : Laid) (view : RecordLogView) (checkpoint : Option DirtyPageTable) (has : HasLog old last objects view checkpoint) where
+    -- an open slot with the next LSN, or a later one, is a fault of the files
     pub late_fault : (next place : ℕ) → next ≡ view.next → IsLateAt objects.slots next place → (files : Files) → last.agrees files
         → IsLateSlot (meaning (bounds_of (params_in (files Objects)))) files place
     late_fault next place same at files agrees =
@@ -261,12 +261,12 @@ module _ {O : Type 0} (meaning : Bounds → Meaning O) where
         bounds = has.bounds;
         store = record {
           params = refl;
-          low = has.numbered.1;
-          above = subst (λ (l : List Entry). All (λ n. n < view.next) (numbers l)) (sym empty) (All-nil (λ n. n < view.next));
+          low = has.with_lsn.1;
+          above = subst (λ (l : List Entry). All (λ n. n < view.next) (lsns l)) (sym empty) (All-nil (λ n. n < view.next));
           dirty = λ x pair is had. let e : None ≡ Some pair = sym (has.slots.empty x) ∙ had in cc;
           clean = λ x pair is had. let e : None ≡ Some pair = sym (has.slots.empty x) ∙ had in cc;
         };
-        early = early.none_late view.next objects (omega (arith, has.numbered.0)) none;
+        early = early.none_late view.next objects (omega (arith, has.with_lsn.0)) none;
       }
 
       -- The store that is made of it.
@@ -279,18 +279,18 @@ module _ {O : Type 0} (meaning : Bounds → Meaning O) where
           bounds = has.bounds;
         })
 
-        module _ (plan : PlanView) (base : ℕ) (base_is : base ≡ view.log.header.base) (table : plan.table ≡ table_or base check) (start : plan.start ≡ least_start plan.table.next plan.table.starts) where
-          abbrev filed : (files : Files) → IsLaidOn objects (files Objects) → IsLogOfStore (meaning_in meaning objects.slots.params) files view check → IsFiled meaning files (parts view objects entries) plan
+        module _ (plan : PlanView) (base : ℕ) (base_is : base ≡ view.log.header.base) (table : plan.table ≡ table_or base checkpoint) (start : plan.start ≡ least_start plan.table.next plan.table.starts) where
+          abbrev filed : (files : Files) → IsLaidOn objects (files Objects) → IsLogOfStore (meaning_in meaning objects.slots.params) files view checkpoint → IsFiled meaning files (parts view objects entries) plan
           filed files laid log = record {
             laid = laid;
             groups = log.groups;
             file = log.file;
             planned = record {
-              table = table ∙ (λ i. table_or (base_is i) (log.check_is i));
+              table = table ∙ (λ i. table_or (base_is i) (log.checkpoint_is i));
               start = start;
             };
             none_late = λ x s below two is_open.
-                let late = none_late objects.slots (files Objects) view.next laid.slots has.numbered.0 none x s below two is_open in
+                let late = none_late objects.slots (files Objects) view.next laid.slots has.with_lsn.0 none x s below two is_open in
                 omega (arith, late, log.next_is);
           }
 
@@ -306,10 +306,10 @@ module _ {O : Type 0} (meaning : Bounds → Meaning O) where
           })
 
   -- a late slot is no slot of files that meet their format
-  pub late_never : ((b : Bounds) → HasBounds b (meaning b)) → ((b : Bounds) → IsSmall b → IsLawful (meaning b)) → (old last : Disk) (objects : Laid) (view : RecordLogView) (check : Option Table) (next place : ℕ)
-      → HasLog old last objects view check → next ≡ view.next → IsLateAt objects.slots next place → old.tells_files → IsWellFormed meaning old.reads → ⊥
-  late_never bounded lawful old last objects view check next place has same at told image =
-      no_late_slot meaning bounded lawful old.reads place image (late_fault old last objects view check has next place same at old.reads (told_agrees has.slots.kept told))
+  pub late_never : ((b : Bounds) → HasBounds b (meaning b)) → ((b : Bounds) → IsSmall b → IsLawful (meaning b)) → (old last : Disk) (objects : Laid) (view : RecordLogView) (checkpoint : Option DirtyPageTable) (next place : ℕ)
+      → HasLog old last objects view checkpoint → next ≡ view.next → IsLateAt objects.slots next place → old.tells_files → IsWellFormed meaning old.reads → ⊥
+  late_never bounded lawful old last objects view checkpoint next place has same at told image =
+      no_late_slot meaning bounded lawful old.reads place image (late_fault old last objects view checkpoint has next place same at old.reads (told_agrees has.slots.kept told))
 
   -- files that hold what was loaded meet their format
   abbrev pub filed_well_formed : (files : Files) (it : Parts) (plan : PlanView) → IsFiled meaning files it plan → IsWellFormed meaning files

@@ -1,4 +1,4 @@
--- What a redo of what was loaded makes of the world, and the check after it.
+-- What a redo of what was loaded makes of the world, and the checkpoint after it.
 use Rattle.std.proofs.Common.{◌≡◌, ◌∙◌, sym, ap, subst, ℕ, zero, suc, ◌++◌, ◌-◌, ◌*◌, List, [], ◌∷◌, map, refl, arith, ⊎_elim, inr, nat_lt, ◌<◌, ◌≢◌}
 use Rattle.std.proofs.lemmas.List.{drop_all}
 use Rattle.disk_model.specs.Disk.{Files, Disk, Rises, Stays, IsSettled}
@@ -15,11 +15,11 @@ use Rattle.formats.specs.declared.layout.Layout.{Layout}
 use Rattle.formats.specs.declared.params.Params.{Params}
 use Rattle.formats.specs.declared.read_err.ReadErr.{ReadErr}
 use Rattle.formats.specs.declared.record.Record.{Record}
-use Rattle.log_frames.specs.LogView.{LogView, used_of}
+use Rattle.log_blocks.specs.LogView.{LogView, used_of}
 use Rattle.log_records.specs.CodecLaws.{HasCodes}
 use Rattle.log_records.specs.Loading.{IsTailFault}
 use Rattle.log_records.specs.RecordLog.{RecordLogView, Keeps}
-use Rattle.log_records.specs.Rewriting.{numbered_from}
+use Rattle.log_records.specs.Rewriting.{from_lsn}
 use Rattle.log_records.specs.Uniqueness.{one_records, no_record_fault}
 use Rattle.stable_objects.specs.Reading.{IsLongValue, OpensNot, open_from_read}
 use Rattle.stable_objects.specs.SlotsView.{SlotsView, AreOf, head, holder_in}
@@ -29,7 +29,7 @@ use Rattle.explain_core.specs.Sound.{IsSound}
 use Rattle.explain_core.specs.TurnLaws.{turns_next, turns_none}
 use Rattle.explain_core.specs.Turns.{turn, turns}
 use Rattle.explain_core.specs.World.{World, Step, step, run, end_of}
-use Rattle.explain_core.specs.World.Step.{Begin, End, Append, Block_gate, Check as Take_check, Slot_gate, Removal, Header_gate, Replay, Crash}
+use Rattle.explain_core.specs.World.Step.{Begin, End, Append, Block_gate, Checkpoint as Take_checkpoint, Slot_gate, Removal, Header_gate, Replay, Crash}
 use Rattle.standing.specs.Crashed.{crashed-pending, crashed-stable}
 use Rattle.standing.specs.Members.{members_of, tables_in}
 use Rattle.standing.specs.Moments.{TakesSome, moments_longer, moments_twice}
@@ -54,14 +54,14 @@ use Rattle.restart.specs.Loading.{IsFiled, IsRead}
 use Rattle.restart.specs.Redoing.{IsToRedo}
 use Rattle.restart.proofs.Opened.{filed_well_formed, holder_two, opens_not}
 
--- no quiet step changes what is stable of a check that waits
+-- no quiet step changes what is stable of a checkpoint that waits
 step_pending : {O : Type 0} (m : Meaning O) (w : World O) (s : Step O) → IsQuiet s → (step m w s).pending ≡ w.pending
 unfolding step
 step_pending m w Begin q = absurd q
 step_pending m w End q = absurd q
 step_pending m w (Append member) q = absurd q
 step_pending m w Block_gate q = absurd q
-step_pending m w Take_check q = absurd q
+step_pending m w Take_checkpoint q = absurd q
 step_pending m w (Slot_gate node x) q = refl
 step_pending m w (Removal node) q = refl
 step_pending m w (Header_gate base) q = absurd q
@@ -98,7 +98,7 @@ module _ {O : Type 0} (meaning : Bounds → Meaning O) (p : Params) (codes : Has
 
   -- its redo is due, by the plan of these records
   pub is_due : ((slots : SlotsView) (plan : PlanView) → slots.params ≡ p → AreOf slots (d.reads Objects) → plan.table ≡ plan_table to.found.shows.header.base (records_of to.found.shows.groups)
-      → plan.start ≡ least_start plan.table.next plan.table.starts → IsRedoDue m p d.reads slots plan (numbered_from plan.start (records_of to.found.shows.groups)) w)
+      → plan.start ≡ least_start plan.table.next plan.table.starts → IsRedoDue m p d.reads slots plan (from_lsn plan.start (records_of to.found.shows.groups)) w)
       → IsLogDue m p d it.log it.volatile.objects.slots plan w
   is_due due =
       let planned = to.planned in
@@ -106,7 +106,7 @@ module _ {O : Type 0} (meaning : Bounds → Meaning O) (p : Params) (codes : Has
       record {
         stable = to.stable;
         keeps = to.keeps;
-        due = subst (λ (l : List (Record O)). IsRedoDue m p d.reads it.volatile.objects.slots plan (numbered_from plan.start l) w) (sym same.1)
+        due = subst (λ (l : List (Record O)). IsRedoDue m p d.reads it.volatile.objects.slots plan (from_lsn plan.start l) w) (sym same.1)
             (due it.volatile.objects.slots plan to.params to.of_file (planned.table ∙ (λ i. plan_table (same.0 i).base (same.1 i))) planned.start);
       }
 
@@ -114,7 +114,7 @@ module _ {O : Type 0} (meaning : Bounds → Meaning O) (p : Params) (codes : Has
     abbrev later : World O
     later = redone_world m limit w
 
-    -- the check with which the opening ends
+    -- the checkpoint with which the opening ends
     abbrev closing : Course O
     closing = closing_course m later (used_of it.log.log)
 
@@ -158,7 +158,7 @@ module _ {O : Type 0} (meaning : Bounds → Meaning O) (p : Params) (codes : Has
             log = redone_log redone.files_show;
           })
 
-      -- Then the check is taken.
+      -- Then the checkpoint is taken.
       module _ (last : Disk) (there : Parts) (sound : IsSound m later) (redone : IsRedone m p new.reads after.parts.volatile limit w) where
         pub opened_after : Takes meaning new last after.parts there (λ m w used. closing_course m w used) Done → IsAfter m p last there w (opening_course m limit w (used_of it.log.log))
         opened_after takes =
@@ -166,9 +166,9 @@ module _ {O : Type 0} (meaning : Bounds → Meaning O) (p : Params) (codes : Has
             record { shows = subst (λ (v : World O). Shows m p last there v) (sym (run-append m w (redo_steps m limit w) closing.steps)) is.shows; used = is.used }
 
         -- and what a crash leaves within it is after some first steps of the opening
-        pub check_moments : {ending : Ending} → d.tells_moments → TakesSome m p d new w (redo_steps m limit w) → Takes meaning new last after.parts there (λ m w used. closing_course m w used) ending
+        pub checkpoint_moments : {ending : Ending} → d.tells_moments → TakesSome m p d new w (redo_steps m limit w) → Takes meaning new last after.parts there (λ m w used. closing_course m w used) ending
             → TakesSome m p d last w (opening_course m limit w (used_of it.log.log)).steps
-        check_moments told first takes =
+        checkpoint_moments told first takes =
             let then = takes.steps (objects.runs.time.moments_told.0 told) p later (redone_shows sound redone) in
             moments_twice m p d new last w (redo_steps m limit w) closing.steps (objects.runs.said to.told) first
             (subst (λ (log : RecordLogView). TakesSome m p new last later (closing_course m later (used_of log.log)).steps) objects.log then)

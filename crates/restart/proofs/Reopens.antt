@@ -11,9 +11,9 @@ use Rattle.explain_core.specs.World.Step.{Block_gate, Crash}
 use Rattle.standing.specs.Crashed.{crashed-stable}
 use Rattle.running_store.specs.Courses.{Course, course, waits, buffered, force_steps, room_steps, grown}
 use Rattle.running_store.specs.Courses.Stop.{Through, Full}
-use Rattle.running_store.specs.Rewrites.{check_length}
+use Rattle.running_store.specs.Rewrites.{checkpoint_length}
 use Rattle.running_store.specs.Running.{IsRunning, MayBeTaken}
-use Rattle.checkpointing.specs.Courses.{check_steps, logged_course, closing_course}
+use Rattle.checkpointing.specs.Courses.{checkpoint_steps, logged_course, closing_course}
 use Rattle.redo_pass.specs.Redo.{redo_steps, redone_world}
 use Rattle.restart.specs.Courses.{redo_course, restart_course}
 use Rattle.restart.specs.Reopened.{IsReopened}
@@ -39,13 +39,13 @@ module _ {O : Type 0} (m : Meaning O) where
   logged_stable : (w : World O) (used : ℕ) → KeepStable w (logged_course m w used).steps
   unfolding run step
   logged_stable w used =
-      let n = check_length m w in
-      either (λ (c : Course O). KeepStable w c.steps) (nat_lt log_limit (grown m w used n)) (course [] used (Full used (n + 5) log_limit)) (course check_steps (grown m w used n) Through) (none_stable w) (λ stable. (refl, stable.1))
+      let n = checkpoint_length m w in
+      either (λ (c : Course O). KeepStable w c.steps) (nat_lt log_limit (grown m w used n)) (course [] used (Full used (n + 5) log_limit)) (course checkpoint_steps (grown m w used n) Through) (none_stable w) (λ stable. (refl, stable.1))
 
-  -- the check with which a restart ends
+  -- the checkpoint with which a restart ends
   closing_stable : (w : World O) (used : ℕ) → KeepStable w (closing_course m w used).steps
   closing_stable w used stable =
-      let n = check_length m w in
+      let n = checkpoint_length m w in
       let room = room_steps m w n in
       let roomed = either (KeepStable w) (nat_lt (2 ^ 30) (buffered m w + n)) (force_steps m w) [] (force_stable w) (none_stable w) stable in
       subst (λ (v : World O). IsAllStable v) (sym (run-append m w room (logged_course m (run m w room) used).steps)) (logged_stable (run m w room) used roomed)
@@ -66,17 +66,17 @@ module _ {O : Type 0} (m : Meaning O) where
 
     pub all_allowed : AreAllowed m crashed (redo_steps m limit crashed) → ((used : ℕ) → MayBeTaken m later (closing_course m later used).steps) → AreAllowed m w (restart_course m limit w used).steps
     unfolding run
-    all_allowed turns check = allowed-append m w (redo_course m limit w used).steps (closing_course m later used).steps (tt, turns) (check used).allowed
+    all_allowed turns checkpoint = allowed-append m w (redo_course m limit w used).steps (closing_course m later used).steps (tt, turns) (checkpoint used).allowed
 
     pub reopened : ((used : ℕ) → MayBeTaken m later (closing_course m later used).steps) → IsReopened m w (run m w (restart_course m limit w used).steps)
     unfolding run step
-    reopened check =
+    reopened checkpoint =
         let steps = (closing_course m later used).steps in
         let kept = turns_kept m limit (2 * (end_of crashed - crashed.next)) crashed in
         let split : run m w (restart_course m limit w used).steps ≡ run m later steps = run-append m w (redo_course m limit w used).steps steps in
         let is : IsReopened m w (run m later steps) = record {
-          running = (check used).running;
-          commands = (check used).commands ∙ ap (λ (h : List (Member O)). commands_of h) kept.history;
+          running = (checkpoint used).running;
+          commands = (checkpoint used).commands ∙ ap (λ (h : List (Member O)). commands_of h) kept.history;
           stable = closing_stable later used (kept_stable crashed later kept now_stable);
         } in
         subst (λ (v : World O). IsReopened m w v) (sym split) is

@@ -11,8 +11,8 @@ use Rattle.formats.specs.Log.{end_of}
 use Rattle.formats.specs.Objects.{bounds_of}
 use Rattle.formats.specs.Records.{payload_of, records_of}
 use Rattle.formats.specs.declared.params.Params.{Params}
-use Rattle.log_frames.specs.Laws.{one_in_force}
-use Rattle.log_frames.specs.LogView.{end_with, used_of}
+use Rattle.log_blocks.specs.Laws.{one_in_force}
+use Rattle.log_blocks.specs.LogView.{end_with, used_of}
 use Rattle.log_records.specs.RecordLog.{RecordLogView, Keeps}
 use Rattle.log_records.specs.Uniqueness.{log_of}
 use Rattle.stable_objects.specs.Laws.{one_store}

@@ -16,7 +16,7 @@ use Rattle.restart.specs.declared.tuning.Tuning.{Tuning}
 abbrev pub dirty_limit : Tuning → Params → ℕ
 dirty_limit tuning p = objects_within tuning.redo_dirty tuning.redo_bytes p
 
--- all turns of the redo, and after them a check, where the log has room for one
+-- all turns of the redo, and after them a checkpoint, where the log has room for one
 abbrev pub opening_course : {O : Type 0} → Meaning O → ℕ → World O → ℕ → Course O
 opening_course m limit w used = and_then m w (course (redo_steps m limit w) used Through) (λ v used. closing_course m v used)
 
@@ -24,6 +24,6 @@ opening_course m limit w used = and_then m w (course (redo_steps m limit w) used
 abbrev pub redo_course : {O : Type 0} → Meaning O → ℕ → World O → ℕ → Course O
 redo_course m limit w used = course (Crash ∷ redo_steps m limit (step m w Crash)) used Through
 
--- and after them a check, where the log has room for one
+-- and after them a checkpoint, where the log has room for one
 abbrev pub restart_course : {O : Type 0} → Meaning O → ℕ → World O → ℕ → Course O
 restart_course m limit w used = and_then m w (redo_course m limit w used) (λ v used. closing_course m v used)

@@ -10,10 +10,10 @@ use Rattle.formats.specs.FirstFault.{AreObjectsWhole, IsFirstFault, at_objects, 
 use Rattle.formats.specs.Image.{IsFault, IsRecordFault, IsLateSlot, NextIs, in_objects, in_log, in_record, in_late_slot}
 use Rattle.formats.specs.InForce.{IsInForce, HasHeader}
 use Rattle.formats.specs.Log.{Header}
-use Rattle.formats.specs.Objects.{params_in, IsInRange, bounds_of, place_in, identifier_at, layout_in}
+use Rattle.formats.specs.Objects.{params_in, IsInRange, bounds_of, place_in, lsn_at, layout_in}
 use Rattle.formats.specs.Records.{payload_of, records_of, next_after, HoldsRecordLog}
 use Rattle.formats.specs.declared.params.Params.{Params}
-use Rattle.log_frames.specs.Laws.{first_is_log_fault, no_first_log_fault, one_log_fault, one_place, one_active}
+use Rattle.log_blocks.specs.Laws.{first_is_log_fault, no_first_log_fault, one_log_fault, one_place, one_active}
 use Rattle.log_records.specs.CodecLaws.{HasCodes, has_codes}
 use Rattle.log_records.specs.Uniqueness.{log_of, one_records, no_record_fault, one_record_fault, broken_log}
 use Rattle.stable_objects.specs.SlotGates.{slot_gate}
@@ -21,7 +21,7 @@ use Rattle.stable_objects.specs.Laws.{params_of_file, first_is_fault, no_first_f
 use Rattle.running_store.specs.Parts.{meaning_in}
 use Rattle.restart.specs.WellFormed.{IsWellFormed}
 
--- the records of a log have one next number
+-- the records of a log have one next LSN
 one_next : {O : Type 0} (m : Meaning O) (files : Files) (n k : ℕ) → HasCodes m → NextIs m files n → NextIs m files k → n ≡ k
 one_next m files n k codes a b =
     let same = one_records m codes a.active b.active a.header b.header a.groups b.groups files a.log b.log in
@@ -59,7 +59,7 @@ module _ {O : Type 0} (meaning : Bounds → Meaning O) (bounded : (b : Bounds) �
       let next = late.next_is in
       let own = subst (λ (q : Params). HoldsRecordLog (meaning_in meaning q) next.active next.header next.groups files) same next.log in
       let logs = one_records (meaning_in meaning image.params) (codes_in image.params image.objects.in_range) next.active image.active next.header image.header next.groups image.groups files own image.log in
-      let none = subst (λ (q : Params). (x s : ℕ) → x < q.objects → s < 2 → IsOpenAt (place_in file x s) file → identifier_at (place_in file x s) file < next_after image.header.base (records_of image.groups)) (sym same) image.none_late in
+      let none = subst (λ (q : Params). (x s : ℕ) → x < q.objects → s < 2 → IsOpenAt (place_in file x s) file → lsn_at (place_in file x s) file < next_after image.header.base (records_of image.groups)) (sym same) image.none_late in
       let below = none late.x late.s late.slot.below late.slot.two late.slot.open_gate in
       let same_next : next_after next.header.base (records_of next.groups) ≡ next_after image.header.base (records_of image.groups) = λ i. next_after (logs.1 i).base (logs.2 i) in
       omega (arith, below, late.late, next.here, same_next)

@@ -7,7 +7,7 @@ use Rattle.oper_core.specs.Meaning.{Meaning}
 use Rattle.oper_core.specs.declared.bounds.Bounds.{Bounds}
 use Rattle.formats.specs.Bytes.{IsClosedAt, IsOpenAt}
 use Rattle.formats.specs.FirstFault.{IsDamaged}
-use Rattle.formats.specs.Objects.{bounds_of, place_in, identifier_at}
+use Rattle.formats.specs.Objects.{bounds_of, place_in, lsn_at}
 use Rattle.formats.specs.Reading.{FailsBy}
 use Rattle.formats.specs.Records.{HoldsRecordLog, records_of, next_after}
 use Rattle.formats.specs.declared.record.Record.{Record}
@@ -33,7 +33,7 @@ pub record IsFreshStore (d : Disk) (it : StoreView) : Type 0 where
   pub empty : ((x : ℕ) → held it.parts.volatile.objects.cache x ≡ None) × (it.parts.volatile.entries ≡ [])
   pub bounds : it.parts.log.bounds ≡ bounds_of (store_params it)
 
--- the plan is by the last check among all records of a log that begins at this base
+-- the plan is by the last checkpoint among all records of a log that begins at this base
 pub record IsPlanned {O : Type 0} (base : ℕ) (all : List (Record O)) (plan : PlanView) : Type 0 where
   pub table : plan.table ≡ plan_table base all
   pub start : plan.start ≡ least_start plan.table.next plan.table.starts
@@ -46,7 +46,7 @@ pub record IsFiled {O : Type 0} (meaning : Bounds → Meaning O) (files : Files)
   pub file : HoldsRecordLog (meaning_in meaning it.volatile.objects.slots.params) it.log.log.active it.log.log.header groups files
   pub planned : IsPlanned it.log.log.header.base (records_of groups) plan
   pub none_late : (x s : ℕ) → x < it.volatile.objects.slots.params.objects → s < 2 → IsOpenAt (place_in (files Objects) x s) (files Objects)
-      → identifier_at (place_in (files Objects) x s) (files Objects) < next_after it.log.log.header.base (records_of groups)
+      → lsn_at (place_in (files Objects) x s) (files Objects) < next_after it.log.log.header.base (records_of groups)
 
 -- where the machine reports its files: what is loaded is that of them, and the log keeps its records
 pub record IsRead {O : Type 0} (meaning : Bounds → Meaning O) (files : Files) (d : Disk) (it : Parts) (plan : PlanView) : Type 0 where

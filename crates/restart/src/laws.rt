@@ -24,7 +24,7 @@ pub fn a_restart_may_be_made<O: Oper>()
     explain_core::crash_keeps::<O>();
     explain_core::turns_keep::<O>();
     redo_pass::a_redo_leaves_nothing::<O>();
-    checkpointing::closing_check_may_be_taken::<O>();
+    checkpointing::closing_checkpoint_may_be_taken::<O>();
 }
 
 /// Files are damaged in one file at one place, that of the first check that fails, where they break their format; files

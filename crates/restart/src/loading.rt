@@ -17,7 +17,7 @@ use stable_objects::OpenErr;
 use std::alloc::Global;
 use write_graph::WriteGraph;
 
-/// Syncs the files, and reads them: the slots, of which no object is cached yet, the log, and the plan that its last check
+/// Syncs the files, and reads them: the slots, of which no object is cached yet, the log, and the plan that its last checkpoint
 /// makes. Each record of the log is checked, and the last check's table is kept. The records are read once more as they are
 /// done again.
 pub(crate) fn load<O: Oper, M: Machine>(

@@ -1,4 +1,4 @@
-// What is loaded is done again, and a check is logged.
+// What is loaded is done again, and a checkpoint is logged.
 ghost use Rattle.std.specs.Prelude.{IfErr, OnOk};
 ghost use Rattle.disk_model.specs.Disk.{Rises};
 ghost use Rattle.formats.specs.Reading.{FailsBy};
@@ -15,15 +15,15 @@ ghost use Rattle.restart.specs.Loading.{IsFreshStore};
 ghost use Rattle.restart.specs.Redoing.{IsToRedo};
 
 use analysis_pass::Plan;
-use checkpointing::closing_check;
+use checkpointing::closing_checkpoint;
 use disk_model::Machine;
 use formats::ReadErr;
 use oper_core::Oper;
 use redo_pass::redo;
 use running_store::Store;
 
-/// Does again the records of the log that the plan wants, and logs a check where the log has room for one. The store then
-/// shows the world after the redo and the check, and so do the files. The redo installs while more than `limit` objects are
+/// Does again the records of the log that the plan wants, and logs a checkpoint where the log has room for one. The store then
+/// shows the world after the redo and the checkpoint, and so do the files. The redo installs while more than `limit` objects are
 /// dirty and a node is thin.
 pub(crate) fn open<O: Oper, M: Machine>(
     plan: &Plan,
@@ -47,6 +47,6 @@ pub(crate) fn open<O: Oper, M: Machine>(
     explain_core::turns_keep::<O>();
     redo_pass::a_found_world_is_due::<O>();
     redo(plan, store, machine, limit)?;
-    closing_check(store, machine)?;
+    closing_checkpoint(store, machine)?;
     Ok(())
 }

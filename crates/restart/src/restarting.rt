@@ -19,7 +19,7 @@ use running_store::Store;
 use stable_objects::OpenErr;
 use std::alloc::Global;
 
-/// Opens the files: they are read, the records are done again, and a check is logged where the log stays within 2^48 bytes.
+/// Opens the files: they are read, the records are done again, and a checkpoint is logged where the log stays within 2^48 bytes.
 /// The machine need not be settled: it begins with a sync of each file, and what reads give is what the files show. The
 /// objects gate is tested before memory is taken.
 pub fn restart<O: Oper, M: Machine>(

@@ -1,4 +1,4 @@
--- What a method of a store that makes no device call leaves: a member that is appended, a redone record, a check.
+-- What a method of a store that makes no device call leaves: a member that is appended, a redone record, a checkpoint.
 use Rattle.std.proofs.Common.{◌≡◌, ◌∙◌, sym, subst, ap, ℕ, ◌+◌, ◌<◌, ◌≤◌, Bool, true, false, if◌then◌else◌, List, [], ◌∷◌, ◌++◌, refl, arith, inl, inr, Option, Some}
 use Rattle.std.specs.Prelude.{All, ◌^◌, ◌||◌, ◌&&◌}
 use Rattle.std.proofs.lemmas.Bool.{and_parts, both_ways, cases_Bool, cond-true, cond-false}
@@ -9,16 +9,16 @@ use Rattle.oper_core.specs.State.{is_among, value_for}
 use Rattle.formats.specs.Objects.{bounds_of}
 use Rattle.formats.specs.declared.params.Params.{Params}
 use Rattle.log_records.specs.RecordLog.{RecordLogView}
-use Rattle.stable_objects.specs.SlotsView.{SlotsView, id_in}
+use Rattle.stable_objects.specs.SlotsView.{SlotsView, lsn_in}
 use Rattle.install_order.specs.declared.entry.Entry.{Entry}
-use Rattle.write_graph.specs.Graph.{numbers}
+use Rattle.write_graph.specs.Graph.{lsns}
 use Rattle.dirty_cache.specs.Contents.{held, is_dirty}
 use Rattle.dirty_cache.specs.declared.entry.Entry.{Entry as Pair}
 use Rattle.explain_core.specs.History.{Member, writes_of}
 use Rattle.explain_core.specs.History.Member.{Command, Identity}
 use Rattle.running_store.specs.Among.{all_among, slot_most}
 use Rattle.running_store.specs.Entered.{IsEntered}
-use Rattle.running_store.specs.Laid.{id_at, lsn_or}
+use Rattle.running_store.specs.Laid.{object_lsn, lsn_or}
 use Rattle.running_store.specs.Parts.{AreInUse, IsAppended, Parts, Volatile, entry_of}
 use Rattle.running_store.specs.Reads.{untaken_in_use}
 use Rattle.running_store.specs.StoreView.{IsUsable}
@@ -26,44 +26,44 @@ use Rattle.running_store.specs.Taking.{ArePartsInUse}
 use Rattle.running_store.specs.Unchanged.{IsUntaken}
 
 -- a pair that is set is the one that is held
-number_of : (number : ℕ) (bytes : List ℕ) (o : Option Pair) (pair : Pair) → o ≡ Some (record { lsn = number; bytes = bytes }) → o ≡ Some pair → pair.lsn ≡ number
-number_of number bytes o pair set had = ap (λ (h : Option Pair). lsn_or h 0) (sym had ∙ set)
+lsn_of : (lsn : ℕ) (bytes : List ℕ) (o : Option Pair) (pair : Pair) → o ≡ Some (record { lsn = lsn; bytes = bytes }) → o ≡ Some pair → pair.lsn ≡ lsn
+lsn_of lsn bytes o pair set had = ap (λ (h : Option Pair). lsn_or h 0) (sym had ∙ set)
 
--- numbers below the next one, and another after them
-above_more : (next : ℕ) (before after : List Entry) (e : Entry) → after ≡ before ++ e ∷ [] → All (λ n. n < next) (numbers before) → e.number < next → All (λ n. n < next) (numbers after)
-above_more next before after e same all low = subst (λ (l : List ℕ). All (λ n. n < next) l) (sym (ap numbers same ∙ map-append (λ (f : Entry). f.number) before (e ∷ [])))
-    (All-push (λ n. n < next) (numbers before) e.number all low)
+-- LSNs below the next one, and another after them
+above_more : (next : ℕ) (before after : List Entry) (e : Entry) → after ≡ before ++ e ∷ [] → All (λ n. n < next) (lsns before) → e.lsn < next → All (λ n. n < next) (lsns after)
+above_more next before after e same all low = subst (λ (l : List ℕ). All (λ n. n < next) l) (sym (ap lsns same ∙ map-append (λ (f : Entry). f.lsn) before (e ∷ [])))
+    (All-push (λ n. n < next) (lsns before) e.lsn all low)
 
--- Objects of a store in use, of which some get new pairs under a number that is below the next one and above their own.
-set_in_use : (p : Params) (next : ℕ) (before after : Volatile) (number : ℕ) (set : ℕ → Bool) (bytes : ℕ → List ℕ) → AreInUse p next before → after.objects.slots ≡ before.objects.slots → number < next → All (λ n. n < next) (numbers after.entries)
-    → ((x : ℕ) → set x ≡ true → id_in before.objects.slots x < number)
-    → ((x : ℕ) → set x ≡ true → held after.objects.cache x ≡ Some (record { lsn = number; bytes = bytes x })) → ((x : ℕ) → set x ≡ false → held after.objects.cache x ≡ held before.objects.cache x)
+-- Objects of a store in use, of which some get new pairs under an LSN that is below the next one and above their own.
+set_in_use : (p : Params) (next : ℕ) (before after : Volatile) (lsn : ℕ) (set : ℕ → Bool) (bytes : ℕ → List ℕ) → AreInUse p next before → after.objects.slots ≡ before.objects.slots → lsn < next → All (λ n. n < next) (lsns after.entries)
+    → ((x : ℕ) → set x ≡ true → lsn_in before.objects.slots x < lsn)
+    → ((x : ℕ) → set x ≡ true → held after.objects.cache x ≡ Some (record { lsn = lsn; bytes = bytes x })) → ((x : ℕ) → set x ≡ false → held after.objects.cache x ≡ held before.objects.cache x)
     → ((x : ℕ) → is_dirty after.objects.cache x ≡ (set x || is_dirty before.objects.cache x)) → AreInUse p next after
-set_in_use p next before after number set bytes used slots low above early new old dirties = record {
+set_in_use p next before after lsn set bytes used slots low above early new old dirties = record {
   params = ap (λ (s : SlotsView). s.params) slots ∙ used.params;
   low = used.low;
   above = above;
   dirty = λ x pair dirty had. elim (cases_Bool (set x)) [
     | inl is ↦
-        let lsn = number_of number (bytes x) (held after.objects.cache x) pair (new x is) had in
-        (omega (arith, early x is, lsn, ap (λ (s : SlotsView). id_in s x) slots), omega (arith, lsn, low))
+        let own = lsn_of lsn (bytes x) (held after.objects.cache x) pair (new x is) had in
+        (omega (arith, early x is, own, ap (λ (s : SlotsView). lsn_in s x) slots), omega (arith, own, low))
     | inr left ↦
         let was = used.dirty x pair (sym (dirties x ∙ ap (λ (b : Bool). b || is_dirty before.objects.cache x) left) ∙ dirty) (sym (old x left) ∙ had) in
-        (omega (arith, was.0, ap (λ (s : SlotsView). id_in s x) slots), was.1)
+        (omega (arith, was.0, ap (λ (s : SlotsView). lsn_in s x) slots), was.1)
   ];
   clean = λ x pair clean had. elim (cases_Bool (set x)) [
     | inl is ↦ absurd (both_ways _ clean (dirties x ∙ ap (λ (b : Bool). b || is_dirty before.objects.cache x) is))
     | inr left ↦
-        used.clean x pair (sym (dirties x ∙ ap (λ (b : Bool). b || is_dirty before.objects.cache x) left) ∙ clean) (sym (old x left) ∙ had) ∙ ap (λ (s : SlotsView). id_in s x) (sym slots)
+        used.clean x pair (sym (dirties x ∙ ap (λ (b : Bool). b || is_dirty before.objects.cache x) left) ∙ clean) (sym (old x left) ∙ had) ∙ ap (λ (s : SlotsView). lsn_in s x) (sym slots)
   ];
 }
 
--- a greater next number
+-- a greater next LSN
 in_use_later : (p : Params) (next later : ℕ) (it : Volatile) → AreInUse p next it → next ≤ later → later ≤ 2 ^ 62 → AreInUse p later it
 in_use_later p next later it used more low = record {
   params = used.params;
   low = low;
-  above = All-weaker (λ n. n < next) (λ n. n < later) (λ n lt. omega (arith, lt, more)) (numbers it.entries) used.above;
+  above = All-weaker (λ n. n < next) (λ n. n < later) (λ n lt. omega (arith, lt, more)) (lsns it.entries) used.above;
   dirty = λ x pair dirty had. let was = used.dirty x pair dirty had in (was.0, omega (arith, was.1, more));
   clean = used.clean;
 }
@@ -74,21 +74,21 @@ module _ (before after : Parts) (used : ArePartsInUse before) where
   appended_in_use m member made done below low =
       let next : after.log.next ≡ before.log.next + 1 = ap (λ (r : RecordLogView). r.next) done.log in
       let params : after.volatile.objects.slots.params ≡ before.volatile.objects.slots.params = ap (λ (s : SlotsView). s.params) done.slots in
-      let number = before.log.next in
-      let later = in_use_later before.volatile.objects.slots.params number after.log.next before.volatile used.store (omega (arith, next)) (omega (arith, next, low)) in
+      let lsn = before.log.next in
+      let later = in_use_later before.volatile.objects.slots.params lsn after.log.next before.volatile used.store (omega (arith, next)) (omega (arith, next, low)) in
       record {
         bounds = ap (λ (r : RecordLogView). r.bounds) done.log ∙ used.bounds ∙ ap bounds_of (sym params);
-        store = subst (λ (q : Params). AreInUse q after.log.next after.volatile) (sym params) (set_in_use before.volatile.objects.slots.params after.log.next before.volatile after.volatile number (λ x. is_among x (writes_of m member)) (λ x. value_for x (writes_of m member) made)
-            later done.slots (omega (arith, next)) (above_more after.log.next before.volatile.entries after.volatile.entries (entry_of m number member) done.entries later.above (omega (arith, next)))
+        store = subst (λ (q : Params). AreInUse q after.log.next after.volatile) (sym params) (set_in_use before.volatile.objects.slots.params after.log.next before.volatile after.volatile lsn (λ x. is_among x (writes_of m member)) (λ x. value_for x (writes_of m member) made)
+            later done.slots (omega (arith, next)) (above_more after.log.next before.volatile.entries after.volatile.entries (entry_of m lsn member) done.entries later.above (omega (arith, next)))
             (λ x among. used.early x (all_among (λ y. y < before.volatile.objects.slots.params.objects) (writes_of m member) x below among))
             (λ x among. done.held x ∙ cond-true (is_among x (writes_of m member)) _ _ among) (λ x left. done.held x ∙ cond-false (is_among x (writes_of m member)) _ _ left) done.dirty);
         early = λ x below.
             let was = used.early x (subst (λ (q : Params). x < q.objects) params below) in
-            omega (arith, was, ap (λ (s : SlotsView). id_in s x) done.slots, next);
+            omega (arith, was, ap (λ (s : SlotsView). lsn_in s x) done.slots, next);
       }
 
   -- and after a redone record is entered
-  entered_in_use : (due : List ℕ) (e : Entry) (made : List (List ℕ)) → IsEntered before.volatile after.volatile due e made → after.log ≡ before.log → e.number < before.log.next → All (λ x. id_at before.volatile.objects x < e.number) due → ArePartsInUse after
+  entered_in_use : (due : List ℕ) (e : Entry) (made : List (List ℕ)) → IsEntered before.volatile after.volatile due e made → after.log ≡ before.log → e.lsn < before.log.next → All (λ x. object_lsn before.volatile.objects x < e.lsn) due → ArePartsInUse after
   entered_in_use due e made done log low later =
       let next : after.log.next ≡ before.log.next = ap (λ (r : RecordLogView). r.next) log in
       let params : after.volatile.objects.slots.params ≡ before.volatile.objects.slots.params = ap (λ (s : SlotsView). s.params) done.slots in
@@ -96,15 +96,15 @@ module _ (before after : Parts) (used : ArePartsInUse before) where
       record {
         bounds = ap (λ (r : RecordLogView). r.bounds) log ∙ used.bounds ∙ ap bounds_of (sym params);
         store = subst (λ (n : ℕ). AreInUse after.volatile.objects.slots.params n after.volatile) (sym next) (subst (λ (q : Params). AreInUse q before.log.next after.volatile) (sym params)
-            (set_in_use before.volatile.objects.slots.params before.log.next before.volatile after.volatile e.number set (λ x. value_for x e.writes made) used.store done.slots low
+            (set_in_use before.volatile.objects.slots.params before.log.next before.volatile after.volatile e.lsn set (λ x. value_for x e.writes made) used.store done.slots low
             (above_more before.log.next before.volatile.entries after.volatile.entries e done.entries used.store.above low)
-            (λ x is. let lower = all_among (λ y. id_at before.volatile.objects y < e.number) due x later (and_parts (is_among x due) (is_among x e.writes) is).0 in
+            (λ x is. let lower = all_among (λ y. object_lsn before.volatile.objects y < e.lsn) due x later (and_parts (is_among x due) (is_among x e.writes) is).0 in
             omega (arith, lower, slot_most before.volatile.objects.slots.params before.log.next before.volatile x used.store))
             (λ x is. let both = and_parts (is_among x due) (is_among x e.writes) is in done.held x ∙ cond-true (is_among x due) _ _ both.0 ∙ cond-true (is_among x e.writes) _ _ both.1)
             (λ x left. done.held x ∙ unset_held (is_among x due) (is_among x e.writes) _ _ left) done.dirty));
         early = λ x below.
             let was = used.early x (subst (λ (q : Params). x < q.objects) params below) in
-            omega (arith, was, ap (λ (s : SlotsView). id_in s x) done.slots, next);
+            omega (arith, was, ap (λ (s : SlotsView). lsn_in s x) done.slots, next);
       }
     where
       unset_held : (a b : Bool) (new old : Option Pair) → (a && b) ≡ false → (if a then (if b then new else old) else old) ≡ old
@@ -127,5 +127,5 @@ module _ (before after : Parts) (identities : ℕ) (used : IsUsable before ident
     counted = omega (arith, used.counted, ap (λ (r : RecordLogView). r.next) done.log);
   }
 
-  pub entry_usable : (due : List ℕ) (e : Entry) (made : List (List ℕ)) → IsEntered before.volatile after.volatile due e made → after.log ≡ before.log → e.number < before.log.next → All (λ x. id_at before.volatile.objects x < e.number) due → IsUsable after identities
+  pub entry_usable : (due : List ℕ) (e : Entry) (made : List (List ℕ)) → IsEntered before.volatile after.volatile due e made → after.log ≡ before.log → e.lsn < before.log.next → All (λ x. object_lsn before.volatile.objects x < e.lsn) due → IsUsable after identities
   entry_usable due e made done same low later = record { in_use = entered_in_use before after used.in_use due e made done same low later; counted = omega (arith, used.counted, ap (λ (r : RecordLogView). r.next) same) }

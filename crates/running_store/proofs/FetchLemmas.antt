@@ -12,10 +12,10 @@ use Rattle.oper_core.specs.Cell.{Cell}
 use Rattle.formats.specs.Objects.{cell_of}
 use Rattle.formats.specs.Reading.{FailsBy}
 use Rattle.formats.specs.declared.read_err.ReadErr.{ReadErr}
-use Rattle.log_frames.specs.Reading.{fails_on}
+use Rattle.log_blocks.specs.Reading.{fails_on}
 use Rattle.stable_objects.specs.Reading.{FailsAt, IsLongValue}
-use Rattle.stable_objects.specs.SlotsView.{SlotsView, AreOf, place_of, holder_in, id_in}
-use Rattle.stable_objects.specs.SlotLaws.{id_is}
+use Rattle.stable_objects.specs.SlotsView.{SlotsView, AreOf, place_of, holder_in, lsn_in}
+use Rattle.stable_objects.specs.SlotLaws.{lsn_is}
 use Rattle.dirty_cache.specs.Contents.{held}
 use Rattle.running_store.specs.Faults.{has_failed, is_read_fault}
 use Rattle.running_store.specs.Fetched.{IsFetched, fetched-twice}
@@ -28,10 +28,10 @@ use Rattle.running_store.specs.Unchanged.{HasRead}
 use Rattle.running_store.proofs.LentLemmas.{values_kept}
 
 -- the pair that was read is that of the slots
-pub read_pair : (slots : SlotsView) (file : List ℕ) (o lsn : ℕ) (bytes : List ℕ) → AreOf slots file → o < slots.params.objects → lsn ≡ id_in slots o → bytes ≡ (cell_of o file).value
-    → cell_of o file ≡ record { id = lsn; value = bytes }
-read_pair slots file o lsn bytes are below id value =
-    let same_id = sym (id ∙ id_is slots file o are below) in λ i. record { id = same_id i; value = sym value i }
+pub read_pair : (slots : SlotsView) (file : List ℕ) (o lsn : ℕ) (bytes : List ℕ) → AreOf slots file → o < slots.params.objects → lsn ≡ lsn_in slots o → bytes ≡ (cell_of o file).value
+    → cell_of o file ≡ record { lsn = lsn; value = bytes }
+read_pair slots file o lsn bytes are below own value =
+    let same_lsn = sym (own ∙ lsn_is slots file o are below) in λ i. record { lsn = same_lsn i; value = sym value i }
 
 -- the cache was looked into
 pub looked_read : (old new : Disk) (before after : Laid) → Stays old new → after.slots ≡ before.slots → ((x : ℕ) → held after.cache x ≡ held before.cache x) → IsFetched before after
@@ -44,20 +44,20 @@ looked_read old new before after stays slots same fetched laid = record {
 
 -- and then a slot was read, and its pair kept
 pub kept_read : {E : Type 0} (old new : Disk) (before looked after : Laid) (slots : SlotsView) (o lsn : ℕ) (bytes : List ℕ) (r : Result ℕ E) → HasRead old new before looked → slots ≡ looked.slots → o < before.slots.params.objects → r ≡ Ok lsn
-    → IfOk r (λ id. id ≡ id_in slots o) → ((files : Files) → new.agrees files → AreOf slots (files Objects) → OnOk r (bytes ≡ (cell_of o (files Objects)).value))
-    → ((file : List ℕ) → IsLaidOn looked file → cell_of o file ≡ record { id = lsn; value = bytes } → KeepsCells file looked after × IsLaidOn after file)
-    → (lsn ≡ id_in looked.slots o → IsFetched looked after) → HasRead old new before after
-kept_read {E} old new before looked after slots o lsn bytes r read same below was id value cells fetched =
-    let number : lsn ≡ id_in looked.slots o = subst (λ (k : Result ℕ E). IfOk k (λ id. id ≡ id_in slots o)) was id ∙ ap (λ (s : SlotsView). id_in s o) same in
+    → IfOk r (λ lsn. lsn ≡ lsn_in slots o) → ((files : Files) → new.agrees files → AreOf slots (files Objects) → OnOk r (bytes ≡ (cell_of o (files Objects)).value))
+    → ((file : List ℕ) → IsLaidOn looked file → cell_of o file ≡ record { lsn = lsn; value = bytes } → KeepsCells file looked after × IsLaidOn after file)
+    → (lsn ≡ lsn_in looked.slots o → IsFetched looked after) → HasRead old new before after
+kept_read {E} old new before looked after slots o lsn bytes r read same below was own value cells fetched =
+    let lsn : lsn ≡ lsn_in looked.slots o = subst (λ (k : Result ℕ E). IfOk k (λ lsn. lsn ≡ lsn_in slots o)) was own ∙ ap (λ (s : SlotsView). lsn_in s o) same in
     record {
       stays = read.stays;
-      fetched = fetched-twice before looked after read.fetched (fetched number);
+      fetched = fetched-twice before looked after read.fetched (fetched lsn);
       cells = λ told laid.
           let file = old.reads Objects in
           let held = read.cells told laid in
           let here = subst (λ (s : SlotsView). AreOf s file → OnOk r (bytes ≡ (cell_of o file).value)) same (value old.reads (told_agrees read.stays told)) held.1.slots in
           let bytes_are = subst (λ (k : Result ℕ E). OnOk k (bytes ≡ (cell_of o file).value)) was here in
-          let pair = read_pair looked.slots file o lsn bytes held.1.slots (subst (λ (s : SlotsView). o < s.params.objects) (sym read.fetched.slots) below) number bytes_are in
+          let pair = read_pair looked.slots file o lsn bytes held.1.slots (subst (λ (s : SlotsView). o < s.params.objects) (sym read.fetched.slots) below) lsn bytes_are in
           let now = cells file held.1 pair in
           (cells_twice file before looked after read.fetched.slots held.0 now.0, now.1);
     }
@@ -73,7 +73,7 @@ values_next file old new objects values v i within below so_far is keeps =
     ∙ ap (map (values_in old file)) (sym (take_more objects i 0 within))
 
 -- why the slot of an object is not read is why the object is not fetched
-pub read_fails : (rises : Type 0) (new : Disk) (slots now : SlotsView) (object : ℕ) (r : Result ℕ ReadErr) (e : ReadErr) → now ≡ slots → object < slots.params.objects → r ≡ Err e → (id_in now object ≡ 0 → IsOk r)
+pub read_fails : (rises : Type 0) (new : Disk) (slots now : SlotsView) (object : ℕ) (r : Result ℕ ReadErr) (e : ReadErr) → now ≡ slots → object < slots.params.objects → r ≡ Err e → (lsn_in now object ≡ 0 → IsOk r)
     → IfErr r (FailsBy rises (FailsAt (λ place. (files : Files) → new.agrees files → IsLongValue now.params.cap (place_of now object (holder_in now object)) (files Objects) place)))
     → FailsBy rises (IsLongSlot new slots object) e
 read_fails rises new slots now object r e same below was fine fails =

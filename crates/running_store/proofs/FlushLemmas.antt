@@ -13,7 +13,7 @@ use Rattle.formats.specs.declared.layout.Layout.{Layout}
 use Rattle.formats.specs.declared.params.Params.{Params}
 use Rattle.install_order.specs.declared.entry.Entry.{Entry}
 use Rattle.log_records.specs.RecordLog.{RecordLogView}
-use Rattle.write_graph.specs.Graph.{numbers}
+use Rattle.write_graph.specs.Graph.{lsns}
 use Rattle.stable_objects.specs.Replacing.{IsOldOrNew, IsReplaced}
 use Rattle.stable_objects.specs.SlotsView.{AreOf}
 use Rattle.dirty_cache.specs.Contents.{Contents, cell_of_entry, held, is_dirty}
@@ -27,7 +27,7 @@ use Rattle.running_store.specs.Beside.{IsOnObjectsAlone}
 use Rattle.running_store.specs.Calls.{IsCall, Never}
 use Rattle.running_store.specs.Courses.{flush_steps, removal_steps}
 use Rattle.running_store.specs.Flushed.{IsFlushed}
-use Rattle.running_store.specs.InUse.{flushed_early, flushed_in_use, numbers_within, removed_in_use}
+use Rattle.running_store.specs.InUse.{flushed_early, flushed_in_use, lsns_within, removed_in_use}
 use Rattle.running_store.specs.Keeping.{flushed_laid}
 use Rattle.running_store.specs.Kept.{KeepsLog}
 use Rattle.running_store.specs.KeptLaws.{beside_log}
@@ -123,7 +123,7 @@ module _ {O : Type 0} (meaning : Bounds → Meaning O) (old new : Disk) (log : R
 
 -- entries of a store are taken out
 module _ (log : RecordLogView) (objects : Laid) (entries rest : List Entry) (identities : ℕ) (broken : Bool) (here : StoreView) (is : view_of log objects entries identities broken ≡ here)
-    (node : ℕ → Bool) (removed : rest ≡ filter (λ e. not (node e.number)) entries) where
+    (node : ℕ → Bool) (removed : rest ≡ filter (λ e. not (node e.lsn)) entries) where
   abbrev left : StoreView
   left = view_of log objects rest identities broken
 
@@ -155,12 +155,12 @@ module _ (log : RecordLogView) (objects : Laid) (entries rest : List Entry) (ide
         let beside = subst (λ (s : StoreView). IsOnObjectsAlone old new before s) (sym is) was in
         record {
           objects = record { runs = beside.objects.runs; log = beside.objects.log; laid = beside.objects.laid };
-          entries = λ k all. subst (λ (l : List Entry). All (λ n. n < k) (numbers l)) (sym removed) (numbers_within k (λ e. not (node e.number)) entries (beside.entries k all));
+          entries = λ k all. subst (λ (l : List Entry). All (λ n. n < k) (lsns l)) (sym removed) (lsns_within k (λ e. not (node e.lsn)) entries (beside.entries k all));
         }
 
 -- a store that shows a world shows, after a flush and a removal, the one after both
 pub removal_shown : {O : Type 0} (m : Meaning O) (p : Params) (d : Disk) (w : World O) (node : ℕ → Bool) (work : List ℕ) (it : Volatile) (rest : List Entry) → VolatileShows m p d it (run m w (flush_steps m node work))
-    → rest ≡ filter (λ e. not (node e.number)) it.entries → AreAllowed m w (removal_steps m node work) → ((v : World O) → IsSound m v → IsAllowed m v (Removal node) → IsSound m (step m v (Removal node)))
+    → rest ≡ filter (λ e. not (node e.lsn)) it.entries → AreAllowed m w (removal_steps m node work) → ((v : World O) → IsSound m v → IsAllowed m v (Removal node) → IsSound m (step m v (Removal node)))
     → VolatileShows m p d (volatile it.objects rest) (run m w (removal_steps m node work))
 removal_shown {O} m p d w node work it rest shows removed allowed law =
     let v = run m w (flush_steps m node work) in

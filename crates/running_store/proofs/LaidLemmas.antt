@@ -110,7 +110,7 @@ module _ (slots : SlotsView) (old new : Contents) (o lsn : ℕ) (bytes : List �
         | inr other ↦ length_kept before now_laid x refl (others x other.0)
       ])
 
-  module _ (file : List ℕ) (laid : IsLaidOn before file) (read : cell_of o file ≡ record { id = lsn; value = bytes }) where
+  module _ (file : List ℕ) (laid : IsLaidOn before file) (read : cell_of o file ≡ record { lsn = lsn; value = bytes }) where
     -- a clean object that was forgotten has the pair of its slot
     slot_pair : (x : ℕ) (h : Option Entry) → is_dirty old x ≡ false → held old x ≡ h → cell_of x file ≡ cell_or h (cell_of x file)
     slot_pair x None clean is = refl
@@ -134,8 +134,8 @@ module _ (slots : SlotsView) (old new : Contents) (o lsn : ℕ) (bytes : List �
         | stays same dirty ↦ laid.clean x e (sym dirty ∙ clean) (sym same ∙ is)
         | forgotten before_clean none ↦ not_both (held new x) e none is
         | is_kept here some ↦
-            subst (λ (y : ℕ). cell_of y file ≡ record { id = lsn; value = bytes }) here read
-            ∙ ap (λ (f : Entry). record { id = f.lsn; value = f.bytes }) (same_some (held new x) kept e some is)
+            subst (λ (y : ℕ). cell_of y file ≡ record { lsn = lsn; value = bytes }) here read
+            ∙ ap (λ (f : Entry). record { lsn = f.lsn; value = f.bytes }) (same_some (held new x) kept e some is)
       ];
     }
 

@@ -43,7 +43,7 @@ apart_before (x ∷ xs) (suc i) apart within =
     let rest = apart_before xs i (IsDistinct-tail nat_eq x xs apart) (omega (arith, within)) in
     λ j. (nat_eq_equiv.symm (slice_index xs i) x ∙ other) j || rest j
 
--- entries of one identifier
+-- entries of one LSN
 abbrev id_of : Option Entry → Option ℕ
 id_of h = option_map (λ e. e.lsn) h
 
@@ -71,15 +71,15 @@ bytes_set bytes (Some e) some = refl
 
 -- nothing changes
 pub keeps_all : (objects : List ℕ) (cache : Contents) → KeepsOthers objects cache cache
-keeps_all objects cache = record { ids = λ x. refl; others = λ x other. refl; dirty = λ x. refl; rooms = λ y room. room }
+keeps_all objects cache = record { lsns_kept = λ x. refl; others = λ x other. refl; dirty = λ x. refl; rooms = λ y room. room }
 
 module _ {old now new : Contents} {front : List ℕ} {o : ℕ} {bytes : List ℕ} (before : KeepsOthers front old now) (swapped : IsSwapped now new o bytes) where
   -- the value of another object is changed too
   pub keeps_more : (objects : List ℕ) → ((x : ℕ) → is_among x objects ≡ false → (is_among x front ≡ false) × ((x == o) ≡ false)) → KeepsRooms now new → KeepsOthers objects old new
   keeps_more objects apart rooms = record {
-    ids = λ x. elim (eqb_tells o x) [
-      | inl same ↦ subst (λ (y : ℕ). id_of (held new y) ≡ id_of (held old y)) same.1 (ap id_of swapped.entry ∙ id_kept bytes (held now o) ∙ before.ids o)
-      | inr other ↦ ap id_of (swapped.others x other.0) ∙ before.ids x
+    lsns_kept = λ x. elim (eqb_tells o x) [
+      | inl same ↦ subst (λ (y : ℕ). id_of (held new y) ≡ id_of (held old y)) same.1 (ap id_of swapped.entry ∙ id_kept bytes (held now o) ∙ before.lsns_kept o)
+      | inr other ↦ ap id_of (swapped.others x other.0) ∙ before.lsns_kept x
     ];
     others = λ x out. let both = apart x out in swapped.others x (nat_eq_equiv.symm o x ∙ both.1) ∙ before.others x both.0;
     dirty = λ x. swapped.dirty x ∙ before.dirty x;
@@ -91,7 +91,7 @@ module _ {old now new : Contents} {front : List ℕ} {o : ℕ} {bytes : List ℕ
       → (x : ℕ) → is_among x (o ∷ front) ≡ true → IsSome (held old x) → cached_values new x ≡ value_for x (o ∷ front) (bytes ∷ rest)
   back_more rest back x there some = elim (eqb_tells x o) [
     | inl same ↦
-        let here : IsSome (held now o) = some_same (held now o) (held old o) (before.ids o) (subst (λ (y : ℕ). IsSome (held old y)) same.1 some) in
+        let here : IsSome (held now o) = some_same (held now o) (held old o) (before.lsns_kept o) (subst (λ (y : ℕ). IsSome (held old y)) same.1 some) in
         subst (λ (y : ℕ). cached_values new y ≡ bytes) (sym same.1) (ap (λ (h : Option Entry). bytes_or h []) swapped.entry ∙ bytes_set bytes (held now o) here)
         ∙ sym (ap (λ (b : Bool). if b then bytes else value_for x front rest) same.0)
     | inr other ↦
@@ -135,9 +135,9 @@ pub lent_back : (reads written : List ℕ) (values : List (List ℕ)) (old lent 
     → ((x : ℕ) → is_among x reads ≡ true → IsSome (held lent x) → cached_values new x ≡ value_for x reads values)
     → ((x : ℕ) → is_among x written ≡ false → is_among x reads ≡ true → value_for x reads values ≡ cached_values old x) → KeepsOthers written old new
 lent_back reads written values old lent new there again back same = record {
-  ids = λ x. again.ids x ∙ there.ids x;
+  lsns_kept = λ x. again.lsns_kept x ∙ there.lsns_kept x;
   others = λ x out. elim (cases_Bool (is_among x reads)) [
-    | inl among ↦ entry_same (held new x) (held old x) (again.ids x ∙ there.ids x) (λ some. back x among (some_same (held lent x) (held old x) (there.ids x) some) ∙ same x out among)
+    | inl among ↦ entry_same (held new x) (held old x) (again.lsns_kept x ∙ there.lsns_kept x) (λ some. back x among (some_same (held lent x) (held old x) (there.lsns_kept x) some) ∙ same x out among)
     | inr other ↦ again.others x other ∙ there.others x other
   ];
   dirty = λ x. again.dirty x ∙ there.dirty x;

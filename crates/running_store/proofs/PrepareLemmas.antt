@@ -12,7 +12,7 @@ use Rattle.formats.specs.Objects.{bounds_of, cell_of}
 use Rattle.formats.specs.declared.layout.Layout.{Layout}
 use Rattle.formats.specs.declared.params.Params.{Params}
 use Rattle.install_order.specs.declared.entry.Entry.{Entry}
-use Rattle.log_frames.specs.LogView.{used_of}
+use Rattle.log_blocks.specs.LogView.{used_of}
 use Rattle.log_records.specs.RecordLog.{RecordLogView}
 use Rattle.stable_objects.specs.SlotsView.{SlotsView, AreOf}
 use Rattle.stable_objects.specs.SpareLaws.{unseen_moments, unseen_on, unseen_twice}
@@ -44,7 +44,7 @@ use Rattle.running_store.proofs.Inside.{call_inside, flag_before, quiet_one}
 pub stays_closed : (before after : Laid) (x : ℕ) → IsClosing before.slots after.slots → after.cache ≡ before.cache → HasClosedSpare before x → HasClosedSpare after x
 stays_closed before after x closing same closed cached =
     let was = closed (subst (λ (c : Contents). IsSome (held c x)) same cached) in
-    ⊎_elim (λ kept. kept ∙ was) (λ none. none) (closing.spare_ids x)
+    ⊎_elim (λ kept. kept ∙ was) (λ none. none) (closing.spare_lsns x)
 
 -- what is known while the spare slots of some objects are closed, one after the other
 pub record HaveClosed (first now : Disk) (before after : Laid) (done : List ℕ) : Type 0 where
@@ -94,7 +94,7 @@ stored_same : (p : Params) (old new : List ℕ) → ((x : ℕ) → x < p.objects
 stored_same p old new cells x = elim (cases_lt x p.objects) [
   | inl below ↦ stored_here p new x below ∙ cells x below ∙ sym (stored_here p old x below)
   | inr past ↦
-      let none : Cell = record { id = 0; value = [] } in
+      let none : Cell = record { lsn = 0; value = [] } in
       cond-false (nat_lt x p.objects) (cell_of x new) none (le-ltb x p.objects past) ∙ sym (cond-false (nat_lt x p.objects) (cell_of x old) none (le-ltb x p.objects past))
 ]
 
@@ -114,8 +114,8 @@ prepared_in_use p next it slots closing used = record {
   params = ap (λ (l : Layout). l.params) closing.layout ∙ used.params;
   low = used.low;
   above = used.above;
-  dirty = λ x pair dirty had. let was = used.dirty x pair dirty had in (omega (arith, was.0, closing.ids x), was.1);
-  clean = λ x pair clean had. used.clean x pair clean had ∙ sym (closing.ids x);
+  dirty = λ x pair dirty had. let was = used.dirty x pair dirty had in (omega (arith, was.0, closing.lsns_kept x), was.1);
+  clean = λ x pair clean had. used.clean x pair clean had ∙ sym (closing.lsns_kept x);
 }
 
 module _ {O : Type 0} (m : Meaning O) (p : Params) (old new : Disk) (it : Volatile) (w : World O) (shows : VolatileShows m p old it w) where
@@ -189,7 +189,7 @@ module _ {O : Type 0} (meaning : Bounds → Meaning O) (old new : Disk) (log : R
           in_use = record {
             bounds = was.in_use.bounds ∙ ap (λ (l : Layout). bounds_of l.params) (sym closing.layout);
             store = subst (λ (l : Layout). AreInUse l.params log.next (volatile later entries)) (sym closing.layout) (prepared_in_use objects.slots.params log.next (volatile objects entries) slots closing was.in_use.store);
-            early = λ x less. let low = was.in_use.early x (subst (λ (l : Layout). x < l.params.objects) closing.layout less) in omega (arith, low, closing.ids x);
+            early = λ x less. let low = was.in_use.early x (subst (λ (l : Layout). x < l.params.objects) closing.layout less) in omega (arith, low, closing.lsns_kept x);
           };
           counted = was.counted;
         }

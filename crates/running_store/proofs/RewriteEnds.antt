@@ -7,16 +7,16 @@ use Rattle.disk_model.specs.declared.machine.FileNo.{FileNo}
 use Rattle.disk_model.specs.declared.machine.FileNo.TheVariants.{Objects}
 use Rattle.oper_core.specs.Meaning.{Meaning}
 use Rattle.oper_core.specs.declared.bounds.Bounds.{Bounds}
-use Rattle.redo_tables.specs.declared.table.Table.{Table}
+use Rattle.dirty_page_table.specs.declared.table.DirtyPageTable.{DirtyPageTable}
 use Rattle.formats.specs.Limits.{log_limit}
 use Rattle.formats.specs.InForce.{other_of}
 use Rattle.formats.specs.Objects.{bounds_of}
-use Rattle.formats.specs.Records.{IsCheckAt}
+use Rattle.formats.specs.Records.{IsCheckpointAt}
 use Rattle.formats.specs.declared.params.Params.{Params}
 use Rattle.formats.specs.declared.record.Record.{Record}
 use Rattle.install_order.specs.declared.entry.Entry.{Entry}
-use Rattle.log_frames.specs.LogView.{used_of}
-use Rattle.log_frames.specs.Rewriting.{file_length, rewritten}
+use Rattle.log_blocks.specs.LogView.{used_of}
+use Rattle.log_blocks.specs.Rewriting.{file_length, rewritten}
 use Rattle.log_records.specs.declared.rewrite_err.RewriteErr.{RewriteErr}
 use Rattle.log_records.specs.declared.rewrite_err.RewriteErr.TheVariants as of_rewrite
 use Rattle.log_records.specs.RecordLog.{RecordLogView, Keeps}
@@ -45,8 +45,8 @@ use Rattle.running_store.specs.Taking.Ending.{Done, Stopped, Short, Failed}
 use Rattle.running_store.proofs.Inside.{call_inside, flag_before, quiet_one, takes_inside}
 use Rattle.running_store.proofs.Rewritten.{all_stable, keeps_all, length_new, no_records, old_shows, other_log, rewrite_moments, rewritten_shows, stable}
 
--- The check and the base are those of each world that is shown.
-module _ {O : Type 0} (meaning : Bounds → Meaning O) (d : Disk) (log : RecordLogView) (it : Volatile) (base : ℕ) (table : Table) (may : IsRewritable (meaning log.bounds) log base table)
+-- The checkpoint and the base are those of each world that is shown.
+module _ {O : Type 0} (meaning : Bounds → Meaning O) (d : Disk) (log : RecordLogView) (it : Volatile) (base : ℕ) (table : DirtyPageTable) (may : IsRewritable (meaning log.bounds) log base table)
     (kept : (p : Params) (v : World O) → Shows (meaning_in meaning p) p d (record { log = log; volatile = it }) v → IsKeptFrom (meaning_in meaning p) v base table) where
   abbrev here : Parts
   here = record { log = log; volatile = it }
@@ -67,8 +67,8 @@ module _ {O : Type 0} (meaning : Bounds → Meaning O) (d : Disk) (log : RecordL
     low : v.base ≤ base
     low = omega (arith, may.low, shows.log.base)
 
-    place : IsCheckAt m base log.next table
-    place = subst (λ (b : Bounds). IsCheckAt (meaning b) base log.next table) shows.bounds may.place
+    place : IsCheckpointAt m base log.next table
+    place = subst (λ (b : Bounds). IsCheckpointAt (meaning b) base log.next table) shows.bounds may.place
 
     -- the log's own bounds are those of the store
     own : Keeps (meaning log.bounds) d log records []
@@ -183,7 +183,7 @@ stop_is P here stop same = subst P (ap stop_of same)
     stop_of Failed = here
 
 -- what the call leaves, whatever it answers
-pub record EndsRewrite {O T : Type 0} (meaning : Bounds → Meaning O) (old new : Disk) (before after : StoreView) (base : ℕ) (table : Table) (r : Result T RewriteErr) : Type 0 where
+pub record EndsRewrite {O T : Type 0} (meaning : Bounds → Meaning O) (old new : Disk) (before after : StoreView) (base : ℕ) (table : DirtyPageTable) (r : Result T RewriteErr) : Type 0 where
   pub usable : IsUsable after.parts after.identities
   pub call : IsCall meaning old new before after 0 (StopsAt log_limit) (ending_of_rewrite r)
   pub takes : ((p : Params) (w : World O) → Shows (meaning_in meaning p) p old before.parts w → IsKeptFrom (meaning_in meaning p) w base table)
@@ -191,7 +191,7 @@ pub record EndsRewrite {O T : Type 0} (meaning : Bounds → Meaning O) (old new 
   pub rewritten : HasRewritten before after base r
 
 module _ {O : Type 0} (meaning : Bounds → Meaning O) (old new : Disk) (log : RecordLogView) (objects : Laid) (entries : List Entry) (identities : ℕ) (broken flag : Bool) (before : StoreView) (is : view_of log objects entries identities broken ≡ before)
-    (fine : before.broken ≡ false) (used : IsUsable (parts log objects entries) identities) (base : ℕ) (table : Table) (may : IsRewritable (meaning log.bounds) log base table) (runs : Runs (In (other_of log.log.active) Any) Same old new) where
+    (fine : before.broken ≡ false) (used : IsUsable (parts log objects entries) identities) (base : ℕ) (table : DirtyPageTable) (may : IsRewritable (meaning log.bounds) log base table) (runs : Runs (In (other_of log.log.active) Any) Same old new) where
   abbrev with_new : RecordLogView → StoreView
   with_new after = view_of after objects entries identities flag
 

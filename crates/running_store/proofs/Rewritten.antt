@@ -8,18 +8,18 @@ use Rattle.disk_model.specs.Silent.{IsSilent}
 use Rattle.disk_model.specs.declared.machine.FileNo.{FileNo}
 use Rattle.disk_model.specs.declared.machine.FileNo.TheVariants.{Objects, LogA, LogB}
 use Rattle.oper_core.specs.Meaning.{Meaning}
-use Rattle.redo_tables.specs.declared.table.Table.{Table as Logged_table}
+use Rattle.dirty_page_table.specs.declared.table.DirtyPageTable.{DirtyPageTable as Logged_table}
 use Rattle.formats.specs.InForce.{other_of}
 use Rattle.formats.specs.Objects.{IsObjectsFile}
-use Rattle.formats.specs.Records.{AreRecords, IsCheckAt, payload_of, record_code, commands_of as logged_commands}
+use Rattle.formats.specs.Records.{AreRecords, IsCheckpointAt, payload_of, record_code, commands_of as logged_commands}
 use Rattle.formats.specs.declared.params.Params.{Params}
 use Rattle.formats.specs.declared.record.Record.{Record}
-use Rattle.formats.specs.declared.record.Record.TheVariants.{Command as Logged_command, Identity as Logged_identity, Check as Logged_check}
-use Rattle.log_frames.specs.Rewriting.{file_length}
+use Rattle.formats.specs.declared.record.Record.TheVariants.{Command as Logged_command, Identity as Logged_identity, Checkpoint as Logged_checkpoint}
+use Rattle.log_blocks.specs.Rewriting.{file_length}
 use Rattle.log_records.specs.RecordLaws.{AreRecords-front}
 use Rattle.log_records.specs.RecordLog.{RecordLogView, Keeps}
 use Rattle.log_records.specs.RewriteLaws.{new_end}
-use Rattle.log_records.specs.Rewriting.{IsRewrittenPartly, code_lengths, commands_before, left_out, blocks_length, new_payloads, numbered_from, rewritten_log, rewritten_records}
+use Rattle.log_records.specs.Rewriting.{IsRewrittenPartly, code_lengths, commands_before, left_out, blocks_length, new_payloads, from_lsn, rewritten_log, rewritten_records}
 use Rattle.explain_core.specs.History.{Member, commands_of}
 use Rattle.explain_core.specs.Sound.{IsSound}
 use Rattle.explain_core.specs.StableLaws.{commands_of-append}
@@ -28,10 +28,10 @@ use Rattle.explain_core.specs.World.Step.{Header_gate}
 use Rattle.standing.specs.Members.{members_of, tables_in, table_of, members-append, tables-append}
 use Rattle.standing.specs.Moments.{ShowsEither, TakesSome, moments_one}
 use Rattle.standing.specs.Standing.{stored}
-use Rattle.running_store.specs.Buffered.{check_bytes}
+use Rattle.running_store.specs.Buffered.{checkpoint_bytes}
 use Rattle.running_store.specs.Courses.{record_length, table_length}
 use Rattle.running_store.specs.Parts.{Shows, ShowsVolatile, Volatile}
-use Rattle.running_store.specs.Rewrites.{check_length, lengths_left, new_base, trimmed_file}
+use Rattle.running_store.specs.Rewrites.{checkpoint_length, lengths_left, new_base, trimmed_file}
 use Rattle.running_store.proofs.Tails.{tail_members, tail_tables, tail_lengths, left_commands}
 
 -- the other log is not the objects file
@@ -43,9 +43,9 @@ other_log LogB a_log = λ e. cc
 -- records of no bytes are none
 pub no_records : {O : Type 0} (m : Meaning O) (records : List (Record O)) → [] ≡ payload_of m records → records ≡ []
 no_records m [] none = refl
-no_records m (Logged_command number op ∷ records) none = absurd (omega (arith, ap length none))
-no_records m (Logged_identity number x value ∷ records) none = absurd (omega (arith, ap length none))
-no_records m (Logged_check table ∷ records) none = absurd (omega (arith, ap length none))
+no_records m (Logged_command lsn op ∷ records) none = absurd (omega (arith, ap length none))
+no_records m (Logged_identity lsn x value ∷ records) none = absurd (omega (arith, ap length none))
+no_records m (Logged_checkpoint table ∷ records) none = absurd (omega (arith, ap length none))
 
 all_forced : {O : Type 0} (h : List (Member O)) (f : ℕ) → f ≤ length h → [] ≡ drop f h → f ≡ length h
 all_forced h f le none = omega (arith, le, length-drop f h, ap length none)
@@ -90,9 +90,9 @@ module _ {O : Type 0} (m : Meaning O) (p : Params) (d : Disk) (log : RecordLogVi
   placed_all : AreRecords m log.log.header.base log.log.header.base stable
   placed_all = AreRecords-front m log.log.header.base log.log.header.base stable shows.log.pending shows.log.keeps.placed
 
-  module _ (table : Logged_table) (now : table_of table ≡ table_now m v) (base : ℕ) (place : IsCheckAt m base log.next table) (low : v.base ≤ base) where
+  module _ (table : Logged_table) (now : table_of table ≡ table_now m v) (base : ℕ) (place : IsCheckpointAt m base log.next table) (low : v.base ≤ base) where
     abbrev tail : List (Record O)
-    tail = numbered_from base stable
+    tail = from_lsn base stable
 
     between : (v.base - 1) + (base - v.base) ≡ base - 1
     between = omega (arith, low, shows.running.sound.base)
@@ -127,20 +127,20 @@ module _ {O : Type 0} (m : Meaning O) (p : Params) (d : Disk) (log : RecordLogVi
 
     members_new : members_of (rewritten_records base table stable) ≡ drop (base - 1) (take v.forced v.history)
     members_new =
-        members-append tail (Logged_check table ∷ []) ∙ append-nil (members_of tail) ∙ tail_is
+        members-append tail (Logged_checkpoint table ∷ []) ∙ append-nil (members_of tail) ∙ tail_is
         ∙ ap (λ (h : List (Member O)). drop (base - 1) h) (sym (take-length v.history) ∙ ap (λ (n : ℕ). take n v.history) (sym all_stable))
 
     tables_new : tables_in (rewritten_records base table stable) ≡ table_now m v ∷ []
-    tables_new = tables-append tail (Logged_check table ∷ []) ∙ (λ i. now i ∷ tail_tables m base stable i)
+    tables_new = tables-append tail (Logged_checkpoint table ∷ []) ∙ (λ i. now i ∷ tail_tables m base stable i)
 
     -- the new log is as long as the course says
     pub length_new : base ≡ new_base m v → file_length (new_payloads m base table stable) ≡ trimmed_file m v
     length_new is =
         let kept : members_of tail ≡ drop (new_base m v - 1) v.history = tail_is ∙ ap (λ (n : ℕ). drop (n - 1) v.history) is in
-        let check : length (record_code m (Logged_check table)) ≡ check_length m v = check_bytes m base log.next table place ∙ ap (λ (t : Starts). table_length m t) now in
+        let checkpoint : length (record_code m (Logged_checkpoint table)) ≡ checkpoint_length m v = checkpoint_bytes m base log.next table place ∙ ap (λ (t : Starts). table_length m t) now in
         let lengths : code_lengths m (rewritten_records base table stable) ≡ lengths_left m v =
-        map-append (λ (r : Record O). length (record_code m r)) tail (Logged_check table ∷ [])
-        ∙ (λ i. (tail_lengths m base stable ∙ ap (λ (l : List (Member O)). map (record_length m) l) kept) i ++ check i ∷ []) in
+        map-append (λ (r : Record O). length (record_code m r)) tail (Logged_checkpoint table ∷ [])
+        ∙ (λ i. (tail_lengths m base stable ∙ ap (λ (l : List (Member O)). map (record_length m) l) kept) i ++ checkpoint i ∷ []) in
         let blocks = ap (λ (l : List ℕ). blocks_length 0 l) lengths in
         omega (arith, new_end m base table stable, blocks)
 

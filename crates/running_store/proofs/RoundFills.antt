@@ -9,7 +9,7 @@ use Rattle.dirty_cache.specs.Contents.{held}
 use Rattle.dirty_cache.specs.declared.entry.Entry.{Entry as Pair}
 use Rattle.stable_objects.specs.Replacing.{IsFilled}
 use Rattle.stable_objects.specs.SpareLaws.{spares_run}
-use Rattle.stable_objects.specs.Spares.{KeepsButSpares, KeepsFilledBut, spare_id, spare_place}
+use Rattle.stable_objects.specs.Spares.{KeepsButSpares, KeepsFilledBut, spare_lsn, spare_place}
 use Rattle.running_store.specs.InUse.{none_some}
 use Rattle.running_store.specs.Laid.{AreCached, Laid}
 use Rattle.running_store.specs.RoundCalls.{AreFilled}
@@ -25,13 +25,13 @@ module _ (laid : Laid) (object : ℕ) (done : List ℕ) (old : List ℕ) (were :
 
   -- its slot is filled, and the others stay
   pub filled_next : (cached : AreCached laid.slots.params laid.cache) (new : List ℕ) (lsn : ℕ) (bytes : List ℕ) → held laid.cache object ≡ Some (record { lsn = lsn; bytes = bytes })
-      → (spare_id laid.slots object ≡ 0 → IsFilled (spare_place laid.slots object) lsn bytes new) → KeepsFilledBut laid.slots object old new → AreFilled laid (object ∷ done) new
+      → (spare_lsn laid.slots object ≡ 0 → IsFilled (spare_place laid.slots object) lsn bytes new) → KeepsFilledBut laid.slots object old new → AreFilled laid (object ∷ done) new
   filled_next cached new lsn bytes there filled kept x pair among had closed = elim (cases_eq x object) [
     | inl here ↦
         let one : Pair = record { lsn = lsn; bytes = bytes } in
         let same : one ≡ pair = from_some one pair (sym there ∙ subst (λ (y : ℕ). held laid.cache y ≡ Some pair) here had) in
         subst (λ (y : ℕ). IsFilled (spare_place laid.slots y) pair.lsn pair.bytes new) (sym here)
-        (subst (λ (e : Pair). IsFilled (spare_place laid.slots object) e.lsn e.bytes new) same (filled (subst (λ (y : ℕ). spare_id laid.slots y ≡ 0) here closed)))
+        (subst (λ (e : Pair). IsFilled (spare_place laid.slots object) e.lsn e.bytes new) same (filled (subst (λ (y : ℕ). spare_lsn laid.slots y ≡ 0) here closed)))
     | inr other ↦
         let limits = cached.each x pair had in
         let before : IsTrue (is_among x done) = elim (or_cases (x == object) (is_among x done) among) [ inl same ↦ absurd (other (eqb-true x object same)) | inr on ↦ on ] in

@@ -64,8 +64,8 @@ module _ (old here : Disk) (before mid : Laid) (objects : List ℕ) (run : Runs 
         subst (λ (c : Cell). IsReady mid.slots (here.reads Objects) x c) (sym (cached_is before.cache x pair f.1)) (record {
           below = omega (arith, limits.0, ap (λ (q : Params). q.objects) params_are);
           closed = none;
-          later = omega (arith, newer.0, closing.ids x);
-          numbered = newer.1;
+          later = omega (arith, newer.0, closing.lsns_kept x);
+          with_lsn = newer.1;
           short = omega (arith, limits.1, ap (λ (q : Params). q.cap) params_are);
           filled = filled told x pair among there none;
         })
@@ -107,8 +107,8 @@ module _ (old here : Disk) (before mid : Laid) (objects : List ℕ) (run : Runs 
       pub together_flushed : AreFlushed before after objects
       together_flushed = record {
         layout = flushed.layout ∙ closing.layout;
-        ids = λ x pair among had. flushed.ids x pair among (ap (λ (c : Contents). held c x) same ∙ had);
-        other_ids = λ x off. flushed.other_ids x off ∙ closing.ids x;
+        lsns_kept = λ x pair among had. flushed.lsns_kept x pair among (ap (λ (c : Contents). held c x) same ∙ had);
+        other_lsns = λ x off. flushed.other_lsns x off ∙ closing.lsns_kept x;
         entries = λ x among. ⊎_elim (λ kept. inl (kept ∙ ap (λ (c : Contents). held c x) same)) (λ none. inr none) (flushed.entries x among);
         clean = flushed.clean;
         others = λ x off. let is = flushed.others x off in record {

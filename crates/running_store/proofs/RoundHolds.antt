@@ -8,7 +8,7 @@ use Rattle.dirty_cache.specs.Contents.{Contents, IsSameOrForgotten, held, is_dir
 use Rattle.dirty_cache.specs.declared.entry.Entry.{Entry as Pair}
 use Rattle.stable_objects.specs.HoldLaws.{held_as, held_more, held_none}
 use Rattle.stable_objects.specs.Ready.{AreHeld, IsHeld}
-use Rattle.stable_objects.specs.SlotsView.{id_in}
+use Rattle.stable_objects.specs.SlotsView.{lsn_in}
 use Rattle.running_store.specs.Flushed.{IsFlushed}
 use Rattle.running_store.specs.InUse.{dirty_held}
 use Rattle.running_store.specs.Laid.{Laid, cell_or}
@@ -32,8 +32,8 @@ next_among y i xs lt = let on : i + 1 ≡ suc i = omega arith in ap (λ (n : ℕ
 pub flushed_none : (laid : Laid) → AreFlushed laid laid []
 flushed_none laid = record {
   layout = refl;
-  ids = λ x pair among had. absurd (both_ways _ refl among);
-  other_ids = λ x off. refl;
+  lsns_kept = λ x pair among had. absurd (both_ways _ refl among);
+  other_lsns = λ x off. refl;
   entries = λ x among. absurd (both_ways _ refl among);
   clean = λ x among. absurd (both_ways _ refl among);
   others = λ x off. record { entry = inl refl; dirty = refl };
@@ -43,8 +43,8 @@ flushed_none laid = record {
 pub flushed_as : (before after : Laid) (done more : List ℕ) → ((y : ℕ) → is_among y more ≡ is_among y done) → AreFlushed before after done → AreFlushed before after more
 flushed_as before after done more same was = record {
   layout = was.layout;
-  ids = λ x pair among had. was.ids x pair (sym (same x) ∙ among) had;
-  other_ids = λ x off. was.other_ids x (sym (same x) ∙ off);
+  lsns_kept = λ x pair among had. was.lsns_kept x pair (sym (same x) ∙ among) had;
+  other_lsns = λ x off. was.other_lsns x (sym (same x) ∙ off);
   entries = λ x among. was.entries x (sym (same x) ∙ among);
   clean = λ x among. was.clean x (sym (same x) ∙ among);
   others = λ x off. was.others x (sym (same x) ∙ off);
@@ -91,11 +91,11 @@ module _ (before mid after : Laid) (done more : List ℕ) (x : ℕ) (was : AreFl
   pub flushed_more : AreFlushed before after more
   flushed_more = record {
     layout = is.layout ∙ was.layout;
-    ids = λ y pair among had. elim (cases_eq y x) [
-      | inl same ↦ subst (λ (z : ℕ). held before.cache z ≡ Some pair → id_in after.slots z ≡ pair.lsn) (sym same) (λ there. is.id pair (held_first ∙ there)) had
-      | inr other ↦ is.other_ids y other ∙ was.ids y pair (sym (beside y other) ∙ among) had
+    lsns_kept = λ y pair among had. elim (cases_eq y x) [
+      | inl same ↦ subst (λ (z : ℕ). held before.cache z ≡ Some pair → lsn_in after.slots z ≡ pair.lsn) (sym same) (λ there. is.lsn pair (held_first ∙ there)) had
+      | inr other ↦ is.other_lsns y other ∙ was.lsns_kept y pair (sym (beside y other) ∙ among) had
     ];
-    other_ids = λ y none. let other = apart y none in is.other_ids y other ∙ was.other_ids y (sym (beside y other) ∙ none);
+    other_lsns = λ y none. let other = apart y none in is.other_lsns y other ∙ was.other_lsns y (sym (beside y other) ∙ none);
     entries = λ y among. elim (cases_eq y x) [
       | inl same ↦ subst (λ (z : ℕ). (held after.cache z ≡ held before.cache z) ⊎ (held after.cache z ≡ None)) (sym same) (both (held before.cache x) (held mid.cache x) (held after.cache x) (inl held_first) is.entry)
       | inr other ↦
@@ -116,12 +116,12 @@ still_later before after done was later x pair dirty had = elim (cases_Bool (is_
   | inr off ↦
       let then = sym (was.others x off).dirty ∙ dirty in
       let found = later x pair then (sym (dirty_kept before.cache after.cache x (was.others x off) then) ∙ had) in
-      (omega (arith, found.0, was.other_ids x off), found.1)
+      (omega (arith, found.0, was.other_lsns x off), found.1)
 ]
 
 -- the pair that is cached
-pub cached_is : (cache : Contents) (x : ℕ) (pair : Pair) → held cache x ≡ Some pair → cached_in cache x ≡ record { id = pair.lsn; value = pair.bytes }
-cached_is cache x pair had = ap (λ (o : Option Pair). cell_or o (record { id = 0; value = [] })) had
+pub cached_is : (cache : Contents) (x : ℕ) (pair : Pair) → held cache x ≡ Some pair → cached_in cache x ≡ record { lsn = pair.lsn; value = pair.bytes }
+cached_is cache x pair had = ap (λ (o : Option Pair). cell_or o (record { lsn = 0; value = [] })) had
 
 -- so far these of them are held
 pub record HaveHeld (before now : Laid) (done : List ℕ) : Type 0 where
@@ -157,7 +157,7 @@ module _ (before mid after : Laid) (objects : List ℕ) (i : ℕ) (lt : i < leng
         record {
           flushed = flushed_more before mid after (take i objects) (take (i + 1) objects) x was.flushed off now is next;
           held_in = held_more before.slots mid.slots after.slots (take i objects) (take (i + 1) objects) (cached_in before.cache) x was.held_in off
-              (subst (λ (c : Cell). IsHeld mid.slots after.slots x c.id (length c.value)) (sym cell) (holds pair now found.1)) next;
+              (subst (λ (c : Cell). IsHeld mid.slots after.slots x c.lsn (length c.value)) (sym cell) (holds pair now found.1)) next;
         }
   ]
     where

@@ -44,31 +44,31 @@ together_in_use p next it after objects used is = record {
         let was = is.others y off in
         let then = sym was.dirty ∙ dirty in
         let found = used.dirty y pair then (sym (dirty_kept it.objects.cache after.cache y was then) ∙ had) in
-        (omega (arith, found.0, is.other_ids y off), found.1)
+        (omega (arith, found.0, is.other_lsns y off), found.1)
   ];
   clean = λ y pair clean had. elim (cases_Bool (is_among y objects)) [
-    | inl among ↦ ⊎_elim (λ same. sym (is.ids y pair among (sym same ∙ had))) (λ none. absurd (not_both (held after.cache y) pair none had)) (is.entries y among)
+    | inl among ↦ ⊎_elim (λ same. sym (is.lsns_kept y pair among (sym same ∙ had))) (λ none. absurd (not_both (held after.cache y) pair none had)) (is.entries y among)
     | inr off ↦
         let was = is.others y off in
         let before = ⊎_elim (λ same. sym same ∙ had) (λ gone. absurd (not_both (held after.cache y) pair gone.1 had)) was.entry in
-        used.clean y pair (sym was.dirty ∙ clean) before ∙ sym (is.other_ids y off)
+        used.clean y pair (sym was.dirty ∙ clean) before ∙ sym (is.other_lsns y off)
   ];
 }
   where
     not_both : (o : Option Pair) (pair : Pair) → o ≡ None → o ≡ Some pair → ⊥
     not_both o pair none some = let h : None ≡ Some pair = sym none ∙ some in cc
 
--- and the new identifiers are below the next number too
+-- and the new LSNs are below the next LSN too
 pub together_early : (p : Params) (next : ℕ) (it : Volatile) (after : Laid) (objects : List ℕ) → AreInUse p next it → ((x : ℕ) → IsTrue (is_among x objects) → is_dirty it.objects.cache x ≡ true)
     → ((x : ℕ) → IsTrue (is_among x objects) → (pair : Pair) × (held it.objects.cache x ≡ Some pair)) → AreFlushed it.objects after objects → AreEarly next it.objects → AreEarly next after
 together_early p next it after objects used dirty found is early y below = elim (cases_Bool (is_among y objects)) [
   | inl among ↦
       let had = found y among in
       let low = (used.dirty y had.0 (dirty y among) had.1).1 in
-      omega (arith, low, is.ids y had.0 among had.1)
+      omega (arith, low, is.lsns_kept y had.0 among had.1)
   | inr off ↦
       let was = early y (subst (λ (l : Layout). y < l.params.objects) is.layout below) in
-      omega (arith, was, is.other_ids y off)
+      omega (arith, was, is.other_lsns y off)
 ]
 
 module _ {O : Type 0} (m : Meaning O) where
@@ -145,10 +145,10 @@ module _ {O : Type 0} (m : Meaning O) (p : Params) (old : Disk) (it : Volatile) 
         not_both : (o : Option Pair) (q : Pair) → o ≡ None → o ≡ Some q → ⊥
         not_both o q none some = let h : None ≡ Some q = sym none ∙ some in cc
 
-    still_dirty : (x : ℕ) → is_dirty after.cache x ≡ true → (slots_after w gates x).id ≢ (w.cache x).id
+    still_dirty : (x : ℕ) → is_dirty after.cache x ≡ true → (slots_after w gates x).lsn ≢ (w.cache x).lsn
     still_dirty x dirty same = elim (cases_Bool (is_among x objects)) [
       | inl among ↦ both_ways _ (is.clean x among) dirty
-      | inr off ↦ shows.store.dirty x (sym (is.others x off).dirty ∙ dirty) (ap (λ (c : Cell). c.id) (sym (cond-false (is_among x objects) (w.cache x) (w.slots x) off)) ∙ same)
+      | inr off ↦ shows.store.dirty x (sym (is.others x off).dirty ∙ dirty) (ap (λ (c : Cell). c.lsn) (sym (cond-false (is_among x objects) (w.cache x) (w.slots x) off)) ∙ same)
     ]
 
     module _ (run_is : Runs (In Objects Any) Same old new) (settled : IsSettled new) (whole : IsObjectsFile p now) (sound : IsSound m (run m w (gates_of gates))) where

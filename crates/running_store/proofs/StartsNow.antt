@@ -1,4 +1,4 @@
--- A table of the redo starts of the graph, and of the next number, is the check that the world would take now.
+-- A table of the redo starts of the graph, and of the next LSN, is the checkpoint that the world would take now.
 use Rattle.std.proofs.Common.{◌≡◌, ◌∙◌, sym, subst, ap, ℕ, ◌<◌, ◌≤◌, Bool, true, List, [], ◌∷◌, map, refl, arith, inl, inr}
 use Rattle.std.specs.Prelude.{All, ◌==◌, ◌||◌, IsTrue}
 use Rattle.std.proofs.Math.Path.{fun_ext}
@@ -6,8 +6,8 @@ use Rattle.std.proofs.lemmas.Bool.{cases_Bool, cases_lt, cond-true, cond-false, 
 use Rattle.std.proofs.lemmas.List.Elements.{All-head, All-tail, All-nil, All-cons}
 use Rattle.oper_core.specs.Meaning.{Meaning}
 use Rattle.oper_core.specs.State.{is_among}
-use Rattle.redo_tables.specs.RedoStarts.{start_or, redo_from}
-use Rattle.redo_tables.specs.declared.table.Table.{Table}
+use Rattle.dirty_page_table.specs.RedoStarts.{start_or, redo_from}
+use Rattle.dirty_page_table.specs.declared.table.DirtyPageTable.{DirtyPageTable}
 use Rattle.install_order.specs.Computed.{least_below}
 use Rattle.install_order.specs.Entries.{accesses}
 use Rattle.install_order.specs.NodeLaws.{least-is}
@@ -50,8 +50,8 @@ all_to W a same (s ∷ starts) all =
       All-cons (λ (s : ℕ × ℕ). (n : ℕ) → IsTrue (W n s.0) → s.1 ≤ n) s starts (λ n writer. h.1 n (same n s.0 ∙ writer)) t.1,
     )
 
--- A table of the graph's redo starts and the next number is the one that the world would take now.
-pub starts_now : {O : Type 0} (m : Meaning O) (w : World O) (entries : List Entry) (table : Table) → IsSound m w → accesses entries ≡ graph_access m w
+-- A table of the graph's redo starts and the next LSN is the one that the world would take now.
+pub starts_now : {O : Type 0} (m : Meaning O) (w : World O) (entries : List Entry) (table : DirtyPageTable) → IsSound m w → accesses entries ≡ graph_access m w
     → Lists (IsWritten (accesses entries)) (map (λ s. s.0) table.starts) → All (λ s. IsLeast (IsWriter (accesses entries) s.0) s.1) table.starts → table.next ≡ end_of w → table_of table ≡ table_now m w
 starts_now {O} m w entries table sound same lists least next = λ i. record { redo_from = fun_ext each i; next = next i }
   where

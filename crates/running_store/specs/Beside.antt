@@ -4,7 +4,7 @@ use Rattle.std.specs.Prelude.{All}
 use Rattle.disk_model.specs.Disk.{Any, Disk, Files, In, IsDisk, Runs, Same}
 use Rattle.disk_model.specs.Moments.{runs_none, runs_twice, runs_wider}
 use Rattle.disk_model.specs.declared.machine.FileNo.TheVariants.{Objects}
-use Rattle.write_graph.specs.Graph.{numbers}
+use Rattle.write_graph.specs.Graph.{lsns}
 use Rattle.running_store.specs.Fetches.{IsFetch}
 use Rattle.running_store.specs.Laid.{IsLaidOn}
 use Rattle.running_store.specs.StoreView.{StoreView}
@@ -19,7 +19,7 @@ pub record IsOnObjects (old new : Disk) (before after : StoreView) : Type 0 wher
 -- The same, and each entry of the graph was there before.
 pub record IsOnObjectsAlone (old new : Disk) (before after : StoreView) : Type 0 where
   pub objects : IsOnObjects old new before after
-  pub entries : (k : ℕ) → All (λ n. n < k) (numbers before.parts.volatile.entries) → All (λ n. n < k) (numbers after.parts.volatile.entries)
+  pub entries : (k : ℕ) → All (λ n. n < k) (lsns before.parts.volatile.entries) → All (λ n. n < k) (lsns after.parts.volatile.entries)
 
 -- nothing is done
 pub objects_none : (d : Disk) (it : StoreView) → IsDisk d → IsOnObjects d d it it

@@ -10,12 +10,12 @@ use Rattle.oper_core.specs.LittleEndian.{length-little_bytes}
 use Rattle.oper_core.specs.Meaning.{Meaning}
 use Rattle.oper_core.specs.State.{is_among}
 use Rattle.disk_model.specs.Disk.{Disk}
-use Rattle.redo_tables.specs.Codec.{start_code}
-use Rattle.redo_tables.specs.RedoStarts.{start_or}
-use Rattle.redo_tables.specs.declared.table.Table.{Table as Check_table}
-use Rattle.formats.specs.Records.{record_code, payload_of, next_after, next_behind, AreRecords, IsCheckAt}
+use Rattle.dirty_page_table.specs.Codec.{start_code}
+use Rattle.dirty_page_table.specs.RedoStarts.{start_or}
+use Rattle.dirty_page_table.specs.declared.table.DirtyPageTable.{DirtyPageTable as Checkpoint_table}
+use Rattle.formats.specs.Records.{record_code, payload_of, next_after, next_behind, AreRecords, IsCheckpointAt}
 use Rattle.formats.specs.declared.record.Record.{Record}
-use Rattle.formats.specs.declared.record.Record.TheVariants.{Command as Logged_command, Identity as Logged_identity, Check as Logged_check}
+use Rattle.formats.specs.declared.record.Record.TheVariants.{Command as Logged_command, Identity as Logged_identity, Checkpoint as Logged_checkpoint}
 use Rattle.log_records.specs.RecordLog.{RecordLogView}
 use Rattle.explain_core.specs.CountLaws.{count_same, count_none, count_more}
 use Rattle.explain_core.specs.Turns.{count_below}
@@ -35,13 +35,13 @@ start_absent other (s ∷ starts) x none =
     let apart = or_parts (x == s.0) (is_among x (firsts starts)) none in
     ap (λ (b : Bool). if b then s.1 else start_or other starts x) apart.0 ∙ start_absent other starts x apart.1
 
--- a number below all others is not among them
+-- an LSN below all others is not among them
 below_all : (x : ℕ) (xs : List ℕ) → ((j : ℕ) → j < length xs → x < slice_index_or xs j 0) → IsFalse (is_among x xs)
 below_all x [] each = refl
 below_all x (y ∷ xs) each =
     ap (λ (b : Bool). b || is_among x xs) (ne_eqb x y (λ e. absurd (omega (arith, e, each 0 (omega arith))))) ∙ below_all x xs (λ j lt. each (suc j) (omega (arith, lt)))
 
--- as many objects have a start below the next number as there are pairs
+-- as many objects have a start below the next LSN as there are pairs
 count_starts : (n next : ℕ) (starts : List (ℕ × ℕ)) → AllPairs (λ x y. x < y) (firsts starts) → All (λ s. s.0 < n) starts → All (λ s. s.1 < next) starts
     → count_below n (λ x. nat_lt (start_or next starts x) next) ≡ length starts
 count_starts n next [] rising there before = count_same n (λ x. nat_lt next next) (λ x. false) (λ x lt. le-ltb next next (omega arith)) ∙ count_none n
@@ -65,9 +65,9 @@ start_bytes (s ∷ starts) =
     omega (arith, rest, length-append (start_code s) (flat_map start_code starts), length-append (little_bytes 4 s.0) (little_bytes 8 s.1), length-little_bytes 4 s.0, length-little_bytes 8 s.1)
 
 module _ {O : Type 0} (m : Meaning O) where
-  -- a check has as many bytes as its table
-  pub check_bytes : (base next : ℕ) (table : Check_table) → IsCheckAt m base next table → length (record_code m (Logged_check table)) ≡ table_length m (table_of table)
-  check_bytes base next table is =
+  -- a checkpoint has as many bytes as its table
+  pub checkpoint_bytes : (base next : ℕ) (table : Checkpoint_table) → IsCheckpointAt m base next table → length (record_code m (Logged_checkpoint table)) ≡ table_length m (table_of table)
+  checkpoint_bytes base next table is =
       let before : All (λ s. s.1 < table.next) table.starts = subst (λ (k : ℕ). All (λ (s : ℕ × ℕ). s.1 < k) table.starts) (sym is.next_is) is.before in
       let count = count_starts m.objects table.next table.starts (AllPairs-from_increasing (firsts table.starts) is.rising) is.there before in
       omega (
@@ -88,25 +88,25 @@ module _ {O : Type 0} (m : Meaning O) where
   payload_bytes : (base next : ℕ) (records : List (Record O)) → AreRecords m base next records
       → length (payload_of m records) ≡ records_length m (members_of records) + tables_length m (tables_in records)
   payload_bytes base next [] all = refl
-  payload_bytes base next (Logged_command number op ∷ records) all =
+  payload_bytes base next (Logged_command lsn op ∷ records) all =
       let rest = payload_bytes base (next + 1) records all.2 in
-      omega (arith, rest, length-append (record_code m (Logged_command number op)) (payload_of m records), length-append (little_bytes 8 number) (m.code op), length-little_bytes 8 number)
-  payload_bytes base next (Logged_identity number x value ∷ records) all =
+      omega (arith, rest, length-append (record_code m (Logged_command lsn op)) (payload_of m records), length-append (little_bytes 8 lsn) (m.code op), length-little_bytes 8 lsn)
+  payload_bytes base next (Logged_identity lsn x value ∷ records) all =
       let rest = payload_bytes base (next + 1) records all.2 in
       omega (
         arith,
         rest,
-        length-append (record_code m (Logged_identity number x value)) (payload_of m records),
-        length-append (little_bytes 8 number) (little_bytes 4 x ++ (little_bytes 4 (length value) ++ value)),
-        length-little_bytes 8 number,
+        length-append (record_code m (Logged_identity lsn x value)) (payload_of m records),
+        length-append (little_bytes 8 lsn) (little_bytes 4 x ++ (little_bytes 4 (length value) ++ value)),
+        length-little_bytes 8 lsn,
         length-append (little_bytes 4 x) (little_bytes 4 (length value) ++ value),
         length-little_bytes 4 x,
         length-append (little_bytes 4 (length value)) value,
         length-little_bytes 4 (length value),
       )
-  payload_bytes base next (Logged_check table ∷ records) all =
+  payload_bytes base next (Logged_checkpoint table ∷ records) all =
       let rest = payload_bytes base next records all.2 in
-      omega (arith, rest, length-append (record_code m (Logged_check table)) (payload_of m records), check_bytes base next table all.1, tables_append (tables_in records) (table_of table ∷ []))
+      omega (arith, rest, length-append (record_code m (Logged_checkpoint table)) (payload_of m records), checkpoint_bytes base next table all.1, tables_append (tables_in records) (table_of table ∷ []))
 
   records_behind : (base next : ℕ) (stable pending : List (Record O)) → AreRecords m base next (stable ++ pending) → AreRecords m base (next_after next stable) pending
   records_behind base next [] pending all = all

@@ -34,11 +34,11 @@ module _ {O : Type 0} (meaning : Bounds → Meaning O) (old new : Disk) (before 
       fault = is.fault;
     }
 
-  -- A call that gives numbers to identity writes alone, and is stopped for some reason.
+  -- A call that gives LSNs to identity writes alone, and is stopped for some reason.
   abbrev pub IsLogging : (RecordLogView → Stop → Type 0) → Ending → Type 0
   IsLogging stops ending = IsCall meaning old new before after (logged_since before after) stops ending
 
-  -- one that gives no number
+  -- one that gives no LSN
   pub logging_none : (stops : RecordLogView → Stop → Type 0) (ending : Ending) → next_of after ≡ next_of before → IsCall meaning old new before after 0 Never ending → IsLogging stops ending
   logging_none stops ending same is = call_as meaning old new before after 0 (logged_since before after) Never stops ending (omega (arith, same)) (λ stop ends none. absurd none) is
 

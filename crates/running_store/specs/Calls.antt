@@ -51,7 +51,7 @@ ending_of_read (Err (of_read.Damaged file place)) = Short
 ending_of_read (Err of_read.Memory) = Short
 
 -- What holds on every machine of each call on a store: time passes, and nothing is said; the store's numbers stay, and where
--- its slots stand, no number of a record is given again, and so many identity writes are logged; unless it is answered that
+-- its slots stand, no LSN of a record is given again, and so many identity writes are logged; unless it is answered that
 -- the disk failed, the machine stays settled, a log that keeps some records keeps some still, and the store stays attached; a
 -- call that was stopped says so of the log that it leaves; the store is broken exactly where it is answered that the disk
 -- failed, and then the disk counted that. (The count may rise beside another answer: where a force succeeds, zeros may have

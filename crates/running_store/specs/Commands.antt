@@ -9,7 +9,7 @@ use Rattle.oper_core.specs.Meaning.{Meaning, FitsReads}
 use Rattle.oper_core.specs.declared.bounds.Bounds.{Bounds}
 use Rattle.formats.specs.Objects.{bounds_of}
 use Rattle.formats.specs.declared.params.Params.{Params}
-use Rattle.log_frames.specs.LogView.{end_with, used_of, growth_of}
+use Rattle.log_blocks.specs.LogView.{end_with, used_of, growth_of}
 use Rattle.log_records.specs.RecordLog.{RecordLogView}
 use Rattle.stable_objects.specs.SlotsView.{layout_of}
 use Rattle.explain_core.specs.History.Member.{Command}
@@ -37,10 +37,10 @@ command_length m op = record_length m (Command op)
 abbrev pub length_with : RecordLogView → ℕ → ℕ
 length_with log n = used_of log.log + growth_of log.log.pending n
 
--- the log has room below the limit for a record of n bytes, and a number is left for it
+-- the log has room below the limit for a record of n bytes, and an LSN is left for it
 pub record HasPlaceBelow (limit : ℕ) (log : RecordLogView) (n : ℕ) : Type 0 where
   pub room : length_with log n ≤ limit
-  pub number : log.next < 2 ^ 62
+  pub lsn : log.next < 2 ^ 62
 
 -- below a limit that a store may have, it has its place in the block and in the file
 pub has_place : (limit : ℕ) (log : RecordLogView) (n : ℕ) → limit ≤ 2 ^ 29 → length_with log n ≤ limit → HasPlace log.log n
@@ -59,7 +59,7 @@ pub record IsReady {O : Type 0} (meaning : Bounds → Meaning O) (p : Params) (o
 -- The command is appended, with what it makes of the values.
 pub record IsCommanded {O : Type 0} (meaning : Bounds → Meaning O) (before after : StoreView) (op : O) (values : List (List ℕ)) : Type 0 where
   pub ready : IsReady meaning (store_params before) op values
-  pub number : next_of before < 2 ^ 62
+  pub lsn : next_of before < 2 ^ 62
   pub bounds : before.parts.log.bounds ≡ bounds_of (store_params before)
   pub appended : IsAppended (meaning_in meaning (store_params before)) before.parts after.parts (Command op) ((meaning_in meaning (store_params before)).effect op values)
   pub laid : (file : List ℕ) → IsLaidOn before.parts.volatile.objects file → IsLaidOn after.parts.volatile.objects file
@@ -81,7 +81,7 @@ module _ {O : Type 0} (meaning : Bounds → Meaning O) (before after : StoreView
   commanded_call op values is =
       let m = meaning_in meaning (store_params before) in
       let same : meaning before.parts.log.bounds ≡ m = ap meaning is.bounds in
-      let low = is.number in
+      let low = is.lsn in
       let keeps : KeepsLog meaning d d before.parts.log after.parts.log =
       λ told has. subst (λ (n : Meaning O). HasLog n d after.parts.log) (sym (ap (λ (r : RecordLogView). meaning r.bounds) is.appended.log ∙ same))
       (appended_log m d before.parts after.parts (Command op) (m.effect op values) is.appended (omega (arith, low), is.ready.shape) low (subst (λ (n : Meaning O). HasLog n d before.parts.log) same has)) in

@@ -10,7 +10,7 @@ use Rattle.running_store.specs.Courses.Stop.{Through, Full, At_end, Worn}
 pub through_is : (stop : Stop) → IsTrue (is_through stop) → stop ≡ Through
 through_is Through is = refl
 through_is (Full used need limit) is = absurd (both_ways _ refl is)
-through_is (At_end number) is = absurd (both_ways _ refl is)
+through_is (At_end lsn) is = absurd (both_ways _ refl is)
 through_is (Worn epoch) is = absurd (both_ways _ refl is)
 
 -- all of both where the first is not stopped, else the first
@@ -20,7 +20,7 @@ joined first second = course (first.steps ++ second.steps) second.used second.st
 pub behind_both : {O : Type 0} (P : Course O → Type 0) (first second : Course O) (stop : Stop) → (IsTrue (is_through stop) → P (joined first second)) → (IsFalse (is_through stop) → P first) → P (behind first second stop)
 behind_both P first second Through go_on ends = go_on refl
 behind_both P first second (Full used need limit) go_on ends = ends refl
-behind_both P first second (At_end number) go_on ends = ends refl
+behind_both P first second (At_end lsn) go_on ends = ends refl
 behind_both P first second (Worn epoch) go_on ends = ends refl
 
 pub behind_through : {O : Type 0} (first second : Course O) (stop : Stop) → IsTrue (is_through stop) → behind first second stop ≡ joined first second

@@ -2,24 +2,24 @@
 -- what stops them. Nothing in it is chosen.
 use Rattle.std.specs.Prelude.{◌+◌, ◌*◌, ◌^◌, ℕ, nat_lt, nat_le, Bool, true, false, ◌&&◌, ◌||◌, if◌then◌else◌, Option, None, Some, List, [], ◌∷◌, ◌++◌, length, drop}
 use Rattle.oper_core.specs.Meaning.{Meaning}
-use Rattle.explain_core.specs.History.{Member, numbered}
+use Rattle.explain_core.specs.History.{Member, with_lsn}
 use Rattle.explain_core.specs.History.Member.{Command, Identity}
 use Rattle.explain_core.specs.Turns.{count_below}
 use Rattle.explain_core.specs.World.{World, Starts, Step, run, end_of}
 use Rattle.explain_core.specs.World.Step.{Append, Block_gate, Slot_gate, Removal}
 
--- why a course ends early: a record or a log has no room, or no number is left for a record, or no epoch for a log
+-- why a course ends early: a record or a log has no room, or no LSN is left for a record, or no epoch for a log
 pub data Stop : Type 0 where
   Through : Stop
   Full : (used need limit : ℕ) → Stop
-  At_end : (number : ℕ) → Stop
+  At_end : (lsn : ℕ) → Stop
   Worn : (epoch : ℕ) → Stop
 
 -- nothing stops it
 abbrev pub is_through : Stop → Bool
 is_through Through = true
 is_through (Full used need limit) = false
-is_through (At_end number) = false
+is_through (At_end lsn) = false
 is_through (Worn epoch) = false
 
 pub record Course (O : Type 0) : Type 0 where
@@ -35,7 +35,7 @@ course steps used stop = record { steps = steps; used = used; stop = stop }
 abbrev pub behind : {O : Type 0} → Course O → Course O → Stop → Course O
 behind first second Through = course (first.steps ++ second.steps) second.used second.stop
 behind first second (Full used need limit) = first
-behind first second (At_end number) = first
+behind first second (At_end lsn) = first
 behind first second (Worn epoch) = first
 
 -- one course, and after it the one that begins in the world and with the length that the first leaves
@@ -48,9 +48,9 @@ is_identity_some None = false
 is_identity_some (Some (Command op)) = false
 is_identity_some (Some (Identity x value)) = true
 
--- that with the number n is one
+-- that with the LSN n is one
 abbrev pub is_identity_at : {O : Type 0} → List (Member O) → ℕ → Bool
-is_identity_at history n = is_identity_some (numbered history n)
+is_identity_at history n = is_identity_some (with_lsn history n)
 
 -- a member's record has so many bytes, an identity write's with a value of n bytes
 abbrev pub identity_length : ℕ → ℕ
@@ -64,7 +64,7 @@ abbrev pub records_length : {O : Type 0} → Meaning O → List (Member O) → �
 records_length m [] = 0
 records_length m (member ∷ members) = record_length m member + records_length m members
 
--- a check's record has so many bytes: one start for each object whose redo begins below the next number
+-- a checkpoint's record has so many bytes: one start for each object whose redo begins below the next LSN
 abbrev pub table_length : {O : Type 0} → Meaning O → Starts → ℕ
 table_length m t = 13 + 12 * count_below m.objects (λ x. nat_lt (t.redo_from x) t.next)
 
@@ -96,12 +96,12 @@ module _ {O : Type 0} (m : Meaning O) where
   abbrev pub room_steps : World O → ℕ → List (Step O)
   room_steps w n = if nat_lt (2 ^ 30) (buffered w + n) then force_steps w else []
 
-  -- a record of n bytes goes in where it has room below the limit, and a number where it takes one; else what waits is
+  -- a record of n bytes goes in where it has room below the limit, and an LSN where it takes one; else what waits is
   -- forced
   abbrev pub placed : World O → ℕ → ℕ → ℕ → Bool → List (Step O) → Course O
-  placed w used limit n numbered steps =
+  placed w used limit n with_lsn steps =
       if nat_lt limit (grown w used n) then course (force_steps w) used (Full used (n + 5) limit)
-      else (if numbered && nat_le (2 ^ 62) (end_of w) then course (force_steps w) used (At_end (end_of w)) else course steps (grown w used n) Through)
+      else (if with_lsn && nat_le (2 ^ 62) (end_of w) then course (force_steps w) used (At_end (end_of w)) else course steps (grown w used n) Through)
 
   -- so many bytes has the value in the cache
   abbrev pub cached_length : World O → ℕ → ℕ

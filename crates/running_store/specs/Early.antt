@@ -1,4 +1,4 @@
--- Where no slot is late, all of them are below the next number.
+-- Where no slot is late, all of them are below the next LSN.
 use Rattle.std.proofs.Common.{ℕ, ◌<◌, Bool, true, false, arith, inl, inr}
 use Rattle.std.specs.Prelude.{if◌then◌else◌, nat_lt}
 use Rattle.std.proofs.lemmas.Bool.{cases_lt}

@@ -9,11 +9,11 @@ use Rattle.running_store.specs.Laid.{IsLaidOn, with_chosen}
 use Rattle.running_store.specs.Parts.{Volatile}
 use Rattle.running_store.specs.StoreView.{StoreView}
 
--- Some objects that the entry's member writes are set: they are cached under its number, each with the value made for it,
+-- Some objects that the entry's member writes are set: they are cached under its LSN, each with the value made for it,
 -- and are dirty; and the graph has the entry.
 pub record IsEntered (before after : Volatile) (due : List ℕ) (e : Entry) (made : List (List ℕ)) : Type 0 where
   pub slots : after.objects.slots ≡ before.objects.slots
-  pub held : (x : ℕ) → held after.objects.cache x ≡ with_chosen (held before.objects.cache) e.number due e.writes made x
+  pub held : (x : ℕ) → held after.objects.cache x ≡ with_chosen (held before.objects.cache) e.lsn due e.writes made x
   pub dirty : (x : ℕ) → is_dirty after.objects.cache x ≡ ((is_among x due && is_among x e.writes) || is_dirty before.objects.cache x)
   pub entries : after.entries ≡ before.entries ++ e ∷ []
 

@@ -4,7 +4,7 @@ use Rattle.std.proofs.lemmas.Bool.{both_ways, cases_lt}
 use Rattle.oper_core.specs.Cell.{Cell}
 use Rattle.oper_core.specs.Meaning.{Meaning}
 use Rattle.formats.specs.declared.params.Params.{Params}
-use Rattle.stable_objects.specs.SlotsView.{SlotsView, id_in}
+use Rattle.stable_objects.specs.SlotsView.{SlotsView, lsn_in}
 use Rattle.dirty_cache.specs.Contents.{held, is_dirty}
 use Rattle.dirty_cache.specs.declared.entry.Entry.{Entry as Pair}
 use Rattle.explain_core.specs.World.{World}
@@ -13,11 +13,11 @@ use Rattle.running_store.specs.Laid.{Laid, IsLaidOn, KeepsCells, cell_or}
 use Rattle.running_store.specs.Joins.{stored_here, cell_shown}
 use Rattle.running_store.specs.Parts.{Volatile, ShowsVolatile, AreInUse, cell_at, volatile}
 
--- the pair is that of a clean object, with the identifier of its slot
+-- the pair is that of a clean object, with the LSN of its slot
 pub record IsRead (laid : Laid) (x : ℕ) (pair : Pair) : Type 0 where
   pub below : x < laid.slots.params.objects
   pub clean : is_dirty laid.cache x ≡ false
-  pub id : pair.lsn ≡ id_in laid.slots x
+  pub lsn : pair.lsn ≡ lsn_in laid.slots x
 
 -- The same objects are dirty. What is cached was, or it was read from the slots; so a clean object may be cached, or
 -- forgotten.
@@ -35,7 +35,7 @@ read_before : (before mid : Laid) (x : ℕ) (pair : Pair) → mid.slots ≡ befo
 read_before before mid x pair slots dirty read = record {
   below = subst (λ (s : SlotsView). x < s.params.objects) slots read.below;
   clean = sym dirty ∙ read.clean;
-  id = read.id ∙ ap (λ (s : SlotsView). id_in s x) slots;
+  lsn = read.lsn ∙ ap (λ (s : SlotsView). lsn_in s x) slots;
 }
 
 pub fetched-twice : (before mid after : Laid) → IsFetched before mid → IsFetched mid after → IsFetched before after
@@ -57,12 +57,12 @@ fetched-in_use p next it after used is = record {
   dirty = λ x pair dirty had. elim (is.held x pair had) [
     | inl was ↦
         let found = used.dirty x pair (sym (is.dirty x) ∙ dirty) was in
-        (subst (λ (s : SlotsView). id_in s x < pair.lsn) (sym is.slots) found.0, found.1)
+        (subst (λ (s : SlotsView). lsn_in s x < pair.lsn) (sym is.slots) found.0, found.1)
     | inr read ↦ absurd (both_ways _ read.clean (sym (is.dirty x) ∙ dirty))
   ];
   clean = λ x pair clean had. elim (is.held x pair had) [
-    | inl was ↦ used.clean x pair (sym (is.dirty x) ∙ clean) was ∙ ap (λ (s : SlotsView). id_in s x) (sym is.slots)
-    | inr read ↦ read.id ∙ ap (λ (s : SlotsView). id_in s x) (sym is.slots)
+    | inl was ↦ used.clean x pair (sym (is.dirty x) ∙ clean) was ∙ ap (λ (s : SlotsView). lsn_in s x) (sym is.slots)
+    | inr read ↦ read.lsn ∙ ap (λ (s : SlotsView). lsn_in s x) (sym is.slots)
   ];
 }
 

@@ -2,19 +2,19 @@
 use Rattle.std.specs.Prelude.{◌≡◌, ◌≢◌, ◌⊎◌, ◌<◌, ℕ, true, false, nat_eq, None, Some}
 use Rattle.dirty_cache.specs.Contents.{held, is_dirty, IsSameOrForgotten}
 use Rattle.dirty_cache.specs.declared.entry.Entry.{Entry as Pair}
-use Rattle.stable_objects.specs.SlotsView.{id_in, layout_of}
+use Rattle.stable_objects.specs.SlotsView.{lsn_in, layout_of}
 use Rattle.running_store.specs.Laid.{Laid}
 
--- each slot's identifier is below this number
+-- each slot's LSN is below this LSN
 abbrev pub AreEarly : ℕ → Laid → Type 0
-AreEarly next objects = (x : ℕ) → x < objects.slots.params.objects → id_in objects.slots x < next
+AreEarly next objects = (x : ℕ) → x < objects.slots.params.objects → lsn_in objects.slots x < next
 
--- x is flushed: its slot has the identifier that is cached, and it is clean, or forgotten; other clean objects may be
+-- x is flushed: its slot has the LSN that is cached, and it is clean, or forgotten; other clean objects may be
 -- forgotten, and all else is as it was
 pub record IsFlushed (before after : Laid) (x : ℕ) : Type 0 where
   pub layout : layout_of after.slots ≡ layout_of before.slots
-  pub id : (pair : Pair) → held before.cache x ≡ Some pair → id_in after.slots x ≡ pair.lsn
-  pub other_ids : (y : ℕ) → y ≢ x → id_in after.slots y ≡ id_in before.slots y
+  pub lsn : (pair : Pair) → held before.cache x ≡ Some pair → lsn_in after.slots x ≡ pair.lsn
+  pub other_lsns : (y : ℕ) → y ≢ x → lsn_in after.slots y ≡ lsn_in before.slots y
   pub entry : (held after.cache x ≡ held before.cache x) ⊎ (held after.cache x ≡ None)
   pub clean : is_dirty after.cache x ≡ false
   pub others : (y : ℕ) → nat_eq x y ≡ false → IsSameOrForgotten before.cache after.cache y

@@ -13,8 +13,8 @@ use Rattle.formats.specs.InForce.{IsInForce}
 use Rattle.formats.specs.Log.{Header}
 use Rattle.formats.specs.Objects.{IsObjectsFile}
 use Rattle.formats.specs.declared.params.Params.{Params}
-use Rattle.log_frames.specs.Laws.{in_force_stays}
-use Rattle.log_frames.specs.LogView.{used_of}
+use Rattle.log_blocks.specs.Laws.{in_force_stays}
+use Rattle.log_blocks.specs.LogView.{used_of}
 use Rattle.log_records.specs.RecordLog.{RecordLogView, HoldsRecords, Keeps, IsForcedPartly}
 use Rattle.explain_core.specs.Sound.{IsSound}
 use Rattle.explain_core.specs.Taken.{after_none, after_all}

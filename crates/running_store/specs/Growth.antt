@@ -8,8 +8,8 @@ use Rattle.oper_core.specs.Meaning.{Meaning}
 use Rattle.disk_model.specs.Disk.{Disk}
 use Rattle.formats.specs.Records.{record_code, payload_of}
 use Rattle.formats.specs.declared.record.Record.{Record}
-use Rattle.formats.specs.declared.record.Record.TheVariants.{Command as Logged_command, Identity as Logged_identity, Check as Logged_check}
-use Rattle.log_frames.specs.LogView.{end_with, used_of, growth_of}
+use Rattle.formats.specs.declared.record.Record.TheVariants.{Command as Logged_command, Identity as Logged_identity, Checkpoint as Logged_checkpoint}
+use Rattle.log_blocks.specs.LogView.{end_with, used_of, growth_of}
 use Rattle.log_records.specs.RecordLog.{RecordLogView}
 use Rattle.explain_core.specs.History.{Member}
 use Rattle.explain_core.specs.History.Member.{Command, Identity}
@@ -20,12 +20,12 @@ use Rattle.running_store.specs.Parts.{ShowsLog, record_of}
 
 module _ {O : Type 0} (m : Meaning O) where
   -- a record has as many bytes as its member
-  pub code_length : (number : ℕ) (member : Member O) → length (record_code m (record_of number member)) ≡ record_length m member
-  code_length number (Command op) = omega (arith, length-append (little_bytes 8 number) (m.code op), length-little_bytes 8 number)
-  code_length number (Identity x value) = omega (
+  pub code_length : (lsn : ℕ) (member : Member O) → length (record_code m (record_of lsn member)) ≡ record_length m member
+  code_length lsn (Command op) = omega (arith, length-append (little_bytes 8 lsn) (m.code op), length-little_bytes 8 lsn)
+  code_length lsn (Identity x value) = omega (
     arith,
-    length-append (little_bytes 8 number) (little_bytes 4 x ++ (little_bytes 4 (length value) ++ value)),
-    length-little_bytes 8 number,
+    length-append (little_bytes 8 lsn) (little_bytes 4 x ++ (little_bytes 4 (length value) ++ value)),
+    length-little_bytes 8 lsn,
     length-append (little_bytes 4 x) (little_bytes 4 (length value) ++ value),
     length-little_bytes 4 x,
     length-append (little_bytes 4 (length value)) value,
@@ -34,17 +34,17 @@ module _ {O : Type 0} (m : Meaning O) where
 
   -- a payload of some records has some bytes
   payload_some : (r : Record O) (records : List (Record O)) (gate n : ℕ) → growth_of (payload_of m (r ∷ records)) n ≡ n
-  payload_some (Logged_command number op) records gate n = refl
-  payload_some (Logged_identity number x value) records gate n = refl
-  payload_some (Logged_check table) records gate n = refl
+  payload_some (Logged_command lsn op) records gate n = refl
+  payload_some (Logged_identity lsn x value) records gate n = refl
+  payload_some (Logged_checkpoint table) records gate n = refl
 
   -- where records wait, the world says so
   waiting_some : (w : World O) (r : Record O) (records : List (Record O)) → members_of (r ∷ records) ≡ drop w.forced w.history → tables_in (r ∷ records) ≡ w.pending → waits m w ≡ true
-  waiting_some w (Logged_command number op) records members tables =
+  waiting_some w (Logged_command lsn op) records members tables =
       ap (λ (b : Bool). b || nat_lt 0 (length w.pending)) (lt-ltb w.forced (length w.history) (omega (arith, ap length members, length-drop w.forced w.history)))
-  waiting_some w (Logged_identity number x value) records members tables =
+  waiting_some w (Logged_identity lsn x value) records members tables =
       ap (λ (b : Bool). b || nat_lt 0 (length w.pending)) (lt-ltb w.forced (length w.history) (omega (arith, ap length members, length-drop w.forced w.history)))
-  waiting_some w (Logged_check table) records members tables =
+  waiting_some w (Logged_checkpoint table) records members tables =
       ap (λ (b : Bool). nat_lt w.forced (length w.history) || b) (lt-ltb 0 (length w.pending) (omega (arith, ap length tables, length-append (tables_in records) (table_of table ∷ [])))) ∙ or_true (nat_lt w.forced (length w.history))
     where
       or_true : (b : Bool) → (b || true) ≡ true

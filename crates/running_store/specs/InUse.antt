@@ -9,9 +9,9 @@ use Rattle.std.proofs.lemmas.List.Elements.{All-cons, All-head, All-tail}
 use Rattle.dirty_cache.specs.Contents.{Contents, held, is_dirty}
 use Rattle.dirty_cache.specs.Places.{entry_at}
 use Rattle.dirty_cache.specs.declared.entry.Entry.{Entry as Pair}
-use Rattle.stable_objects.specs.SlotsView.{id_in}
+use Rattle.stable_objects.specs.SlotsView.{lsn_in}
 use Rattle.install_order.specs.declared.entry.Entry.{Entry}
-use Rattle.write_graph.specs.Graph.{numbers}
+use Rattle.write_graph.specs.Graph.{lsns}
 use Rattle.formats.specs.declared.layout.Layout.{Layout}
 use Rattle.formats.specs.declared.params.Params.{Params}
 use Rattle.running_store.specs.Laid.{Laid}
@@ -46,50 +46,50 @@ flushed_in_use p next it after x used is = record {
     | inl e ↦ absurd (both_ways _ (subst (λ (z : ℕ). is_dirty after.cache z ≡ false) e is.clean) dirty)
     | inr ne ↦
         let was = is.others y (ne_eqb x y ne) in
-        let id : id_in after.slots y ≡ id_in it.objects.slots y = is.other_ids y (λ q. ne (sym q)) in
+        let lsn : lsn_in after.slots y ≡ lsn_in it.objects.slots y = is.other_lsns y (λ q. ne (sym q)) in
         let before : held it.objects.cache y ≡ Some pair = ⊎_elim (λ same. sym same ∙ had) (λ gone. none_some (held after.cache y) pair gone.1 had) was.entry in
         let found = used.dirty y pair (sym was.dirty ∙ dirty) before in
-        (omega (arith, found.0, id), found.1)
+        (omega (arith, found.0, lsn), found.1)
   ];
   clean = λ y pair clean had. elim (cases_eq x y) [
-    | inl e ↦ subst (λ (z : ℕ). held after.cache z ≡ Some pair → pair.lsn ≡ id_in after.slots z) e
-        (λ here. ⊎_elim (λ same. sym (is.id pair (sym same ∙ here))) (λ gone. none_some (held after.cache x) pair gone here) is.entry) had
+    | inl e ↦ subst (λ (z : ℕ). held after.cache z ≡ Some pair → pair.lsn ≡ lsn_in after.slots z) e
+        (λ here. ⊎_elim (λ same. sym (is.lsn pair (sym same ∙ here))) (λ gone. none_some (held after.cache x) pair gone here) is.entry) had
     | inr ne ↦
         let was = is.others y (ne_eqb x y ne) in
-        let id : id_in after.slots y ≡ id_in it.objects.slots y = is.other_ids y (λ q. ne (sym q)) in
+        let lsn : lsn_in after.slots y ≡ lsn_in it.objects.slots y = is.other_lsns y (λ q. ne (sym q)) in
         let before : held it.objects.cache y ≡ Some pair = ⊎_elim (λ same. sym same ∙ had) (λ gone. none_some (held after.cache y) pair gone.1 had) was.entry in
-        used.clean y pair (sym was.dirty ∙ clean) before ∙ sym id
+        used.clean y pair (sym was.dirty ∙ clean) before ∙ sym lsn
   ];
 }
 
--- the new identifier is below the next number too
+-- the new LSN is below the next LSN too
 pub flushed_early : (p : Params) (next : ℕ) (it : Volatile) (after : Laid) (x : ℕ) → AreInUse p next it → is_dirty it.objects.cache x ≡ true → IsFlushed it.objects after x → AreEarly next it.objects → AreEarly next after
 flushed_early p next it after x used dirty is early y below = elim (cases_eq y x) [
   | inl e ↦
       let had = dirty_held it.objects.cache x dirty in
       let low = (used.dirty x had.0 dirty had.1).1 in
-      subst (λ (z : ℕ). id_in after.slots z < next) (sym e) (omega (arith, low, is.id had.0 had.1))
+      subst (λ (z : ℕ). lsn_in after.slots z < next) (sym e) (omega (arith, low, is.lsn had.0 had.1))
   | inr ne ↦
       let was = early y (subst (λ (l : Layout). y < l.params.objects) is.layout below) in
-      omega (arith, was, is.other_ids y ne)
+      omega (arith, was, is.other_lsns y ne)
 ]
 
--- entries that are kept have lower numbers if all had
-pub numbers_within : (next : ℕ) (test : Entry → Bool) (entries : List Entry) → All (λ n. n < next) (numbers entries) → All (λ n. n < next) (numbers (filter test entries))
-numbers_within next test [] all = all
-numbers_within next test (e ∷ entries) all =
-    let more = numbers_within next test entries (All-tail (λ n. n < next) e.number (numbers entries) all) in
+-- entries that are kept have lower LSNs if all had
+pub lsns_within : (next : ℕ) (test : Entry → Bool) (entries : List Entry) → All (λ n. n < next) (lsns entries) → All (λ n. n < next) (lsns (filter test entries))
+lsns_within next test [] all = all
+lsns_within next test (e ∷ entries) all =
+    let more = lsns_within next test entries (All-tail (λ n. n < next) e.lsn (lsns entries) all) in
     elim (cases_Bool (test e)) [
-      | inl kept ↦ rw kept (All-cons (λ n. n < next) e.number (numbers (filter test entries)) (All-head (λ n. n < next) e.number (numbers entries) all) more)
+      | inl kept ↦ rw kept (All-cons (λ n. n < next) e.lsn (lsns (filter test entries)) (All-head (λ n. n < next) e.lsn (lsns entries) all) more)
       | inr left ↦ rw left more
     ]
 
-pub removed_in_use : (p : Params) (next : ℕ) (it : Volatile) (entries : List Entry) (node : ℕ → Bool) → AreInUse p next it → entries ≡ filter (λ e. not (node e.number)) it.entries
+pub removed_in_use : (p : Params) (next : ℕ) (it : Volatile) (entries : List Entry) (node : ℕ → Bool) → AreInUse p next it → entries ≡ filter (λ e. not (node e.lsn)) it.entries
     → AreInUse p next (volatile it.objects entries)
 removed_in_use p next it entries node used same = record {
   params = used.params;
   low = used.low;
-  above = subst (λ (l : List Entry). All (λ n. n < next) (numbers l)) (sym same) (numbers_within next (λ e. not (node e.number)) it.entries used.above);
+  above = subst (λ (l : List Entry). All (λ n. n < next) (lsns l)) (sym same) (lsns_within next (λ e. not (node e.lsn)) it.entries used.above);
   dirty = used.dirty;
   clean = used.clean;
 }

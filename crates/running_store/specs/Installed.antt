@@ -17,7 +17,7 @@ use Rattle.stable_objects.specs.Replacing.{IsReplaced, OthersKept}
 use Rattle.install_order.specs.declared.entry.Entry.{Entry}
 use Rattle.install_order.specs.Order.{Access}
 use Rattle.install_order.specs.Entries.{accesses}
-use Rattle.write_graph.specs.Graph.{numbers}
+use Rattle.write_graph.specs.Graph.{lsns}
 use Rattle.explain_core.specs.History.{accesses_of}
 use Rattle.explain_core.specs.World.{World, step}
 use Rattle.explain_core.specs.World.Step.{Slot_gate, Removal}
@@ -29,8 +29,8 @@ use Rattle.running_store.specs.Flushed.{IsFlushed}
 use Rattle.running_store.specs.Parts.{Volatile, ShowsVolatile, volatile}
 
 -- past the last object of the store there are no bytes
-pub stored_past : (p : Params) (file : List ℕ) (y : ℕ) → p.objects ≤ y → stored p file y ≡ record { id = 0; value = [] }
-stored_past p file y past = cond-false (nat_lt y p.objects) (cell_of y file) (record { id = 0; value = [] }) (le-ltb y p.objects past)
+pub stored_past : (p : Params) (file : List ℕ) (y : ℕ) → p.objects ≤ y → stored p file y ≡ record { lsn = 0; value = [] }
+stored_past p file y past = cond-false (nat_lt y p.objects) (cell_of y file) (record { lsn = 0; value = [] }) (le-ltb y p.objects past)
 
 -- the others are as they were
 pub stored_kept : (p : Params) (x : ℕ) (old new : List ℕ) (y : ℕ) → OthersKept p x old new → y ≢ x → stored p new y ≡ stored p old y
@@ -105,7 +105,7 @@ module _ {O : Type 0} (m : Meaning O) (p : Params) (old new : List ℕ) (it : Vo
         ];
         dirty = λ y dirty. elim (cases_eq x y) [
           | inl e ↦ absurd (both_ways _ (subst (λ (z : ℕ). is_dirty after.cache z ≡ false) e is.clean) dirty)
-          | inr ne ↦ λ same. shows.dirty y (sym (is.others y (ne_eqb x y ne)).dirty ∙ dirty) (ap (λ (c : Cell). c.id) (sym (cond-false (y == x) (w.cache x) (w.slots y) (ne_eqb y x (λ q. ne (sym q))))) ∙ same)
+          | inr ne ↦ λ same. shows.dirty y (sym (is.others y (ne_eqb x y ne)).dirty ∙ dirty) (ap (λ (c : Cell). c.lsn) (sym (cond-false (y == x) (w.cache x) (w.slots y) (ne_eqb y x (λ q. ne (sym q))))) ∙ same)
         ];
         members = shows.members;
         accesses = shows.accesses;
@@ -132,17 +132,17 @@ any-filter P Q k (e ∷ entries) agree =
       ]
     ]
 
-any-map : (p : ℕ → Bool) (entries : List Entry) → list_any p (map (λ (e : Entry). e.number) entries) ≡ list_any (λ (e : Entry). p e.number) entries
+any-map : (p : ℕ → Bool) (entries : List Entry) → list_any p (map (λ (e : Entry). e.lsn) entries) ≡ list_any (λ (e : Entry). p e.lsn) entries
 any-map p [] = refl
-any-map p (e ∷ entries) = ap (λ (b : Bool). p e.number || b) (any-map p entries)
+any-map p (e ∷ entries) = ap (λ (b : Bool). p e.lsn || b) (any-map p entries)
 
--- an entry with the number n that passes is left exactly where n is kept
-left_over : (q : ℕ → Bool) (f : Entry → Bool) (n : ℕ) (entries : List Entry) → list_any (λ e. (e.number == n) && f e) (filter (λ e. q e.number) entries) ≡ (list_any (λ e. (e.number == n) && f e) entries && q n)
-left_over q f n entries = any-filter (λ e. (e.number == n) && f e) (λ e. q e.number) (q n) entries (λ e is. ap q (eqb-true e.number n (and_parts (e.number == n) (f e) is).0))
+-- an entry with the LSN n that passes is left exactly where n is kept
+left_over : (q : ℕ → Bool) (f : Entry → Bool) (n : ℕ) (entries : List Entry) → list_any (λ e. (e.lsn == n) && f e) (filter (λ e. q e.lsn) entries) ≡ (list_any (λ e. (e.lsn == n) && f e) entries && q n)
+left_over q f n entries = any-filter (λ e. (e.lsn == n) && f e) (λ e. q e.lsn) (q n) entries (λ e is. ap q (eqb-true e.lsn n (and_parts (e.lsn == n) (f e) is).0))
 
-numbers_left : (q : ℕ → Bool) (n : ℕ) (entries : List Entry) → is_among n (numbers (filter (λ e. q e.number) entries)) ≡ (is_among n (numbers entries) && q n)
-numbers_left q n entries =
-    any-map (λ y. n == y) (filter (λ e. q e.number) entries) ∙ any-filter (λ e. n == e.number) (λ e. q e.number) (q n) entries (λ e is. ap q (sym (eqb-true n e.number is)))
+lsns_left : (q : ℕ → Bool) (n : ℕ) (entries : List Entry) → is_among n (lsns (filter (λ e. q e.lsn) entries)) ≡ (is_among n (lsns entries) && q n)
+lsns_left q n entries =
+    any-map (λ y. n == y) (filter (λ e. q e.lsn) entries) ∙ any-filter (λ e. n == e.lsn) (λ e. q e.lsn) (q n) entries (λ e is. ap q (sym (eqb-true n e.lsn is)))
     ∙ ap (λ (b : Bool). b && q n) (sym (any-map (λ y. n == y) entries))
 
 turned : (a b c : Bool) → (a && b && c) ≡ ((a && c) && b)
@@ -152,7 +152,7 @@ turned true false true = refl
 turned true false false = refl
 turned false b c = refl
 
-pub removed_store : {O : Type 0} (m : Meaning O) (p : Params) (file : List ℕ) (it : Volatile) (entries : List Entry) (w : World O) (node : ℕ → Bool) → ShowsVolatile m p file it w → entries ≡ filter (λ e. not (node e.number)) it.entries
+pub removed_store : {O : Type 0} (m : Meaning O) (p : Params) (file : List ℕ) (it : Volatile) (entries : List Entry) (w : World O) (node : ℕ → Bool) → ShowsVolatile m p file it w → entries ≡ filter (λ e. not (node e.lsn)) it.entries
     → ShowsVolatile m p file (volatile it.objects entries) (step m w (Removal node))
 unfolding step
 removed_store m p file it entries w node shows same = record {
@@ -162,11 +162,11 @@ removed_store m p file it entries w node shows same = record {
   slots = shows.slots;
   cache = shows.cache;
   dirty = shows.dirty;
-  members = λ n. ap (λ (l : List Entry). is_among n (numbers l)) same ∙ numbers_left (λ k. not (node k)) n it.entries ∙ ap (λ (b : Bool). b && not (node n)) (shows.members n);
+  members = λ n. ap (λ (l : List Entry). is_among n (lsns l)) same ∙ lsns_left (λ k. not (node k)) n it.entries ∙ ap (λ (b : Bool). b && not (node n)) (shows.members n);
   accesses = ap accesses same ∙ (λ i. record {
     reads = λ n y. (left_over (λ k. not (node k)) (λ e. is_among y e.reads) n it.entries ∙ ap (λ (a : Access). a.reads n y && not (node n)) shows.accesses ∙ turned (w.graph n) ((accesses_of m w.history).reads n y) (not (node n))) i;
     writes = λ n y. (left_over (λ k. not (node k)) (λ e. is_among y e.writes) n it.entries ∙ ap (λ (a : Access). a.writes n y && not (node n)) shows.accesses ∙ turned (w.graph n) ((accesses_of m w.history).writes n y) (not (node n))) i;
   });
-  identities = λ n. ap (λ (l : List Entry). list_any (λ e. (e.number == n) && e.identity) l) same ∙ left_over (λ k. not (node k)) (λ e. e.identity) n it.entries
+  identities = λ n. ap (λ (l : List Entry). list_any (λ e. (e.lsn == n) && e.identity) l) same ∙ left_over (λ k. not (node k)) (λ e. e.identity) n it.entries
       ∙ ap (λ (b : Bool). b && not (node n)) (shows.identities n) ∙ turned (w.graph n) (is_identity_at w.history n) (not (node n));
 }

@@ -16,7 +16,7 @@ use Rattle.running_store.specs.Parts.{Volatile, ShowsVolatile}
 
 -- an object of the store has in its slots what the file has at their places
 pub stored_here : (p : Params) (file : List ℕ) (x : ℕ) → x < p.objects → stored p file x ≡ cell_of x file
-stored_here p file x below = cond-true (nat_lt x p.objects) (cell_of x file) (record { id = 0; value = [] }) (lt-ltb x p.objects below)
+stored_here p file x below = cond-true (nat_lt x p.objects) (cell_of x file) (record { lsn = 0; value = [] }) (lt-ltb x p.objects below)
 
 module _ {O : Type 0} (m : Meaning O) (p : Params) (file : List ℕ) (it : Volatile) (w : World O) (shows : ShowsVolatile m p file it w) where
   -- an object's pair is the world's cell
@@ -40,9 +40,9 @@ module _ {O : Type 0} (m : Meaning O) (p : Params) (file : List ℕ) (it : Volat
           ∙ sym (shows.laid.clean x pair clean had)
           ∙ sym (stored_here p file x (shows.below x pair had))
 
-  -- an object is dirty exactly where the world's two identifiers differ
+  -- an object is dirty exactly where the world's two LSNs differ
   pub dirty_shown : (x : ℕ) → is_dirty it.objects.cache x ≡ is_dirty_in w x
   dirty_shown x = elim (cases_Bool (is_dirty it.objects.cache x)) [
-    | inl dirty ↦ dirty ∙ sym (ap not (ne_eqb (w.slots x).id (w.cache x).id (shows.dirty x dirty)))
-    | inr clean ↦ clean ∙ sym (ap not (eq-eqb (w.slots x).id (w.cache x).id (ap (λ (c : Cell). c.id) (sym (clean_shown x clean)))))
+    | inl dirty ↦ dirty ∙ sym (ap not (ne_eqb (w.slots x).lsn (w.cache x).lsn (shows.dirty x dirty)))
+    | inr clean ↦ clean ∙ sym (ap not (eq-eqb (w.slots x).lsn (w.cache x).lsn (ap (λ (c : Cell). c.lsn) (sym (clean_shown x clean)))))
   ]

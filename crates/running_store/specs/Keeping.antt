@@ -42,7 +42,7 @@ forced_attached meaning old new log later objects entries runs keeps at told =
     let was = at before in
     (subst (λ (f : List ℕ). IsLaidOn objects f) (sym ((runs.reads before).others Objects (λ e. was.1.keeps.in_force.a_log (sym e)))) was.0, keeps before was.1)
 
--- a log that has its bounds and its next number still
+-- a log that has its bounds and its next LSN still
 pub still_in_use : (log later : RecordLogView) (objects : Laid) (entries : List Entry) → later.bounds ≡ log.bounds → later.next ≡ log.next → ArePartsInUse (parts log objects entries) → ArePartsInUse (parts later objects entries)
 still_in_use log later objects entries bounds next used = record {
   bounds = bounds ∙ used.bounds;

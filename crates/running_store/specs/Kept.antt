@@ -6,7 +6,7 @@ use Rattle.oper_core.specs.Meaning.{Meaning}
 use Rattle.oper_core.specs.declared.bounds.Bounds.{Bounds}
 use Rattle.formats.specs.declared.record.Record.{Record}
 use Rattle.dirty_cache.specs.Contents.{is_dirty}
-use Rattle.log_frames.specs.LogView.{used_of}
+use Rattle.log_blocks.specs.LogView.{used_of}
 use Rattle.log_records.specs.RecordLog.{RecordLogView, Keeps}
 use Rattle.running_store.specs.Courses.{Stop}
 use Rattle.running_store.specs.Courses.Stop.{Through, Full, At_end, Worn}
@@ -35,9 +35,9 @@ pub record IsLonger (n : ℕ) (before after : Parts) : Type 0 where
   pub dirty : (y : ℕ) → is_dirty after.volatile.objects.cache y ≡ is_dirty before.volatile.objects.cache y
 
 -- Why a call is stopped whose log may have so many bytes, by the log that it leaves: nothing waits in it, and a record has no
--- room after it, or no number is left for one; or no epoch is left for another log.
+-- room after it, or no LSN is left for one; or no epoch is left for another log.
 abbrev pub StopsAt : ℕ → RecordLogView → Stop → Type 0
 StopsAt most log Through = ⊥
 StopsAt most log (Full used need limit) = (used ≡ used_of log.log) × (log.log.pending ≡ []) × (limit < used + need) × (limit ≡ most)
-StopsAt most log (At_end number) = (number ≡ log.next) × (log.log.pending ≡ []) × (number ≡ 2 ^ 62)
+StopsAt most log (At_end lsn) = (lsn ≡ log.next) × (log.log.pending ≡ []) × (lsn ≡ 2 ^ 62)
 StopsAt most log (Worn epoch) = (epoch ≡ log.log.header.epoch) × (epoch ≡ 2 ^ 62)

@@ -4,8 +4,8 @@ use Rattle.oper_core.specs.State.{State, value_for, is_among}
 use Rattle.oper_core.specs.Cell.{Cell}
 use Rattle.formats.specs.Objects.{IsInRange, cell_of}
 use Rattle.formats.specs.declared.params.Params.{Params}
-use Rattle.stable_objects.specs.SlotsView.{SlotsView, id_in, AreOf}
-use Rattle.stable_objects.specs.Spares.{spare_id}
+use Rattle.stable_objects.specs.SlotsView.{SlotsView, lsn_in, AreOf}
+use Rattle.stable_objects.specs.Spares.{spare_lsn}
 use Rattle.dirty_cache.specs.Contents.{Contents, cell_of_entry, held, is_dirty}
 use Rattle.dirty_cache.specs.declared.entry.Entry.{Entry}
 
@@ -28,12 +28,12 @@ abbrev pub values_in : Laid → List ℕ → State
 values_in laid file x = (cell_in laid file x).value
 
 abbrev pub lsn_or : Option Entry → ℕ → ℕ
-lsn_or None id = id
-lsn_or (Some entry) id = entry.lsn
+lsn_or None lsn = lsn
+lsn_or (Some entry) lsn = entry.lsn
 
--- an object's identifier, for which no file is read
-abbrev pub id_at : Laid → ℕ → ℕ
-id_at laid x = lsn_or (held laid.cache x) (id_in laid.slots x)
+-- an object's LSN, for which no file is read
+abbrev pub object_lsn : Laid → ℕ → ℕ
+object_lsn laid x = lsn_or (held laid.cache x) (lsn_in laid.slots x)
 
 -- what is cached is of objects that there are, and none of it is too long
 pub record AreCached (p : Params) (cache : Contents) : Type 0 where
@@ -48,13 +48,13 @@ pub record IsLaidOn (laid : Laid) (file : List ℕ) : Type 0 where
 
 -- the slot that doesn't hold an object is closed, if the object is cached
 abbrev pub HasClosedSpare : Laid → ℕ → Type 0
-HasClosedSpare laid x = IsSome (held laid.cache x) → spare_id laid.slots x ≡ 0
+HasClosedSpare laid x = IsSome (held laid.cache x) → spare_lsn laid.slots x ≡ 0
 
 -- each object has the pair that it had
 abbrev pub KeepsCells : List ℕ → Laid → Laid → Type 0
 KeepsCells file before after = (x : ℕ) → x < before.slots.params.objects → cell_in after file x ≡ cell_in before file x
 
--- what is cached, with these values under this identifier at the objects beside them
+-- what is cached, with these values under this LSN at the objects beside them
 abbrev pub with_entries : (ℕ → Option Entry) → ℕ → List ℕ → List (List ℕ) → ℕ → Option Entry
 with_entries entries lsn objects values x = if is_among x objects then Some (record { lsn = lsn; bytes = value_for x objects values }) else entries x
 

@@ -2,11 +2,11 @@
 use Rattle.std.proofs.Common.{◌≡◌, ℕ, ◌<◌, List, Option, None, Some, IsSome, sym, ◌∙◌, subst, refl}
 use Rattle.oper_core.specs.Cell.{Cell}
 use Rattle.formats.specs.Objects.{cell_of}
-use Rattle.stable_objects.specs.SlotsView.{SlotsView, id_in}
-use Rattle.stable_objects.specs.SlotLaws.{id_is}
+use Rattle.stable_objects.specs.SlotsView.{SlotsView, lsn_in}
+use Rattle.stable_objects.specs.SlotLaws.{lsn_is}
 use Rattle.dirty_cache.specs.Contents.{held}
 use Rattle.dirty_cache.specs.declared.entry.Entry.{Entry}
-use Rattle.running_store.specs.Laid.{Laid, IsLaidOn, KeepsCells, cell_or, cell_in, values_in, lsn_or, id_at}
+use Rattle.running_store.specs.Laid.{Laid, IsLaidOn, KeepsCells, cell_or, cell_in, values_in, lsn_or, object_lsn}
 
 -- the same is cached
 pub cells_same : (file : List ℕ) (old new : Laid) → new.slots ≡ old.slots → ((x : ℕ) → held new.cache x ≡ held old.cache x) → KeepsCells file old new
@@ -23,11 +23,11 @@ same_value (Some entry) one other some = refl
 pub cached_value : (laid : Laid) (x : ℕ) (one other : List ℕ) → IsSome (held laid.cache x) → values_in laid one x ≡ values_in laid other x
 cached_value laid x one other some = same_value (held laid.cache x) (cell_of x one) (cell_of x other) some
 
--- the identifier that is reported without the file is that of the pair
-id_or : (h : Option Entry) (id : ℕ) (cell : Cell) → id ≡ cell.id → lsn_or h id ≡ (cell_or h cell).id
-id_or None id cell same = same
-id_or (Some e) id cell same = refl
+-- the LSN that is reported without the file is that of the pair
+cell_lsn_or : (h : Option Entry) (lsn : ℕ) (cell : Cell) → lsn ≡ cell.lsn → lsn_or h lsn ≡ (cell_or h cell).lsn
+cell_lsn_or None lsn cell same = same
+cell_lsn_or (Some e) lsn cell same = refl
 
-pub id_told : (file : List ℕ) (laid : Laid) (x : ℕ) → IsLaidOn laid file → x < laid.slots.params.objects → id_at laid x ≡ (cell_in laid file x).id
-id_told file laid x is below =
-    id_or (held laid.cache x) (id_in laid.slots x) (cell_of x file) (id_is laid.slots file x is.slots below)
+pub lsn_told : (file : List ℕ) (laid : Laid) (x : ℕ) → IsLaidOn laid file → x < laid.slots.params.objects → object_lsn laid x ≡ (cell_in laid file x).lsn
+lsn_told file laid x is below =
+    cell_lsn_or (held laid.cache x) (lsn_in laid.slots x) (cell_of x file) (lsn_is laid.slots file x is.slots below)

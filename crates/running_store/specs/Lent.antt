@@ -16,7 +16,7 @@ inputs_in cache objects (Some copies) = copies
 
 -- the cache is as it was, with all its room, but for the values of these objects
 pub record KeepsOthers (objects : List ℕ) (old new : Contents) : Type 0 where
-  pub ids : (x : ℕ) → option_map (λ e. e.lsn) (held new x) ≡ option_map (λ e. e.lsn) (held old x)
+  pub lsns_kept : (x : ℕ) → option_map (λ e. e.lsn) (held new x) ≡ option_map (λ e. e.lsn) (held old x)
   pub others : (x : ℕ) → is_among x objects ≡ false → held new x ≡ held old x
   pub dirty : (x : ℕ) → is_dirty new x ≡ is_dirty old x
   pub rooms : KeepsRooms old new

@@ -44,7 +44,7 @@ pub mod Rests
 pub mod Commands
 pub mod Writes
 pub mod Entered
-pub mod Checks
+pub mod Checkpoints
 pub mod Rewrites
 pub mod RewriteLaws
 pub mod AfterReads

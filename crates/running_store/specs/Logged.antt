@@ -1,6 +1,6 @@
 -- What an identity write needs, and what a refusal out of memory leaves.
 use Rattle.std.specs.Prelude.{◌≡◌, ◌+◌, ◌<◌, ◌≤◌, ◌^◌, ℕ, length}
-use Rattle.log_frames.specs.LogView.{LogView, used_of}
+use Rattle.log_blocks.specs.LogView.{LogView, used_of}
 use Rattle.log_records.specs.RecordLog.{RecordLogView}
 use Rattle.running_store.specs.Parts.{Parts}
 

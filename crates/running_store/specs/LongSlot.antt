@@ -6,14 +6,14 @@ use Rattle.disk_model.specs.declared.machine.FileNo.{FileNo}
 use Rattle.disk_model.specs.declared.machine.FileNo.TheVariants.{Objects}
 use Rattle.stable_objects.specs.Reading.{IsLongValue}
 use Rattle.stable_objects.specs.SlotLaws.{held_short}
-use Rattle.stable_objects.specs.SlotsView.{SlotsView, AreOf, place_of, holder_in, id_in}
+use Rattle.stable_objects.specs.SlotsView.{SlotsView, AreOf, place_of, holder_in, lsn_in}
 
 -- The objects file is reported to be damaged at this place. By these slots this object has an open one, and in all files that
 -- agree with what was read the value there is longer than the store allows, or goes past the end of the file.
 pub record IsLongSlot (d : Disk) (slots : SlotsView) (object : ℕ) (file : FileNo) (place : ℕ) : Type 0 where
   pub file_is : file ≡ Objects
   pub below : object < slots.params.objects
-  pub there : id_in slots object ≢ 0
+  pub there : lsn_in slots object ≢ 0
   pub long : (files : Files) → d.agrees files
       → IsLongValue slots.params.cap (place_of slots object (holder_in slots object)) (files Objects) place
 

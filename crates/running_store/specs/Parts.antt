@@ -13,12 +13,12 @@ use Rattle.formats.specs.declared.params.Params.{Params}
 use Rattle.formats.specs.declared.record.Record.{Record}
 use Rattle.formats.specs.declared.record.Record.TheVariants.{Command as Logged_command, Identity as Logged_identity}
 use Rattle.log_records.specs.RecordLog.{RecordLogView, Keeps, counts}
-use Rattle.stable_objects.specs.SlotsView.{id_in}
+use Rattle.stable_objects.specs.SlotsView.{lsn_in}
 use Rattle.dirty_cache.specs.Contents.{held, is_dirty}
 use Rattle.dirty_cache.specs.declared.entry.Entry.{Entry as Pair}
 use Rattle.install_order.specs.declared.entry.Entry.{Entry}
 use Rattle.install_order.specs.Entries.{accesses}
-use Rattle.write_graph.specs.Graph.{numbers}
+use Rattle.write_graph.specs.Graph.{lsns}
 use Rattle.explain_core.specs.History.{Member, reads_of, writes_of}
 use Rattle.explain_core.specs.History.Member.{Command, Identity}
 use Rattle.explain_core.specs.World.{World, NoGroup, graph_access}
@@ -54,7 +54,7 @@ abbrev pub cell_at : Params → Laid → List ℕ → ℕ → Cell
 cell_at p objects file x = cell_or (held objects.cache x) (stored p file x)
 
 -- The objects are laid on the file, whose slots have the world's cells, and are in all the world's cache; what is cached
--- is of objects that there are, and is dirty exactly where the world's two identifiers differ. The entries are the members
+-- is of objects that there are, and is dirty exactly where the world's two LSNs differ. The entries are the members
 -- of the world's graph, with what these read and write, and which of them are identity writes. Whether anything is left to replay is not said, nor is anything of
 -- the log.
 pub record ShowsVolatile {O : Type 0} (m : Meaning O) (p : Params) (file : List ℕ) (it : Volatile) (w : World O) : Type 0 where
@@ -63,12 +63,12 @@ pub record ShowsVolatile {O : Type 0} (m : Meaning O) (p : Params) (file : List 
   pub below : (x : ℕ) (pair : Pair) → held it.objects.cache x ≡ Some pair → x < p.objects
   pub slots : (x : ℕ) → stored p file x ≡ w.slots x
   pub cache : (x : ℕ) → cell_at p it.objects file x ≡ w.cache x
-  pub dirty : (x : ℕ) → is_dirty it.objects.cache x ≡ true → (w.slots x).id ≢ (w.cache x).id
-  pub members : (n : ℕ) → is_among n (numbers it.entries) ≡ w.graph n
+  pub dirty : (x : ℕ) → is_dirty it.objects.cache x ≡ true → (w.slots x).lsn ≢ (w.cache x).lsn
+  pub members : (n : ℕ) → is_among n (lsns it.entries) ≡ w.graph n
   pub accesses : accesses it.entries ≡ graph_access m w
-  pub identities : (n : ℕ) → list_any (λ e. (e.number == n) && e.identity) it.entries ≡ (w.graph n && is_identity_at w.history n)
+  pub identities : (n : ℕ) → list_any (λ e. (e.lsn == n) && e.identity) it.entries ≡ (w.graph n && is_identity_at w.history n)
 
--- The log in force has the stable members from the base on and the stable checks, and the others wait in its buffer.
+-- The log in force has the stable members from the base on and the stable checkpoints, and the others wait in its buffer.
 pub record ShowsLog {O : Type 0} (m : Meaning O) (d : Disk) (log : RecordLogView) (w : World O) : Type 0 where
   pub stable : List (Record O)
   pub pending : List (Record O)
@@ -99,31 +99,31 @@ pub record VolatileShows {O : Type 0} (m : Meaning O) (p : Params) (d : Disk) (i
   pub store : ShowsVolatile m p (d.reads Objects) it w
   pub files : FilesShow m p d.reads w
 
--- What holds of a store in memory on every machine, with this next number, which is above every number in the graph: a
--- dirty object's identifier is above that of its slot and below the next number, and a clean one has that of its slot.
+-- What holds of a store in memory on every machine, with this next LSN, which is above every LSN in the graph: a
+-- dirty object's LSN is above that of its slot and below the next LSN, and a clean one has that of its slot.
 pub record AreInUse (p : Params) (next : ℕ) (it : Volatile) : Type 0 where
   pub params : it.objects.slots.params ≡ p
   pub low : next ≤ 2 ^ 62
-  pub above : All (λ n. n < next) (numbers it.entries)
+  pub above : All (λ n. n < next) (lsns it.entries)
   pub dirty : (x : ℕ) (pair : Pair) → is_dirty it.objects.cache x ≡ true → held it.objects.cache x ≡ Some pair
-      → (id_in it.objects.slots x < pair.lsn) × (pair.lsn < next)
-  pub clean : (x : ℕ) (pair : Pair) → is_dirty it.objects.cache x ≡ false → held it.objects.cache x ≡ Some pair → pair.lsn ≡ id_in it.objects.slots x
+      → (lsn_in it.objects.slots x < pair.lsn) × (pair.lsn < next)
+  pub clean : (x : ℕ) (pair : Pair) → is_dirty it.objects.cache x ≡ false → held it.objects.cache x ≡ Some pair → pair.lsn ≡ lsn_in it.objects.slots x
 
--- a member with its number, as the log has it
+-- a member with its LSN, as the log has it
 abbrev pub record_of : {O : Type 0} → ℕ → Member O → Record O
-record_of number (Command op) = Logged_command number op
-record_of number (Identity x value) = Logged_identity number x value
+record_of lsn (Command op) = Logged_command lsn op
+record_of lsn (Identity x value) = Logged_identity lsn x value
 
 abbrev pub is_identity : {O : Type 0} → Member O → Bool
 is_identity (Command op) = false
 is_identity (Identity x value) = true
 
--- the entry of the write graph of a member with this number
+-- the entry of the write graph of a member with this LSN
 abbrev pub entry_of : {O : Type 0} → Meaning O → ℕ → Member O → Entry
-entry_of m number member = record { number = number; reads = reads_of m member; writes = writes_of m member; identity = is_identity member }
+entry_of m lsn member = record { lsn = lsn; reads = reads_of m member; writes = writes_of m member; identity = is_identity member }
 
 -- A member is appended, a command or an identity write: its record waits, each object that it writes is cached under its
--- number with the value made, and the graph has an entry of it.
+-- LSN with the value made, and the graph has an entry of it.
 pub record IsAppended {O : Type 0} (m : Meaning O) (before after : Parts) (member : Member O) (made : List (List ℕ)) : Type 0 where
   pub log : after.log ≡ record before.log {
     log = record before.log.log { pending = before.log.log.pending ++ record_code m (record_of before.log.next member); room = after.log.log.room };

@@ -8,7 +8,7 @@ use Rattle.formats.specs.Objects.{bounds_of, cell_of}
 use Rattle.formats.specs.declared.params.Params.{Params}
 use Rattle.log_records.specs.RecordLaws.{keeps_room, keeps_stay}
 use Rattle.log_records.specs.RecordLog.{RecordLogView}
-use Rattle.stable_objects.specs.SlotsView.{SlotsView, id_in}
+use Rattle.stable_objects.specs.SlotsView.{SlotsView, lsn_in}
 use Rattle.dirty_cache.specs.Contents.{held}
 use Rattle.dirty_cache.specs.declared.entry.Entry.{Entry as Pair}
 use Rattle.install_order.specs.declared.entry.Entry.{Entry}
@@ -57,7 +57,7 @@ read_in_use old new before after read used =
       bounds = used.bounds ∙ ap bounds_of (sym params);
       store = subst (λ (q : Params). AreInUse q before.log.next (volatile after before.volatile.entries)) (sym params)
           (fetched-in_use before.volatile.objects.slots.params before.log.next before.volatile after used.store read.fetched);
-      early = subst (λ (s : SlotsView). (x : ℕ) → x < s.params.objects → id_in s x < before.log.next) (sym read.fetched.slots) used.early;
+      early = subst (λ (s : SlotsView). (x : ℕ) → x < s.params.objects → lsn_in s x < before.log.next) (sym read.fetched.slots) used.early;
     }
 
 pub read_attached : {O : Type 0} (meaning : Bounds → Meaning O) (old new : Disk) (before : Parts) (after : Laid) → HasRead old new before.volatile.objects after → IsAttached meaning old before
@@ -106,7 +106,7 @@ module _ (before after : Parts) (it : IsUntaken before after) where
             (subst (λ (l : List Entry). AreInUse before.volatile.objects.slots.params before.log.next (volatile after.volatile.objects l)) (sym it.entries)
             (fetched-in_use before.volatile.objects.slots.params before.log.next before.volatile after.volatile.objects used.store untaken_fetched)));
         early = subst (λ (n : ℕ). AreEarly n after.volatile.objects) (sym next)
-            (subst (λ (s : SlotsView). (x : ℕ) → x < s.params.objects → id_in s x < before.log.next) (sym it.slots) used.early);
+            (subst (λ (s : SlotsView). (x : ℕ) → x < s.params.objects → lsn_in s x < before.log.next) (sym it.slots) used.early);
       }
 
   pub untaken_attached : {O : Type 0} (meaning : Bounds → Meaning O) (d : Disk) → IsAttached meaning d before → IsAttached meaning d after

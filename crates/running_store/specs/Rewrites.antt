@@ -1,7 +1,7 @@
 -- What a rewrite of a store's log does, as a function of the world, and what it leaves.
 use Rattle.std.specs.Prelude.{◌≡◌, ◌+◌, ◌-◌, ℕ, nat_lt, if◌then◌else◌, List, [], ◌∷◌, ◌++◌, map, drop, Result, Ok, Err}
 use Rattle.oper_core.specs.Meaning.{Meaning}
-use Rattle.redo_tables.specs.declared.table.Table.{Table}
+use Rattle.dirty_page_table.specs.declared.table.DirtyPageTable.{DirtyPageTable}
 use Rattle.formats.specs.Limits.{log_limit}
 use Rattle.install_order.specs.Computed.{least_below}
 use Rattle.log_records.specs.Rewriting.{blocks_length}
@@ -18,17 +18,17 @@ use Rattle.running_store.specs.Taking.{Ending}
 use Rattle.running_store.specs.Taking.Ending.{Done, Stopped, Short, Failed}
 
 module _ {O : Type 0} (m : Meaning O) where
-  -- the bytes of the record of a check taken now
-  abbrev pub check_length : World O → ℕ
-  check_length w = table_length m (table_now m w)
+  -- the bytes of the record of a checkpoint taken now
+  abbrev pub checkpoint_length : World O → ℕ
+  checkpoint_length w = table_length m (table_now m w)
 
-  -- where the log begins after a trim: at the least member of the graph, or at the next number
+  -- where the log begins after a trim: at the least member of the graph, or at the next LSN
   abbrev pub new_base : World O → ℕ
   new_base w = least_below (end_of w) w.graph
 
-  -- the lengths of the records that a trim leaves in the log: the members from the new base on, and a check taken now
+  -- the lengths of the records that a trim leaves in the log: the members from the new base on, and a checkpoint taken now
   abbrev pub lengths_left : World O → List ℕ
-  lengths_left w = map (record_length m) (drop (new_base w - 1) w.history) ++ check_length w ∷ []
+  lengths_left w = map (record_length m) (drop (new_base w - 1) w.history) ++ checkpoint_length w ∷ []
 
   -- the length of the log after a trim: a header, the head of the first block, and the blocks
   abbrev pub trimmed : World O → ℕ
@@ -43,8 +43,8 @@ module _ {O : Type 0} (m : Meaning O) where
   rewrite_course w used =
       if nat_lt log_limit (trimmed_file w) then course [] used (Full used (trimmed_file w) log_limit) else course (Header_gate (new_base w) ∷ []) (trimmed w) Through
 
-  -- a check that the world would take now, and the number from which a log of it is then kept
-  pub record IsKeptFrom (w : World O) (base : ℕ) (table : Table) : Type 0 where
+  -- a checkpoint that the world would take now, and the LSN from which a log of it is then kept
+  pub record IsKeptFrom (w : World O) (base : ℕ) (table : DirtyPageTable) : Type 0 where
     pub now : table_of table ≡ table_now m w
     pub starts : base ≡ new_base w
 
@@ -57,7 +57,7 @@ ending_of_rewrite (Err of_rewrite.DiskFault) = Failed
 ending_of_rewrite (Err (of_rewrite.Damaged file place)) = Short
 ending_of_rewrite (Err of_rewrite.Memory) = Short
 
--- The log is one of the next epoch, which begins at the base. No number is given, no command is added, and all but the log is
+-- The log is one of the next epoch, which begins at the base. No LSN is given, no command is added, and all but the log is
 -- as it was.
 pub record IsRewritten (before after : StoreView) (base : ℕ) : Type 0 where
   pub bounds : after.parts.log.bounds ≡ before.parts.log.bounds

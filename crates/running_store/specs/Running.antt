@@ -6,7 +6,7 @@ use Rattle.explain_core.specs.History.{Member, commands_of}
 use Rattle.explain_core.specs.History.Member.{Command, Identity}
 use Rattle.explain_core.specs.Sound.{IsSound}
 use Rattle.explain_core.specs.World.{World, Step, step, run, IsLive, NoGroup, AreAllowed}
-use Rattle.explain_core.specs.World.Step.{Begin, End, Append, Block_gate, Check, Slot_gate, Removal, Header_gate, Replay, Crash}
+use Rattle.explain_core.specs.World.Step.{Begin, End, Append, Block_gate, Checkpoint, Slot_gate, Removal, Header_gate, Replay, Crash}
 
 -- a sound world in which nothing is left to replay, and no group is open
 pub record IsRunning {O : Type 0} (m : Meaning O) (w : World O) : Type 0 where
@@ -25,7 +25,7 @@ IsUpkeep End = ⊥
 IsUpkeep (Append (Command op)) = ⊥
 IsUpkeep (Append (Identity x value)) = ⊤
 IsUpkeep Block_gate = ⊤
-IsUpkeep Check = ⊤
+IsUpkeep Checkpoint = ⊤
 IsUpkeep (Slot_gate node x) = ⊤
 IsUpkeep (Removal node) = ⊤
 IsUpkeep (Header_gate base) = ⊤
@@ -58,7 +58,7 @@ step_upkept m w (Append (Identity x value)) is live alone = record {
   commands = commands_same w.history x value;
 }
 step_upkept m w Block_gate is live alone = record { live = live; alone = alone; commands = refl }
-step_upkept m w Check is live alone = record { live = live; alone = alone; commands = refl }
+step_upkept m w Checkpoint is live alone = record { live = live; alone = alone; commands = refl }
 step_upkept m w (Slot_gate node x) is live alone = record { live = live; alone = alone; commands = refl }
 step_upkept m w (Removal node) is live alone = record { live = live; alone = alone; commands = refl }
 step_upkept m w (Header_gate base) is live alone = record { live = live; alone = alone; commands = refl }
@@ -98,4 +98,4 @@ may_be_taken m w steps keeps is are may = record {
 -- nothing is left in the graph, and no object is dirty
 pub record IsDrained {O : Type 0} (w : World O) : Type 0 where
   pub empty : (n : ℕ) → IsFalse (w.graph n)
-  pub clean : (x : ℕ) → (w.slots x).id ≡ (w.cache x).id
+  pub clean : (x : ℕ) → (w.slots x).lsn ≡ (w.cache x).lsn

@@ -3,7 +3,7 @@ use Rattle.std.specs.Prelude.{◌-◌, ◌≤◌, ℕ, Bool, List}
 use Rattle.formats.specs.declared.layout.Layout.{Layout}
 use Rattle.formats.specs.declared.params.Params.{Params}
 use Rattle.install_order.specs.declared.entry.Entry.{Entry}
-use Rattle.log_frames.specs.LogView.{used_of}
+use Rattle.log_blocks.specs.LogView.{used_of}
 use Rattle.log_records.specs.RecordLog.{RecordLogView}
 use Rattle.stable_objects.specs.SlotsView.{layout_of}
 use Rattle.running_store.specs.Laid.{Laid}
@@ -22,7 +22,7 @@ pub record StoreView : Type 0 where
 abbrev pub view_of : RecordLogView → Laid → List Entry → ℕ → Bool → StoreView
 view_of log objects entries identities broken = record { parts = parts log objects entries; identities = identities; broken = broken }
 
--- the numbers of the store
+-- the LSNs of the store
 abbrev pub store_params : StoreView → Params
 store_params store = store.parts.volatile.objects.slots.params
 
@@ -44,7 +44,7 @@ abbrev pub log_length : StoreView → ℕ
 log_length store = used_of store.parts.log.log
 
 -- What holds of a store that is not broken: its parts are in use, and no more identity writes were logged than there are
--- numbers below the next.
+-- LSNs below the next.
 pub record IsUsable (it : Parts) (identities : ℕ) : Type 0 where
   pub in_use : ArePartsInUse it
   pub counted : identities ≤ it.log.next

@@ -190,7 +190,7 @@ module _ {O : Type 0} (m : Meaning O) (p : Params) where
           }
 
     -- store and files show the world after a removal
-    pub removal_shows : (entries : List Entry) → entries ≡ filter (λ e. not (node e.number)) it.entries → IsSound m (step m w (Removal node)) → VolatileShows m p d (volatile it.objects entries) (step m w (Removal node))
+    pub removal_shows : (entries : List Entry) → entries ≡ filter (λ e. not (node e.lsn)) it.entries → IsSound m (step m w (Removal node)) → VolatileShows m p d (volatile it.objects entries) (step m w (Removal node))
     unfolding step
     removal_shows entries same sound = record {
       told = shows.told;

@@ -6,7 +6,7 @@ use Rattle.disk_model.specs.Disk.{Disk, IsDisk}
 use Rattle.oper_core.specs.Meaning.{Meaning}
 use Rattle.oper_core.specs.declared.bounds.Bounds.{Bounds}
 use Rattle.formats.specs.declared.params.Params.{Params}
-use Rattle.log_frames.specs.LogView.{used_of}
+use Rattle.log_blocks.specs.LogView.{used_of}
 use Rattle.explain_core.specs.RunLaws.{run-append}
 use Rattle.explain_core.specs.Taken.{IsAfterSome, after_behind, after_longer, after_none}
 use Rattle.explain_core.specs.TurnLaws.{run_none}
@@ -47,7 +47,7 @@ module _ {O : Type 0} (m : Meaning O) (p : Params) (new : Disk) (after : Parts) 
   follows_cut Done cut is = absurd cut
   follows_cut (Stopped Through) cut is = absurd (both_ways _ cut refl)
   follows_cut (Stopped (Full used need limit)) cut is = subst (λ (c : Course O). Follows m p new after w c (Stopped (Full used need limit))) (sym (behind_stopped first second first.stop (ap is_through is.0))) is
-  follows_cut (Stopped (At_end number)) cut is = subst (λ (c : Course O). Follows m p new after w c (Stopped (At_end number))) (sym (behind_stopped first second first.stop (ap is_through is.0))) is
+  follows_cut (Stopped (At_end lsn)) cut is = subst (λ (c : Course O). Follows m p new after w c (Stopped (At_end lsn))) (sym (behind_stopped first second first.stop (ap is_through is.0))) is
   follows_cut (Stopped (Worn epoch)) cut is = subst (λ (c : Course O). Follows m p new after w c (Stopped (Worn epoch))) (sym (behind_stopped first second first.stop (ap is_through is.0))) is
   follows_cut Short cut is = behind_both (λ (c : Course O). IsAfterSome m (λ v. Shows m p new after v) w c.steps) first second first.stop (λ on. after_longer m (λ v. Shows m p new after v) w first.steps second.steps is) (λ ends. is)
   follows_cut Failed cut is = tt

@@ -5,7 +5,7 @@ use Rattle.oper_core.specs.Meaning.{Meaning}
 use Rattle.oper_core.specs.declared.bounds.Bounds.{Bounds}
 use Rattle.formats.specs.Objects.{bounds_of}
 use Rattle.formats.specs.declared.params.Params.{Params}
-use Rattle.log_frames.specs.LogView.{used_of}
+use Rattle.log_blocks.specs.LogView.{used_of}
 use Rattle.explain_core.specs.Taken.{IsAfterSome}
 use Rattle.explain_core.specs.World.{World, run}
 use Rattle.standing.specs.Moments.{TakesSome}
@@ -42,8 +42,8 @@ pub record Takes {O : Type 0} (meaning : Bounds → Meaning O) (old new : Disk) 
   pub steps : old.tells_moments → (p : Params) (w : World O) → Shows (meaning_in meaning p) p old before w
       → TakesSome (meaning_in meaning p) p old new w (course (meaning_in meaning p) w (used_of before.log.log)).steps
 
--- What holds of parts on every machine: the log is one of the store, the store is in use, and the identifiers of its slots
--- are below the next number.
+-- What holds of parts on every machine: the log is one of the store, the store is in use, and the LSNs of its slots
+-- are below the next LSN.
 pub record ArePartsInUse (it : Parts) : Type 0 where
   pub bounds : it.log.bounds ≡ bounds_of it.volatile.objects.slots.params
   pub store : AreInUse it.volatile.objects.slots.params it.log.next it.volatile

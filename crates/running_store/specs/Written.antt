@@ -11,7 +11,7 @@ use Rattle.formats.specs.Limits.{log_limit}
 use Rattle.formats.specs.Objects.{cell_of}
 use Rattle.formats.specs.Records.{record_code}
 use Rattle.formats.specs.declared.params.Params.{Params}
-use Rattle.log_frames.specs.LogView.{LogView, end_with, used_of, growth_of}
+use Rattle.log_blocks.specs.LogView.{LogView, end_with, used_of, growth_of}
 use Rattle.log_records.specs.RecordLog.{RecordLogView}
 use Rattle.dirty_cache.specs.Contents.{held, is_dirty}
 use Rattle.dirty_cache.specs.declared.entry.Entry.{Entry as Pair}

@@ -18,24 +18,24 @@ impl<O: Oper> Store<O> {
     pub fn append_identity(&mut self, x: u32) -> Result<(), Memory>
         requires unbroken { self.old.broken ≡ false }
         requires cached { IsSome (held self.old.parts.volatile.objects.cache x) }
-        requires number { next_of self.old < 2 ^ 62 }
+        requires lsn { next_of self.old < 2 ^ 62 }
         requires place { (pair : Pair) → held self.old.parts.volatile.objects.cache x ≡ Some pair → HasPlace self.old.parts.log.log (identity_length (length pair.bytes)) }
         ensures { HasWritten O.meaning self.old self.new x result }
     {
         self.objects.room_for(x)?;
         let logged = self.objects.value(x).to_vec(self.alloc)?;
         let kept = self.objects.value(x).to_vec(self.alloc)?;
-        let number = self.log.next();
+        let lsn = self.log.next();
         let entry = Entry {
-            number,
+            lsn,
             reads: Objs::new(),
             writes: Objs::one(x),
             identity: true,
         };
         self.graph.make_room(&entry)?;
-        let record = Record::Identity(number, x, ByteList::new(logged));
+        let record = Record::Identity(lsn, x, ByteList::new(logged));
         self.log.append(record)?;
-        self.objects.set(x, number, ByteList::new(kept));
+        self.objects.set(x, lsn, ByteList::new(kept));
         self.graph.add(entry);
         self.identities += 1;
         Ok(())

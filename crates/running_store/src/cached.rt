@@ -3,7 +3,7 @@ ghost use Rattle.std.specs.Prelude.{◌≡◌, ◌==◌, ◌&&◌, ◌||◌, ◌
 ghost use Rattle.formats.specs.Objects.{cell_of};
 ghost use Rattle.dirty_cache.specs.Contents.{held, is_dirty, HasRoom, KeepsRooms};
 ghost use Rattle.oper_core.specs.State.{is_among};
-ghost use Rattle.stable_objects.specs.SlotsView.{id_in};
+ghost use Rattle.stable_objects.specs.SlotsView.{lsn_in};
 ghost use Rattle.running_store.specs.Fetched.{IsFetched};
 ghost use Rattle.running_store.specs.Laid.{IsLaidOn, KeepsCells};
 
@@ -43,9 +43,9 @@ impl Objects {
         requires absent { held self.old.cache object ≡ None }
         requires short { length bytes.items ≤ self.old.slots.params.cap }
         ensures slots { self.new.slots ≡ self.old.slots }
-        ensures cells { (file : List ℕ) → IsLaidOn self.old file → cell_of object file ≡ record { id = lsn; value = bytes.items } →
+        ensures cells { (file : List ℕ) → IsLaidOn self.old file → cell_of object file ≡ record { lsn = lsn; value = bytes.items } →
             KeepsCells file self.old self.new × IsLaidOn self.new file }
-        ensures fetched { lsn ≡ id_in self.old.slots object → IsFetched self.old self.new }
+        ensures fetched { lsn ≡ lsn_in self.old.slots object → IsFetched self.old self.new }
     {
         self.cache.keep_clean(object, lsn, bytes);
     }
@@ -62,7 +62,7 @@ impl Objects {
         self.cache.make_room(object)
     }
 
-    /// Gives an object a new value and identifier. No memory.
+    /// Gives an object a new value and LSN. No memory.
     pub(crate) fn set(&mut self, object: u32, lsn: u64, value: ByteList)
         requires below { object < self.old.slots.params.objects }
         requires room { HasRoom self.old.cache object }

@@ -20,7 +20,7 @@ use dirty_cache::Cache;
 use number_lists::NumberTree;
 use oper_core::{ByteList, Memory, Oper, Refusal, Values};
 
-/// Puts an object's new value into the cache under an identifier, and notes whether it is empty. No memory.
+/// Puts an object's new value into the cache under an LSN, and notes whether it is empty. No memory.
 fn put_value(cache: &mut Cache, empties: &mut NumberTree, lsn: u64, object: u32, value: ByteList)
     requires below { object < length empties.old.marks }
     requires room { HasRoom cache.old object }
@@ -81,23 +81,27 @@ impl Objects {
         self.slots.params().cap
     }
 
-    /// The answer of a command's check on what it reads. Each object has the pair that it had.
-    pub(crate) fn check<O: Oper>(&mut self, op: &O, copies: &Option<Values>) -> Result<(), Refusal>
+    /// The answer of a command's checkpoint on what it reads. Each object has the pair that it had.
+    pub(crate) fn checkpoint<O: Oper>(
+        &mut self,
+        op: &O,
+        copies: &Option<Values>,
+    ) -> Result<(), Refusal>
         requires grammar { IsInGrammar (meaning_in O.meaning self.old.slots.params) op.now }
         requires fits { FitsReads (meaning_in O.meaning self.old.slots.params) op.now (inputs_in self.old.cache ((meaning_in O.meaning self.old.slots.params).reads op.now) copies.now) }
-        ensures answer { result_err result ≡ (meaning_in O.meaning self.old.slots.params).check op.now (inputs_in self.old.cache ((meaning_in O.meaning self.old.slots.params).reads op.now) copies.now) }
+        ensures answer { result_err result ≡ (meaning_in O.meaning self.old.slots.params).checkpoint op.now (inputs_in self.old.cache ((meaning_in O.meaning self.old.slots.params).reads op.now) copies.now) }
         ensures slots { self.new.slots ≡ self.old.slots }
         ensures entries { (x : ℕ) → held self.new.cache x ≡ held self.old.cache x }
         ensures fetched { IsFetched self.old self.new }
         ensures laid { (file : List ℕ) → IsLaidOn self.old file → IsLaidOn self.new file }
     {
         let bounds = self.bounds();
-        // Called for its clauses: the numbers are small.
+        // Called for its clauses: the LSNs are small.
         let _params = self.params();
         check_inputs(self.alloc, bounds, &mut self.cache, op, copies)
     }
 
-    /// Does a command on what it reads: the objects that it writes get the values made, under an identifier. Without memory
+    /// Does a command on what it reads: the objects that it writes get the values made, under an LSN. Without memory
     /// each object has the pair that it had.
     pub(crate) fn run<O: Oper>(
         &mut self,
@@ -114,7 +118,7 @@ impl Objects {
         ensures fetched { OnErr result (IsFetched self.old self.new) }
     {
         let bounds = self.bounds();
-        // Called for its clauses: the numbers are small.
+        // Called for its clauses: the LSNs are small.
         let _params = self.params();
         let writes = op.writes();
         let made = apply_inputs(self.alloc, bounds, &mut self.cache, op, copies)?;

@@ -4,7 +4,7 @@ ghost use Rattle.disk_model.specs.Disk.{Rises};
 ghost use Rattle.disk_model.specs.declared.machine.FileNo.TheVariants.{Objects as ObjectsFile};
 ghost use Rattle.formats.specs.Reading.{FailsBy};
 ghost use Rattle.dirty_cache.specs.Contents.{held};
-ghost use Rattle.stable_objects.specs.SlotsView.{id_in};
+ghost use Rattle.stable_objects.specs.SlotsView.{lsn_in};
 ghost use Rattle.running_store.specs.Faults.{has_failed, is_read_fault};
 ghost use Rattle.running_store.specs.Fetches.{IsFetch};
 ghost use Rattle.running_store.specs.Laid.{IsLaidOn, values_in};
@@ -28,7 +28,7 @@ impl<O: Oper> Store<O> {
 
         // What is cached, or has no open slot, costs no device call.
         ensures known { IsSome (held self.old.parts.volatile.objects.cache object) → machine.new ≡ machine.old }
-        ensures none { id_in self.old.parts.volatile.objects.slots object ≡ 0 → (machine.new ≡ machine.old) × IfErr result (λ e. e ≡ ReadErr.Memory) }
+        ensures none { lsn_in self.old.parts.volatile.objects.slots object ≡ 0 → (machine.new ≡ machine.old) × IfErr result (λ e. e ≡ ReadErr.Memory) }
         ensures cause { IfErr result (FailsBy (Rises (M.disk machine.old).disk_faults (M.disk machine.new).disk_faults)
             (IsLongSlot (M.disk machine.new) self.old.parts.volatile.objects.slots object)) }
     {
@@ -60,7 +60,7 @@ impl<O: Oper> Store<O> {
         ensures values { (M.disk machine.old).tells_files → IsLaidOn self.old.parts.volatile.objects ((M.disk machine.old).reads ObjectsFile) →
             IfOk result (λ values. values ≡ map (values_in self.old.parts.volatile.objects ((M.disk machine.old).reads ObjectsFile)) objects.now) }
         ensures shape { IfOk result (λ values. (length values ≡ length objects.now) × All (λ v. length v ≤ (store_params self.old).cap) values) }
-        ensures none { All (λ x. id_in self.old.parts.volatile.objects.slots x ≡ 0) objects.now → (machine.new ≡ machine.old) × IfErr result (λ e. e ≡ ReadErr.Memory) }
+        ensures none { All (λ x. lsn_in self.old.parts.volatile.objects.slots x ≡ 0) objects.now → (machine.new ≡ machine.old) × IfErr result (λ e. e ≡ ReadErr.Memory) }
         ensures some { OnErr result (0 < length objects.now) }
         ensures cause { IfErr result (FailsBy (Rises (M.disk machine.old).disk_faults (M.disk machine.new).disk_faults)
             (HasLongSlot (M.disk machine.new) self.old.parts.volatile.objects.slots objects.now)) }
@@ -78,7 +78,7 @@ impl<O: Oper> Store<O> {
         requires below { All (λ x. x < (store_params self.old).objects) objects.now }
         ensures call { IsFetch (M.disk machine.old) (M.disk machine.new) self.old self.new (has_failed is_read_fault result ≡ true) }
         ensures held { IfOk result (λ all. IsTrue all → All (λ x. IsSome (held self.new.parts.volatile.objects.cache x)) objects.now) }
-        ensures none { All (λ x. id_in self.old.parts.volatile.objects.slots x ≡ 0) objects.now → (machine.new ≡ machine.old) × IfErr result (λ e. e ≡ ReadErr.Memory) }
+        ensures none { All (λ x. lsn_in self.old.parts.volatile.objects.slots x ≡ 0) objects.now → (machine.new ≡ machine.old) × IfErr result (λ e. e ≡ ReadErr.Memory) }
         ensures some { OnErr result (0 < length objects.now) }
         ensures cause { IfErr result (FailsBy (Rises (M.disk machine.old).disk_faults (M.disk machine.new).disk_faults)
             (HasLongSlot (M.disk machine.new) self.old.parts.volatile.objects.slots objects.now)) }
@@ -107,7 +107,7 @@ impl<O: Oper> Store<O> {
             IfOk result (λ copies. inputs_in self.new.parts.volatile.objects.cache objects.now copies ≡ map (values_in self.old.parts.volatile.objects ((M.disk machine.old).reads ObjectsFile)) objects.now) }
         ensures count { IfOk result (λ copies. length (inputs_in self.new.parts.volatile.objects.cache objects.now copies) ≡ length objects.now) }
         ensures short { IfOk result (λ copies. All (λ v. length v ≤ (store_params self.old).cap) (inputs_in self.new.parts.volatile.objects.cache objects.now copies)) }
-        ensures none { All (λ x. id_in self.old.parts.volatile.objects.slots x ≡ 0) objects.now → (machine.new ≡ machine.old) × IfErr result (λ e. e ≡ ReadErr.Memory) }
+        ensures none { All (λ x. lsn_in self.old.parts.volatile.objects.slots x ≡ 0) objects.now → (machine.new ≡ machine.old) × IfErr result (λ e. e ≡ ReadErr.Memory) }
         ensures some { OnErr result (0 < length objects.now) }
         ensures cause { IfErr result (FailsBy (Rises (M.disk machine.old).disk_faults (M.disk machine.new).disk_faults)
             (HasLongSlot (M.disk machine.new) self.old.parts.volatile.objects.slots objects.now)) }

@@ -70,7 +70,7 @@ impl<O: Oper> Store<O> {
         ensures steps { (M.disk machine.old).tells_moments → (p : Numbers) (w : World O) (node : ℕ → Bool) → let m = meaning_in O.meaning p in
             VolatileShows m p (M.disk machine.old) self.old.parts.volatile w → TakesSome m p (M.disk machine.old) (M.disk machine.new) w (removal_steps m node work.now) }
         ensures entries { (node : ℕ → Bool) → IsNodeNamed self.old.parts.volatile.entries n node → OnOk result
-            ((self.new.parts.volatile.entries ≡ filter (λ e. not (node e.number)) self.old.parts.volatile.entries)
+            ((self.new.parts.volatile.entries ≡ filter (λ e. not (node e.lsn)) self.old.parts.volatile.entries)
             × (length self.new.parts.volatile.entries < length self.old.parts.volatile.entries)) }
         ensures dirty { OnOk result (DirtiesNone self.old.parts.volatile.objects self.new.parts.volatile.objects) }
     {

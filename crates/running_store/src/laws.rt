@@ -5,7 +5,7 @@ ghost use Rattle.oper_core.specs.Cell.{Cell};
 ghost use Rattle.oper_core.specs.State.{is_among};
 ghost use Rattle.formats.specs.Objects.{bounds_of};
 ghost use Rattle.formats.specs.declared.params.Params.{Params};
-ghost use Rattle.redo_tables.specs.declared.table.Table.{Table};
+ghost use Rattle.dirty_page_table.specs.declared.table.DirtyPageTable.{DirtyPageTable};
 ghost use Rattle.install_order.specs.Entries.{accesses};
 ghost use Rattle.write_graph.specs.Graph.{Lists, IsLeast};
 ghost use Rattle.write_graph.specs.Objects.{IsWriter, IsWritten};
@@ -23,10 +23,10 @@ ghost use Rattle.running_store.specs.RoundImages.{objects_of};
 
 use oper_core::Oper;
 
-/// A table of the redo starts that the graph of a store answers, and of the next number, is the check that the world
+/// A table of the redo starts that the graph of a store answers, and of the next LSN, is the checkpoint that the world
 /// which the store shows would take now.
-pub fn a_check_taken_now<O: Oper>()
-    ensures { (p : Params) (file : List ℕ) (it : Volatile) (w : World O) (table : Table) →
+pub fn a_checkpoint_taken_now<O: Oper>()
+    ensures { (p : Params) (file : List ℕ) (it : Volatile) (w : World O) (table : DirtyPageTable) →
         IsSound (O.meaning (bounds_of p)) w → ShowsVolatile (O.meaning (bounds_of p)) p file it w →
         Lists (IsWritten (accesses it.entries)) (map (λ s. s.0) table.starts) →
         All (λ s. IsLeast (IsWriter (accesses it.entries) s.0) s.1) table.starts →

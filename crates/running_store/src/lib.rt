@@ -1,7 +1,7 @@
 //! A running store: its log, its objects, and the graph of what is not installed.
 //!
 //! The one contract is [`Store`], to whose calls the machine is passed. What a call leaves on every machine is one record
-//! (`IsCall`, which follows from the records of calls that only read, or log in memory alone): time passes, no number is given
+//! (`IsCall`, which follows from the records of calls that only read, or log in memory alone): time passes, no LSN is given
 //! again, the store stays attached to its files, and it is broken exactly where a call was answered that the disk failed; the
 //! disk then counted that, and may count a fault too where a force succeeds (zeros that were refused). What it does to the
 //! world that the store shows is a course (`Takes`), a list of steps as a function of the world and of the log's length: all
@@ -9,7 +9,7 @@
 //! Both go over two calls, one after the other, so the crates above describe each of their calls by those that it makes.
 //! specs/ says which world the parts of a store show (`Shows`; without a log `VolatileShows`).
 //!
-//! [`Objects`] holds what is cached: an object's identifier and value are those of the cache, or else those of its slot, and
+//! [`Objects`] holds what is cached: an object's LSN and value are those of the cache, or else those of its slot, and
 //! what was read and forgotten is read again, and is the same. The length of each value is known without a read, from the
 //! cache or the head of its slot, so `next_empty` finds the next empty object in memory alone. A command that is checked or done
 //! (`check_command`, `append_command`) is lent the values that it reads by the cache, which has them again when the call returns,
@@ -25,7 +25,7 @@
 
 mod appending;
 mod cached;
-mod checks;
+mod checkpoints;
 mod commands;
 mod doing;
 mod empties;
@@ -46,7 +46,7 @@ mod slots;
 mod store;
 mod store_err;
 
-pub use laws::{a_check_taken_now, any_gates_are_shown, dirty_objects_are_counted};
+pub use laws::{a_checkpoint_taken_now, any_gates_are_shown, dirty_objects_are_counted};
 pub use limits::objects_within;
 pub use objects::Objects;
 pub use store::Store;

@@ -3,7 +3,7 @@ ghost use Rattle.std.specs.Prelude.{◌≡◌, ◌≢◌, ◌<◌, ◌^◌, fals
 ghost use Rattle.disk_model.specs.Disk.{Any, In, IsSettledIn, Rises, Runs, Same};
 ghost use Rattle.disk_model.specs.declared.machine.FileNo.TheVariants.{LogB};
 ghost use Rattle.formats.specs.declared.record.Record.{Record};
-ghost use Rattle.log_frames.specs.Creating.{IsNewLog};
+ghost use Rattle.log_blocks.specs.Creating.{IsNewLog};
 ghost use Rattle.log_records.specs.Loading.{IsTailFault};
 ghost use Rattle.log_records.specs.LogCopy.{copied_length, CopyFails, CopyFindsDamage, HoldsCopy, IsCopyLength, IsCopyWithin, IsTooLong};
 ghost use Rattle.log_records.specs.RecordLog.{Keeps};

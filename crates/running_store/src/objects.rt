@@ -11,7 +11,7 @@ ghost use Rattle.stable_objects.specs.SlotsView.{IsLate, place_of};
 ghost use Rattle.oper_core.specs.State.{is_among};
 ghost use Rattle.dirty_cache.specs.Contents.{held, is_dirty, AreDirty, HasRoom};
 ghost use Rattle.running_store.specs.Fetched.{IsFetched};
-ghost use Rattle.running_store.specs.Laid.{IsLaidOn, values_in, id_at, with_chosen};
+ghost use Rattle.running_store.specs.Laid.{IsLaidOn, values_in, object_lsn, with_chosen};
 ghost use Rattle.running_store.specs.Limits.{clean_limit as clean_objects};
 
 use crate::empties::empty_objects;
@@ -99,7 +99,7 @@ impl Objects {
         self.slots.bounds()
     }
 
-    /// The place in the objects file of the first identifier of an open slot that is `next` or more; none exactly where
+    /// The place in the objects file of the first LSN of an open slot that is `next` or more; none exactly where
     /// there is none.
     pub fn first_late(&self, next: u64) -> Option<u64>
         ensures some { IfSome result (λ place. (x : ℕ) × (s : ℕ) × IsLate self.now.slots next x s × (place ≡ place_of self.now.slots x s + 1)
@@ -123,14 +123,14 @@ impl Objects {
         self.cache.dirty_count()
     }
 
-    /// The identifier of an object.
-    pub fn id(&self, object: u32) -> u64
+    /// The LSN of an object.
+    pub fn lsn(&self, object: u32) -> u64
         requires { object < self.now.slots.params.objects }
-        ensures { result ≡ id_at self.now object }
+        ensures { result ≡ object_lsn self.now object }
     {
         match self.cache.entry(object) {
             Some(entry) => entry.lsn,
-            None => self.slots.id(object),
+            None => self.slots.lsn(object),
         }
     }
 

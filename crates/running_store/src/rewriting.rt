@@ -14,26 +14,26 @@ ghost use Rattle.running_store.specs.Taking.{Takes};
 
 use crate::fault::note;
 use crate::store::Store;
+use dirty_page_table::DirtyPageTable;
 use disk_model::Machine;
 use log_records::RewriteErr;
 use oper_core::Oper;
-use redo_tables::Table;
 
 impl<O: Oper> Store<O> {
     /// Puts a new log in the place of this one, of which nothing waits: the commands and identity writes from a base on, and
-    /// after them a check. Where it fails the log is as it was.
+    /// after them a checkpoint. Where it fails the log is as it was.
     pub fn rewrite<M: Machine>(
         &mut self,
         machine: &mut M,
         base: u64,
-        table: Table,
+        table: DirtyPageTable,
     ) -> Result<(), RewriteErr>
         requires unbroken { self.old.broken ≡ false }
         requires epoch { self.old.parts.log.log.header.epoch < 2 ^ 62 }
         requires rewritable { IsRewritable (O.meaning self.old.parts.log.bounds) self.old.parts.log base table }
         ensures call { IsCall O.meaning (M.disk machine.old) (M.disk machine.new) self.old self.new 0 (StopsAt log_limit) (ending_of_rewrite result) }
 
-        // The check is the one that each world which the store shows would take now, and the base is where its log begins then.
+        // The checkpoint is the one that each world which the store shows would take now, and the base is where its log begins then.
         ensures takes { ((p : Numbers) (w : World O) → Shows (meaning_in O.meaning p) p (M.disk machine.old) self.old.parts w → IsKeptFrom (meaning_in O.meaning p) w base table) →
             Takes O.meaning (M.disk machine.old) (M.disk machine.new) self.old.parts self.new.parts (λ m w used. rewrite_course m w used) (ending_of_rewrite result) }
 

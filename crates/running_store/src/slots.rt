@@ -17,7 +17,7 @@ use formats::ReadErr;
 use oper_core::Oper;
 
 impl<O: Oper> Store<O> {
-    /// Reads the pair that an object's slots hold, in place of what was in the vector, and answers its identifier. What is
+    /// Reads the pair that an object's slots hold, in place of what was in the vector, and answers its LSN. What is
     /// cached is left as it is.
     pub fn read_slot<M: Machine>(
         &mut self,
@@ -29,7 +29,7 @@ impl<O: Oper> Store<O> {
         requires below { object < (store_params self.old).objects }
         ensures kept { IsLogRead (M.disk machine.old) (M.disk machine.new) self.old self.new (has_failed is_read_fault result) }
         ensures pair { (M.disk machine.old).tells_files → IsLaidOn self.old.parts.volatile.objects ((M.disk machine.old).reads ObjectsFile) →
-            IfOk result (λ id. cell_of object ((M.disk machine.old).reads ObjectsFile) ≡ record { id = id; value = into.new.items }) }
+            IfOk result (λ lsn. cell_of object ((M.disk machine.old).reads ObjectsFile) ≡ record { lsn = lsn; value = into.new.items }) }
         ensures short { OnOk result (length into.new.items ≤ (store_params self.old).cap) }
         ensures cause { IfErr result (FailsBy (Rises (M.disk machine.old).disk_faults (M.disk machine.new).disk_faults)
             (IsLongSlot (M.disk machine.new) self.old.parts.volatile.objects.slots object)) }

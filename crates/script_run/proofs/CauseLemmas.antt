@@ -29,7 +29,7 @@ use Rattle.shell_base.specs.First.{Stage}
 use Rattle.shell_base.specs.Store.{Command, meaning_in, refusal_after, state_of, record_length}
 use Rattle.script_run.specs.Groups.{open_in, size_of}
 use Rattle.script_run.specs.Made.{Made, AsksMade, AsksBehind, AsksTree, made, made_by, one_made, one_unless, tree_answer}
-use Rattle.script_run.specs.Replies.{AsksCommand, Replies, IsBarred, IsDenied, IsFull, IsGranted, IsLogged, IsNumbered, IsOver}
+use Rattle.script_run.specs.Replies.{AsksCommand, Replies, IsBarred, IsDenied, IsFull, IsGranted, IsLogged, HasLsn, IsOver}
 use Rattle.script_run.specs.Stages.{Ends, GoesBy, IsBackupFull, IsBesideBackup, IsQuestion, StartsBackup, forced_stage, upkeep_course}
 use Rattle.script_run.proofs.MadeLemmas.{command_made, one_course}
 
@@ -126,7 +126,7 @@ denied_class AlreadyStore bstart is = (omega arith, omega arith)
 denied_class NotCopied bfinish is = (omega arith, omega arith)
 denied_class why request is = absurd is
 
-numbered_class : (request : Request) → IsNumbered request → class request ≡ 4
+numbered_class : (request : Request) → HasLsn request → class request ≡ 4
 numbered_class install is = refl
 numbered_class drain is = refl
 numbered_class trim is = refl
@@ -262,7 +262,7 @@ module _ (p : Params) (group : Option ℕ) (commands : List Command) (line : Lis
       is
   asked (end number) added is other = ⊎_elim
       (λ (b : (op : Command) × AsksBehind p commands line added op). of_made (end number) (λ n e. (omega (arith, e), omega (arith, e))) b.1.asks)
-      (λ (u : (request : Request) × IsNumbered request × AsksFor line request × (group ≡ None) × (added ≡ [])). of_class (end number) 4 (omega arith, omega arith) u.0 (numbered_class u.0 u.1) u.2)
+      (λ (u : (request : Request) × HasLsn request × AsksFor line request × (group ≡ None) × (added ≡ [])). of_class (end number) 4 (omega arith, omega arith) u.0 (numbered_class u.0 u.1) u.2)
       is.0
   asked (stat counts) added is other = (asks_stat, is.0, (omega arith, omega arith))
   asked (copied n) added is other = (bcopy is.0, is.1, (omega arith, omega arith))
@@ -378,7 +378,7 @@ module _ (p : Params) (group : Option ℕ) (commands : List Command) (line : Lis
         is
     refused_exactly (end number) added op why is asks = ⊎_elim
         (λ (b : (first : Command) × AsksBehind p commands line added first). let none = nothing_refuses op b.0 added asks b.1 in (λ e. cc, λ some. cc (some, none)))
-        (λ (u : (request : Request) × IsNumbered request × AsksFor line request × (group ≡ None) × (added ≡ [])).
+        (λ (u : (request : Request) × HasLsn request × AsksFor line request × (group ≡ None) × (added ≡ [])).
         absurd (made_clash u.0 u.2 (λ e. let same = numbered_class u.0 u.1 in omega (arith, e, same)) (command_made p commands line op asks)))
         is.0
     refused_exactly reply added op why is asks = absurd (let a = command_class op asks reply added is (λ e. cc) in omega (arith, a.0, a.1))
@@ -477,7 +477,7 @@ module _ (p : Params) (group : Option ℕ) (commands : List Command) (line : Lis
       λ e. cc,
       λ here. absurd (⊎_elim
           (λ (b : (op : Command) × AsksBehind p commands line added op). made_clash here.0 here.2 (λ e. let c = barred_class here.0 here.1 in omega (arith, e, c.0)) b.1.asks)
-          (λ (u : (request : Request) × IsNumbered request × AsksFor line request × (group ≡ None) × (added ≡ [])). not_both group here.3 u.3)
+          (λ (u : (request : Request) × HasLsn request × AsksFor line request × (group ≡ None) × (added ≡ [])). not_both group here.3 u.3)
           is.0),
     )
     in_group_exactly reply added is = (
@@ -510,7 +510,7 @@ module _ (p : Params) (group : Option ℕ) (commands : List Command) (line : Lis
       λ e. cc,
       λ here. absurd (⊎_elim
           (λ (b : (op : Command) × AsksBehind p commands line added op). made_clash end_group here.0 (λ e. omega (arith, e)) b.1.asks)
-          (λ (u : (request : Request) × IsNumbered request × AsksFor line request × (group ≡ None) × (added ≡ [])). omega (arith, numbered_class u.0 u.1, ap class (one u.0 end_group u.2 here.0)))
+          (λ (u : (request : Request) × HasLsn request × AsksFor line request × (group ≡ None) × (added ≡ [])). omega (arith, numbered_class u.0 u.1, ap class (one u.0 end_group u.2 here.0)))
           is.0),
     )
     no_group_exactly reply added is = (λ e. cc, λ here. absurd (let a = fits end_group here.0 reply added is (λ e. cc) in omega (arith, a.0, a.1)))

@@ -13,11 +13,11 @@ use Rattle.cache_manager.specs.InstallCourses.{identity_course, identities, must
 use Rattle.running_store.specs.Courses.Stop.{Through, Full, At_end}
 use Rattle.running_store.specs.CourseLaws.{behind_both}
 use Rattle.running_store.specs.Running.{AreUpkeep}
-use Rattle.running_store.specs.Rewrites.{check_length, new_base, rewrite_course, trimmed, trimmed_file}
+use Rattle.running_store.specs.Rewrites.{checkpoint_length, new_base, rewrite_course, trimmed, trimmed_file}
 use Rattle.running_store.specs.Commands.{command_length}
 use Rattle.cache_manager.specs.Upkeep.{upkeep_append, upkeep_either, upkeep_then, upkeep_force, upkeep_room, upkeep_install, upkeep_drain}
-use Rattle.formats.specs.Limits.{numbers_end}
-use Rattle.checkpointing.specs.Courses.{check_course, check_steps, checkpoint_course, logged_course, trim_course}
+use Rattle.formats.specs.Limits.{lsn_end}
+use Rattle.checkpointing.specs.Courses.{taking_course, checkpoint_steps, checkpoint_course, logged_course, trim_course}
 use Rattle.execution.specs.Courses.{append_course, needed, unplaced_steps}
 use Rattle.script_lines.specs.Grammar.{Request}
 use Rattle.script_lines.specs.declared.line.Line.TheVariants.{Install as install, Drain as drain, Checkpoint as checkpoint, Trim as trim}
@@ -77,22 +77,22 @@ module _ (m : Meaning Command) where
         stop_either r (has_members m w) (and_then m w (drain_turn m copies w used) (λ v used. drains m copies n v used)) (course [] used Through)
         (stop_then r w (drain_turn m copies w used) (λ v used. drains m copies n v used) (stop_turn copies w used) (λ v used. stop_drains copies n v used)) tt
 
-  stop_check : (w : World Command) (used : ℕ) → MayStop checkpoint (check_course m w used).stop
-  stop_check w used =
-      let n = check_length m w in
+  stop_taking : (w : World Command) (used : ℕ) → MayStop checkpoint (taking_course m w used).stop
+  stop_taking w used =
+      let n = checkpoint_length m w in
       stop_then checkpoint w (course (room_steps m w n) used Through) (logged_course m) tt
       (λ v used.
-      let k = check_length m v in
-      stop_either checkpoint (nat_lt (2 ^ 48) (grown m v used k)) (course [] used (Full used (k + 5) (2 ^ 48))) (course check_steps (grown m v used k) Through) (refl, λ over. over) tt)
+      let k = checkpoint_length m v in
+      stop_either checkpoint (nat_lt (2 ^ 48) (grown m v used k)) (course [] used (Full used (k + 5) (2 ^ 48))) (course checkpoint_steps (grown m v used k) Through) (refl, λ over. over) tt)
 
   stop_checkpoint : (w : World Command) (used : ℕ) → MayStop checkpoint (checkpoint_course m w used).stop
   stop_checkpoint w used =
-      let c = check_course m w used in
-      stop_either checkpoint (is_through c.stop) c (course (c.steps ++ force_steps m (run m w c.steps)) c.used c.stop) (stop_check w used) (stop_check w used)
+      let c = taking_course m w used in
+      stop_either checkpoint (is_through c.stop) c (course (c.steps ++ force_steps m (run m w c.steps)) c.used c.stop) (stop_taking w used) (stop_taking w used)
 
   stop_trim : (epoch : ℕ) (w : World Command) (used : ℕ) → MayStop trim (trim_course m epoch w used).stop
   stop_trim epoch w used =
-      cond_both (nat_le numbers_end epoch) _ _ (λ (c : Course Command). MayStop trim c.stop) (λ worn. tt)
+      cond_both (nat_le lsn_end epoch) _ _ (λ (c : Course Command). MayStop trim c.stop) (λ worn. tt)
       (λ left. stop_then trim w (force_course m w used) (rewrite_course m) tt
       (λ v used. cond_both (nat_lt (2 ^ 48) (trimmed_file m v)) _ _ (λ (c : Course Command). MayStop trim c.stop)
       (λ over. let high : 2 ^ 48 < trimmed_file m v = grind (arith, nat_tests, over) in (refl, λ more. high)) (λ fits. tt)))
@@ -105,23 +105,23 @@ module _ (m : Meaning Command) where
   may_stop epoch copies trim is w used = stop_trim epoch w used
   may_stop epoch copies r is w used = absurd is
 
-  upkeep_check : (w : World Command) (used : ℕ) → AreUpkeep (check_course m w used).steps
-  upkeep_check w used =
-      let n = check_length m w in
+  upkeep_taking : (w : World Command) (used : ℕ) → AreUpkeep (taking_course m w used).steps
+  upkeep_taking w used =
+      let n = checkpoint_length m w in
       upkeep_then m w (course (room_steps m w n) used Through) (logged_course m) (upkeep_room m w n)
       (λ v used.
-      let k = check_length m v in
-      upkeep_either m (nat_lt (2 ^ 48) (grown m v used k)) (course [] used (Full used (k + 5) (2 ^ 48))) (course check_steps (grown m v used k) Through) tt (tt, (tt, tt)))
+      let k = checkpoint_length m v in
+      upkeep_either m (nat_lt (2 ^ 48) (grown m v used k)) (course [] used (Full used (k + 5) (2 ^ 48))) (course checkpoint_steps (grown m v used k) Through) tt (tt, (tt, tt)))
 
   upkeep_checkpoint : (w : World Command) (used : ℕ) → AreUpkeep (checkpoint_course m w used).steps
   upkeep_checkpoint w used =
-      let c = check_course m w used in
-      upkeep_either m (is_through c.stop) c (course (c.steps ++ force_steps m (run m w c.steps)) c.used c.stop) (upkeep_check w used)
-      (upkeep_append m c.steps (force_steps m (run m w c.steps)) (upkeep_check w used) (upkeep_force m (run m w c.steps)))
+      let c = taking_course m w used in
+      upkeep_either m (is_through c.stop) c (course (c.steps ++ force_steps m (run m w c.steps)) c.used c.stop) (upkeep_taking w used)
+      (upkeep_append m c.steps (force_steps m (run m w c.steps)) (upkeep_taking w used) (upkeep_force m (run m w c.steps)))
 
   upkeep_trim : (epoch : ℕ) (w : World Command) (used : ℕ) → AreUpkeep (trim_course m epoch w used).steps
   upkeep_trim epoch w used =
-      cond_both (nat_le numbers_end epoch) _ _ (λ (c : Course Command). AreUpkeep c.steps) (λ worn. tt)
+      cond_both (nat_le lsn_end epoch) _ _ (λ (c : Course Command). AreUpkeep c.steps) (λ worn. tt)
       (λ left. upkeep_then m w (force_course m w used) (rewrite_course m) (upkeep_force m w)
       (λ v used. upkeep_either m (nat_lt (2 ^ 48) (trimmed_file m v)) (course [] used (Full used (trimmed_file m v) (2 ^ 48))) (course (Header_gate (new_base m v) ∷ []) (trimmed m v) Through) tt (tt, tt)))
 
@@ -174,22 +174,22 @@ module _ (m : Meaning Command) where
   pub logged_begin : (w : World Command) (used : ℕ) → logged_in (begin_course m w used).steps ≡ []
   logged_begin w used = logged_append (force_steps m w) (Begin ∷ []) (logged_force w) refl
 
-  logged_check : (w : World Command) (used : ℕ) → logged_in (check_course m w used).steps ≡ []
-  logged_check w used =
-      let n = check_length m w in
+  logged_taking : (w : World Command) (used : ℕ) → logged_in (taking_course m w used).steps ≡ []
+  logged_taking w used =
+      let n = checkpoint_length m w in
       logged_then w (course (room_steps m w n) used Through) (logged_course m) (logged_room w n)
       (λ v used.
-      let k = check_length m v in
-      logged_either (nat_lt (2 ^ 48) (grown m v used k)) (course [] used (Full used (k + 5) (2 ^ 48))) (course check_steps (grown m v used k) Through) refl refl)
+      let k = checkpoint_length m v in
+      logged_either (nat_lt (2 ^ 48) (grown m v used k)) (course [] used (Full used (k + 5) (2 ^ 48))) (course checkpoint_steps (grown m v used k) Through) refl refl)
 
   pub logged_checkpoint : (w : World Command) (used : ℕ) → logged_in (checkpoint_course m w used).steps ≡ []
   logged_checkpoint w used =
-      let c = check_course m w used in
-      logged_either (is_through c.stop) c (course (c.steps ++ force_steps m (run m w c.steps)) c.used c.stop) (logged_check w used)
-      (logged_append c.steps (force_steps m (run m w c.steps)) (logged_check w used) (logged_force (run m w c.steps)))
+      let c = taking_course m w used in
+      logged_either (is_through c.stop) c (course (c.steps ++ force_steps m (run m w c.steps)) c.used c.stop) (logged_taking w used)
+      (logged_append c.steps (force_steps m (run m w c.steps)) (logged_taking w used) (logged_force (run m w c.steps)))
 
   pub logged_trim : (epoch : ℕ) (w : World Command) (used : ℕ) → logged_in (trim_course m epoch w used).steps ≡ []
   logged_trim epoch w used =
-      cond_both (nat_le numbers_end epoch) _ _ (λ (c : Course Command). logged_in c.steps ≡ []) (λ worn. refl)
+      cond_both (nat_le lsn_end epoch) _ _ (λ (c : Course Command). logged_in c.steps ≡ []) (λ worn. refl)
       (λ left. logged_then w (force_course m w used) (rewrite_course m) (logged_force w)
       (λ v used. logged_either (nat_lt (2 ^ 48) (trimmed_file m v)) (course [] used (Full used (trimmed_file m v) (2 ^ 48))) (course (Header_gate (new_base m v) ∷ []) (trimmed m v) Through) refl refl))

@@ -24,7 +24,7 @@ use Rattle.explain_core.specs.World.{World, Step, step, run, end_of, IsLive}
 use Rattle.explain_core.specs.World.Step.{Append, Block_gate}
 use Rattle.standing.specs.Moments.{TakesSome}
 use Rattle.running_store.specs.Calls.{IsFailed}
-use Rattle.running_store.specs.Appended.{next_number}
+use Rattle.running_store.specs.Appended.{next_lsn}
 use Rattle.running_store.specs.Courses.{Course, Stop, course, grown, waits, force_steps, force_course}
 use Rattle.cache_manager.specs.InstallCourses.{logged_in}
 use Rattle.running_store.specs.Courses.Stop.{Through, Full, At_end, Worn}
@@ -617,8 +617,8 @@ module _ (p : Params) (old now : Disk) (before after : EngineView) (commands : L
   count_is : IsAfterIn all_meaning p now after start way → u.logged ≡ length (logged_in way.steps)
   count_is there = ⊎_elim
       (λ (since : u.logged ≡ logged_since before after).
-      let first = next_number mean p old before.parts (ungrouped start) holds.shows.shows in
-      let last = next_number mean p now after.parts (ungrouped (run mean start way.steps)) there.shows.shows in
+      let first = next_lsn mean p old before.parts (ungrouped start) holds.shows.shows in
+      let last = next_lsn mean p now after.parts (ungrouped (run mean start way.steps)) there.shows.shows in
       omega (arith, since, first, last, counts p start way.steps plain))
       (λ none. none.0 ∙ ap (λ (l : List ℕ). length l) (sym (none.1 mean start (used_in before))))
       u.counted

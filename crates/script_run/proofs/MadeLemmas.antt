@@ -17,7 +17,7 @@ use Rattle.shell_base.specs.Store.{Command, refusal_after}
 use Rattle.script_run.specs.Found.{EndsAtLast, IsStopped, MayStop}
 use Rattle.script_run.specs.Groups.{group_after}
 use Rattle.script_run.specs.Made.{Made, AsksMade, made_by, one_made, one_unless}
-use Rattle.script_run.specs.Replies.{AsksCommand, IsNumbered}
+use Rattle.script_run.specs.Replies.{AsksCommand, HasLsn}
 
 -- a line that asks for a command makes it, unless it is refused
 pub command_made : (p : Params) (commands : List Command) (line : List ℕ) (op : Command) → AsksCommand line op → AsksMade p commands line (one_made p commands op)
@@ -46,11 +46,11 @@ pub worn_ends : (engine : EngineView) (number : ℕ) (request : Request) → May
 worn_ends engine number trim may stops = stops
 worn_ends engine number request may stops = absurd may
 
-pub is_numbered : (number : ℕ) (request : Request) → MayStop request (At_end number) → IsNumbered request
+pub is_numbered : (number : ℕ) (request : Request) → MayStop request (At_end number) → HasLsn request
 is_numbered number trim may = absurd may
 is_numbered number request may = may
 
-pub worn_numbered : (number : ℕ) (request : Request) → MayStop request (Worn number) → IsNumbered request
+pub worn_numbered : (number : ℕ) (request : Request) → MayStop request (Worn number) → HasLsn request
 worn_numbered number trim may = tt
 worn_numbered number request may = absurd may
 

@@ -13,7 +13,7 @@ use Rattle.explain_core.specs.History.Member.{Command as Logged_command, Identit
 use Rattle.explain_core.specs.Sound.{IsGroup, IsSound}
 use Rattle.explain_core.specs.StableLaws.{commands_of-append}
 use Rattle.explain_core.specs.World.{World, end_of}
-use Rattle.running_store.specs.Appended.{next_number}
+use Rattle.running_store.specs.Appended.{next_lsn}
 use Rattle.store_engine.specs.Engine.{EngineView, commands_since, group_size}
 use Rattle.store_engine.specs.Grouping.{ungrouped}
 use Rattle.shell_base.specs.Store.{Command, ShowsIn, meaning_in}
@@ -77,7 +77,7 @@ module _ {m : Meaning Command} {w : World Command} (sound : IsSound m w) where
 -- the number that the engine says is that of the open group
 pub open_size : {p : Params} {d : Disk} {engine : EngineView} {w : World Command} {commands : List Command} → ShowsIn p d engine w → commands_of w.history ≡ commands → group_size engine ≡ size_of (open_in w) commands
 open_size {p} {d} {engine} {w} shows are =
-    let next = next_number (meaning_in p) p d engine.parts (ungrouped w) shows.shows in
+    let next = next_lsn (meaning_in p) p d engine.parts (ungrouped w) shows.shows in
     (λ i. commands_since (next i) (sym shows.group i)) ∙ size_is shows.sound w.group refl ∙ ap (λ (l : List Command). size_of (open_in w) l) are
 
 -- the later world has the members of the first, and perhaps others behind them

@@ -313,7 +313,7 @@ forced_so {p} {old} {now} {before} {after} {commands} holds alone it =
     let rose = risen holds (⊎_elim (λ failed. absurd failed) (λ (k : of_engine.Kept all_meaning p before now (but_copied before after) commands). k) (it.commands.holds p commands (in_engine holds))) in
     let shown = there.1.shows in
     record {
-      shows = record { unbroken = shown.unbroken; sound = shown.sound; group = shown.group; shows = shown.shows; no_check = shown.no_check };
+      shows = record { unbroken = shown.unbroken; sound = shown.sound; group = shown.group; shows = shown.shows; no_checkpoint = shown.no_checkpoint };
       commands_are = (run_upkept m w (force_steps m w) (upkeep_force m w) holds.shows.shows.running.live none).commands ∙ holds.commands_are ∙ sym (append-nil commands);
       group = none_open shown (it.call.group ∙ alone) ∙ sym (none_open holds.shows alone);
       risen = record { rising = rose.rising; which = rose.which };
@@ -446,7 +446,7 @@ module _ {M T : Type 0} (disk : M → Disk) (other : T → Disk) (old new : M) (
               replies = (count, asks, none_open holds.shows alone, refl);
               quiet = read.kept.said holds.shows.shows.told;
               world = holds.world;
-              shows = record { unbroken = shown.unbroken; sound = shown.sound; group = shown.group; shows = shown.shows; no_check = shown.no_check };
+              shows = record { unbroken = shown.unbroken; sound = shown.sound; group = shown.group; shows = shown.shows; no_checkpoint = shown.no_checkpoint };
               commands_are = holds.commands_are ∙ sym (append-nil commands);
               regroups = refl;
               rising = omega (arith, ap (λ (e : EngineView). forced_in e) read.engine);

@@ -21,16 +21,16 @@ use Rattle.running_store.specs.Taking.Ending.{Done, Stopped, Short, Failed}
 use Rattle.cache_manager.specs.declared.install.Install.{Install}
 use Rattle.cache_manager.specs.declared.install_err.InstallErr.{InstallErr}
 use Rattle.cache_manager.specs.declared.install_err.InstallErr.TheVariants as of_install
-use Rattle.checkpointing.specs.Left.{ending_of_check}
-use Rattle.checkpointing.specs.declared.check_err.CheckErr.{CheckErr}
-use Rattle.checkpointing.specs.declared.check_err.CheckErr.TheVariants as of_checking
+use Rattle.checkpointing.specs.Left.{ending_of_checkpoint}
+use Rattle.checkpointing.specs.declared.checkpoint_err.CheckpointErr.{CheckpointErr}
+use Rattle.checkpointing.specs.declared.checkpoint_err.CheckpointErr.TheVariants as of_checkpoint
 use Rattle.script_lines.specs.Grammar.{AsksFor, Request}
 use Rattle.script_lines.specs.declared.line.Line.TheVariants.{Install as install, Drain as drain, Checkpoint as checkpoint, Trim as trim}
 use Rattle.script_lines.specs.Replies.{reply_of}
 use Rattle.script_lines.specs.declared.answer.Answer.{Answer}
 use Rattle.script_lines.specs.declared.answer.Answer.TheVariants as answers
 use Rattle.script_lines.specs.declared.backup_denial.BackupDenial.TheVariants.{InBackup}
-use Rattle.store_engine.specs.Calls.{IsChecking, IsDraining, IsForcing, IsInstalling, IsRefused, IsRefusedBeside, IsTrimming, work_of_check, work_of_force, work_of_install, work_of_trim}
+use Rattle.store_engine.specs.Calls.{IsTakingCheckpoint, IsDraining, IsForcing, IsInstalling, IsRefused, IsRefusedBeside, IsTrimming, work_of_checkpoint, work_of_force, work_of_install, work_of_trim}
 use Rattle.store_engine.specs.Engine.{EngineView, forced_in, group_size, logged_since}
 use Rattle.store_engine.specs.declared.work_err.WorkErr.{WorkErr}
 use Rattle.shell_base.specs.Store.{Between, Command, Holds, IsAttached}
@@ -126,17 +126,17 @@ install_whole (Err (of_install.LsnEnd number)) file place is = cc is
 install_whole (Err of_install.DiskFault) file place is = cc is
 install_whole (Err of_install.Memory) file place is = cc is
 
-check_ends : {T : Type 0} (answer : Result T CheckErr) → IsAnswerOf (ending_of_check answer) (answer_of_work (work_of_check answer))
-check_ends (Ok value) = refl
-check_ends (Err (of_checking.LogFull used need limit)) = refl
-check_ends (Err of_checking.DiskFault) = refl
-check_ends (Err of_checking.Memory) = (Memory, tt, refl)
+checkpoint_ends : {T : Type 0} (answer : Result T CheckpointErr) → IsAnswerOf (ending_of_checkpoint answer) (answer_of_work (work_of_checkpoint answer))
+checkpoint_ends (Ok value) = refl
+checkpoint_ends (Err (of_checkpoint.LogFull used need limit)) = refl
+checkpoint_ends (Err of_checkpoint.DiskFault) = refl
+checkpoint_ends (Err of_checkpoint.Memory) = (Memory, tt, refl)
 
-check_whole : {T : Type 0} (answer : Result T CheckErr) (file : FileNo) (place : ℕ) → answer_of_work (work_of_check answer) ≡ Err (Damaged file place) → ⊥
-check_whole (Ok value) file place is = cc is
-check_whole (Err (of_checking.LogFull used need limit)) file place is = cc is
-check_whole (Err of_checking.DiskFault) file place is = cc is
-check_whole (Err of_checking.Memory) file place is = cc is
+checkpoint_whole : {T : Type 0} (answer : Result T CheckpointErr) (file : FileNo) (place : ℕ) → answer_of_work (work_of_checkpoint answer) ≡ Err (Damaged file place) → ⊥
+checkpoint_whole (Ok value) file place is = cc is
+checkpoint_whole (Err (of_checkpoint.LogFull used need limit)) file place is = cc is
+checkpoint_whole (Err of_checkpoint.DiskFault) file place is = cc is
+checkpoint_whole (Err of_checkpoint.Memory) file place is = cc is
 
 trim_ends : {T : Type 0} (answer : Result T RewriteErr) → IsAnswerOf (ending_of_rewrite answer) (answer_of_work (work_of_trim answer))
 trim_ends (Ok value) = refl
@@ -189,21 +189,21 @@ module _ {old new : Disk} {before after : EngineView} {result : Result Answer St
         undamaged = λ told attached file place damaged. install_whole alone.0 file place (sym same ∙ damaged);
       }
 
-  pub checked_upkept : {T : Type 0} (call : Result T WorkErr) → (answer : Result T CheckErr) × (call ≡ work_of_check answer) × IsChecking all_meaning old new before after answer → result ≡ answer_of_work call
+  pub checkpointed_upkept : {T : Type 0} (call : Result T WorkErr) → (answer : Result T CheckpointErr) × (call ≡ work_of_checkpoint answer) × IsTakingCheckpoint all_meaning old new before after answer → result ≡ answer_of_work call
       → IsUpkept old new before after checkpoint result
-  checked_upkept call alone is =
+  checkpointed_upkept call alone is =
       let same = is ∙ ap (λ r. answer_of_work r) alone.1 in
       record {
         epoch = 0;
         logged = 0;
-        ending = ending_of_check alone.0;
+        ending = ending_of_checkpoint alone.0;
         call = alone.2.call;
         beside = tt;
         takes = alone.2.takes;
         commands = alone.2.commands;
         counted = inr (refl, λ m w used. logged_checkpoint m w used);
-        answered = subst (λ (r : Result Answer Stop). IsAnswerOf (ending_of_check alone.0) r) (sym same) (check_ends alone.0);
-        undamaged = λ told attached file place damaged. check_whole alone.0 file place (sym same ∙ damaged);
+        answered = subst (λ (r : Result Answer Stop). IsAnswerOf (ending_of_checkpoint alone.0) r) (sym same) (checkpoint_ends alone.0);
+        undamaged = λ told attached file place damaged. checkpoint_whole alone.0 file place (sym same ∙ damaged);
       }
 
   pub trimmed_upkept : {T : Type 0} (call : Result T WorkErr) → before.copied ≡ None → (answer : Result T RewriteErr) × (call ≡ work_of_trim answer) × IsTrimming all_meaning old new before after answer → result ≡ answer_of_work call

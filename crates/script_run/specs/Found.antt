@@ -41,7 +41,7 @@ use Rattle.shell_base.specs.declared.stop.Stop.{Stop}
 use Rattle.shell_base.specs.declared.stop.Stop.TheVariants.{DiskFault, Damaged, Memory}
 use Rattle.script_run.specs.Groups.{Regroups, open_in}
 use Rattle.script_run.specs.Made.{Made, made_by, tree_answer}
-use Rattle.script_run.specs.Replies.{Replies, IsNumbered, IsOver}
+use Rattle.script_run.specs.Replies.{Replies, HasLsn, IsOver}
 use Rattle.script_run.specs.Stages.{GoesBy, IsBesideBackup, upkeep_course}
 use Rattle.script_run.specs.declared.asking.Found.{Found}
 use Rattle.script_run.specs.declared.asking.Found.TheVariants as founds
@@ -120,7 +120,7 @@ abbrev pub MayStop : Request → CourseStop → Type 0
 MayStop request Through = ⊤
 MayStop request (Full used need limit) = (limit ≡ 2 ^ 48) × (limit < used + need → IsOver request used need limit)
 MayStop trim (At_end number) = ⊥
-MayStop request (At_end number) = IsNumbered request
+MayStop request (At_end number) = HasLsn request
 MayStop trim (Worn epoch) = ⊤
 MayStop request (Worn epoch) = ⊥
 

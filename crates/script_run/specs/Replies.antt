@@ -30,11 +30,11 @@ IsUpkeep trim = ⊤
 IsUpkeep request = ⊥
 
 -- one that may use up the numbers of records, or the epochs of logs
-abbrev pub IsNumbered : Request → Type 0
-IsNumbered install = ⊤
-IsNumbered drain = ⊤
-IsNumbered trim = ⊤
-IsNumbered request = ⊥
+abbrev pub HasLsn : Request → Type 0
+HasLsn install = ⊤
+HasLsn drain = ⊤
+HasLsn trim = ⊤
+HasLsn request = ⊥
 
 -- one for which the log, or that of a backup, may have no room
 abbrev pub IsLogged : Request → Type 0
@@ -107,7 +107,7 @@ Replies p group commands line (full used need limit) added =
     ⊎ ((request : Request) × IsLogged request × AsksFor line request × (group ≡ None) × (limit ≡ 2 ^ 48) × IsOver request used need limit × (added ≡ []))
 Replies p group commands line (end number) added =
     (((op : Command) × AsksBehind p commands line added op)
-    ⊎ ((request : Request) × IsNumbered request × AsksFor line request × (group ≡ None) × (added ≡ []))) × (number ≡ 2 ^ 62)
+    ⊎ ((request : Request) × HasLsn request × AsksFor line request × (group ≡ None) × (added ≡ []))) × (number ≡ 2 ^ 62)
 Replies p group commands line (stat counts) added =
     AsksFor line asks_stat × (counts.accepted ≡ length commands) × (counts.forced ≤ length commands) × (added ≡ [])
 Replies p group commands line (copied now) added = (count : ℕ) × AsksFor line (bcopy count) × (group ≡ None) × (added ≡ [])

@@ -88,7 +88,7 @@ shows_stays {p} {d} {new} {engine} {w} run shows =
           pending_tables = log.pending_tables;
         };
       };
-      no_check = shows.no_check;
+      no_checkpoint = shows.no_checkpoint;
     }
 
 -- and so does what the images and the map say

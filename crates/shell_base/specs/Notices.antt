@@ -43,33 +43,33 @@ damaged file place = with_newline (codes "damaged " ++ name_of_file file ++ 32 �
 abbrev pub spaced : ℕ → List ℕ
 spaced n = 32 ∷ decimal n
 
-abbrev pub numbered : List ℕ → List ℕ → List ℕ
-numbered text numbers = with_newline (text ++ flat_map spaced numbers)
+abbrev pub with_lsn : List ℕ → List ℕ → List ℕ
+with_lsn text numbers = with_newline (text ++ flat_map spaced numbers)
 
 -- the log begins with this number
 abbrev pub gone : ℕ → List ℕ
-gone base = numbered (codes "gone") (base ∷ [])
+gone base = with_lsn (codes "gone") (base ∷ [])
 
 -- so many commands were accepted since the store was made
 abbrev pub followed : ℕ → List ℕ
-followed commands = numbered (codes "followed") (commands ∷ [])
+followed commands = with_lsn (codes "followed") (commands ∷ [])
 
 -- the stream has no frame, or no record, at this place
 abbrev pub bad_frame : ℕ → List ℕ
-bad_frame place = numbered (codes "stream BadFrame") (place ∷ [])
+bad_frame place = with_lsn (codes "stream BadFrame") (place ∷ [])
 
 -- a record has this number where that one is next
 abbrev pub gap : ℕ → ℕ → List ℕ
-gap expected got = numbered (codes "stream Gap") (expected ∷ got ∷ [])
+gap expected got = with_lsn (codes "stream Gap") (expected ∷ got ∷ [])
 
 -- the record of this number is not what may come next
 abbrev pub differs : ℕ → List ℕ
-differs number = numbered (codes "stream Differs") (number ∷ [])
+differs number = with_lsn (codes "stream Differs") (number ∷ [])
 
 -- the stream ends within the frame at this place
 abbrev pub short : ℕ → List ℕ
-short place = numbered (codes "stream Short") (place ∷ [])
+short place = with_lsn (codes "stream Short") (place ∷ [])
 
 -- of the log so many bytes are used, so many more are needed, and so many it may have
 abbrev pub full : ℕ → ℕ → ℕ → List ℕ
-full used need limit = numbered (codes "full") (used ∷ need ∷ limit ∷ [])
+full used need limit = with_lsn (codes "full") (used ∷ need ∷ limit ∷ [])

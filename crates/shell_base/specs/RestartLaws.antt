@@ -98,7 +98,7 @@ shown_alone {p} {d} {engine} {w} unbroken alone shows = record {
   sound = shows.running.sound;
   group = shows.running.alone ∙ sym alone;
   shows = subst (λ (v : World Command). Shows (meaning_in p) p d engine.parts v) (sym (ungrouped_alone w shows.running.alone)) shows;
-  no_check = subst (λ (group : Option ℕ). IfSome group (λ begun. w.pending ≡ [])) (sym alone) tt;
+  no_checkpoint = subst (λ (group : Option ℕ). IfSome group (λ begun. w.pending ≡ [])) (sym alone) tt;
 }
 
 -- The engine that was opened shows each first stage: of the commands of that world no fewer are stable than the engine has

@@ -10,25 +10,25 @@ use Rattle.shell_base.specs.declared.status.Status.{Status}
 use Rattle.shell_base.specs.declared.status.Status.TheVariants.{Done, DoneWithRefusals, Usage, NotAStore, AlreadyStore, Damaged, DiskFault as DiskFailed, ReadFault as InputFailed, SayFault as OutputFailed, Memory as OutOfMemory, RestartMemory, TooLong as InputTooLong, AlreadyTwo, Smaller, BackupFault as BackupFailed, Gone, BadStream, StandbyFull}
 
 -- the number that the process ends with
-abbrev pub number_of : Status → ℕ
-number_of Done = 0
-number_of DoneWithRefusals = 1
-number_of Usage = 2
-number_of NotAStore = 3
-number_of AlreadyStore = 3
-number_of Damaged = 4
-number_of DiskFailed = 5
-number_of InputFailed = 6
-number_of OutputFailed = 7
-number_of OutOfMemory = 8
-number_of RestartMemory = 8
-number_of InputTooLong = 9
-number_of AlreadyTwo = 3
-number_of Smaller = 10
-number_of BackupFailed = 11
-number_of Gone = 12
-number_of BadStream = 13
-number_of StandbyFull = 14
+abbrev pub lsn_of : Status → ℕ
+lsn_of Done = 0
+lsn_of DoneWithRefusals = 1
+lsn_of Usage = 2
+lsn_of NotAStore = 3
+lsn_of AlreadyStore = 3
+lsn_of Damaged = 4
+lsn_of DiskFailed = 5
+lsn_of InputFailed = 6
+lsn_of OutputFailed = 7
+lsn_of OutOfMemory = 8
+lsn_of RestartMemory = 8
+lsn_of InputTooLong = 9
+lsn_of AlreadyTwo = 3
+lsn_of Smaller = 10
+lsn_of BackupFailed = 11
+lsn_of Gone = 12
+lsn_of BadStream = 13
+lsn_of StandbyFull = 14
 
 -- why a run ends where no line could be read
 abbrev pub stop_of_input : ReadError → Stop

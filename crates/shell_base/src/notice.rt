@@ -2,7 +2,7 @@
 ghost use Rattle.std.specs.Prelude.{◌≡◌, ◌⊎◌, ◌++◌, IfOk, OnOk};
 ghost use Rattle.disk_model.specs.Disk.{Rises, Runs, Same, SaysFront};
 ghost use Rattle.shell_base.specs.Keeps.{SaysOnly};
-ghost use Rattle.shell_base.specs.Notices.{numbered, spaced};
+ghost use Rattle.shell_base.specs.Notices.{with_lsn, spaced};
 
 use crate::say::end_with;
 use crate::status::Status;
@@ -22,7 +22,7 @@ fn push_number(alloc: Global, line: &mut Vec<u8>, number: u64) -> Result<(), Mem
 
 /// A line of a text and numbers after it, each behind a space.
 fn numbered_line(alloc: Global, text: &[u8], numbers: &[u64]) -> Result<Vec<u8>, Memory>
-    ensures { IfOk result (λ line. line.items ≡ numbered text.now numbers.now) }
+    ensures { IfOk result (λ line. line.items ≡ with_lsn text.now numbers.now) }
 {
     let mut line = Vec::new(alloc);
     line.extend_from_slice(text)?;
@@ -43,8 +43,8 @@ pub fn end_numbered<M: Machine>(
     status: Status,
 ) -> Status
     ensures says { SaysOnly (M.disk machine.old) (M.disk machine.new) }
-    ensures runs { Runs Same (SaysFront (numbered text.now numbers.now)) (M.disk machine.old) (M.disk machine.new) }
-    ensures all { (M.disk machine.old).tells_files → (result ≡ Status.Memory) ⊎ ((result ≡ Status.SayFault) ⊎ ((M.disk machine.new).said ≡ (M.disk machine.old).said ++ numbered text.now numbers.now)) }
+    ensures runs { Runs Same (SaysFront (with_lsn text.now numbers.now)) (M.disk machine.old) (M.disk machine.new) }
+    ensures all { (M.disk machine.old).tells_files → (result ≡ Status.Memory) ⊎ ((result ≡ Status.SayFault) ⊎ ((M.disk machine.new).said ≡ (M.disk machine.old).said ++ with_lsn text.now numbers.now)) }
     ensures status { (result ≡ status) ⊎ ((result ≡ Status.Memory) ⊎ (result ≡ Status.SayFault)) }
     ensures silent { result ≡ Status.Memory → (status ≡ Status.Memory) ⊎ (machine.new ≡ machine.old) }
     ensures cause { result ≡ Status.SayFault → (status ≡ Status.SayFault) ⊎ Rises (M.disk machine.old).say_faults (M.disk machine.new).say_faults }

@@ -1,5 +1,5 @@
 ghost use Rattle.std.specs.Prelude.{◌≡◌};
-ghost use Rattle.shell_base.specs.Status.{number_of, status_after as status_of_end};
+ghost use Rattle.shell_base.specs.Status.{lsn_of, status_after as status_of_end};
 
 use crate::stop::Stop;
 
@@ -47,7 +47,7 @@ pub enum Status {
 impl Status {
     /// The number that the process ends with.
     pub fn number(self) -> u8
-        ensures { result ≡ number_of self }
+        ensures { result ≡ lsn_of self }
     {
         match self {
             Status::Done => 0,

@@ -9,7 +9,7 @@ const NEW_LOG: [u8; 34] = *b"\x01RDOLOG01\x01\0\0\0\0\0\0\0\x01\0\0\0\0\0\0\0\0\
 
 const BLOCK: [u8; 25] = *b"\x01\x13\0\0\0\x01\x01\0\0\0\0\0\0\0\x01\0\0\0\0\x01\0\0\0\xaa\0";
 
-// The block of an empty check, which a restart logs, and its closed gate after it.
+// The block of an empty checkpoint, which a restart logs, and its closed gate after it.
 const CHECK: [u8; 19] = *b"\x01\x0d\0\0\0\x03\x01\0\0\0\0\0\0\0\0\0\0\0\0";
 
 fn a_new_store_is_as_worked(alloc: Global) -> Result<bool, AllocError> {
@@ -21,7 +21,7 @@ fn a_new_store_is_as_worked(alloc: Global) -> Result<bool, AllocError> {
     Ok(header & log_a & log_b & (objects.len() == 1188))
 }
 
-fn a_log_of_one_check_is_as_worked(alloc: Global) -> Result<bool, AllocError> {
+fn a_log_of_one_checkpoint_is_as_worked(alloc: Global) -> Result<bool, AllocError> {
     let mut machine = new_store(alloc)?;
     run(alloc, &mut machine, "redo run", b"");
     let log = machine.bytes(FileNo::LogA);
@@ -51,7 +51,7 @@ fn a_larger_store_is_as_worked(alloc: Global) -> Result<bool, AllocError> {
 #[test]
 fn files_have_these_bytes(rt: HostRuntime) -> Result<(), Fail> {
     assert!(rt; a_new_store_is_as_worked(rt.alloc())?);
-    assert!(rt; a_log_of_one_check_is_as_worked(rt.alloc())?);
+    assert!(rt; a_log_of_one_checkpoint_is_as_worked(rt.alloc())?);
     assert!(rt; a_log_of_one_put_is_as_worked(rt.alloc())?);
     assert!(rt; a_larger_store_is_as_worked(rt.alloc())?);
     Ok(())

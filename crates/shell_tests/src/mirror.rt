@@ -14,7 +14,7 @@ use restart::{OpenErr, Tuning, restart};
 use std::alloc::{AllocError, Global};
 use std::test::Fail;
 
-// A record of each kind, an install, a check, and a new log in the place of the old one.
+// A record of each kind, an install, a checkpoint, and a new log in the place of the old one.
 const SCRIPT: &[u8] = b"put 0 aa\ncopy 0 1\nput 0 bb\nforce\ninstall\ncheckpoint\ntrim\nget 1\n";
 
 // Whether answers were printed on the inner machine, and a store is left there that was synced.

@@ -152,7 +152,7 @@ fn has_the_same(alloc: Global, script: &[u8], size: usize) -> Result<bool, Alloc
     Ok((status == Status::Done) & same)
 }
 
-// Scripts whose logs have identity writes, checks and groups too.
+// Scripts whose logs have identity writes, checkpoints and groups too.
 const SCRIPTS: [&[u8]; 3] = [
     b"put 0 aa\nput 1 bb\nswap 0 1\ninstall\ncheckpoint\nput 2 cc\n",
     b"begin\nput 0 aa\ncopy 0 1\nend\nforce\nappend 0 1\nsort 0 2 1\n",

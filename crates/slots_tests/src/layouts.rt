@@ -248,7 +248,7 @@ fn is_filled(alloc: Global) -> Result<bool, AllocError> {
 }
 
 // Whether an object of the file has this pair.
-fn holds(alloc: Global, machine: &mut MemMachine, object: u32, id: u64, value: &[u8]) -> bool {
+fn holds(alloc: Global, machine: &mut MemMachine, object: u32, lsn: u64, value: &[u8]) -> bool {
     let Ok(slots) = Slots::load(alloc, machine) else {
         return false;
     };
@@ -256,7 +256,7 @@ fn holds(alloc: Global, machine: &mut MemMachine, object: u32, id: u64, value: &
         return false;
     }
     let mut into = Vec::new(alloc);
-    let found = slots.read(machine, object, &mut into) == Ok(id);
+    let found = slots.read(machine, object, &mut into) == Ok(lsn);
     found & (into.as_slice() == value)
 }
 

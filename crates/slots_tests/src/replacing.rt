@@ -22,7 +22,7 @@ const CRASHES: [Crash; 6] = [
     Crash::Fill(255),
 ];
 
-// The slots of object 0 after some of three values: a gate, the identifier, the length and the value.
+// The slots of object 0 after some of three values: a gate, the LSN, the length and the value.
 const FIRST: [u8; 14] = [1, 1, 0, 0, 0, 0, 0, 0, 0, 1, 0, 0, 0, 0xaa];
 
 const SECOND: [u8; 14] = [1, 2, 0, 0, 0, 0, 0, 0, 0, 1, 0, 0, 0, 0xbb];
@@ -52,9 +52,9 @@ impl Store {
     }
 
     // Gives object 0 a value. It reports how many calls that took, none where it is no call to make or the call failed.
-    fn put(&mut self, id: u64, value: &[u8]) -> u64 {
+    fn put(&mut self, lsn: u64, value: &[u8]) -> u64 {
         let before = self.machine.calls();
-        if put(&mut self.slots, &mut self.machine, id, value) {
+        if put(&mut self.slots, &mut self.machine, lsn, value) {
             self.machine.calls().saturating_sub(before)
         } else {
             0
@@ -69,28 +69,28 @@ impl Store {
 }
 
 // Gives object 0 a value; false where that is no call to make, or the call fails.
-fn put<M: Machine>(slots: &mut Slots, machine: &mut M, id: u64, value: &[u8]) -> bool {
+fn put<M: Machine>(slots: &mut Slots, machine: &mut M, lsn: u64, value: &[u8]) -> bool {
     let params = slots.params();
-    if params.objects == 0 || id >= 1 << 62 || value.len() > params.cap as usize {
+    if params.objects == 0 || lsn >= 1 << 62 || value.len() > params.cap as usize {
         return false;
     }
-    slots.id(0) < id && slots.replace(machine, 0, id, value).is_ok()
+    slots.lsn(0) < lsn && slots.replace(machine, 0, lsn, value).is_ok()
 }
 
 // Makes object 0 ready for a value, and then gives it; false where that is no call to make, or a call fails.
-fn put_ready<M: Machine>(slots: &mut Slots, machine: &mut M, id: u64, value: &[u8]) -> bool {
+fn put_ready<M: Machine>(slots: &mut Slots, machine: &mut M, lsn: u64, value: &[u8]) -> bool {
     let params = slots.params();
     if params.objects == 0 || value.len() > params.cap as usize {
         return false;
     }
-    make_ready(slots, machine, id, value).is_ok() && put(slots, machine, id, value)
+    make_ready(slots, machine, lsn, value).is_ok() && put(slots, machine, lsn, value)
 }
 
 // Closes the slot that doesn't hold object 0, and fills it, with a sync after each.
 fn make_ready<M: Machine>(
     slots: &mut Slots,
     machine: &mut M,
-    id: u64,
+    lsn: u64,
     value: &[u8],
 ) -> Result<(), Failed>
     requires object { 0 < slots.old.params.objects }
@@ -98,7 +98,7 @@ fn make_ready<M: Machine>(
 {
     slots.close_spare(machine, 0)?;
     machine.sync(FileNo::Objects)?;
-    slots.fill_spare(machine, 0, id, value)?;
+    slots.fill_spare(machine, 0, lsn, value)?;
     machine.sync(FileNo::Objects)
 }
 
@@ -158,7 +158,7 @@ fn values_go_into_the_slots_by_turns(rt: HostRuntime) -> Result<(), Fail> {
     Ok(())
 }
 
-// An object's identifier, and its value; the greatest number is no identifier.
+// An object's LSN, and its value; the greatest number is no LSN.
 fn read(slots: &Slots, machine: &mut MemMachine, object: u32, value: &mut Vec<u8>) -> u64 {
     if object < slots.params().objects {
         slots.read(machine, object, value).unwrap_or(u64::MAX)
@@ -167,25 +167,25 @@ fn read(slots: &Slots, machine: &mut MemMachine, object: u32, value: &mut Vec<u8
     }
 }
 
-// The identifier of object 0 and its byte, 0 where its value is empty, and whether the last object is empty.
+// The LSN of object 0 and its byte, 0 where its value is empty, and whether the last object is empty.
 fn seen(alloc: Global, machine: &mut MemMachine) -> Result<(u64, u8, bool), Fail> {
     let slots = Slots::load(alloc, machine)?;
     let mut value = Vec::new(alloc);
     let other = read(&slots, machine, 7, &mut value);
     let empty = (other == 0) & value.is_empty();
-    let id = read(&slots, machine, 0, &mut value);
-    Ok((id, value.as_slice().first().copied().unwrap_or(0), empty))
+    let lsn = read(&slots, machine, 0, &mut value);
+    Ok((lsn, value.as_slice().first().copied().unwrap_or(0), empty))
 }
 
-// The values, whose identifiers are counted from 1 on.
+// The values, whose LSNs are counted from 1 on.
 const VALUES: [u8; 3] = [0xaa, 0xbb, 0xcc];
 
 // A store with the first of these values.
 fn with_values(alloc: Global, count: u64) -> Result<Store, Fail> {
     let mut store = Store::new(alloc)?;
-    for (id, value) in VALUES.iter().enumerate() {
-        if (id as u64) < count {
-            store.put(id as u64 + 1, &[*value]);
+    for (lsn, value) in VALUES.iter().enumerate() {
+        if (lsn as u64) < count {
+            store.put(lsn as u64 + 1, &[*value]);
         }
     }
     Ok(store)
@@ -204,10 +204,10 @@ fn stopped(
     let mut slots = store.slots;
     let mut fuse = Fuse::new(store.machine, calls);
     let value = if count == 1 { 0xbb } else { 0xcc };
-    let id = count.saturating_add(1);
+    let lsn = count.saturating_add(1);
     let is_ok = match ready {
-        true => put_ready(&mut slots, &mut fuse, id, &[value]),
-        false => count < 3 && put(&mut slots, &mut fuse, id, &[value]),
+        true => put_ready(&mut slots, &mut fuse, lsn, &[value]),
+        false => count < 3 && put(&mut slots, &mut fuse, lsn, &[value]),
     };
     let mut left = fuse.into_inner().crash(how);
     Ok((is_ok, seen(alloc, &mut left)?))

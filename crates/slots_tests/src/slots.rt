@@ -92,7 +92,7 @@ fn makes_a_store(rt: HostRuntime) -> Result<(), Fail> {
     Ok(())
 }
 
-// An open slot that has the identifier 5 and two bytes.
+// An open slot that has the LSN 5 and two bytes.
 const FIVE: [u8; 15] = [1, 5, 0, 0, 0, 0, 0, 0, 0, 2, 0, 0, 0, 0xaa, 0xbb];
 
 // Bytes that are written at an offset of a new store's file, and where that is then damaged, or no store. The first slots
@@ -155,8 +155,8 @@ fn fault_of_a_short_file(alloc: Global) -> Result<Option<u64>, AllocError> {
     Ok(fault_after(alloc, &mut machine, &[(0, &HEADER), (1186, &[1])]))
 }
 
-// Where a file is damaged with an identifier in both slots of object 0; and whether another one mends that.
-fn fault_of_an_identifier_twice(alloc: Global) -> Result<[Option<u64>; 2], AllocError> {
+// Where a file is damaged with an LSN in both slots of object 0; and whether another one mends that.
+fn fault_of_an_lsn_twice(alloc: Global) -> Result<[Option<u64>; 2], AllocError> {
     Ok([
         fault_with(alloc, &[(32, &FIVE), (109, &FIVE)])?,
         fault_with(alloc, &[(32, &FIVE), (109, &FIVE), (110, &[6])])?,
@@ -164,9 +164,9 @@ fn fault_of_an_identifier_twice(alloc: Global) -> Result<[Option<u64>; 2], Alloc
 }
 
 #[test]
-fn finds_a_short_file_and_an_identifier_twice(rt: HostRuntime) -> Result<(), Fail> {
+fn finds_a_short_file_and_an_lsn_twice(rt: HostRuntime) -> Result<(), Fail> {
     assert!(rt; fault_of_a_short_file(rt.alloc())? == Some(0));
-    assert!(rt; fault_of_an_identifier_twice(rt.alloc())? == [Some(110), Some(9999)]);
+    assert!(rt; fault_of_an_lsn_twice(rt.alloc())? == [Some(110), Some(9999)]);
     Ok(())
 }
 
@@ -180,26 +180,26 @@ fn with_slots(alloc: Global) -> Result<MemMachine, AllocError> {
     Ok(machine)
 }
 
-// An object's identifier, and how many calls reading it takes. The greatest number is no identifier.
+// An object's LSN, and how many calls reading it takes. The greatest number is no LSN.
 fn read(slots: &Slots, machine: &mut MemMachine, object: u32, into: &mut Vec<u8>) -> (u64, u64) {
     if object >= slots.params().objects {
         return (u64::MAX, 0);
     }
     let before = machine.calls();
-    let id = slots.read(machine, object, into).unwrap_or(u64::MAX);
-    (id, machine.calls().saturating_sub(before))
+    let lsn = slots.read(machine, object, into).unwrap_or(u64::MAX);
+    (lsn, machine.calls().saturating_sub(before))
 }
 
-// Whether an object has this identifier and this value, read by so many calls.
-fn is_read(alloc: Global, object: u32, id: u64, value: &[u8], calls: u64) -> Result<bool, Fail> {
+// Whether an object has this LSN and this value, read by so many calls.
+fn is_read(alloc: Global, object: u32, lsn: u64, value: &[u8], calls: u64) -> Result<bool, Fail> {
     let mut machine = with_slots(alloc)?;
     let slots = Slots::load(alloc, &mut machine)?;
     let mut into = Vec::new(alloc);
     let found = read(&slots, &mut machine, object, &mut into);
-    Ok((found == (id, calls)) & (into.as_slice() == value))
+    Ok((found == (lsn, calls)) & (into.as_slice() == value))
 }
 
-// Where the first open slot has an identifier of at least each of these numbers.
+// Where the first open slot has an LSN of at least each of these numbers.
 fn first_slots(alloc: Global) -> Result<[Option<u64>; 4], Fail> {
     let slots = Slots::load(alloc, &mut with_slots(alloc)?)?;
     Ok([
@@ -212,14 +212,14 @@ fn first_slots(alloc: Global) -> Result<[Option<u64>; 4], Fail> {
 
 #[test]
 fn reads_what_an_open_slot_holds(rt: HostRuntime) -> Result<(), Fail> {
-    for (object, id, value, calls) in [
+    for (object, lsn, value, calls) in [
         (3, 5, [0xaa, 0xbb].as_slice(), 2),
         (4, 9, &[], 2),
         (2, 0, &[], 0),
         (7, 7, &[], 2),
     ] {
         assert!(rt;
-            is_read(rt.alloc(), object, id, value, calls)?,
+            is_read(rt.alloc(), object, lsn, value, calls)?,
             "object {object}"
         );
     }

@@ -3,7 +3,7 @@ use Rattle.std.proofs.Common.{◌≡◌, ◌≢◌, ◌⊎◌, inl, inr, ◌<◌
 use Rattle.std.proofs.lemmas.Bool.{cases_eq}
 use Rattle.formats.specs.Bytes.{byte_at, IsOpenAt, IsClosedAt}
 use Rattle.oper_core.specs.Cell.{Cell}
-use Rattle.formats.specs.Objects.{IsObjectsFile, IsWholeSlot, slot_place, form_in, params_in, layout_in, place_in, identifier_at, length_at, value_at, open_identifier, cell_at, cell_of}
+use Rattle.formats.specs.Objects.{IsObjectsFile, IsWholeSlot, slot_place, form_in, params_in, layout_in, place_in, lsn_at, length_at, value_at, open_lsn, cell_at, cell_of}
 use Rattle.formats.specs.declared.layout.Layout.{Layout}
 use Rattle.formats.specs.declared.params.Params.{Params}
 use Rattle.stable_objects.specs.SlotGates.{slot_gate}
@@ -24,8 +24,8 @@ module _ (cap at n place : ℕ) (old new : List ℕ) (agrees : AgreesOutside at 
   out : (a b : ℕ) → 1 ≤ a → a + b ≤ 13 + cap → IsBeside at n old (place + a) b
   out a b some short = elim apart [ inl before ↦ inl (omega (arith, before, short), omega (arith, before, short, reach)) | inr behind ↦ inr (omega (arith, behind, some)) ]
 
-  pub numbered_stays : identifier_at place new ≡ identifier_at place old
-  numbered_stays = number_stays at n old new agrees (place + 1) 8 (out 1 8 (omega arith) (omega arith))
+  pub lsn_stays : lsn_at place new ≡ lsn_at place old
+  lsn_stays = number_stays at n old new agrees (place + 1) 8 (out 1 8 (omega arith) (omega arith))
 
   pub long_stays : length_at place new ≡ length_at place old
   long_stays = number_stays at n old new agrees (place + 9) 4 (out 9 4 (omega arith) (omega arith))
@@ -37,8 +37,8 @@ module _ (cap at n place : ℕ) (old new : List ℕ) (agrees : AgreesOutside at 
 
   pub whole_stays : IsWholeSlot cap place new
   whole_stays = record {
-    some = omega (arith, slot.some, numbered_stays);
-    numbered = omega (arith, slot.numbered, numbered_stays);
+    some = omega (arith, slot.some, lsn_stays);
+    is_lsn = omega (arith, slot.is_lsn, lsn_stays);
     short = omega (arith, slot.short, long_stays);
     within = λ some. omega (arith, slot.within (omega (arith, some, long_stays)), long_stays, agrees.no_shorter);
   }
@@ -53,9 +53,9 @@ slot_stays cap at place old new agrees reach apart within slot =
       gate = same;
       cell = elim (cases_eq (byte_at place old) 1) [
         | inl is_open ↦
-            let numbered = numbered_stays cap at (13 + cap) place old new agrees reach here (slot is_open) in
+            let is_lsn = lsn_stays cap at (13 + cap) place old new agrees reach here (slot is_open) in
             let value = value_stays cap at (13 + cap) place old new agrees reach here (slot is_open) in
-            let cells : whole_cell place new ≡ whole_cell place old = λ i. record { id = numbered i; value = value i } in
+            let cells : whole_cell place new ≡ whole_cell place old = λ i. record { lsn = is_lsn i; value = value i } in
             open_cell place new (same ∙ is_open) ∙ cells ∙ sym (open_cell place old is_open)
         | inr closed ↦ closed_cell place new (λ is_open. closed (sym same ∙ is_open)) ∙ sym (closed_cell place old closed)
       ];
@@ -64,18 +64,18 @@ slot_stays cap at place old new agrees reach apart within slot =
 
 -- the two slots of an object differ still
 pub apart_here : (layout : Layout) (x : ℕ) (old new : List ℕ) (s : ℕ) → s < 2 → cell_at (slot_place layout x (1 - s)) new ≡ cell_at (slot_place layout x (1 - s)) old
-    → (IsOpenAt (slot_place layout x s) new → identifier_at (slot_place layout x s) new ≢ open_identifier (slot_place layout x (1 - s)) old)
-    → IsOpenAt (slot_place layout x 0) new → IsOpenAt (slot_place layout x 1) new → identifier_at (slot_place layout x 0) new ≢ identifier_at (slot_place layout x 1) new
+    → (IsOpenAt (slot_place layout x s) new → lsn_at (slot_place layout x s) new ≢ open_lsn (slot_place layout x (1 - s)) old)
+    → IsOpenAt (slot_place layout x 0) new → IsOpenAt (slot_place layout x 1) new → lsn_at (slot_place layout x 0) new ≢ lsn_at (slot_place layout x 1) new
 apart_here layout x old new zero two stays other first second same =
-    other first (same ∙ sym (ap (λ (c : Cell). c.id) (open_cell (slot_place layout x 1) new second)) ∙ ap (λ (c : Cell). c.id) stays)
+    other first (same ∙ sym (ap (λ (c : Cell). c.lsn) (open_cell (slot_place layout x 1) new second)) ∙ ap (λ (c : Cell). c.lsn) stays)
 apart_here layout x old new (suc zero) two stays other first second same =
-    other second (sym same ∙ sym (ap (λ (c : Cell). c.id) (open_cell (slot_place layout x 0) new first)) ∙ ap (λ (c : Cell). c.id) stays)
+    other second (sym same ∙ sym (ap (λ (c : Cell). c.lsn) (open_cell (slot_place layout x 0) new first)) ∙ ap (λ (c : Cell). c.lsn) stays)
 apart_here layout x old new (suc (suc s)) two stays other first second same = absurd (omega (arith, two))
 
--- while its slot is closed, or has a smaller identifier, an object is held by the other
+-- while its slot is closed, or has a smaller LSN, an object is held by the other
 pub record IsLower (cap place bound : ℕ) (file : List ℕ) : Type 0 where
   pub slot : IsOpenAt place file → IsWholeSlot cap place file
-  pub less : IsOpenAt place file → identifier_at place file < bound
+  pub less : IsOpenAt place file → lsn_at place file < bound
 
 -- a whole file in which each object has its pair
 pub record IsKept (p : Params) (x : ℕ) (old new : List ℕ) : Type 0 where
@@ -84,9 +84,9 @@ pub record IsKept (p : Params) (x : ℕ) (old new : List ℕ) : Type 0 where
   pub others : OthersKept p x old new
 
 -- or this object the new one
-pub record IsRenewed (p : Params) (x id : ℕ) (value old new : List ℕ) : Type 0 where
+pub record IsRenewed (p : Params) (x lsn : ℕ) (value old new : List ℕ) : Type 0 where
   pub whole : IsObjectsFile p new
-  pub held : cell_of x new ≡ record { id = id; value = value }
+  pub held : cell_of x new ≡ record { lsn = lsn; value = value }
   pub others : OthersKept p x old new
 
 module _ (p : Params) (x s : ℕ) (old new : List ℕ) (is : IsObjectsFile p old) (below : x < p.objects) (two : s < 2) (agrees : AgreesOutside (place_in old x s) (13 + p.cap) old new) where
@@ -123,7 +123,7 @@ module _ (p : Params) (x s : ℕ) (old new : List ℕ) (is : IsObjectsFile p old
       cell_is_held (layout_in old) y new stands ∙ both ∙ sym (cell_is_held (layout_in old) y old refl)
 
   slots_whole : (IsOpenAt (place_in old x s) new → IsWholeSlot p.cap (place_in old x s) new)
-      → (IsOpenAt (place_in old x s) new → identifier_at (place_in old x s) new ≢ open_identifier (place_in old x (1 - s)) old) → AreWholeBy (layout_in old) p new
+      → (IsOpenAt (place_in old x s) new → lsn_at (place_in old x s) new ≢ open_lsn (place_in old x (1 - s)) old) → AreWholeBy (layout_in old) p new
   slots_whole slot other = record {
     each = λ y t below_y two_t. elim (cases_eq (2 * y + t) (2 * x + s)) [
       | inl same ↦
@@ -132,31 +132,31 @@ module _ (p : Params) (x s : ℕ) (old new : List ℕ) (is : IsObjectsFile p old
       | inr differs ↦ (each_stays y t below_y two_t differs).whole
     ];
     apart = λ y below_y. elim (cases_eq y x) [
-      | inl same ↦ subst (λ (z : ℕ). IsOpenAt (place_in old z 0) new → IsOpenAt (place_in old z 1) new → identifier_at (place_in old z 0) new ≢ identifier_at (place_in old z 1) new)
+      | inl same ↦ subst (λ (z : ℕ). IsOpenAt (place_in old z 0) new → IsOpenAt (place_in old z 1) new → lsn_at (place_in old z 0) new ≢ lsn_at (place_in old z 1) new)
           (sym same) (apart_here (layout_in old) x old new s two other_stays.cell other)
       | inr differs ↦ λ first second alike.
           let one = each_stays y 0 below_y (omega arith) (λ same. omega (arith, same, differs, two)) in
           let next = each_stays y 1 below_y (omega arith) (λ same. omega (arith, same, differs, two)) in
-          let id : (q : ℕ) → IsOpenAt q new → SlotStays p.cap q old new → identifier_at q new ≡ identifier_at q old = λ q is_open stays.
-          sym (ap (λ (c : Cell). c.id) (open_cell q new is_open)) ∙ ap (λ (c : Cell). c.id) stays.cell ∙ ap (λ (c : Cell). c.id) (open_cell q old (sym stays.gate ∙ is_open)) in
-          is.slots.apart y below_y (sym one.gate ∙ first) (sym next.gate ∙ second) (sym (id (place_in old y 0) first one) ∙ alike ∙ id (place_in old y 1) second next)
+          let lsn : (q : ℕ) → IsOpenAt q new → SlotStays p.cap q old new → lsn_at q new ≡ lsn_at q old = λ q is_open stays.
+          sym (ap (λ (c : Cell). c.lsn) (open_cell q new is_open)) ∙ ap (λ (c : Cell). c.lsn) stays.cell ∙ ap (λ (c : Cell). c.lsn) (open_cell q old (sym stays.gate ∙ is_open)) in
+          is.slots.apart y below_y (sym one.gate ∙ first) (sym next.gate ∙ second) (sym (lsn (place_in old y 0) first one) ∙ alike ∙ lsn (place_in old y 1) second next)
     ];
   }
 
-  other_id : open_identifier (place_in old x (1 - s)) new ≡ open_identifier (place_in old x (1 - s)) old
-  other_id = ap (λ (c : Cell). c.id) other_stays.cell
+  other_lsn : open_lsn (place_in old x (1 - s)) new ≡ open_lsn (place_in old x (1 - s)) old
+  other_lsn = ap (λ (c : Cell). c.lsn) other_stays.cell
 
-  no_greater : IsLower p.cap (place_in old x s) (open_identifier (place_in old x (1 - s)) old) new → open_identifier (place_in old x s) new ≤ open_identifier (place_in old x (1 - s)) new
+  no_greater : IsLower p.cap (place_in old x s) (open_lsn (place_in old x (1 - s)) old) new → open_lsn (place_in old x s) new ≤ open_lsn (place_in old x (1 - s)) new
   no_greater lower = elim (cases_eq (byte_at (place_in old x s) new) 1) [
     | inl is_open ↦
         let less = lower.less is_open in
-        let id = ap (λ (c : Cell). c.id) (open_cell (place_in old x s) new is_open) in
-        omega (arith, less, id, other_id)
-    | inr closed ↦ let none = ap (λ (c : Cell). c.id) (closed_cell (place_in old x s) new closed) in omega (arith, none)
+        let lsn = ap (λ (c : Cell). c.lsn) (open_cell (place_in old x s) new is_open) in
+        omega (arith, less, lsn, other_lsn)
+    | inr closed ↦ let none = ap (λ (c : Cell). c.lsn) (closed_cell (place_in old x s) new closed) in omega (arith, none)
   ]
 
-  -- an object keeps its pair while its other slot is closed, or has a smaller identifier
-  pub kept : open_identifier (place_in old x s) old ≤ open_identifier (place_in old x (1 - s)) old → IsLower p.cap (place_in old x s) (open_identifier (place_in old x (1 - s)) old) new → IsKept p x old new
+  -- an object keeps its pair while its other slot is closed, or has a smaller LSN
+  pub kept : open_lsn (place_in old x s) old ≤ open_lsn (place_in old x (1 - s)) old → IsLower p.cap (place_in old x s) (open_lsn (place_in old x (1 - s)) old) new → IsKept p x old new
   kept le lower =
       let slots = slots_whole lower.slot (λ is_open same. let less = lower.less is_open in omega (arith, less, same)) in
       record {
@@ -170,26 +170,26 @@ module _ (p : Params) (x s : ℕ) (old new : List ℕ) (is : IsObjectsFile p old
       }
 
   -- and has the new one once that slot is open
-  pub renewed : (id : ℕ) (value : List ℕ) → open_identifier (place_in old x (1 - s)) old < id → id < 2 ^ 62 → length value ≤ p.cap → IsOpenAt (place_in old x s) new → IsFilled (place_in old x s) id value new
-      → IsRenewed p x id value old new
-  renewed id value later numbered short is_open filled =
+  pub renewed : (lsn : ℕ) (value : List ℕ) → open_lsn (place_in old x (1 - s)) old < lsn → lsn < 2 ^ 62 → length value ≤ p.cap → IsOpenAt (place_in old x s) new → IsFilled (place_in old x s) lsn value new
+      → IsRenewed p x lsn value old new
+  renewed lsn value later is_lsn short is_open filled =
       let place = place_in old x s in
       let there = place_in old x (1 - s) in
       let slot : IsWholeSlot p.cap place new = record {
-        some = omega (arith, later, filled.numbered);
-        numbered = omega (arith, numbered, filled.numbered);
+        some = omega (arith, later, filled.is_lsn);
+        is_lsn = omega (arith, is_lsn, filled.is_lsn);
         short = omega (arith, short, filled.long);
         within = λ some. omega (arith, filled.long, filled.within);
       } in
-      let slots = slots_whole (λ opened. slot) (λ opened same. omega (arith, same, later, filled.numbered)) in
+      let slots = slots_whole (λ opened. slot) (λ opened same. omega (arith, same, later, filled.is_lsn)) in
       let again : 1 - (1 - s) ≡ s = omega (arith, two) in
-      let here = ap (λ (c : Cell). c.id) (open_cell place new is_open) in
-      let le : open_identifier there new ≤ open_identifier place new = omega (arith, here, filled.numbered, other_id, later) in
-      let cells : whole_cell place new ≡ record { id = id; value = value } = λ i. record { id = filled.numbered i; value = filled.stands i } in
+      let here = ap (λ (c : Cell). c.lsn) (open_cell place new is_open) in
+      let le : open_lsn there new ≤ open_lsn place new = omega (arith, here, filled.is_lsn, other_lsn, later) in
+      let cells : whole_cell place new ≡ record { lsn = lsn; value = value } = λ i. record { lsn = filled.is_lsn i; value = filled.stands i } in
       record {
         whole = headed p (place_in old x s) (13 + p.cap) old new is agrees before slots;
         held = cell_is_held (layout_in old) x new stands
-            ∙ held_in (layout_in old) p x new slots below (1 - s) (omega arith) (subst (λ (t : ℕ). open_identifier there new ≤ open_identifier (place_in old x t) new) (sym again) le)
+            ∙ held_in (layout_in old) p x new slots below (1 - s) (omega arith) (subst (λ (t : ℕ). open_lsn there new ≤ open_lsn (place_in old x t) new) (sym again) le)
             ∙ ap (λ (t : ℕ). cell_at (place_in old x t) new) again
             ∙ open_cell place new is_open
             ∙ cells;
@@ -201,10 +201,10 @@ pub closed_lower : (cap place bound : ℕ) (file : List ℕ) → IsClosedAt plac
 closed_lower cap place bound file closed = record { slot = λ is_open. absurd (closed is_open); less = λ is_open. absurd (closed is_open) }
 
 -- an open one whose gate alone is torn
-pub torn_lower : (cap place bound : ℕ) (old new : List ℕ) → AgreesOutside place 1 old new → place ≤ length old → IsWholeSlot cap place old → identifier_at place old < bound → IsLower cap place bound new
+pub torn_lower : (cap place bound : ℕ) (old new : List ℕ) → AgreesOutside place 1 old new → place ≤ length old → IsWholeSlot cap place old → lsn_at place old < bound → IsLower cap place bound new
 torn_lower cap place bound old new agrees reach slot less =
-    let numbered = numbered_stays cap place 1 place old new agrees reach (inr (omega arith)) slot in
+    let is_lsn = lsn_stays cap place 1 place old new agrees reach (inr (omega arith)) slot in
     record {
       slot = λ is_open. whole_stays cap place 1 place old new agrees reach (inr (omega arith)) slot;
-      less = λ is_open. omega (arith, numbered, less);
+      less = λ is_open. omega (arith, is_lsn, less);
     }

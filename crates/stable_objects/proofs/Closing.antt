@@ -8,15 +8,15 @@ use Rattle.disk_model.specs.Moments.{runs_none, runs_wider}
 use Rattle.disk_model.specs.declared.machine.FileNo.TheVariants.{Objects}
 use Rattle.oper_core.specs.Cell.{Cell}
 use Rattle.formats.specs.Bytes.{byte_at, IsClosedAt}
-use Rattle.formats.specs.Objects.{layout_in, place_in, slot_place, open_identifier, cell_of}
+use Rattle.formats.specs.Objects.{layout_in, place_in, slot_place, open_lsn, cell_of}
 use Rattle.formats.specs.declared.layout.Layout.{Layout}
 use Rattle.formats.specs.declared.params.Params.{Params}
 use Rattle.stable_objects.specs.Replacing.{AgreesOutside, spare_in}
 use Rattle.stable_objects.specs.SlotGates.{slot_gate}
 use Rattle.stable_objects.specs.SlotLaws.{closed_tells, place_of_file}
-use Rattle.stable_objects.specs.SlotsView.{SlotsView, AreHeads, AreOf, head, id_in, layout_of}
+use Rattle.stable_objects.specs.SlotsView.{SlotsView, AreHeads, AreOf, head, lsn_in, layout_of}
 use Rattle.stable_objects.specs.SpareLaws.{keeps_none}
-use Rattle.stable_objects.specs.Spares.{IsClosing, IsSpareByte, KeepsBut, KeepsButGates, KeepsButSpares, KeepsFilledBut, spare_id, spare_place}
+use Rattle.stable_objects.specs.Spares.{IsClosing, IsSpareByte, KeepsBut, KeepsButGates, KeepsButSpares, KeepsFilledBut, spare_lsn, spare_place}
 use Rattle.stable_objects.proofs.Bytes.{byte_written}
 use Rattle.stable_objects.proofs.Changed.{closed_lower, each_stays, kept, stands}
 use Rattle.stable_objects.proofs.Outside.{agrees_wider, byte_beside, filled_beside, held_agrees, torn_agrees}
@@ -30,7 +30,7 @@ spares_none slots free d lawful = runs_none d (In Objects (KeepsBut (layout_of s
 
 module _ (slots : SlotsView) (x at : ℕ) (below : x < slots.params.objects) where
   -- a gate alone is written, that was open
-  torn_gate : spare_id slots x ≢ 0 → at ≡ spare_place slots x → (old new : List ℕ) → Torn at 1 old new → KeepsButGates slots old new
+  torn_gate : spare_lsn slots x ≢ 0 → at ≡ spare_place slots x → (old new : List ℕ) → Torn at 1 old new → KeepsButGates slots old new
   torn_gate some here old new torn = record {
     no_shorter = torn.no_shorter;
     same = λ reach j none.
@@ -44,11 +44,11 @@ module _ (slots : SlotsView) (x at : ℕ) (below : x < slots.params.objects) whe
         ]);
   }
 
-  pub gate_run : spare_id slots x ≢ 0 → at ≡ spare_place slots x → (old new : Disk) → Runs (In Objects (Torn at 1)) Same old new → Runs (In Objects (KeepsButGates slots)) Same old new
+  pub gate_run : spare_lsn slots x ≢ 0 → at ≡ spare_place slots x → (old new : Disk) → Runs (In Objects (Torn at 1)) Same old new → Runs (In Objects (KeepsButGates slots)) Same old new
   gate_run some here old new run = runs_wider old new (In Objects (Torn at 1)) (In Objects (KeepsButGates slots)) (λ a b is. record { changed = torn_gate some here (a Objects) (b Objects) is.changed; others = is.others }) run
 
   -- all behind a closed gate is written
-  torn_spare : spare_id slots x ≡ 0 → at ≡ spare_place slots x → (n : ℕ) → n ≤ slots.params.cap → (old new : List ℕ) → Torn (at + 1) (12 + n) old new → KeepsButSpares slots old new
+  torn_spare : spare_lsn slots x ≡ 0 → at ≡ spare_place slots x → (n : ℕ) → n ≤ slots.params.cap → (old new : List ℕ) → Torn (at + 1) (12 + n) old new → KeepsButSpares slots old new
   torn_spare closed here n short old new torn = record {
     no_shorter = torn.no_shorter;
     same = λ reach j none.
@@ -62,28 +62,28 @@ module _ (slots : SlotsView) (x at : ℕ) (below : x < slots.params.objects) whe
         ]);
   }
 
-  pub spare_run : spare_id slots x ≡ 0 → at ≡ spare_place slots x → (n : ℕ) → n ≤ slots.params.cap → (old new : Disk) → Runs (In Objects (Torn (at + 1) (12 + n))) Same old new → Runs (In Objects (KeepsButSpares slots)) Same old new
+  pub spare_run : spare_lsn slots x ≡ 0 → at ≡ spare_place slots x → (n : ℕ) → n ≤ slots.params.cap → (old new : Disk) → Runs (In Objects (Torn (at + 1) (12 + n))) Same old new → Runs (In Objects (KeepsButSpares slots)) Same old new
   spare_run closed here n short old new run =
       runs_wider old new (In Objects (Torn (at + 1) (12 + n))) (In Objects (KeepsButSpares slots)) (λ a b is. record { changed = torn_spare closed here n short (a Objects) (b Objects) is.changed; others = is.others }) run
 
   -- what other slots are filled with stays
   pub others_filled : at ≡ spare_place slots x → (n : ℕ) → n ≤ slots.params.cap → (old new : List ℕ) → Torn (at + 1) (12 + n) old new → KeepsFilledBut slots x old new
-  others_filled here n short old new torn y id value there differs fits filled =
+  others_filled here n short old new torn y lsn value there differs fits filled =
       let one = (spare slots x).two in
       let two = (spare slots y).two in
       let apart : 2 * y + spare_in slots y ≢ 2 * x + spare_in slots x = λ same. differs (omega (arith, same, one, two)) in
-      filled_beside (at + 1) (12 + n) (spare_place slots y) id value old new
+      filled_beside (at + 1) (12 + n) (spare_place slots y) lsn value old new
       (elim (places_apart (layout_of slots) x (spare_in slots x) y (spare_in slots y) apart) [ inl before ↦ inl (omega (arith, before, fits, here)) | inr behind ↦ inr (omega (arith, behind, short, here)) ])
       (torn_agrees (at + 1) (12 + n) old new torn) filled
 
--- two identifiers that are one are that of the object
-id_of_both : (slots : SlotsView) (x n : ℕ) → head slots x 0 ≡ n → head slots x 1 ≡ n → id_in slots x ≡ n
-id_of_both slots x n first second = elim (nat_lt (head slots x 0) (head slots x 1)) as (λ b. head slots x (if b then 1 else 0) ≡ n) [ true ↦ second | false ↦ first ]
+-- two LSNs that are one are that of the object
+lsn_of_both : (slots : SlotsView) (x n : ℕ) → head slots x 0 ≡ n → head slots x 1 ≡ n → lsn_in slots x ≡ n
+lsn_of_both slots x n first second = elim (nat_lt (head slots x 0) (head slots x 1)) as (λ b. head slots x (if b then 1 else 0) ≡ n) [ true ↦ second | false ↦ first ]
 
 -- the smaller one is taken away
 module _ (before after : SlotsView) (x : ℕ) where
   abbrev IsAsBefore : Type 0
-  IsAsBefore = (id_in after x ≡ id_in before x) × (spare_in after x ≡ spare_in before x)
+  IsAsBefore = (lsn_in after x ≡ lsn_in before x) × (spare_in after x ≡ spare_in before x)
 
   second_closed : nat_lt (head before x 1) (head before x 0) ≡ true → head after x 0 ≡ head before x 0 → head after x 1 ≡ 0 → IsAsBefore
   second_closed less_is first second =
@@ -99,12 +99,12 @@ module _ (before after : SlotsView) (x : ℕ) where
   first_closed le_is first second =
       let le = ltb-false (head before x 1) (head before x 0) le_is in
       let still = le-ltb (head after x 1) (head after x 0) (omega (arith, first)) in
-      let now : id_in after x ≡ head before x 1 = elim (cases_eq (head before x 1) 0) [
-        | inl none ↦ id_of_both after x 0 first (second ∙ none) ∙ sym none
+      let now : lsn_in after x ≡ head before x 1 = elim (cases_eq (head before x 1) 0) [
+        | inl none ↦ lsn_of_both after x 0 first (second ∙ none) ∙ sym none
         | inr some ↦ ap (λ (b : Bool). head after x (if b then 1 else 0)) (lt-ltb (head after x 0) (head after x 1) (omega (arith, first, second, some))) ∙ second
       ] in
-      let was : id_in before x ≡ head before x 1 = elim (cases_eq (head before x 0) (head before x 1)) [
-        | inl same ↦ id_of_both before x (head before x 1) same refl
+      let was : lsn_in before x ≡ head before x 1 = elim (cases_eq (head before x 0) (head before x 1)) [
+        | inl same ↦ lsn_of_both before x (head before x 1) same refl
         | inr other ↦ ap (λ (b : Bool). head before x (if b then 1 else 0)) (lt-ltb (head before x 0) (head before x 1) (omega (arith, le, other)))
       ] in
       (now ∙ sym was, ap (λ (b : Bool). if b then 1 else 0) still ∙ sym (ap (λ (b : Bool). if b then 1 else 0) le_is))
@@ -159,17 +159,17 @@ module _ (slots : SlotsView) (x slot : ℕ) (below : x < slots.params.objects) (
     | inr other ↦ other_as_before y other
   ]
 
-  pub now_closed : spare_id later x ≡ 0
+  pub now_closed : spare_lsn later x ≡ 0
   now_closed = ap (λ (k : ℕ). head later x k) same_object.1 ∙ here
 
   pub closing : IsClosing slots later
   closing = record {
     layout = refl;
-    ids = λ y. (each y).0;
+    lsns_kept = λ y. (each y).0;
     lengths = refl;
     spares = λ y. (each y).1;
-    spare_ids = λ y. elim (cases_eq y x) [
-      | inl same ↦ inr (subst (λ (z : ℕ). spare_id later z ≡ 0) (sym same) now_closed)
+    spare_lsns = λ y. elim (cases_eq y x) [
+      | inl same ↦ inr (subst (λ (z : ℕ). spare_lsn later z ≡ 0) (sym same) now_closed)
       | inr other ↦ inl (ap (λ (k : ℕ). head later y k) (each y).1 ∙ other_object y other (spare_in slots y) (spare slots y).two)
     ];
   }
@@ -194,7 +194,7 @@ module _ (slots : SlotsView) (x slot : ℕ) (below : x < slots.params.objects) (
         let one : byte_at at new ≡ 1 = ap (λ (q : ℕ). byte_at q new) there_is ∙ is_open in
         absurd (omega (arith, written, one))
 
-    no_greater : open_identifier place old ≤ open_identifier (place_in old x (1 - s)) old
+    no_greater : open_lsn place old ≤ open_lsn (place_in old x (1 - s)) old
     no_greater = omega (arith, of.heads x s below found.two, of.heads x (1 - s) below (omega arith), found.lower)
 
     moved : layout_in new ≡ layout_in old
@@ -202,7 +202,7 @@ module _ (slots : SlotsView) (x slot : ℕ) (below : x < slots.params.objects) (
 
     cells : (y : ℕ) → y < p.objects → cell_of y new ≡ cell_of y old
     cells y below_y =
-        let has = kept p x s old new of.whole below found.two agrees no_greater (closed_lower p.cap place (open_identifier (place_in old x (1 - s)) old) new closed) in
+        let has = kept p x s old new of.whole below found.two agrees no_greater (closed_lower p.cap place (open_lsn (place_in old x (1 - s)) old) new closed) in
         elim (cases_eq y x) [
           | inl same ↦ subst (λ (z : ℕ). cell_of z new ≡ cell_of z old) (sym same) has.held
           | inr other ↦ has.others y below_y other
@@ -210,17 +210,17 @@ module _ (slots : SlotsView) (x slot : ℕ) (below : x < slots.params.objects) (
 
     pub later_are : AreOf later new
     later_are = record {
-      whole = (kept p x s old new of.whole below found.two agrees no_greater (closed_lower p.cap place (open_identifier (place_in old x (1 - s)) old) new closed)).whole;
+      whole = (kept p x s old new of.whole below found.two agrees no_greater (closed_lower p.cap place (open_lsn (place_in old x (1 - s)) old) new closed)).whole;
       first = of.first ∙ ap (λ (l : Layout). l.first) (sym moved);
       heads = λ y t below_y two_t. elim (cases_eq (2 * y + t) (2 * x + s)) [
         | inl same ↦
             let places : place_in new y t ≡ place = ap (λ (l : Layout). slot_place l y t) moved ∙ ap (λ (k : ℕ). slot_gate (layout_in old) k) same in
-            get_or-set_at slots.heads slot (2 * y + t) 0 0 (same ∙ sym slot_is) room ∙ sym (closed_tells place new closed) ∙ ap (λ (q : ℕ). open_identifier q new) (sym places)
+            get_or-set_at slots.heads slot (2 * y + t) 0 0 (same ∙ sym slot_is) room ∙ sym (closed_tells place new closed) ∙ ap (λ (q : ℕ). open_lsn q new) (sym places)
         | inr other ↦
             elsewhere y t other
             ∙ of.heads y t below_y two_t
-            ∙ sym (ap (λ (c : Cell). c.id) (each_stays p x s old new of.whole below found.two agrees y t below_y two_t other).cell)
-            ∙ ap (λ (l : Layout). open_identifier (slot_place l y t) new) (sym moved)
+            ∙ sym (ap (λ (c : Cell). c.lsn) (each_stays p x s old new of.whole below found.two agrees y t below_y two_t other).cell)
+            ∙ ap (λ (l : Layout). open_lsn (slot_place l y t) new) (sym moved)
       ];
       lengths = λ y below_y. of.lengths y below_y ∙ ap (λ (c : Cell). length c.value) (sym (cells y below_y));
     }
@@ -231,18 +231,18 @@ module _ (inside slots : SlotsView) (same : inside ≡ slots) (heads : AreHeads 
   pub room : slot < length inside.heads
   room = slot_room inside slots x slot same heads below slot_is
 
-  pub id_found : found ≡ spare_id slots x
-  id_found = found_is ∙ get_or_default inside.heads slot found 0 room ∙ ap (λ (k : ℕ). get_or inside.heads k 0) slot_is ∙ ap (λ (w : SlotsView). head w x (spare_in slots x)) same
+  pub lsn_found : found ≡ spare_lsn slots x
+  lsn_found = found_is ∙ get_or_default inside.heads slot found 0 room ∙ ap (λ (k : ℕ). get_or inside.heads k 0) slot_is ∙ ap (λ (w : SlotsView). head w x (spare_in slots x)) same
 
   pub place_found : at ≡ spare_place slots x
   place_found = at_is ∙ ap (λ (l : Layout). slot_gate l slot) layout_is ∙ ap (λ (k : ℕ). slot_gate (layout_of slots) k) slot_is
 
   pub gate_written : found ≢ 0 → (old new : Disk) → Runs (In Objects (Torn at 1)) Same old new → Runs (In Objects (KeepsButGates slots)) Same old new
-  gate_written some old new run = gate_run slots x at below (λ none. some (id_found ∙ none)) place_found old new run
+  gate_written some old new run = gate_run slots x at below (λ none. some (lsn_found ∙ none)) place_found old new run
 
   pub spare_written : found ≡ 0 → (n : ℕ) → n ≤ slots.params.cap → (old mid new : Disk) → Stays old mid → Runs (In Objects (Torn (at + 1) (12 + n))) Same mid new → Runs (In Objects (KeepsButSpares slots)) Same old new
   spare_written none n short old mid new look run =
-      look_first (KeepsButSpares slots) (keeps_none (layout_of slots) (IsSpareByte slots)) old mid new look (spare_run slots x at below (sym id_found ∙ none) place_found n short mid new run)
+      look_first (KeepsButSpares slots) (keeps_none (layout_of slots) (IsSpareByte slots)) old mid new look (spare_run slots x at below (sym lsn_found ∙ none) place_found n short mid new run)
 
   pub filled_others : (n : ℕ) → n ≤ slots.params.cap → (old mid new : Disk) → Stays old mid → Runs (In Objects (Torn (at + 1) (12 + n))) Same mid new → old.tells_files → KeepsFilledBut slots x (old.reads Objects) (new.reads Objects)
   filled_others n short old mid new look run told =

@@ -18,13 +18,13 @@ stands_written at bytes file reach stands =
     ∙ ap (λ (l : List ℕ). (l ++ bytes) ++ drop (at + length bytes) file) (sym (append-nil (take at file)) ∙ ap (λ (k : ℕ). take at file ++ replicate {A = ℕ} k 0) (sym none))
 
 -- a slot is filled where its head and its value stand
-pub filled_here : (place id : ℕ) (value head file : List ℕ) → id < 2 ^ 64 → length value < 2 ^ 32 → head ≡ little_bytes 8 id ++ little_bytes 4 (length value) → read_of file (place + 1) (length head) ≡ head
-    → read_of file (place + 13) (length value) ≡ value → IsFilled place id value file
-filled_here place id value head file small short is front rest =
-    let long : length head ≡ 12 = omega (arith, ap length is, length-append (little_bytes 8 id) (little_bytes 4 (length value)), length-little_bytes 8 id, length-little_bytes 4 (length value)) in
+pub filled_here : (place lsn : ℕ) (value head file : List ℕ) → lsn < 2 ^ 64 → length value < 2 ^ 32 → head ≡ little_bytes 8 lsn ++ little_bytes 4 (length value) → read_of file (place + 1) (length head) ≡ head
+    → read_of file (place + 13) (length value) ≡ value → IsFilled place lsn value file
+filled_here place lsn value head file small short is front rest =
+    let long : length head ≡ 12 = omega (arith, ap length is, length-append (little_bytes 8 lsn) (little_bytes 4 (length value)), length-little_bytes 8 lsn, length-little_bytes 4 (length value)) in
     let read = ap length front in
     let reach : place + 13 ≤ length file = omega (arith, read, long, length-take (length head) (drop (place + 1) file), length-drop (place + 1) file) in
-    filled_by place id value file file file small short
+    filled_by place lsn value file file file small short
     (subst (λ (b : List ℕ). HoldsAt (place + 1) b file file) is (stands_written (place + 1) head file (omega (arith, reach)) front))
     (stands_written (place + 13) value file reach rest)
 

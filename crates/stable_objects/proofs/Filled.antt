@@ -4,7 +4,7 @@ use Rattle.std.proofs.lemmas.Bool.{cases_eq, cases_lt}
 use Rattle.disk_model.specs.Disk.{written_over}
 use Rattle.oper_core.specs.Cell.{Cell}
 use Rattle.formats.specs.Bytes.{byte_at, IsClosedAt}
-use Rattle.formats.specs.Objects.{slot_place, layout_in, place_in, holder, cell_of, open_identifier}
+use Rattle.formats.specs.Objects.{slot_place, layout_in, place_in, holder, cell_of, open_lsn}
 use Rattle.formats.specs.declared.layout.Layout.{Layout}
 use Rattle.formats.specs.declared.params.Params.{Params}
 use Rattle.stable_objects.specs.Filling.{IsFilledTo}
@@ -19,14 +19,14 @@ pub filled_none : (p : Params) (cells : ℕ → Cell) (file : List ℕ) → IsNe
 filled_none p cells file new = record { whole = new.whole; held = λ x less. absurd (omega (arith, less)); rest = λ x s le below two. new.closed x s below two }
 
 -- an object whose slots are closed has no pair
-pub no_pair : (x : ℕ) (file : List ℕ) → ((s : ℕ) → s < 2 → IsClosedAt (place_in file x s) file) → cell_of x file ≡ record { id = 0; value = [] }
+pub no_pair : (x : ℕ) (file : List ℕ) → ((s : ℕ) → s < 2 → IsClosedAt (place_in file x s) file) → cell_of x file ≡ record { lsn = 0; value = [] }
 no_pair x file closed =
     let held = closed (holder x file) (holder_below x file) in
-    let id = closed_tells (place_in file x (holder x file)) file held in
+    let lsn = closed_tells (place_in file x (holder x file)) file held in
     let value = closed_value (place_in file x (holder x file)) file held in
-    λ i. record { id = id i; value = value i }
+    λ i. record { lsn = lsn i; value = value i }
 
-pub filled_past : (p : Params) (n : ℕ) (cells : ℕ → Cell) (file : List ℕ) → IsFilledTo p n cells file → n < p.objects → cells n ≡ record { id = 0; value = [] } → IsFilledTo p (n + 1) cells file
+pub filled_past : (p : Params) (n : ℕ) (cells : ℕ → Cell) (file : List ℕ) → IsFilledTo p n cells file → n < p.objects → cells n ≡ record { lsn = 0; value = [] } → IsFilledTo p (n + 1) cells file
 filled_past p n cells file is below none = record {
   whole = is.whole;
   held = λ x less there. elim (cases_lt x n) [
@@ -38,12 +38,12 @@ filled_past p n cells file is below none = record {
   rest = λ x s le there two. is.rest x s (omega (arith, le)) there two;
 }
 
-module _ (p : Params) (n : ℕ) (cells : ℕ → Cell) (old new : List ℕ) (is : IsFilledTo p n cells old) (below : n < p.objects) (some : 1 ≤ (cells n).id) (numbered : (cells n).id < 2 ^ 62) (short : length (cells n).value ≤ p.cap)
-    (put : IsPut (place_in old n 0) (cells n).id (cells n).value old new) where
+module _ (p : Params) (n : ℕ) (cells : ℕ → Cell) (old new : List ℕ) (is : IsFilledTo p n cells old) (below : n < p.objects) (some : 1 ≤ (cells n).lsn) (is_lsn : (cells n).lsn < 2 ^ 62) (short : length (cells n).value ≤ p.cap)
+    (put : IsPut (place_in old n 0) (cells n).lsn (cells n).value old new) where
   agrees : AgreesOutside (place_in old n 0) (13 + p.cap) old new
   agrees = agrees_wider (place_in old n 0) (13 + length (cells n).value) (place_in old n 0) (13 + p.cap) old new (omega arith) (omega (arith, short)) put.agrees
 
-  other_closed : open_identifier (place_in old n 1) old < (cells n).id
+  other_closed : open_lsn (place_in old n 1) old < (cells n).lsn
   other_closed = omega (arith, some, closed_tells (place_in old n 1) old (is.rest n 1 (omega arith) below (omega arith)))
 
   stays_put : layout_in new ≡ layout_in old
@@ -51,7 +51,7 @@ module _ (p : Params) (n : ℕ) (cells : ℕ → Cell) (old new : List ℕ) (is 
 
   more : IsFilledTo p (n + 1) cells new
   more =
-      let has = renewed p n 0 old new is.whole below (omega arith) agrees (cells n).id (cells n).value other_closed numbered short put.opened put.filled in
+      let has = renewed p n 0 old new is.whole below (omega arith) agrees (cells n).lsn (cells n).value other_closed is_lsn short put.opened put.filled in
       record {
         whole = has.whole;
         held = λ x less there. elim (cases_eq x n) [
@@ -68,7 +68,7 @@ module _ (p : Params) (n : ℕ) (cells : ℕ → Cell) (old new : List ℕ) (is 
   filled_more = (more, stays_put)
 
 -- a byte before a slot that is put is written in both files
-module _ (at byte place id : ℕ) (value old new : List ℕ) (less : at < place) (there : at < length old) (put : IsPut place id value old new) where
+module _ (at byte place lsn : ℕ) (value old new : List ℕ) (less : at < place) (there : at < length old) (put : IsPut place lsn value old new) where
   long : (file : List ℕ) → at < length file → length (written_over at (byte ∷ []) file) ≡ length file
   long file within = omega (arith, written_long at (byte ∷ []) file, within)
 
@@ -86,7 +86,7 @@ module _ (at byte place id : ℕ) (value old new : List ℕ) (less : at < place)
     ]
   ]
 
-  pub put_with_byte : IsPut place id value (written_over at (byte ∷ []) old) (written_over at (byte ∷ []) new)
+  pub put_with_byte : IsPut place lsn value (written_over at (byte ∷ []) old) (written_over at (byte ∷ []) new)
   put_with_byte =
       let there_new : at < length new = omega (arith, there, put.agrees.no_shorter) in
       let behind = place + (13 + length value) in
@@ -99,5 +99,5 @@ module _ (at byte place id : ℕ) (value old new : List ℕ) (less : at < place)
               ∙ sym (from_behind at 1 old (written_over at (byte ∷ []) old) (beside old) behind (omega (arith, less)));
         };
         opened = byte_after at (byte ∷ []) new place (omega (arith, less)) ∙ put.opened;
-        filled = filled_behind at 1 place id value new (written_over at (byte ∷ []) new) (omega (arith, less)) (beside new) put.filled;
+        filled = filled_behind at 1 place lsn value new (written_over at (byte ∷ []) new) (omega (arith, less)) (beside new) put.filled;
       }

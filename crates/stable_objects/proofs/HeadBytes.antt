@@ -10,14 +10,14 @@ use Rattle.disk_model.specs.Padded.{padded, length-padded, get_or-padded}
 use Rattle.disk_model.specs.Moments.{agreed_before, stays_twice}
 use Rattle.disk_model.specs.declared.machine.FileNo.TheVariants.{Objects}
 use Rattle.formats.specs.Bytes.{byte_at, number_at, IsOpenAt, IsClosedAt}
-use Rattle.formats.specs.Objects.{IsInRange, IsInForm, IsWholeSlot, form_in, params_in, layout_in, slot_place, place_in, holder, cell_at, cell_of, identifier_at, length_at, value_at, open_identifier, last_slot}
-use Rattle.formats.specs.FirstFault.{Checks, stops, goes_on, HasNumber, HasValue, AreApart, PairChecks}
+use Rattle.formats.specs.Objects.{IsInRange, IsInForm, IsWholeSlot, form_in, params_in, layout_in, slot_place, place_in, holder, cell_at, cell_of, lsn_at, length_at, value_at, open_lsn, last_slot}
+use Rattle.formats.specs.FirstFault.{Checks, stops, goes_on, HasLsnWithin, HasValue, AreApart, PairChecks}
 use Rattle.formats.specs.Reading.{FailsBy}
 use Rattle.formats.specs.declared.layout.Layout.{Layout}
 use Rattle.formats.specs.declared.params.Params.{Params}
 use Rattle.formats.specs.declared.read_err.ReadErr.{ReadErr}
 use Rattle.stable_objects.specs.SlotsView.{AreOf}
-use Rattle.stable_objects.specs.Heads.{head_at, IsRead, IsReadAt, IsHeadFault, no_number, too_long, IsPair, IsWholePair, IsPairFault, in_first, in_second, alike, ArePairs, AreWholePairs, HasPairFault, open_length, held_length}
+use Rattle.stable_objects.specs.Heads.{head_at, IsRead, IsReadAt, IsHeadFault, no_lsn, too_long, IsPair, IsWholePair, IsPairFault, in_first, in_second, alike, ArePairs, AreWholePairs, HasPairFault, open_length, held_length}
 use Rattle.stable_objects.specs.Reading.{FailsAt, HasHeader, IsDamagedAt, OpensNot, open_from_read, opens_not}
 use Rattle.stable_objects.specs.Laws.{start_is_open, magic_stands}
 use Rattle.stable_objects.specs.SlotLaws.{closed_tells, open_tells, closed_value, open_value, holder_below}
@@ -31,7 +31,7 @@ head_read file bytes place is =
     let gate : byte_at 0 read ≡ byte_at place file = get_or-padded file place 13 0 (omega arith) ∙ ap (λ (i : ℕ). byte_at i file) spot in
     let number = number_read file place 13 1 8 (omega arith) in
     let length_is = number_read file place 13 9 4 (omega arith) in
-    ap (λ (l : List ℕ). head_at 0 l) is ∙ (λ i. record { gate = gate i; identifier = number i; long = length_is i })
+    ap (λ (l : List ℕ). head_at 0 l) is ∙ (λ i. record { gate = gate i; lsn = number i; long = length_is i })
 
 -- some of the bytes that were read are those of the file from their place on
 pub part_read : (file bytes : List ℕ) (place from n : ℕ) → bytes ≡ padded file place (length bytes) → from + n ≤ length bytes → take n (drop from bytes) ≡ padded file (place + from) n
@@ -49,9 +49,9 @@ pub number_behind : (n at : ℕ) (bytes : List ℕ) → at + n ≤ length bytes 
 number_behind n at bytes within = little_from-take 0 n (length bytes - at) (drop at bytes) (omega (arith, within))
 
 -- a head that was read reports a number exactly where its gate is open
-pub open_head : (layout : Layout) (x s size id : ℕ) (file : List ℕ) → IsReadAt layout x s size file id → id ≢ 0 → IsOpenAt (slot_place layout x s) file × (id ≡ identifier_at (slot_place layout x s) file)
-open_head layout x s size id file read some =
-    let is : id ≡ open_identifier (slot_place layout x s) file = read.is in
+pub open_head : (layout : Layout) (x s size lsn : ℕ) (file : List ℕ) → IsReadAt layout x s size file lsn → lsn ≢ 0 → IsOpenAt (slot_place layout x s) file × (lsn ≡ lsn_at (slot_place layout x s) file)
+open_head layout x s size lsn file read some =
+    let is : lsn ≡ open_lsn (slot_place layout x s) file = read.is in
     elim (cases_eq (byte_at (slot_place layout x s) file) 1) [
       | inl is_open ↦ (is_open, is ∙ open_tells (slot_place layout x s) file is_open)
       | inr closed ↦ absurd (some (is ∙ closed_tells (slot_place layout x s) file closed))
@@ -92,25 +92,25 @@ more_pairs layout size n file heads half whole lengths more first second long co
         subst (λ (n : ℕ). IsWholePair layout x size file a' b' n) long (subst (λ (n : ℕ). IsWholePair layout x size file a' n c) second (subst (λ (n : ℕ). IsWholePair layout x size file n b c) first is))
 
 -- a head that was read passes its checks
-module _ (cap place size id : ℕ) (file : List ℕ) (read : IsRead cap place size (head_at place file) id) where
-  pub number_passes : HasNumber place file
-  number_passes is_open = let fits = read.fits is_open in (fits.some, omega (arith, fits.numbered))
+module _ (cap place size lsn : ℕ) (file : List ℕ) (read : IsRead cap place size (head_at place file) lsn) where
+  pub lsn_passes : HasLsnWithin place file
+  lsn_passes is_open = let fits = read.fits is_open in (fits.some, omega (arith, fits.is_lsn))
 
   pub value_passes : size ≡ length file → HasValue cap place file
   value_passes is is_open = let fits = read.fits is_open in (fits.short, λ some. omega (arith, fits.within some, is))
 
 -- the first fault of a head is that of its checks
 head_checks : (cap at size place : ℕ) (file : List ℕ) (behind : ℕ → Type 0) → size ≡ length file → IsHeadFault cap at size (head_at at file) place
-    → Checks (at + 1) (HasNumber at file) (Checks (at + 9) (HasValue cap at file) behind) place
-head_checks cap at size place file behind is (no_number is_open wrong) = stops refl (λ has. wrong (has is_open))
+    → Checks (at + 1) (HasLsnWithin at file) (Checks (at + 9) (HasValue cap at file) behind) place
+head_checks cap at size place file behind is (no_lsn is_open wrong) = stops refl (λ has. wrong (has is_open))
 head_checks cap at size place file behind is (too_long is_open number wrong) =
     goes_on (λ _. number) (stops refl (λ has. let value = has is_open in wrong value.0 (λ some. omega (arith, value.1 some, is))))
 
--- the identifiers of a pair differ
+-- the LSNs of a pair differ
 pub pair_apart : (layout : Layout) (x size first second : ℕ) (file : List ℕ) → IsPair layout x size file first second → AreApart (slot_place layout x 0) (slot_place layout x 1) file
 pair_apart layout x size first second file pair one_open other_open same =
-    let one : first ≡ identifier_at (slot_place layout x 0) file = pair.first_read.is ∙ open_tells (slot_place layout x 0) file one_open in
-    let other : second ≡ identifier_at (slot_place layout x 1) file = pair.second_read.is ∙ open_tells (slot_place layout x 1) file other_open in
+    let one : first ≡ lsn_at (slot_place layout x 0) file = pair.first_read.is ∙ open_tells (slot_place layout x 0) file one_open in
+    let other : second ≡ lsn_at (slot_place layout x 1) file = pair.second_read.is ∙ open_tells (slot_place layout x 1) file other_open in
     let some = (pair.first_read.fits one_open).some in
     pair.apart (λ none. omega (arith, none, one, some)) (one ∙ same ∙ sym other)
 
@@ -118,21 +118,21 @@ module _ (file : List ℕ) (x size : ℕ) (is : size ≡ length file) where
   -- the first fault of a pair is that of its checks
   pair_checks : (place : ℕ) → IsPairFault (layout_in file) x size file place → PairChecks file x place
   pair_checks _ (in_first place fault) = head_checks (params_in file).cap (slot_place (layout_in file) x 0) size place file _ is fault
-  pair_checks _ (in_second id place read fault) =
-      goes_on (number_passes (params_in file).cap (slot_place (layout_in file) x 0) size id file read) (goes_on (value_passes (params_in file).cap (slot_place (layout_in file) x 0) size id file read is)
+  pair_checks _ (in_second lsn place read fault) =
+      goes_on (lsn_passes (params_in file).cap (slot_place (layout_in file) x 0) size lsn file read) (goes_on (value_passes (params_in file).cap (slot_place (layout_in file) x 0) size lsn file read is)
       (head_checks (params_in file).cap (slot_place (layout_in file) x 1) size place file _ is fault))
-  pair_checks _ (alike id some first second) =
-      let one = open_head (layout_in file) x 0 size id file first some in
-      let other = open_head (layout_in file) x 1 size id file second some in
-      goes_on (number_passes (params_in file).cap (slot_place (layout_in file) x 0) size id file first) (goes_on (value_passes (params_in file).cap (slot_place (layout_in file) x 0) size id file first is)
-      (goes_on (number_passes (params_in file).cap (slot_place (layout_in file) x 1) size id file second) (goes_on (value_passes (params_in file).cap (slot_place (layout_in file) x 1) size id file second is)
+  pair_checks _ (alike lsn some first second) =
+      let one = open_head (layout_in file) x 0 size lsn file first some in
+      let other = open_head (layout_in file) x 1 size lsn file second some in
+      goes_on (lsn_passes (params_in file).cap (slot_place (layout_in file) x 0) size lsn file first) (goes_on (value_passes (params_in file).cap (slot_place (layout_in file) x 0) size lsn file first is)
+      (goes_on (lsn_passes (params_in file).cap (slot_place (layout_in file) x 1) size lsn file second) (goes_on (value_passes (params_in file).cap (slot_place (layout_in file) x 1) size lsn file second is)
       (stops refl (λ apart. apart one.0 other.0 (sym one.1 ∙ other.1))))))
 
   -- a pair without a fault passes them
   pair_passes : (first second place : ℕ) → IsPair (layout_in file) x size file first second → PairChecks file x place → ⊥
-  pair_passes first second place pair (stops _ wrong) = wrong (number_passes (params_in file).cap (slot_place (layout_in file) x 0) size first file pair.first_read)
+  pair_passes first second place pair (stops _ wrong) = wrong (lsn_passes (params_in file).cap (slot_place (layout_in file) x 0) size first file pair.first_read)
   pair_passes first second place pair (goes_on _ (stops _ wrong)) = wrong (value_passes (params_in file).cap (slot_place (layout_in file) x 0) size first file pair.first_read is)
-  pair_passes first second place pair (goes_on _ (goes_on _ (stops _ wrong))) = wrong (number_passes (params_in file).cap (slot_place (layout_in file) x 1) size second file pair.second_read)
+  pair_passes first second place pair (goes_on _ (goes_on _ (stops _ wrong))) = wrong (lsn_passes (params_in file).cap (slot_place (layout_in file) x 1) size second file pair.second_read)
   pair_passes first second place pair (goes_on _ (goes_on _ (goes_on _ (stops _ wrong)))) = wrong (value_passes (params_in file).cap (slot_place (layout_in file) x 1) size second file pair.second_read is)
   pair_passes first second place pair (goes_on _ (goes_on _ (goes_on _ (goes_on _ (stops _ wrong))))) = wrong (pair_apart (layout_in file) x size first second file pair)
   pair_passes first second place pair (goes_on _ (goes_on _ (goes_on _ (goes_on _ (goes_on _ never))))) = never
@@ -178,11 +178,11 @@ open_long cap place file whole = elim (cases_eq (byte_at place file) 1) [
 held_long : (file : List ℕ) (x size first second long : ℕ) → IsWholePair (layout_in file) x size file first second long
     → ((s : ℕ) → s < 2 → IsOpenAt (place_in file x s) file → IsWholeSlot (params_in file).cap (place_in file x s) file) → long ≡ length (cell_of x file).value
 held_long file x size first second long read whole =
-    let one : first ≡ open_identifier (place_in file x 0) file = read.pair.first_read.is in
-    let other : second ≡ open_identifier (place_in file x 1) file = read.pair.second_read.is in
+    let one : first ≡ open_lsn (place_in file x 0) file = read.pair.first_read.is in
+    let other : second ≡ open_lsn (place_in file x 1) file = read.pair.second_read.is in
     read.long_is
     ∙ ap (λ (n : ℕ). held_length (layout_in file) x file n second) one
-    ∙ ap (λ (n : ℕ). held_length (layout_in file) x file (open_identifier (place_in file x 0) file) n) other
+    ∙ ap (λ (n : ℕ). held_length (layout_in file) x file (open_lsn (place_in file x 0) file) n) other
     ∙ open_long (params_in file).cap (place_in file x (holder x file)) file (whole (holder x file) (holder_below x file))
 
 loaded_here : (file heads lengths : List ℕ) (size : ℕ) → HasHeader (layout_in file) file → size ≡ length file → AreWholePairs (layout_in file) size file (params_in file).objects heads lengths
@@ -194,7 +194,7 @@ loaded_here file heads lengths size header is wholes =
     let each : (x s : ℕ) → x < layout.params.objects → s < 2 → IsOpenAt (place_in file x s) file → IsWholeSlot layout.params.cap (place_in file x s) file =
     λ x s below two is_open.
     let fits = (read x s below two).fits is_open in
-    record { some = fits.some; numbered = fits.numbered; short = fits.short; within = λ some. omega (arith, fits.within some, is) } in
+    record { some = fits.some; is_lsn = fits.is_lsn; short = fits.short; within = λ some. omega (arith, fits.within some, is) } in
     record {
       whole = record {
         begins = header.begins;

@@ -104,7 +104,7 @@ closed_behind layout at bytes old new le holds closed =
       slots = λ x s below two is_open. closed.slots x s below two (sym (byte_beside at (length bytes) old new agrees (slot_place layout x s) (inr (omega (arith, le)))) ∙ is_open);
     }
 
--- another byte before the file's second one changes no number
+-- another byte before the file's second one changes no LSN
 gate_agrees : (old : List ℕ) → 0 < length old → AgreesOutside 0 1 old (1 ∷ drop 1 old)
 gate_agrees old some = record { no_shorter = omega (arith, some, length-drop 1 old); before = λ j within less. absurd (omega (arith, less)); behind = refl }
 

@@ -13,8 +13,8 @@ use Rattle.stable_objects.specs.Growing.{pair_before}
 use Rattle.stable_objects.specs.Larger.{IsFirst, IsLarger, IsStill, larger_layout, seconded}
 use Rattle.stable_objects.specs.LayoutLaws.{first_is, first_unset, four_bytes, second_in}
 use Rattle.stable_objects.specs.Replacing.{IsPut}
-use Rattle.stable_objects.specs.SlotLaws.{open_tells, holder_below, id_is, held_is_open, value_short}
-use Rattle.stable_objects.specs.SlotsView.{SlotsView, AreOf, id_in}
+use Rattle.stable_objects.specs.SlotLaws.{open_tells, holder_below, lsn_is, held_is_open, value_short}
+use Rattle.stable_objects.specs.SlotsView.{SlotsView, AreOf, lsn_in}
 use Rattle.stable_objects.proofs.Bytes.{byte_written}
 use Rattle.stable_objects.proofs.Filled.{filled_more, filled_past, put_with_byte}
 use Rattle.stable_objects.proofs.Outside.{held_agrees, number_stays}
@@ -22,7 +22,7 @@ use Rattle.stable_objects.proofs.ValueBytes.{empty_value}
 
 -- no pair
 abbrev none : Cell
-none = record { id = 0; value = [] }
+none = record { lsn = 0; value = [] }
 
 pub own_pair : (p : Params) (file : List ℕ) (x : ℕ) → x < p.objects → pair_before p file x ≡ cell_of x file
 own_pair p file x below = cond-true (nat_lt x p.objects) (cell_of x file) none (lt-ltb x p.objects below)
@@ -64,27 +64,27 @@ module _ (slots : SlotsView) (q : Params) (start old : List ℕ) (x : ℕ) (firs
   there = omega (arith, below, larger.objects)
 
   -- an object without one is passed over
-  pub passed_over : id_in slots x ≡ 0 → IsFilledTo q (x + 1) (pair_before slots.params start) (seconded old)
+  pub passed_over : lsn_in slots x ≡ 0 → IsFilledTo q (x + 1) (pair_before slots.params start) (seconded old)
   passed_over zero =
-      let id : (cell_of x old).id ≡ 0 = sym (id_is slots old x still.are below) ∙ zero in
+      let lsn : (cell_of x old).lsn ≡ 0 = sym (lsn_is slots old x still.are below) ∙ zero in
       let value = empty_value slots old x still.are below zero in
-      filled_past q x (pair_before slots.params start) (seconded old) filled there (pair ∙ (λ i. record { id = id i; value = value i }))
+      filled_past q x (pair_before slots.params start) (seconded old) filled there (pair ∙ (λ i. record { lsn = lsn i; value = value i }))
 
   -- the pair of another is put
-  module _ (id : ℕ) (value new : List ℕ) (some : id ≢ 0) (id_is_own : id ≡ id_in slots x) (value_is : value ≡ (cell_of x old).value)
-      (put : IsPut (slot_place (larger_layout slots q) x 0) id value old new) where
-    cell_id : (pair_before slots.params start x).id ≡ id
-    cell_id = ap (λ (c : Cell). c.id) pair ∙ sym (id_is slots old x still.are below) ∙ sym id_is_own
+  module _ (lsn : ℕ) (value new : List ℕ) (some : lsn ≢ 0) (lsn_is_own : lsn ≡ lsn_in slots x) (value_is : value ≡ (cell_of x old).value)
+      (put : IsPut (slot_place (larger_layout slots q) x 0) lsn value old new) where
+    cell_lsn : (pair_before slots.params start x).lsn ≡ lsn
+    cell_lsn = ap (λ (c : Cell). c.lsn) pair ∙ sym (lsn_is slots old x still.are below) ∙ sym lsn_is_own
 
     cell_value : (pair_before slots.params start x).value ≡ value
     cell_value = ap (λ (c : Cell). c.value) pair ∙ sym value_is
 
-    numbered : id < 2 ^ 62
-    numbered =
+    is_lsn : lsn < 2 ^ 62
+    is_lsn =
         let place = place_in old x (holder x old) in
-        let is_open = held_is_open slots old x still.are below (λ zero. some (id_is_own ∙ zero)) in
+        let is_open = held_is_open slots old x still.are below (λ zero. some (lsn_is_own ∙ zero)) in
         let whole = still.are.whole.slots.each x (holder x old) below (holder_below x old) is_open in
-        omega (arith, whole.numbered, open_tells place old is_open, id_is slots old x still.are below, id_is_own)
+        omega (arith, whole.is_lsn, open_tells place old is_open, lsn_is slots old x still.are below, lsn_is_own)
 
     short : length value ≤ q.cap
     short = omega (arith, ap length value_is, value_short slots.params old x still.are.whole below, larger.cap)
@@ -95,9 +95,9 @@ module _ (slots : SlotsView) (q : Params) (start old : List ℕ) (x : ℕ) (firs
     pub put_over : IsFilledTo q (x + 1) (pair_before slots.params start) (seconded new)
     put_over =
         let place = slot_place (larger_layout slots q) x 0 in
-        let written = put_with_byte 8 50 place id value old new (omega arith) (omega (arith, reach)) put in
+        let written = put_with_byte 8 50 place lsn value old new (omega arith) (omega (arith, reach)) put in
         let spot : place ≡ place_in (seconded old) x 0 = sym (larger_place slots q old still.are first x (pair_before slots.params start) filled x 0) in
-        (filled_more q x (pair_before slots.params start) (seconded old) (seconded new) filled there (omega (arith, cell_id, some)) (omega (arith, cell_id, numbered)) (omega (arith, ap length cell_value, short))
-        (subst (λ (k : ℕ). IsPut k (pair_before slots.params start x).id (pair_before slots.params start x).value (seconded old) (seconded new)) spot
-        (subst (λ (k : ℕ). IsPut place k (pair_before slots.params start x).value (seconded old) (seconded new)) (sym cell_id)
-        (subst (λ (v : List ℕ). IsPut place id v (seconded old) (seconded new)) (sym cell_value) written)))).0
+        (filled_more q x (pair_before slots.params start) (seconded old) (seconded new) filled there (omega (arith, cell_lsn, some)) (omega (arith, cell_lsn, is_lsn)) (omega (arith, ap length cell_value, short))
+        (subst (λ (k : ℕ). IsPut k (pair_before slots.params start x).lsn (pair_before slots.params start x).value (seconded old) (seconded new)) spot
+        (subst (λ (k : ℕ). IsPut place k (pair_before slots.params start x).value (seconded old) (seconded new)) (sym cell_lsn)
+        (subst (λ (v : List ℕ). IsPut place lsn v (seconded old) (seconded new)) (sym cell_value) written)))).0

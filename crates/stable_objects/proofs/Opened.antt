@@ -5,7 +5,7 @@ use Rattle.std.proofs.lemmas.Bool.{both_ways, cases_Bool, cases_eq}
 use Rattle.oper_core.specs.Cell.{Cell}
 use Rattle.oper_core.specs.State.{is_among}
 use Rattle.formats.specs.Bytes.{byte_at, IsOpenAt, IsClosedAt}
-use Rattle.formats.specs.Objects.{IsObjectsFile, IsWholeSlot, form_in, layout_in, last_slot, identifier_at, open_identifier, place_in, slot_place, cell_at, cell_of}
+use Rattle.formats.specs.Objects.{IsObjectsFile, IsWholeSlot, form_in, layout_in, last_slot, lsn_at, open_lsn, place_in, slot_place, cell_at, cell_of}
 use Rattle.formats.specs.declared.layout.Layout.{Layout}
 use Rattle.formats.specs.declared.params.Params.{Params}
 use Rattle.stable_objects.specs.Making.{KeepsFront}
@@ -13,13 +13,13 @@ use Rattle.stable_objects.specs.Ready.{AreHeld, AreOldOrNew, AreOpened, AreReady
 use Rattle.stable_objects.specs.Replacing.{AgreesOutside, spare_in}
 use Rattle.stable_objects.specs.SlotLaws.{layout_of_file, place_of_file}
 use Rattle.stable_objects.specs.SlotsView.{SlotsView, AreOf, head, layout_of, length_in, place_of}
-use Rattle.stable_objects.specs.Spares.{spare_id, spare_place}
+use Rattle.stable_objects.specs.Spares.{spare_lsn, spare_place}
 use Rattle.stable_objects.proofs.Behind.{front_agrees}
 use Rattle.stable_objects.proofs.Cells.{AreWholeBy, whole_by, whole_cell, open_cell, closed_cell, greater, cell_is_held, held_in, closed_where_none, open_where_some, less_where_open}
 use Rattle.stable_objects.proofs.Changed.{SlotStays, apart_here}
 use Rattle.stable_objects.proofs.Headed.{headed, layout_kept}
 use Rattle.stable_objects.proofs.Replaced.{IsSpare, spare}
-use Rattle.stable_objects.proofs.Spares.{cells_kept, no_gate, numbered_kept, slot_kept, whole_kept}
+use Rattle.stable_objects.proofs.Spares.{cells_kept, no_gate, lsn_kept, slot_kept, whole_kept}
 
 module _ (slots : SlotsView) (objects : List ℕ) (pairs : ℕ → Cell) (old new : List ℕ) (are : AreOf slots old) (ready : AreReady slots old objects pairs) (keeps : KeepsButGatesOf slots objects old new) where
   abbrev p : Params
@@ -50,8 +50,8 @@ module _ (slots : SlotsView) (objects : List ℕ) (pairs : ℕ → Cell) (old ne
   old_slots : AreWholeBy layout p old
   old_slots = subst (λ (l : Layout). AreWholeBy l p old) layout_was (whole_by p old are.whole.slots)
 
-  head_is : (x s : ℕ) → x < p.objects → s < 2 → head slots x s ≡ open_identifier (place_of slots x s) old
-  head_is x s below two = are.heads x s below two ∙ ap (λ (q : ℕ). open_identifier q old) (sym (place_of_file slots old x s are))
+  head_is : (x s : ℕ) → x < p.objects → s < 2 → head slots x s ≡ open_lsn (place_of slots x s) old
+  head_is x s below two = are.heads x s below two ∙ ap (λ (q : ℕ). open_lsn q old) (sym (place_of_file slots old x s are))
 
   -- a slot that is no spare one
   other_kept : (y t : ℕ) → y < p.objects → t < 2 → t ≢ spare_in slots y → SlotStays p.cap (place_of slots y t) old new
@@ -96,8 +96,8 @@ module _ (slots : SlotsView) (objects : List ℕ) (pairs : ℕ → Cell) (old ne
     other_stays : SlotStays p.cap (place_of slots x (1 - s)) old new
     other_stays = other_kept x (1 - s) below (omega arith) (λ same. let here = found.two in omega (arith, same, here))
 
-    other_id : open_identifier (place_of slots x (1 - s)) new ≡ head slots x (1 - s)
-    other_id = ap (λ (c : Cell). c.id) other_stays.cell ∙ sym (head_is x (1 - s) below (omega arith))
+    other_lsn : open_lsn (place_of slots x (1 - s)) new ≡ head slots x (1 - s)
+    other_lsn = ap (λ (c : Cell). c.lsn) other_stays.cell ∙ sym (head_is x (1 - s) below (omega arith))
 
     slot_stays : IsFalse (is_among x objects) → SlotStays p.cap place old new
     slot_stays off = slot_kept p.cap place old new keeps.no_shorter inside_kept (gate_kept off) (old_slots.each x s below found.two)
@@ -106,8 +106,8 @@ module _ (slots : SlotsView) (objects : List ℕ) (pairs : ℕ → Cell) (old ne
     module _ (among : IsTrue (is_among x objects)) where
       ready_slot : IsWholeSlot p.cap place old
       ready_slot = let is = ready x among in record {
-        some = omega (arith, is.filled.numbered, is.later);
-        numbered = omega (arith, is.filled.numbered, is.numbered);
+        some = omega (arith, is.filled.is_lsn, is.later);
+        is_lsn = omega (arith, is.filled.is_lsn, is.is_lsn);
         short = omega (arith, is.filled.long, is.short);
         within = λ some. omega (arith, is.filled.within, is.filled.long);
       }
@@ -115,13 +115,13 @@ module _ (slots : SlotsView) (objects : List ℕ) (pairs : ℕ → Cell) (old ne
       filled_still : whole_cell place new ≡ pairs x
       filled_still =
           let is = ready x among in
-          let cells : whole_cell place old ≡ pairs x = λ i. record { id = is.filled.numbered i; value = is.filled.stands i } in
+          let cells : whole_cell place old ≡ pairs x = λ i. record { lsn = is.filled.is_lsn i; value = is.filled.stands i } in
           cells_kept p.cap place old new keeps.no_shorter inside_kept ready_slot ∙ cells
 
       was_closed : IsClosedAt place old
       was_closed = closed_where_none p.cap place old (old_slots.each x s below found.two) (sym (head_is x s below found.two) ∙ (ready x among).closed)
 
-      above : head slots x (1 - s) < (pairs x).id
+      above : head slots x (1 - s) < (pairs x).lsn
       above = omega (arith, found.other, (ready x among).later)
 
     -- the spare slot holds what it held, or it is one of these and its gate is open
@@ -141,19 +141,19 @@ module _ (slots : SlotsView) (objects : List ℕ) (pairs : ℕ → Cell) (old ne
       | inl among ↦ whole_kept p.cap place old new keeps.no_shorter inside_kept (ready_slot among)
     ]
 
-    -- and has another identifier than the other slot
-    differs_here : IsOpenAt place new → identifier_at place new ≢ open_identifier (place_of slots x (1 - s)) old
+    -- and has another LSN than the other slot
+    differs_here : IsOpenAt place new → lsn_at place new ≢ open_lsn (place_of slots x (1 - s)) old
     differs_here is_open same = elim (cases_Bool (is_among x objects)) [
-      | inl among ↦ let id = ap (λ (c : Cell). c.id) (filled_still among) in absurd (omega (arith, id, same, above among, head_is x (1 - s) below (omega arith)))
+      | inl among ↦ let lsn = ap (λ (c : Cell). c.lsn) (filled_still among) in absurd (omega (arith, lsn, same, above among, head_is x (1 - s) below (omega arith)))
       | inr off ↦
           let stays = slot_stays off in
-          let id_new = ap (λ (c : Cell). c.id) (open_cell place new is_open) in
-          let id_same = ap (λ (c : Cell). c.id) stays.cell in
+          let lsn_new = ap (λ (c : Cell). c.lsn) (open_cell place new is_open) in
+          let lsn_same = ap (λ (c : Cell). c.lsn) stays.cell in
           let some = (stays.whole is_open).some in
-          let le : open_identifier place old ≤ open_identifier (place_of slots x (1 - s)) old = omega (arith, head_is x s below found.two, head_is x (1 - s) below (omega arith), found.lower) in
-          let there : open_identifier place old ≢ 0 = λ none. absurd (omega (arith, none, id_same, id_new, some)) in
+          let le : open_lsn place old ≤ open_lsn (place_of slots x (1 - s)) old = omega (arith, head_is x s below found.two, head_is x (1 - s) below (omega arith), found.lower) in
+          let there : open_lsn place old ≢ 0 = λ none. absurd (omega (arith, none, lsn_same, lsn_new, some)) in
           let less = less_where_open layout p x old old_slots below s found.two le there in
-          absurd (omega (arith, less, same, id_new, id_same))
+          absurd (omega (arith, less, same, lsn_new, lsn_same))
     ]
 
   new_slots : AreWholeBy layout p new
@@ -188,10 +188,10 @@ module _ (slots : SlotsView) (objects : List ℕ) (pairs : ℕ → Cell) (old ne
       let s = spare_in slots x in
       let two = (found x below).two in
       let back : 1 - (1 - s) ≡ s = omega (arith, two) in
-      let id_new : open_identifier (spare_place slots x) new ≡ (pairs x).id = ap (λ (c : Cell). c.id) (open_cell (spare_place slots x) new is_open ∙ filled_still x below among) in
-      let same_id : open_identifier (place_of slots x (1 - (1 - s))) new ≡ (pairs x).id = ap (λ (k : ℕ). open_identifier (place_of slots x k) new) back ∙ id_new in
+      let lsn_new : open_lsn (spare_place slots x) new ≡ (pairs x).lsn = ap (λ (c : Cell). c.lsn) (open_cell (spare_place slots x) new is_open ∙ filled_still x below among) in
+      let same_lsn : open_lsn (place_of slots x (1 - (1 - s))) new ≡ (pairs x).lsn = ap (λ (k : ℕ). open_lsn (place_of slots x k) new) back ∙ lsn_new in
       cell_is_held layout x new (layout_stays ∙ layout_was)
-      ∙ held_in layout p x new new_slots below (1 - s) (omega arith) (omega (arith, other_id x below, above x below among, same_id))
+      ∙ held_in layout p x new new_slots below (1 - s) (omega arith) (omega (arith, other_lsn x below, above x below among, same_lsn))
       ∙ ap (λ (k : ℕ). cell_at (place_of slots x k) new) back
       ∙ open_cell (spare_place slots x) new is_open
       ∙ filled_still x below among
@@ -206,7 +206,7 @@ module _ (slots : SlotsView) (objects : List ℕ) (pairs : ℕ → Cell) (old ne
     others = λ x below off. cells_same x (spare_in slots x) (found x below).two (slot_stays x below off).cell (other_stays x below).cell;
   }
 
-  -- once all are open, the slots with the new identifiers are those of the file
+  -- once all are open, the slots with the new LSNs are those of the file
   module _ (later : SlotsView) (held : AreHeld slots later objects pairs) (opened : AreOpened slots objects new) where
     place_now : (x s : ℕ) → place_in new x s ≡ place_of slots x s
     place_now x s = ap (λ (l : Layout). slot_place l x s) (layout_stays ∙ layout_was)
@@ -214,12 +214,12 @@ module _ (slots : SlotsView) (objects : List ℕ) (pairs : ℕ → Cell) (old ne
     objects_same : later.params.objects ≡ p.objects
     objects_same = ap (λ (l : Layout). l.params.objects) held.layout
 
-    head_now : (x s : ℕ) → x < p.objects → s < 2 → head later x s ≡ open_identifier (place_of slots x s) new
+    head_now : (x s : ℕ) → x < p.objects → s < 2 → head later x s ≡ open_lsn (place_of slots x s) new
     head_now x s below two = elim (cases_eq s (spare_in slots x)) [
-      | inr other ↦ held.other_slots x s below two other ∙ head_is x s below two ∙ sym (ap (λ (c : Cell). c.id) (other_kept x s below two other).cell)
-      | inl same ↦ subst (λ (k : ℕ). head later x k ≡ open_identifier (place_of slots x k) new) (sym same) (elim (cases_Bool (is_among x objects)) [
-        | inl among ↦ held.heads x below among ∙ sym (ap (λ (c : Cell). c.id) (open_cell (spare_place slots x) new (opened x among) ∙ filled_still x below among))
-        | inr off ↦ held.other_heads x (spare_in slots x) below (found x below).two off ∙ head_is x (spare_in slots x) below (found x below).two ∙ sym (ap (λ (c : Cell). c.id) (slot_stays x below off).cell)
+      | inr other ↦ held.other_slots x s below two other ∙ head_is x s below two ∙ sym (ap (λ (c : Cell). c.lsn) (other_kept x s below two other).cell)
+      | inl same ↦ subst (λ (k : ℕ). head later x k ≡ open_lsn (place_of slots x k) new) (sym same) (elim (cases_Bool (is_among x objects)) [
+        | inl among ↦ held.heads x below among ∙ sym (ap (λ (c : Cell). c.lsn) (open_cell (spare_place slots x) new (opened x among) ∙ filled_still x below among))
+        | inr off ↦ held.other_heads x (spare_in slots x) below (found x below).two off ∙ head_is x (spare_in slots x) below (found x below).two ∙ sym (ap (λ (c : Cell). c.lsn) (slot_stays x below off).cell)
       ])
     ]
 
@@ -233,6 +233,6 @@ module _ (slots : SlotsView) (objects : List ℕ) (pairs : ℕ → Cell) (old ne
     held_are = record {
       whole = subst (λ (l : Layout). IsObjectsFile l.params new) (sym held.layout) old_or_new.whole;
       first = ap (λ (l : Layout). l.first) held.layout ∙ are.first ∙ ap (λ (l : Layout). l.first) (sym layout_stays);
-      heads = λ x s below two. head_now x s (omega (arith, below, objects_same)) two ∙ ap (λ (q : ℕ). open_identifier q new) (sym (place_now x s));
+      heads = λ x s below two. head_now x s (omega (arith, below, objects_same)) two ∙ ap (λ (q : ℕ). open_lsn q new) (sym (place_now x s));
       lengths = λ x below. length_now x (omega (arith, below, objects_same));
     }

@@ -7,7 +7,7 @@ use Rattle.oper_core.specs.LittleEndian.{length-little_bytes, little_number-litt
 use Rattle.disk_model.specs.Disk.{Torn, HoldsAt}
 use Rattle.disk_model.specs.CallLaws.{torn_whole}
 use Rattle.formats.specs.Bytes.{byte_at, number_at}
-use Rattle.formats.specs.Objects.{identifier_at, length_at}
+use Rattle.formats.specs.Objects.{lsn_at, length_at}
 use Rattle.stable_objects.specs.Replacing.{AgreesOutside, IsFilled}
 use Rattle.stable_objects.proofs.Bytes.{number_same, written_long, written_read}
 
@@ -90,13 +90,13 @@ module _ (at n : ℕ) (old new : List ℕ) (agrees : AgreesOutside at n old new)
   number_stays = number_same 0 k (drop p new) (drop p old) (λ j low high. byte_same j (omega (arith, high)))
 
 -- the head of a slot, and then its value, written after its gate
-module _ (place id : ℕ) (value file mid new : List ℕ) (small : id < 2 ^ 64) (short : length value < 2 ^ 32)
-    (first : HoldsAt (place + 1) (little_bytes 8 id ++ little_bytes 4 (length value)) file mid) (second : HoldsAt (place + 13) value mid new) where
+module _ (place lsn : ℕ) (value file mid new : List ℕ) (small : lsn < 2 ^ 64) (short : length value < 2 ^ 32)
+    (first : HoldsAt (place + 1) (little_bytes 8 lsn ++ little_bytes 4 (length value)) file mid) (second : HoldsAt (place + 13) value mid new) where
   abbrev head : List ℕ
-  head = little_bytes 8 id ++ little_bytes 4 (length value)
+  head = little_bytes 8 lsn ++ little_bytes 4 (length value)
 
   head_long : length head ≡ 12
-  head_long = omega (arith, length-append (little_bytes 8 id) (little_bytes 4 (length value)), length-little_bytes 8 id, length-little_bytes 4 (length value))
+  head_long = omega (arith, length-append (little_bytes 8 lsn) (little_bytes 4 (length value)), length-little_bytes 8 lsn, length-little_bytes 4 (length value))
 
   mid_long : place + 13 ≤ length mid
   mid_long = omega (arith, ap length first, written_long (place + 1) head file, head_long)
@@ -104,11 +104,11 @@ module _ (place id : ℕ) (value file mid new : List ℕ) (small : id < 2 ^ 64) 
   abbrev rest : List ℕ
   rest = drop 12 (drop (place + 1) mid)
 
-  front : drop (place + 1) mid ≡ little_bytes 8 id ++ (little_bytes 4 (length value) ++ rest)
+  front : drop (place + 1) mid ≡ little_bytes 8 lsn ++ (little_bytes 4 (length value) ++ rest)
   front =
       sym (take-append-drop 12 (drop (place + 1) mid))
       ∙ ap (λ (l : List ℕ). l ++ rest) (ap (λ (n : ℕ). take n (drop (place + 1) mid)) (sym head_long) ∙ ap (λ (l : List ℕ). take (length head) (drop (place + 1) l)) first ∙ written_read (place + 1) head file)
-      ∙ append_assoc (little_bytes 8 id) (little_bytes 4 (length value)) rest
+      ∙ append_assoc (little_bytes 8 lsn) (little_bytes 4 (length value)) rest
 
   behind : drop (place + 9) mid ≡ little_bytes 4 (length value) ++ rest
   behind =
@@ -116,16 +116,16 @@ module _ (place id : ℕ) (value file mid new : List ℕ) (small : id < 2 ^ 64) 
       ap (λ (n : ℕ). drop n mid) (sym same)
       ∙ sym (drop-drop 8 (place + 1) mid)
       ∙ ap (λ (l : List ℕ). drop 8 l) front
-      ∙ drop_at (little_bytes 8 id) (little_bytes 4 (length value) ++ rest) 8 (length-little_bytes 8 id)
+      ∙ drop_at (little_bytes 8 lsn) (little_bytes 4 (length value) ++ rest) 8 (length-little_bytes 8 lsn)
 
   agrees : AgreesOutside (place + 13) (length value) mid new
   agrees = held_agrees (place + 13) value mid new second
 
-  numbered : identifier_at place new ≡ id
-  numbered =
+  is_lsn : lsn_at place new ≡ lsn
+  is_lsn =
       number_stays (place + 13) (length value) mid new agrees (place + 1) 8 (inl (omega arith, omega (arith, mid_long)))
       ∙ ap (λ (l : List ℕ). little_number 8 l) front
-      ∙ little_number-little_bytes 8 id (little_bytes 4 (length value) ++ rest) small
+      ∙ little_number-little_bytes 8 lsn (little_bytes 4 (length value) ++ rest) small
 
   long : length_at place new ≡ length value
   long =
@@ -133,22 +133,22 @@ module _ (place id : ℕ) (value file mid new : List ℕ) (small : id < 2 ^ 64) 
       ∙ ap (λ (l : List ℕ). little_number 4 l) behind
       ∙ little_number-little_bytes 4 (length value) rest short
 
-  pub filled_by : IsFilled place id value new
+  pub filled_by : IsFilled place lsn value new
   filled_by = record {
-    numbered = numbered;
+    is_lsn = is_lsn;
     long = long;
     stands = ap (λ (n : ℕ). take n (drop (place + 13) new)) long ∙ ap (λ (l : List ℕ). take (length value) (drop (place + 13) l)) second ∙ written_read (place + 13) value mid;
     within = omega (arith, ap length second, written_long (place + 13) value mid);
   }
 
 -- what is beside all that a slot is filled with doesn't count for it
-pub filled_beside : (at n place id : ℕ) (value old new : List ℕ) → (place + 13 + length value ≤ at) ⊎ (at + n ≤ place + 1) → AgreesOutside at n old new → IsFilled place id value old → IsFilled place id value new
-filled_beside at n place id value old new apart agrees filled =
+pub filled_beside : (at n place lsn : ℕ) (value old new : List ℕ) → (place + 13 + length value ≤ at) ⊎ (at + n ≤ place + 1) → AgreesOutside at n old new → IsFilled place lsn value old → IsFilled place lsn value new
+filled_beside at n place lsn value old new apart agrees filled =
     let out : (a k : ℕ) → 1 ≤ a → a + k ≤ 13 + length value → IsBeside at n old (place + a) k = λ a k some short.
     elim apart [ inl before ↦ inl (omega (arith, before, short), omega (arith, short, filled.within)) | inr behind ↦ inr (omega (arith, behind, some)) ] in
     let long = number_stays at n old new agrees (place + 9) 4 (out 9 4 (omega arith) (omega arith)) ∙ filled.long in
     record {
-      numbered = number_stays at n old new agrees (place + 1) 8 (out 1 8 (omega arith) (omega arith)) ∙ filled.numbered;
+      is_lsn = number_stays at n old new agrees (place + 1) 8 (out 1 8 (omega arith) (omega arith)) ∙ filled.is_lsn;
       long = long;
       stands =
           ap (λ (k : ℕ). take k (drop (place + 13) new)) long
@@ -159,8 +159,8 @@ filled_beside at n place id value old new apart agrees filled =
     }
 
 -- what stands before a slot, and its gate, don't count either
-pub filled_behind : (at n place id : ℕ) (value old new : List ℕ) → at + n ≤ place + 1 → AgreesOutside at n old new → IsFilled place id value old → IsFilled place id value new
-filled_behind at n place id value old new le agrees filled = filled_beside at n place id value old new (inr le) agrees filled
+pub filled_behind : (at n place lsn : ℕ) (value old new : List ℕ) → at + n ≤ place + 1 → AgreesOutside at n old new → IsFilled place lsn value old → IsFilled place lsn value new
+filled_behind at n place lsn value old new le agrees filled = filled_beside at n place lsn value old new (inr le) agrees filled
 
-pub filled_stays : (place id : ℕ) (value old new : List ℕ) → AgreesOutside place 1 old new → IsFilled place id value old → IsFilled place id value new
-filled_stays place id value old new agrees filled = filled_behind place 1 place id value old new (omega arith) agrees filled
+pub filled_stays : (place lsn : ℕ) (value old new : List ℕ) → AgreesOutside place 1 old new → IsFilled place lsn value old → IsFilled place lsn value new
+filled_stays place lsn value old new agrees filled = filled_behind place 1 place lsn value old new (omega arith) agrees filled

@@ -48,7 +48,7 @@ any_join old mid new one two first second = runs_join old mid new (In Objects on
     (λ a b c x y. record { changed = tt; others = λ other is_other. y.others other is_other ∙ x.others other is_other })
     first second
 
-module _ (old mid : Disk) (place id : ℕ) (value : List ℕ) (first : Runs (In Objects (Torn (place + 1) (12 + length value))) Same old mid) where
+module _ (old mid : Disk) (place lsn : ℕ) (value : List ℕ) (first : Runs (In Objects (Torn (place + 1) (12 + length value))) Same old mid) where
   -- what is torn after a gate is torn in its slot
   behind : (a b : List ℕ) → AgreesOutside (place + 1) (12 + length value) a b → AgreesOutside place (13 + length value) a b
   behind a b agrees = agrees_wider (place + 1) (12 + length value) place (13 + length value) a b (omega arith) (omega arith) agrees
@@ -58,8 +58,8 @@ module _ (old mid : Disk) (place id : ℕ) (value : List ℕ) (first : Runs (In 
   here a b agrees = agrees_wider place 1 place (13 + length value) a b (omega arith) (omega arith) agrees
 
   -- while a slot is filled after its closed gate
-  pub leaves_filling : old.tells_moments → IsSettled old → place < length (old.reads Objects) → IsClosedAt place (old.reads Objects) → LeavesOnly old mid (IsHalfPut old place id value)
-  leaves_filling told settled within closed = first_call old mid (IsHalfPut old place id value) told first.time (λ c s left.
+  pub leaves_filling : old.tells_moments → IsSettled old → place < length (old.reads Objects) → IsClosedAt place (old.reads Objects) → LeavesOnly old mid (IsHalfPut old place lsn value)
+  leaves_filling told settled within closed = first_call old mid (IsHalfPut old place lsn value) told first.time (λ c s left.
       let from = from_reads old mid (In Objects (Torn (place + 1) (12 + length value))) Same told settled first.crash c s left in
       let agrees = torn_agrees (place + 1) (12 + length value) (old.reads Objects) (c Objects) from.0.changed in
       record {
@@ -70,26 +70,26 @@ module _ (old mid : Disk) (place id : ℕ) (value : List ℕ) (first : Runs (In 
       })
 
   -- while its gate is opened
-  pub leaves_opening : (new : Disk) → old.tells_moments → IsSettled old → place < length (old.reads Objects) → IsClosedAt place (old.reads Objects) → IsSettled mid → IsFilled place id value (mid.reads Objects)
-      → Runs (In Objects (Torn place 1)) Same mid new → LeavesOnly old new (IsHalfPut old place id value)
+  pub leaves_opening : (new : Disk) → old.tells_moments → IsSettled old → place < length (old.reads Objects) → IsClosedAt place (old.reads Objects) → IsSettled mid → IsFilled place lsn value (mid.reads Objects)
+      → Runs (In Objects (Torn place 1)) Same mid new → LeavesOnly old new (IsHalfPut old place lsn value)
   leaves_opening new told settled within closed settled_mid filled second =
       let told_mid = first.time.moments_told.0 told in
       let files_told = first.begins.telling told in
-      goes_on old mid new (IsHalfPut old place id value) told_mid (leaves_filling told settled within closed) second.time (λ c s left.
+      goes_on old mid new (IsHalfPut old place lsn value) told_mid (leaves_filling told settled within closed) second.time (λ c s left.
       let from = from_reads mid new (In Objects (Torn place 1)) Same told_mid settled_mid second.crash c s left in
       let agrees = torn_agrees place 1 (mid.reads Objects) (c Objects) from.0.changed in
       record {
         agrees = agrees_twice place (13 + length value) (old.reads Objects) (mid.reads Objects) (c Objects)
             (behind (old.reads Objects) (mid.reads Objects) (torn_agrees (place + 1) (12 + length value) (old.reads Objects) (mid.reads Objects) (first.reads files_told).changed))
             (here (mid.reads Objects) (c Objects) agrees);
-        slot = inr (filled_stays place id value (mid.reads Objects) (c Objects) agrees filled);
+        slot = inr (filled_stays place lsn value (mid.reads Objects) (c Objects) agrees filled);
         other_files = λ other is_other. from.0.others other is_other ∙ (first.reads files_told).others other is_other;
         silent = from.1 ∙ first.said files_told;
       })
 
   -- once it is open
-  pub put_done : (new : Disk) → old.tells_files → IsFilled place id value (mid.reads Objects) → Runs (In Objects (Torn place 1)) Same mid new → HoldsAt place (1 ∷ []) (mid.reads Objects) (new.reads Objects)
-      → IsPut place id value (old.reads Objects) (new.reads Objects)
+  pub put_done : (new : Disk) → old.tells_files → IsFilled place lsn value (mid.reads Objects) → Runs (In Objects (Torn place 1)) Same mid new → HoldsAt place (1 ∷ []) (mid.reads Objects) (new.reads Objects)
+      → IsPut place lsn value (old.reads Objects) (new.reads Objects)
   put_done new told filled second holds =
       let agrees = torn_agrees place 1 (mid.reads Objects) (new.reads Objects) (second.reads (first.time.files_told.0 told)).changed in
       record {
@@ -97,7 +97,7 @@ module _ (old mid : Disk) (place id : ℕ) (value : List ℕ) (first : Runs (In 
             (behind (old.reads Objects) (mid.reads Objects) (torn_agrees (place + 1) (12 + length value) (old.reads Objects) (mid.reads Objects) (first.reads told).changed))
             (here (mid.reads Objects) (new.reads Objects) agrees);
         opened = ap (λ (l : List ℕ). byte_at place l) holds ∙ byte_written place 1 (mid.reads Objects);
-        filled = filled_stays place id value (mid.reads Objects) (new.reads Objects) agrees filled;
+        filled = filled_stays place lsn value (mid.reads Objects) (new.reads Objects) agrees filled;
       }
 
 -- the gate alone was written, or the head after it, or all of a first pair
@@ -116,11 +116,11 @@ module _ (old first mid : Disk) (place : ℕ) (head value : List ℕ) (long : le
   pair_run new two three = joined new (fill_run first mid new place head value long two three)
 
 -- a pair is put where its gate, its head and its value were written
-pub first_put : (place id : ℕ) (value file first mid new : List ℕ) → id < 2 ^ 64 → length value < 2 ^ 32 → HoldsAt place (1 ∷ []) file first → HoldsAt (place + 1) (little_bytes 8 id ++ little_bytes 4 (length value)) first mid
-    → HoldsAt (place + 13) value mid new → IsPut place id value file new
-first_put place id value file first mid new small short one two three =
-    let head = little_bytes 8 id ++ little_bytes 4 (length value) in
-    let head_long : length head ≡ 12 = omega (arith, length-append (little_bytes 8 id) (little_bytes 4 (length value)), length-little_bytes 8 id, length-little_bytes 4 (length value)) in
+pub first_put : (place lsn : ℕ) (value file first mid new : List ℕ) → lsn < 2 ^ 64 → length value < 2 ^ 32 → HoldsAt place (1 ∷ []) file first → HoldsAt (place + 1) (little_bytes 8 lsn ++ little_bytes 4 (length value)) first mid
+    → HoldsAt (place + 13) value mid new → IsPut place lsn value file new
+first_put place lsn value file first mid new small short one two three =
+    let head = little_bytes 8 lsn ++ little_bytes 4 (length value) in
+    let head_long : length head ≡ 12 = omega (arith, length-append (little_bytes 8 lsn) (little_bytes 4 (length value)), length-little_bytes 8 lsn, length-little_bytes 4 (length value)) in
     let gate = held_agrees place (1 ∷ []) file first one in
     let front = held_agrees (place + 1) head first mid two in
     let rest = held_agrees (place + 13) value mid new three in
@@ -132,5 +132,5 @@ first_put place id value file first mid new small short one two three =
           (agrees_wider (place + 1) (length head) place (13 + length value) first mid (omega arith) (omega (arith, head_long)) front))
           (agrees_wider (place + 13) (length value) place (13 + length value) mid new (omega arith) (omega arith) rest);
       opened = rest.before place (omega (arith, reach, front.no_shorter)) (omega arith) ∙ front.before place reach (omega arith) ∙ ap (λ (l : List ℕ). byte_at place l) one ∙ byte_written place 1 file;
-      filled = filled_by place id value first mid new small short two three;
+      filled = filled_by place lsn value first mid new small short two three;
     }

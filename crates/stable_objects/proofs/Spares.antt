@@ -5,14 +5,14 @@ use Rattle.std.proofs.lemmas.Grind.{same_number_lists}
 use Rattle.std.proofs.lemmas.List.{get_or-drop, get_or-take}
 use Rattle.oper_core.specs.Cell.{Cell}
 use Rattle.formats.specs.Bytes.{byte_at, number_at, IsOpenAt, IsClosedAt}
-use Rattle.formats.specs.Objects.{IsWholeSlot, form_in, layout_in, last_slot, slot_place, identifier_at, length_at, value_at, open_identifier, cell_of}
+use Rattle.formats.specs.Objects.{IsWholeSlot, form_in, layout_in, last_slot, slot_place, lsn_at, length_at, value_at, open_lsn, cell_of}
 use Rattle.formats.specs.declared.layout.Layout.{Layout}
 use Rattle.formats.specs.declared.params.Params.{Params}
 use Rattle.stable_objects.specs.Making.{KeepsFront}
 use Rattle.stable_objects.specs.Replacing.{AgreesOutside, spare_in}
 use Rattle.stable_objects.specs.SlotLaws.{closed_tells, layout_of_file, place_of_file}
 use Rattle.stable_objects.specs.SlotsView.{SlotsView, AreOf, head, layout_of, place_of}
-use Rattle.stable_objects.specs.Spares.{IsSpareByte, IsSpareGate, IsUnseen, KeepsBut, spare_id, spare_place}
+use Rattle.stable_objects.specs.Spares.{IsSpareByte, IsSpareGate, IsUnseen, KeepsBut, spare_lsn, spare_place}
 use Rattle.stable_objects.proofs.Behind.{front_agrees}
 use Rattle.stable_objects.proofs.Bytes.{number_same}
 use Rattle.stable_objects.proofs.Cells.{AreWholeBy, whole_by, whole_cell, open_cell, closed_cell, cell_is_held, held_in, closed_where_none, open_where_some, less_where_open}
@@ -35,8 +35,8 @@ module _ (cap place : ℕ) (old new : List ℕ) (longer : length old ≤ length 
   number_behind : (k p : ℕ) → 1 ≤ p → p + k ≤ 13 + cap → number_at k (place + p) new ≡ number_at k (place + p) old
   number_behind k p some fits = number_same 0 k (drop (place + p) new) (drop (place + p) old) (λ j low high. byte_behind p j some (omega (arith, fits, high)))
 
-  pub numbered_kept : identifier_at place new ≡ identifier_at place old
-  numbered_kept = number_behind 8 1 (omega arith) (omega arith)
+  pub lsn_kept : lsn_at place new ≡ lsn_at place old
+  lsn_kept = number_behind 8 1 (omega arith) (omega arith)
 
   long_kept : length_at place new ≡ length_at place old
   long_kept = number_behind 4 9 (omega arith) (omega arith)
@@ -60,14 +60,14 @@ module _ (cap place : ℕ) (old new : List ℕ) (longer : length old ≤ length 
 
     pub whole_kept : IsWholeSlot cap place new
     whole_kept = record {
-      some = omega (arith, slot.some, numbered_kept);
-      numbered = omega (arith, slot.numbered, numbered_kept);
+      some = omega (arith, slot.some, lsn_kept);
+      is_lsn = omega (arith, slot.is_lsn, lsn_kept);
       short = omega (arith, slot.short, long_kept);
       within = λ some. omega (arith, slot.within (omega (arith, some, long_kept)), long_kept, longer);
     }
 
     pub cells_kept : whole_cell place new ≡ whole_cell place old
-    cells_kept = λ i. record { id = numbered_kept i; value = value_kept i }
+    cells_kept = λ i. record { lsn = lsn_kept i; value = value_kept i }
 
   -- and whose gate is the same
   pub slot_kept : byte_at place new ≡ byte_at place old → (IsOpenAt place old → IsWholeSlot cap place old) → SlotStays cap place old new
@@ -126,8 +126,8 @@ module _ (slots : SlotsView) (free : ℕ → Type 0) (spares : (j : ℕ) → fre
   old_slots : AreWholeBy layout p old
   old_slots = subst (λ (l : Layout). AreWholeBy l p old) layout_was (whole_by p old are.whole.slots)
 
-  pub head_is : (x s : ℕ) → x < p.objects → s < 2 → head slots x s ≡ open_identifier (place_of slots x s) old
-  head_is x s below two = are.heads x s below two ∙ ap (λ (q : ℕ). open_identifier q old) (sym (place_of_file slots old x s are))
+  pub head_is : (x s : ℕ) → x < p.objects → s < 2 → head slots x s ≡ open_lsn (place_of slots x s) old
+  head_is x s below two = are.heads x s below two ∙ ap (λ (q : ℕ). open_lsn q old) (sym (place_of_file slots old x s are))
 
   -- a slot that is no spare one
   other_kept : (y t : ℕ) → y < p.objects → t < 2 → t ≢ spare_in slots y → SlotStays p.cap (place_of slots y t) old new
@@ -155,17 +155,17 @@ module _ (slots : SlotsView) (free : ℕ → Type 0) (spares : (j : ℕ) → fre
     found : IsSpare slots x s
     found = spare slots x
 
-    abbrev other_id : ℕ
-    other_id = open_identifier (place_of slots x (1 - s)) old
+    abbrev other_lsn : ℕ
+    other_lsn = open_lsn (place_of slots x (1 - s)) old
 
     pub apart_from : (z : ℕ) → z ≢ x → 2 * x + s ≢ 2 * z + spare_in slots z
     apart_from z differs same = let there = (spare slots z).two in let here = found.two in differs (omega (arith, same, there, here))
 
     -- the gate of a spare slot that is closed stays
-    pub gate_kept : spare_id slots x ≡ 0 → byte_at place new ≡ byte_at place old
+    pub gate_kept : spare_lsn slots x ≡ 0 → byte_at place new ≡ byte_at place old
     gate_kept none = byte_kept place (λ free. elim free [
       | inl gate ↦ elim (cases_eq gate.object x) [
-        | inl here ↦ gate.is_open (ap (λ (k : ℕ). spare_id slots k) here ∙ none)
+        | inl here ↦ gate.is_open (ap (λ (k : ℕ). spare_lsn slots k) here ∙ none)
         | inr differs ↦ no_gate slots x s 0 (omega arith) gate.object (apart_from gate.object differs) (omega (arith, gate.here))
       ]
       | inr byte ↦ elim (cases_eq byte.object x) [
@@ -175,47 +175,47 @@ module _ (slots : SlotsView) (free : ℕ → Type 0) (spares : (j : ℕ) → fre
     ])
 
     -- and so does what an open one has behind its gate
-    inside_kept : spare_id slots x ≢ 0 → (j : ℕ) → 1 ≤ j → j < 13 + p.cap → byte_at (place + j) new ≡ byte_at (place + j) old
+    inside_kept : spare_lsn slots x ≢ 0 → (j : ℕ) → 1 ≤ j → j < 13 + p.cap → byte_at (place + j) new ≡ byte_at (place + j) old
     inside_kept some j low high = byte_kept (place + j) (λ free. elim free [
       | inl gate ↦ elim (cases_eq gate.object x) [
         | inl here ↦ absurd (omega (arith, gate.here, ap (λ (k : ℕ). spare_place slots k) here, low))
         | inr differs ↦ no_gate slots x s j high gate.object (apart_from gate.object differs) gate.here
       ]
       | inr byte ↦ elim (cases_eq byte.object x) [
-        | inl here ↦ some (sym (ap (λ (k : ℕ). spare_id slots k) here) ∙ byte.closed)
+        | inl here ↦ some (sym (ap (λ (k : ℕ). spare_lsn slots k) here) ∙ byte.closed)
         | inr differs ↦ no_byte slots x s j high byte.object (apart_from byte.object differs) byte.behind byte.within
       ]
     ])
 
-    le : open_identifier place old ≤ other_id
+    le : open_lsn place old ≤ other_lsn
     le = omega (arith, head_is x s below found.two, head_is x (1 - s) below (omega arith), found.lower)
 
-    pub closed_was : spare_id slots x ≡ 0 → IsClosedAt place old
+    pub closed_was : spare_lsn slots x ≡ 0 → IsClosedAt place old
     closed_was none = closed_where_none p.cap place old (old_slots.each x s below found.two) (sym (head_is x s below found.two) ∙ none)
 
-    lower : IsLower p.cap place other_id new
-    lower = elim (cases_eq (spare_id slots x) 0) [
-      | inl none ↦ closed_lower p.cap place other_id new (λ is_open. closed_was none (sym (gate_kept none) ∙ is_open))
+    lower : IsLower p.cap place other_lsn new
+    lower = elim (cases_eq (spare_lsn slots x) 0) [
+      | inl none ↦ closed_lower p.cap place other_lsn new (λ is_open. closed_was none (sym (gate_kept none) ∙ is_open))
       | inr some ↦
-          let there : open_identifier place old ≢ 0 = λ none. some (head_is x s below found.two ∙ none) in
+          let there : open_lsn place old ≢ 0 = λ none. some (head_is x s below found.two ∙ none) in
           let is_open = open_where_some place old there in
           let whole = old_slots.each x s below found.two is_open in
           let less = less_where_open layout p x old old_slots below s found.two le there in
-          let id = ap (λ (c : Cell). c.id) (open_cell place old is_open) in
-          let numbered = numbered_kept p.cap place old new keeps.no_shorter (inside_kept some) in
-          record { slot = λ now_open. whole_kept p.cap place old new keeps.no_shorter (inside_kept some) whole; less = λ now_open. omega (arith, numbered, id, less) }
+          let lsn = ap (λ (c : Cell). c.lsn) (open_cell place old is_open) in
+          let is_lsn = lsn_kept p.cap place old new keeps.no_shorter (inside_kept some) in
+          record { slot = λ now_open. whole_kept p.cap place old new keeps.no_shorter (inside_kept some) whole; less = λ now_open. omega (arith, is_lsn, lsn, less) }
     ]
 
     other_stays : SlotStays p.cap (place_of slots x (1 - s)) old new
     other_stays = other_kept x (1 - s) below (omega arith) (λ same. let here = found.two in omega (arith, same, here))
 
-    no_greater : open_identifier place new ≤ open_identifier (place_of slots x (1 - s)) new
+    no_greater : open_lsn place new ≤ open_lsn (place_of slots x (1 - s)) new
     no_greater = elim (cases_eq (byte_at place new) 1) [
       | inl is_open ↦
           let less = lower.less is_open in
-          let id = ap (λ (c : Cell). c.id) (open_cell place new is_open) in
-          omega (arith, less, id, ap (λ (c : Cell). c.id) other_stays.cell)
-      | inr closed ↦ let none = ap (λ (c : Cell). c.id) (closed_cell place new closed) in omega (arith, none)
+          let lsn = ap (λ (c : Cell). c.lsn) (open_cell place new is_open) in
+          omega (arith, less, lsn, ap (λ (c : Cell). c.lsn) other_stays.cell)
+      | inr closed ↦ let none = ap (λ (c : Cell). c.lsn) (closed_cell place new closed) in omega (arith, none)
     ]
 
   new_slots : AreWholeBy layout p new
@@ -245,7 +245,7 @@ module _ (slots : SlotsView) (free : ℕ → Type 0) (spares : (j : ℕ) → fre
 
   -- where all gates stay, the slots are still those of the file
   module _ (gates : (j : ℕ) → free j → IsSpareByte slots j) where
-    open_kept : (x : ℕ) → x < p.objects → spare_id slots x ≢ 0 → SlotStays p.cap (spare_place slots x) old new
+    open_kept : (x : ℕ) → x < p.objects → spare_lsn slots x ≢ 0 → SlotStays p.cap (spare_place slots x) old new
     open_kept x below some =
         let reach = subst (λ (l : Layout). last_slot l < length old) layout_was are.whole.whole in
         let gate = keeps.same reach (spare_place slots x) (λ is_free.
@@ -256,12 +256,12 @@ module _ (slots : SlotsView) (free : ℕ → Type 0) (spares : (j : ℕ) → fre
         ]) in
         slot_kept p.cap (spare_place slots x) old new keeps.no_shorter (inside_kept x below some) gate (old_slots.each x (spare_in slots x) below (found x below).two)
 
-    head_stays : (x s : ℕ) → x < p.objects → s < 2 → head slots x s ≡ open_identifier (place_of slots x s) new
+    head_stays : (x s : ℕ) → x < p.objects → s < 2 → head slots x s ≡ open_lsn (place_of slots x s) new
     head_stays x s below two = elim (cases_eq s (spare_in slots x)) [
-      | inr other ↦ head_is x s below two ∙ sym (ap (λ (c : Cell). c.id) (other_kept x s below two other).cell)
-      | inl same ↦ subst (λ (k : ℕ). head slots x k ≡ open_identifier (place_of slots x k) new) (sym same) (elim (cases_eq (spare_id slots x) 0) [
+      | inr other ↦ head_is x s below two ∙ sym (ap (λ (c : Cell). c.lsn) (other_kept x s below two other).cell)
+      | inl same ↦ subst (λ (k : ℕ). head slots x k ≡ open_lsn (place_of slots x k) new) (sym same) (elim (cases_eq (spare_lsn slots x) 0) [
         | inl none ↦ none ∙ sym (closed_tells (spare_place slots x) new (λ is_open. closed_was x below none (sym (gate_kept x below none) ∙ is_open)))
-        | inr some ↦ head_is x (spare_in slots x) below (found x below).two ∙ sym (ap (λ (c : Cell). c.id) (open_kept x below some).cell)
+        | inr some ↦ head_is x (spare_in slots x) below (found x below).two ∙ sym (ap (λ (c : Cell). c.lsn) (open_kept x below some).cell)
       ])
     ]
 
@@ -269,6 +269,6 @@ module _ (slots : SlotsView) (free : ℕ → Type 0) (spares : (j : ℕ) → fre
     still_are = record {
       whole = unseen.whole;
       first = are.first ∙ ap (λ (l : Layout). l.first) (sym layout_stays);
-      heads = λ x s below two. head_stays x s below two ∙ ap (λ (l : Layout). open_identifier (slot_place l x s) new) (sym (layout_stays ∙ layout_was));
+      heads = λ x s below two. head_stays x s below two ∙ ap (λ (l : Layout). open_lsn (slot_place l x s) new) (sym (layout_stays ∙ layout_was));
       lengths = λ x below. are.lengths x below ∙ ap (λ (c : Cell). length c.value) (sym (cells_stay x below));
     }

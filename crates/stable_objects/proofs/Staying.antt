@@ -5,7 +5,7 @@ use Rattle.std.proofs.lemmas.Grind.{same_number_lists}
 use Rattle.disk_model.specs.Disk.{Torn}
 use Rattle.oper_core.specs.Cell.{Cell}
 use Rattle.formats.specs.Bytes.{byte_at, number_at, IsOpenAt}
-use Rattle.formats.specs.Objects.{BeginsStore, IsInForm, IsWholeSlot, first_form, form_in, params_at, layout_in, place_in, slot_place, last_slot, identifier_at, length_at, value_at, open_identifier, cell_of}
+use Rattle.formats.specs.Objects.{BeginsStore, IsInForm, IsWholeSlot, first_form, form_in, params_at, layout_in, place_in, slot_place, last_slot, lsn_at, length_at, value_at, open_lsn, cell_of}
 use Rattle.formats.specs.declared.form.Form.{Form}
 use Rattle.formats.specs.declared.layout.Layout.{Layout}
 use Rattle.stable_objects.specs.Larger.{IsFirst, IsStill, HasLastHead, end_of_slots, seconded}
@@ -26,8 +26,8 @@ use Rattle.stable_objects.proofs.Behind.{front_agrees}
 module _ (cap at n place : ℕ) (old new : List ℕ) (agrees : AgreesOutside at n old new) (gate : byte_at place new ≡ byte_at place old)
     (beside : IsOpenAt place old → (k m : ℕ) → 1 ≤ k → k + m ≤ 13 + length_at place old → IsBeside at n old (place + k) m) (slot : IsOpenAt place old → IsWholeSlot cap place old) where
   module _ (is_open : IsOpenAt place old) where
-    numbered : identifier_at place new ≡ identifier_at place old
-    numbered = number_stays at n old new agrees (place + 1) 8 (beside is_open 1 8 (omega arith) (omega arith))
+    is_lsn : lsn_at place new ≡ lsn_at place old
+    is_lsn = number_stays at n old new agrees (place + 1) 8 (beside is_open 1 8 (omega arith) (omega arith))
 
     long : length_at place new ≡ length_at place old
     long = number_stays at n old new agrees (place + 9) 4 (beside is_open 9 4 (omega arith) (omega arith))
@@ -41,14 +41,14 @@ module _ (cap at n place : ℕ) (old new : List ℕ) (agrees : AgreesOutside at 
     whole =
         let was = slot is_open in
         record {
-          some = omega (arith, was.some, numbered);
-          numbered = omega (arith, was.numbered, numbered);
+          some = omega (arith, was.some, is_lsn);
+          is_lsn = omega (arith, was.is_lsn, is_lsn);
           short = omega (arith, was.short, long);
           within = λ some. omega (arith, was.within (omega (arith, some, long)), long, agrees.no_shorter);
         }
 
     cells : whole_cell place new ≡ whole_cell place old
-    cells = λ i. record { id = numbered i; value = value i }
+    cells = λ i. record { lsn = is_lsn i; value = value i }
 
   pub slot_beside : SlotStays cap place old new
   slot_beside = record {
@@ -67,9 +67,9 @@ module _ (slots : SlotsView) (old new : List ℕ) (are : AreOf slots old) (each 
     apart = λ y below first second alike.
         let one = each y 0 below (omega arith) in
         let next = each y 1 below (omega arith) in
-        let id : (q : ℕ) → IsOpenAt q new → SlotStays slots.params.cap q old new → identifier_at q new ≡ identifier_at q old = λ q is_open stays.
-        sym (ap (λ (c : Cell). c.id) (open_cell q new is_open)) ∙ ap (λ (c : Cell). c.id) stays.cell ∙ ap (λ (c : Cell). c.id) (open_cell q old (sym stays.gate ∙ is_open)) in
-        are.whole.slots.apart y below (sym one.gate ∙ first) (sym next.gate ∙ second) (sym (id (place_in old y 0) first one) ∙ alike ∙ id (place_in old y 1) second next);
+        let lsn : (q : ℕ) → IsOpenAt q new → SlotStays slots.params.cap q old new → lsn_at q new ≡ lsn_at q old = λ q is_open stays.
+        sym (ap (λ (c : Cell). c.lsn) (open_cell q new is_open)) ∙ ap (λ (c : Cell). c.lsn) stays.cell ∙ ap (λ (c : Cell). c.lsn) (open_cell q old (sym stays.gate ∙ is_open)) in
+        are.whole.slots.apart y below (sym one.gate ∙ first) (sym next.gate ∙ second) (sym (lsn (place_in old y 0) first one) ∙ alike ∙ lsn (place_in old y 1) second next);
   }
 
   pub still_held : (x : ℕ) → x < slots.params.objects → held_by (layout_in old) x new ≡ cell_of x old
@@ -97,8 +97,8 @@ module _ (slots : SlotsView) (old new : List ℕ) (are : AreOf slots old) (each 
         first = are.first ∙ ap (λ (f : Form). f.first) (sym form);
         heads = λ x s below two.
             are.heads x s below two
-            ∙ sym (ap (λ (c : Cell). c.id) (each x s below two).cell)
-            ∙ ap (λ (l : Layout). open_identifier (slot_place l x s) new) (sym layout);
+            ∙ sym (ap (λ (c : Cell). c.lsn) (each x s below two).cell)
+            ∙ ap (λ (l : Layout). open_lsn (slot_place l x s) new) (sym layout);
         lengths = λ x below. are.lengths x below ∙ ap (λ (c : Cell). length c.value) (sym (still_cells x below));
       };
       cells = still_cells;

@@ -2,7 +2,7 @@
 use Rattle.std.proofs.Common.{◌≡◌, ◌≢◌, ◌<◌, ◌≤◌, ◌+◌, ◌*◌, ◌-◌, ℕ, List, length, sym, ◌∙◌, ap, arith}
 use Rattle.std.specs.Prelude.{slice_index_or}
 use Rattle.formats.specs.Bytes.{IsOpenAt}
-use Rattle.formats.specs.Objects.{last_slot, place_in, open_identifier}
+use Rattle.formats.specs.Objects.{last_slot, place_in, open_lsn}
 use Rattle.stable_objects.specs.Larger.{HasLastHead}
 use Rattle.stable_objects.specs.SlotGates.{slot_gate}
 use Rattle.stable_objects.specs.SlotLaws.{open_tells, told_is_open, place_of_file}
@@ -17,7 +17,7 @@ module _ (slots : SlotsView) (file : List ℕ) (are : AreOf slots file) (last : 
   here : (x : ℕ) → x + 1 ≡ slots.params.objects → 2 * x + 1 ≡ last
   here x end = omega (arith, end, is_last)
 
-  told : (x : ℕ) → x + 1 ≡ slots.params.objects → slice_index_or slots.heads last 0 ≡ open_identifier (place_in file x 1) file
+  told : (x : ℕ) → x + 1 ≡ slots.params.objects → slice_index_or slots.heads last 0 ≡ open_lsn (place_in file x 1) file
   told x end = sym (ap (λ (k : ℕ). slice_index_or slots.heads k 0) (here x end)) ∙ are.heads x 1 (omega (arith, end)) (omega arith)
 
   spot : (x : ℕ) → x + 1 ≡ slots.params.objects → slot_gate (layout_of slots) last ≡ place_in file x 1

@@ -11,9 +11,9 @@ use Rattle.formats.specs.Objects.{place_in, length_at, value_at, holder, cell_of
 use Rattle.formats.specs.Reading.{FailsBy, TellsDamage}
 use Rattle.formats.specs.declared.read_err.ReadErr.{ReadErr}
 use Rattle.formats.specs.declared.read_err.ReadErr.TheVariants.{DiskFault, Damaged, Memory}
-use Rattle.stable_objects.specs.SlotsView.{SlotsView, AreOf, place_of, id_in, holder_in}
+use Rattle.stable_objects.specs.SlotsView.{SlotsView, AreOf, place_of, lsn_in, holder_in}
 use Rattle.stable_objects.specs.Reading.{FailsAt, IsLongValue}
-use Rattle.stable_objects.specs.SlotLaws.{open_tells, open_value, closed_value, holder_below, id_is, held_is_open, held_short, holder_is, place_of_file}
+use Rattle.stable_objects.specs.SlotLaws.{open_tells, open_value, closed_value, holder_below, lsn_is, held_is_open, held_short, holder_is, place_of_file}
 use Rattle.stable_objects.proofs.Found.{number_read}
 
 -- the length that was read is the file's
@@ -35,8 +35,8 @@ pub value_read : (file into items : List ℕ) (place n len read : ℕ) → n ≡
 value_read file into items place n len read is bytes count le len_is =
     take_at into (drop (length into) items) len (omega (arith, count, len_is)) ∙ sym (take_all read into (omega (arith, count, le))) ∙ bytes ∙ ap (λ (k : ℕ). take k (drop (place + 13) file)) is
 
--- the slot that holds an object with an identifier
-module _ (slots : SlotsView) (file : List ℕ) (x place : ℕ) (are : AreOf slots file) (below : x < slots.params.objects) (some : id_in slots x ≢ 0) (here : place ≡ place_of slots x (holder_in slots x)) where
+-- the slot that holds an object with an LSN
+module _ (slots : SlotsView) (file : List ℕ) (x place : ℕ) (are : AreOf slots file) (below : x < slots.params.objects) (some : lsn_in slots x ≢ 0) (here : place ≡ place_of slots x (holder_in slots x)) where
   spot : place_in file x (holder x file) ≡ place
   spot = sym (here ∙ place_of_file slots file x (holder_in slots x) are ∙ ap (λ (s : ℕ). place_in file x s) (holder_is slots file x are below))
 
@@ -53,13 +53,13 @@ module _ (slots : SlotsView) (file : List ℕ) (x place : ℕ) (are : AreOf slot
       (subst (λ (k : ℕ). IsLongValue slots.params.cap k file at) here (subst (λ (l : List ℕ). IsLongValue slots.params.cap place l at) same (subst (λ (k : ℕ). IsLongValue k place (files Objects) at) cap (fails.1 files agree))))
   held_fails rises agrees files n Memory same agree cap fails tells = tells
 
--- an object without an identifier has no bytes
-pub empty_value : (slots : SlotsView) (file : List ℕ) (x : ℕ) → AreOf slots file → x < slots.params.objects → id_in slots x ≡ 0 → (cell_of x file).value ≡ []
+-- an object without an LSN has no bytes
+pub empty_value : (slots : SlotsView) (file : List ℕ) (x : ℕ) → AreOf slots file → x < slots.params.objects → lsn_in slots x ≡ 0 → (cell_of x file).value ≡ []
 empty_value slots file x are below none =
     let place = place_in file x (holder x file) in
     elim (cases_eq (byte_at place file) 1) [
       | inl is_open ↦
           let whole = are.whole.slots.each x (holder x file) below (holder_below x file) is_open in
-          absurd (omega (arith, whole.some, open_tells place file is_open, id_is slots file x are below, none))
+          absurd (omega (arith, whole.some, open_tells place file is_open, lsn_is slots file x are below, none))
       | inr closed ↦ closed_value place file closed
     ]

@@ -15,7 +15,7 @@ use Rattle.stable_objects.specs.SlotsView.{SlotsView, AreOf, layout_of}
 
 -- the pair that an object of a larger store gets from a file with these numbers: its own, or none where it is new
 abbrev pub pair_before : Params → List ℕ → ℕ → Cell
-pair_before p file x = if nat_lt x p.objects then cell_of x file else record { id = 0; value = [] }
+pair_before p file x = if nat_lt x p.objects then cell_of x file else record { lsn = 0; value = [] }
 
 -- the file is of version 2 or 3, of a store with these numbers, and its objects have the pairs that they had
 pub record IsGrown (p q : Params) (old new : List ℕ) : Type 0 where

@@ -5,18 +5,18 @@ use Rattle.disk_model.specs.Padded.{padded}
 use Rattle.disk_model.specs.declared.machine.FileNo.TheVariants.{Objects}
 use Rattle.formats.specs.Bytes.{byte_at}
 use Rattle.formats.specs.Image.{IsWithin}
-use Rattle.formats.specs.Objects.{identifier_at, length_at, slot_place}
+use Rattle.formats.specs.Objects.{lsn_at, length_at, slot_place}
 use Rattle.formats.specs.declared.layout.Layout.{Layout}
 
--- a slot's gate, its identifier, and the length of its value
+-- a slot's gate, its LSN, and the length of its value
 pub record Head : Type 0 where
   pub gate : ℕ
-  pub identifier : ℕ
+  pub lsn : ℕ
   pub long : ℕ
 
 -- the head that stands at a place
 abbrev pub head_at : ℕ → List ℕ → Head
-head_at place file = record { gate = byte_at place file; identifier = identifier_at place file; long = length_at place file }
+head_at place file = record { gate = byte_at place file; lsn = lsn_at place file; long = length_at place file }
 
 -- A slot's head has room in these bytes, and they are those of the objects file from a place on, of all files that agree with
 -- what the machine's reads gave. A byte past its end counts as 0.
@@ -24,16 +24,16 @@ pub record ShowsFile (m : Disk) (place : ℕ) (bytes : List ℕ) : Type 0 where
   pub room : 13 ≤ length bytes
   pub same : (files : Files) → m.agrees files → bytes ≡ padded (files Objects) place (length bytes)
 
--- the slot at this place has the number of a record, and a value within CAP and, where it has some byte, within a file of this size
+-- the slot at this place has the LSN of a record, and a value within CAP and, where it has some byte, within a file of this size
 pub record Fits (cap place size : ℕ) (h : Head) : Type 0 where
-  pub some : 1 ≤ h.identifier
-  pub numbered : h.identifier < 2 ^ 62
+  pub some : 1 ≤ h.lsn
+  pub is_lsn : h.lsn < 2 ^ 62
   pub short : h.long ≤ cap
   pub within : 0 < h.long → place + 13 + h.long ≤ size
 
--- a head without a fault has this identifier, 0 where its gate is closed
-pub record IsRead (cap place size : ℕ) (h : Head) (id : ℕ) : Type 0 where
-  pub is : id ≡ (if nat_eq h.gate 1 then h.identifier else 0)
+-- a head without a fault has this LSN, 0 where its gate is closed
+pub record IsRead (cap place size : ℕ) (h : Head) (lsn : ℕ) : Type 0 where
+  pub is : lsn ≡ (if nat_eq h.gate 1 then h.lsn else 0)
   pub fits : h.gate ≡ 1 → Fits cap place size h
 
 -- the length of the value, 0 where the gate is closed
@@ -41,27 +41,27 @@ abbrev pub open_length : Head → ℕ
 open_length h = if nat_eq h.gate 1 then h.long else 0
 
 -- and this is how long its value is
-pub record IsReadWhole (cap place size : ℕ) (h : Head) (id long : ℕ) : Type 0 where
-  pub read : IsRead cap place size h id
+pub record IsReadWhole (cap place size : ℕ) (h : Head) (lsn long : ℕ) : Type 0 where
+  pub read : IsRead cap place size h lsn
   pub long_is : long ≡ open_length h
 
--- An open slot's head shows its first fault at a place of the file: no record's number, or a value that is too long or
+-- An open slot's head shows its first fault at a place of the file: no record's LSN, or a value that is too long or
 -- not within the file.
 pub data IsHeadFault (cap place size : ℕ) (h : Head) : ℕ → Type 0 where
-  no_number : h.gate ≡ 1 → (IsWithin 1 (2 ^ 62 - 1) h.identifier → ⊥) → IsHeadFault cap place size h (place + 1)
-  too_long : h.gate ≡ 1 → IsWithin 1 (2 ^ 62 - 1) h.identifier → (h.long ≤ cap → (0 < h.long → place + 13 + h.long ≤ size) → ⊥) → IsHeadFault cap place size h (place + 9)
+  no_lsn : h.gate ≡ 1 → (IsWithin 1 (2 ^ 62 - 1) h.lsn → ⊥) → IsHeadFault cap place size h (place + 1)
+  too_long : h.gate ≡ 1 → IsWithin 1 (2 ^ 62 - 1) h.lsn → (h.long ≤ cap → (0 < h.long → place + 13 + h.long ≤ size) → ⊥) → IsHeadFault cap place size h (place + 9)
 
 -- the slot s of object x was read so
 abbrev pub IsReadAt : Layout → ℕ → ℕ → ℕ → List ℕ → ℕ → Type 0
-IsReadAt layout x s size file id = IsRead layout.params.cap (slot_place layout x s) size (head_at (slot_place layout x s) file) id
+IsReadAt layout x s size file lsn = IsRead layout.params.cap (slot_place layout x s) size (head_at (slot_place layout x s) file) lsn
 
--- the heads of both slots of an object were read, and no two open ones have one identifier
+-- the heads of both slots of an object were read, and no two open ones have one LSN
 pub record IsPair (layout : Layout) (x size : ℕ) (file : List ℕ) (first second : ℕ) : Type 0 where
   pub first_read : IsReadAt layout x 0 size file first
   pub second_read : IsReadAt layout x 1 size file second
   pub apart : first ≢ 0 → first ≢ second
 
--- how long the value is that an object with these identifiers holds
+-- how long the value is that an object with these LSNs holds
 abbrev pub held_length : Layout → ℕ → List ℕ → ℕ → ℕ → ℕ
 held_length layout x file first second = open_length (head_at (slot_place layout x (if nat_lt first second then 1 else 0)) file)
 
@@ -73,8 +73,8 @@ pub record IsWholePair (layout : Layout) (x size : ℕ) (file : List ℕ) (first
 -- the slots of an object show their first fault at a place of the file
 pub data IsPairFault (layout : Layout) (x size : ℕ) (file : List ℕ) : ℕ → Type 0 where
   in_first : (place : ℕ) → IsHeadFault layout.params.cap (slot_place layout x 0) size (head_at (slot_place layout x 0) file) place → IsPairFault layout x size file place
-  in_second : (id place : ℕ) → IsReadAt layout x 0 size file id → IsHeadFault layout.params.cap (slot_place layout x 1) size (head_at (slot_place layout x 1) file) place → IsPairFault layout x size file place
-  alike : (id : ℕ) → id ≢ 0 → IsReadAt layout x 0 size file id → IsReadAt layout x 1 size file id → IsPairFault layout x size file (slot_place layout x 1 + 1)
+  in_second : (lsn place : ℕ) → IsReadAt layout x 0 size file lsn → IsHeadFault layout.params.cap (slot_place layout x 1) size (head_at (slot_place layout x 1) file) place → IsPairFault layout x size file place
+  alike : (lsn : ℕ) → lsn ≢ 0 → IsReadAt layout x 0 size file lsn → IsReadAt layout x 1 size file lsn → IsPairFault layout x size file (slot_place layout x 1 + 1)
 
 -- the heads of the first n objects were read
 abbrev pub ArePairs : Layout → ℕ → List ℕ → ℕ → List ℕ → Type 0

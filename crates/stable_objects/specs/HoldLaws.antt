@@ -31,7 +31,7 @@ held_as before after done more pairs same was = record {
 }
 
 -- and one more, that is not among those that are
-module _ (before mid after : SlotsView) (done more : List ℕ) (pairs : ℕ → Cell) (x : ℕ) (was : AreHeld before mid done pairs) (off : IsFalse (is_among x done)) (is : IsHeld mid after x (pairs x).id (length (pairs x).value))
+module _ (before mid after : SlotsView) (done more : List ℕ) (pairs : ℕ → Cell) (x : ℕ) (was : AreHeld before mid done pairs) (off : IsFalse (is_among x done)) (is : IsHeld mid after x (pairs x).lsn (length (pairs x).value))
     (next : (y : ℕ) → is_among y more ≡ ((y == x) || is_among y done)) where
   abbrev objects : ℕ
   objects = before.params.objects
@@ -50,7 +50,7 @@ module _ (before mid after : SlotsView) (done more : List ℕ) (pairs : ℕ → 
         let second = was.other_heads x 1 below (omega arith) off in
         ap (λ (n : ℕ). if nat_lt n (head mid x 0) then 1 else 0) second ∙ ap (λ (n : ℕ). if nat_lt (head before x 1) n then 1 else 0) first
 
-    x_opened : head after x (spare_in before x) ≡ (pairs x).id
+    x_opened : head after x (spare_in before x) ≡ (pairs x).lsn
     x_opened = ap (λ (s : ℕ). head after x s) (sym spare_was) ∙ is.opened
 
   spare_two : (y : ℕ) → spare_in before y < 2
@@ -60,7 +60,7 @@ module _ (before mid after : SlotsView) (done more : List ℕ) (pairs : ℕ → 
   held_more = record {
     layout = is.layout ∙ was.layout;
     heads = λ y below among. elim (cases_eq y x) [
-      | inl same ↦ subst (λ (z : ℕ). head after z (spare_in before z) ≡ (pairs z).id) (sym same) (x_opened (subst (λ (z : ℕ). z < objects) same below))
+      | inl same ↦ subst (λ (z : ℕ). head after z (spare_in before z) ≡ (pairs z).lsn) (sym same) (x_opened (subst (λ (z : ℕ). z < objects) same below))
       | inr other ↦ is.other_heads y (spare_in before y) (spare_two y) (inl other) ∙ was.heads y below (sym (beside y other) ∙ among)
     ];
     other_slots = λ y s below two differs. elim (cases_eq y x) [

@@ -6,8 +6,8 @@ use Rattle.std.proofs.lemmas.Bool.{cases_eq, cases_lt}
 use Rattle.std.proofs.lemmas.List.{drop-take, get_or-take}
 use Rattle.formats.specs.Bytes.{byte_at, IsOpenAt}
 use Rattle.formats.specs.FirstFault.{Checks, stops, goes_on, one_check, NoMore, PairChecks, SlotChecks, IsFirstObjectsFault}
-use Rattle.formats.specs.Objects.{BeginsStore, IsInRange, IsInForm, IsObjectsFile, form_in, params_in, layout_in, place_in, last_slot, identifier_at}
-use Rattle.formats.specs.Image.{HasNumbers, IsOpenSlot, IsObjectsFault, magic, older_objects, older_cap, objects, cap, limit, cut, identifier, long, twice}
+use Rattle.formats.specs.Objects.{BeginsStore, IsInRange, IsInForm, IsObjectsFile, form_in, params_in, layout_in, place_in, last_slot, lsn_at}
+use Rattle.formats.specs.Image.{HasNumbers, IsOpenSlot, IsObjectsFault, magic, older_objects, older_cap, objects, cap, limit, cut, bad_lsn, long, twice}
 use Rattle.formats.specs.declared.params.Params.{Params}
 use Rattle.stable_objects.specs.LayoutLaws.{form_is}
 
@@ -42,8 +42,8 @@ nowhere file place is (objects wrong) = wrong ((is.in_range.some, is.in_form.obj
 nowhere file place is (cap wrong) = wrong ((is.in_range.low, is.in_form.cap), is.in_form.no_shorter)
 nowhere file place is (limit wrong) = wrong (is.in_range.least, is.in_range.limit)
 nowhere file place is (cut numbers short) = omega (arith, short, is.whole)
-nowhere file place is (identifier x s numbers slot wrong) =
-    let whole = is.slots.each x s slot.below slot.two slot.open_gate in wrong (whole.some, omega (arith, whole.numbered))
+nowhere file place is (bad_lsn x s numbers slot wrong) =
+    let whole = is.slots.each x s slot.below slot.two slot.open_gate in wrong (whole.some, omega (arith, whole.is_lsn))
 nowhere file place is (long x s numbers slot wrong) = let whole = is.slots.each x s slot.below slot.two slot.open_gate in wrong whole.short whole.within
 nowhere file place is (twice x numbers first second same) = is.slots.apart x first.below first.open_gate second.open_gate same
 
@@ -61,17 +61,17 @@ slot_open file x s Check below two wrong = elim (cases_eq (byte_at (place_in fil
 -- the first check of an object's slots that fails is a fault of the file
 pair_fault : (file : List ℕ) (x place : ℕ) → HasNumbers file → x < (params_in file).objects → PairChecks file x place → IsObjectsFault file place
 pair_fault file x place is below (stops at wrong) =
-    let slot = slot_open file x 0 _ below (omega arith) wrong in subst (λ (n : ℕ). IsObjectsFault file n) (sym at) (identifier x 0 is slot.0 slot.1)
+    let slot = slot_open file x 0 _ below (omega arith) wrong in subst (λ (n : ℕ). IsObjectsFault file n) (sym at) (bad_lsn x 0 is slot.0 slot.1)
 pair_fault file x place is below (goes_on _ (stops at wrong)) =
     let slot = slot_open file x 0 _ below (omega arith) wrong in subst (λ (n : ℕ). IsObjectsFault file n) (sym at) (long x 0 is slot.0 (λ short within. slot.1 (short, within)))
 pair_fault file x place is below (goes_on _ (goes_on _ (stops at wrong))) =
-    let slot = slot_open file x 1 _ below (omega arith) wrong in subst (λ (n : ℕ). IsObjectsFault file n) (sym at) (identifier x 1 is slot.0 slot.1)
+    let slot = slot_open file x 1 _ below (omega arith) wrong in subst (λ (n : ℕ). IsObjectsFault file n) (sym at) (bad_lsn x 1 is slot.0 slot.1)
 pair_fault file x place is below (goes_on _ (goes_on _ (goes_on _ (stops at wrong)))) =
     let slot = slot_open file x 1 _ below (omega arith) wrong in subst (λ (n : ℕ). IsObjectsFault file n) (sym at) (long x 1 is slot.0 (λ short within. slot.1 (short, within)))
 pair_fault file x place is below (goes_on _ (goes_on _ (goes_on _ (goes_on _ (stops at wrong))))) =
     let first = slot_open file x 0 _ below (omega arith) wrong in
     let second = slot_open file x 1 _ below (omega arith) first.1 in
-    let same : identifier_at (place_in file x 0) file ≡ identifier_at (place_in file x 1) file = elim (cases_eq (identifier_at (place_in file x 0) file) (identifier_at (place_in file x 1) file)) [
+    let same : lsn_at (place_in file x 0) file ≡ lsn_at (place_in file x 1) file = elim (cases_eq (lsn_at (place_in file x 0) file) (lsn_at (place_in file x 1) file)) [
       | inl is ↦ is
       | inr differ ↦ absurd (second.1 differ)
     ] in

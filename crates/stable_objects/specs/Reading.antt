@@ -61,7 +61,7 @@ pub record HasHeader (layout : Layout) (file : List ℕ) : Type 0 where
   pub in_form : IsInForm (form_in file) layout.params
   pub whole : last_slot layout < length file
 
--- the place after a slot's identifier, where its length stands; the value is longer than CAP, or not within the file
+-- the place after a slot's LSN, where its length stands; the value is longer than CAP, or not within the file
 pub record IsLongValue (cap place : ℕ) (file : List ℕ) (at : ℕ) : Type 0 where
   pub here : at ≡ place + 9
   pub long : length_at place file ≤ cap → (0 < length_at place file → place + 13 + length_at place file ≤ length file) → ⊥

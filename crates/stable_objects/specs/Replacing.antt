@@ -4,9 +4,9 @@ use Rattle.disk_model.specs.Disk.{Files, Disk, OthersStay}
 use Rattle.disk_model.specs.declared.machine.FileNo.TheVariants.{Objects}
 use Rattle.formats.specs.Bytes.{byte_at, IsOpenAt, IsClosedAt}
 use Rattle.oper_core.specs.Cell.{Cell}
-use Rattle.formats.specs.Objects.{IsObjectsFile, cell_of, identifier_at, length_at, value_at}
+use Rattle.formats.specs.Objects.{IsObjectsFile, cell_of, lsn_at, length_at, value_at}
 use Rattle.formats.specs.declared.params.Params.{Params}
-use Rattle.stable_objects.specs.SlotsView.{SlotsView, head, id_in, length_in}
+use Rattle.stable_objects.specs.SlotsView.{SlotsView, head, lsn_in, length_in}
 
 -- each other object is as it was
 abbrev pub OthersKept : Params → ℕ → List ℕ → List ℕ → Type 0
@@ -26,11 +26,11 @@ pub record IsOldOrNew (old : Disk) (p : Params) (x : ℕ) (cell : Cell) (files :
   pub other_files : OthersStay Objects old.reads files
   pub silent : said ≡ old.said
 
--- the object has this identifier, and a value of this length, and each other one has what it had
-pub record IsRenewed (old new : SlotsView) (x id long : ℕ) : Type 0 where
-  pub id_is : id_in new x ≡ id
+-- the object has this LSN, and a value of this length, and each other one has what it had
+pub record IsRenewed (old new : SlotsView) (x lsn long : ℕ) : Type 0 where
+  pub lsn_is : lsn_in new x ≡ lsn
   pub long_is : length_in new x ≡ long
-  pub other_ids : (y : ℕ) → y ≢ x → id_in new y ≡ id_in old y
+  pub other_lsns : (y : ℕ) → y ≢ x → lsn_in new y ≡ lsn_in old y
   pub other_lengths : (y : ℕ) → y ≢ x → length_in new y ≡ length_in old y
 
 -- which slot of an object doesn't hold it: the next value goes there
@@ -43,22 +43,22 @@ pub record AgreesOutside (at n : ℕ) (old new : List ℕ) : Type 0 where
   pub before : (j : ℕ) → j < length old → j < at → byte_at j new ≡ byte_at j old
   pub behind : drop (at + n) new ≡ drop (at + n) old
 
--- after the gate at this place stand this identifier and this value
-pub record IsFilled (place id : ℕ) (value file : List ℕ) : Type 0 where
-  pub numbered : identifier_at place file ≡ id
+-- after the gate at this place stand this LSN and this value
+pub record IsFilled (place lsn : ℕ) (value file : List ℕ) : Type 0 where
+  pub is_lsn : lsn_at place file ≡ lsn
   pub long : length_at place file ≡ length value
   pub stands : value_at place file ≡ value
   pub within : place + 13 + length value ≤ length file
 
 -- the slot is filled and its gate is open, and nothing else changed
-pub record IsPut (place id : ℕ) (value old new : List ℕ) : Type 0 where
+pub record IsPut (place lsn : ℕ) (value old new : List ℕ) : Type 0 where
   pub agrees : AgreesOutside place (13 + length value) old new
   pub opened : IsOpenAt place new
-  pub filled : IsFilled place id value new
+  pub filled : IsFilled place lsn value new
 
 -- At a moment while a slot is filled its gate is closed, or all of it stands. Nothing else changed, and nothing was said.
-pub record IsHalfPut (old : Disk) (place id : ℕ) (value : List ℕ) (files : Files) (said : List ℕ) : Type 0 where
+pub record IsHalfPut (old : Disk) (place lsn : ℕ) (value : List ℕ) (files : Files) (said : List ℕ) : Type 0 where
   pub agrees : AgreesOutside place (13 + length value) (old.reads Objects) (files Objects)
-  pub slot : IsClosedAt place (files Objects) ⊎ IsFilled place id value (files Objects)
+  pub slot : IsClosedAt place (files Objects) ⊎ IsFilled place lsn value (files Objects)
   pub other_files : OthersStay Objects old.reads files
   pub silent : said ≡ old.said

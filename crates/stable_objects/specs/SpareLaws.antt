@@ -23,18 +23,18 @@ keeps_twice layout free a b c first second = record {
 
 -- no slot is closed
 pub closing_none : (slots : SlotsView) → IsClosing slots slots
-closing_none slots = record { layout = refl; ids = λ x. refl; lengths = refl; spares = λ x. refl; spare_ids = λ x. inl refl }
+closing_none slots = record { layout = refl; lsns_kept = λ x. refl; lengths = refl; spares = λ x. refl; spare_lsns = λ x. inl refl }
 
 -- some are, and then others
 pub closing_twice : (a b c : SlotsView) → IsClosing a b → IsClosing b c → IsClosing a c
 closing_twice a b c first second = record {
   layout = second.layout ∙ first.layout;
-  ids = λ x. second.ids x ∙ first.ids x;
+  lsns_kept = λ x. second.lsns_kept x ∙ first.lsns_kept x;
   lengths = second.lengths ∙ first.lengths;
   spares = λ x. second.spares x ∙ first.spares x;
-  spare_ids = λ x. elim (second.spare_ids x) [
+  spare_lsns = λ x. elim (second.spare_lsns x) [
     | inr none ↦ inr none
-    | inl same ↦ elim (first.spare_ids x) [ inl was ↦ inl (same ∙ was) | inr none ↦ inr (same ∙ none) ]
+    | inl same ↦ elim (first.spare_lsns x) [ inl was ↦ inl (same ∙ was) | inr none ↦ inr (same ∙ none) ]
   ];
 }
 
@@ -47,7 +47,7 @@ gates_before before after old new closing keeps =
     record {
       object = x;
       below = omega (arith, gate.below, ap (λ (l : Layout). l.params.objects) closing.layout);
-      is_open = λ none. elim (closing.spare_ids x) [ inl same ↦ gate.is_open (same ∙ none) | inr closed ↦ gate.is_open closed ];
+      is_open = λ none. elim (closing.spare_lsns x) [ inl same ↦ gate.is_open (same ∙ none) | inr closed ↦ gate.is_open closed ];
       here = gate.here ∙ here;
     } in
     record {

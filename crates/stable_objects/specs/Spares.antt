@@ -7,28 +7,28 @@ use Rattle.formats.specs.Objects.{IsObjectsFile, last_slot, cell_of}
 use Rattle.formats.specs.declared.layout.Layout.{Layout}
 use Rattle.formats.specs.declared.params.Params.{Params}
 use Rattle.stable_objects.specs.Replacing.{IsFilled, spare_in}
-use Rattle.stable_objects.specs.SlotsView.{SlotsView, head, id_in, layout_of, place_of}
+use Rattle.stable_objects.specs.SlotsView.{SlotsView, head, lsn_in, layout_of, place_of}
 
 -- where the slot stands that doesn't hold an object
 abbrev pub spare_place : SlotsView → ℕ → ℕ
 spare_place slots x = place_of slots x (spare_in slots x)
 
--- and the identifier in it, 0 where it is closed
-abbrev pub spare_id : SlotsView → ℕ → ℕ
-spare_id slots x = head slots x (spare_in slots x)
+-- and the LSN in it, 0 where it is closed
+abbrev pub spare_lsn : SlotsView → ℕ → ℕ
+spare_lsn slots x = head slots x (spare_in slots x)
 
 -- at this place is the gate of a spare slot that is open
 pub record IsSpareGate (slots : SlotsView) (j : ℕ) : Type 0 where
   pub object : ℕ
   pub below : object < slots.params.objects
-  pub is_open : spare_id slots object ≢ 0
+  pub is_open : spare_lsn slots object ≢ 0
   pub here : j ≡ spare_place slots object
 
 -- or a byte behind the gate of one that is closed
 pub record IsSpareByte (slots : SlotsView) (j : ℕ) : Type 0 where
   pub object : ℕ
   pub below : object < slots.params.objects
-  pub closed : spare_id slots object ≡ 0
+  pub closed : spare_lsn slots object ≡ 0
   pub behind : spare_place slots object < j
   pub within : j < spare_place slots object + (13 + slots.params.cap)
 
@@ -47,16 +47,16 @@ KeepsButSpares slots = KeepsBut (layout_of slots) (IsSpareByte slots)
 
 -- what a spare slot of another object is filled with stays in it
 abbrev pub KeepsFilledBut : SlotsView → ℕ → List ℕ → List ℕ → Type 0
-KeepsFilledBut slots x old new = (y id : ℕ) (value : List ℕ) → y < slots.params.objects → y ≢ x → length value ≤ slots.params.cap
-    → IsFilled (spare_place slots y) id value old → IsFilled (spare_place slots y) id value new
+KeepsFilledBut slots x old new = (y lsn : ℕ) (value : List ℕ) → y < slots.params.objects → y ≢ x → length value ≤ slots.params.cap
+    → IsFilled (spare_place slots y) lsn value old → IsFilled (spare_place slots y) lsn value new
 
 -- some spare slots are closed, and all else is as it was
 pub record IsClosing (before after : SlotsView) : Type 0 where
   pub layout : layout_of after ≡ layout_of before
-  pub ids : (x : ℕ) → id_in after x ≡ id_in before x
+  pub lsns_kept : (x : ℕ) → lsn_in after x ≡ lsn_in before x
   pub lengths : after.lengths ≡ before.lengths
   pub spares : (x : ℕ) → spare_in after x ≡ spare_in before x
-  pub spare_ids : (x : ℕ) → (spare_id after x ≡ spare_id before x) ⊎ (spare_id after x ≡ 0)
+  pub spare_lsns : (x : ℕ) → (spare_lsn after x ≡ spare_lsn before x) ⊎ (spare_lsn after x ≡ 0)
 
 -- the file is one of these objects, and each has the pair that it had
 pub record IsUnseen (p : Params) (old new : List ℕ) : Type 0 where

@@ -49,22 +49,22 @@ fn bytes_stand<M: Machine>(machine: &mut M, place: u64, bytes: &[u8]) -> Result<
     Ok(true)
 }
 
-/// Whether a slot holds this identifier and this value, whatever its gate is. The value is read where its identifier and
+/// Whether a slot holds this LSN and this value, whatever its gate is. The value is read where its LSN and
 /// its length are these. No memory is taken.
 pub fn is_filled<M: Machine>(
     machine: &mut M,
     place: u64,
-    id: u64,
+    lsn: u64,
     value: &[u8],
 ) -> Result<bool, Failed>
     requires place { place < 2 ^ 62 }
     requires short { length value.now ≤ 1048576 }
     ensures kept { Stays (M.disk machine.old) (M.disk machine.new) }
     ensures filled { (M.disk machine.old).tells_files → IfOk result (λ same. IsTrue same →
-        IsFilled place id value.now ((M.disk machine.old).reads Objects)) }
+        IsFilled place lsn value.now ((M.disk machine.old).reads Objects)) }
     ensures cause { IsErr result → Rises (M.disk machine.old).disk_faults (M.disk machine.new).disk_faults }
 {
-    if !bytes_stand(machine, place + 1, &head_of(id, value.len() as u32))? {
+    if !bytes_stand(machine, place + 1, &head_of(lsn, value.len() as u32))? {
         return Ok(false);
     }
     let stands = bytes_stand(machine, place + 13, value)?;

@@ -7,7 +7,7 @@ ghost use Rattle.formats.specs.Bytes.{IsOpenAt};
 ghost use Rattle.stable_objects.specs.Ready.{IsHeld, IsReady, AreOldOrNew, AreOldOrNewSince, AreOpened, AreReady, KeepsButGatesOf};
 ghost use Rattle.stable_objects.specs.Replacing.{IsRenewed};
 ghost use Rattle.stable_objects.specs.Spares.{spare_place};
-ghost use Rattle.stable_objects.specs.SlotsView.{AreOf, id_in};
+ghost use Rattle.stable_objects.specs.SlotsView.{AreOf, lsn_in};
 
 use crate::Slots;
 use crate::comparing::is_filled;
@@ -24,11 +24,11 @@ impl Slots {
         bytes: &[u8],
     ) -> Result<bool, Failed>
         requires object { object < self.now.params.objects }
-        requires later { id_in self.now object < lsn }
-        requires numbered { lsn < 2 ^ 62 }
+        requires later { lsn_in self.now object < lsn }
+        requires is_lsn { lsn < 2 ^ 62 }
         requires short { length bytes.now ≤ self.now.params.cap }
         ensures kept { Stays (M.disk machine.old) (M.disk machine.new) }
-        ensures ready { (M.disk machine.old).tells_files → IfOk result (λ yes. IsTrue yes → IsReady self.now ((M.disk machine.old).reads Objects) object (record { id = lsn; value = bytes.now })) }
+        ensures ready { (M.disk machine.old).tells_files → IfOk result (λ yes. IsTrue yes → IsReady self.now ((M.disk machine.old).reads Objects) object (record { lsn = lsn; value = bytes.now })) }
         ensures cause { IsErr result → Rises (M.disk machine.old).disk_faults (M.disk machine.new).disk_faults }
     {
         let slot = self.spare(object);
@@ -77,11 +77,11 @@ impl Slots {
         machine.sync(FileNo::Objects)?;
         Ok(())
     }
-    /// Holds an object in the slot that didn't hold it, whose gate was opened over this identifier and a value of this
+    /// Holds an object in the slot that didn't hold it, whose gate was opened over this LSN and a value of this
     /// length: the numbers in memory are those after [`Slots::replace`]. No device call is made.
     pub fn hold(&mut self, object: u32, lsn: u64, length: u32)
         requires object { object < self.old.params.objects }
-        requires later { id_in self.old object < lsn }
+        requires later { lsn_in self.old object < lsn }
         ensures held { IsHeld self.old self.new object lsn length }
         ensures renewed { IsRenewed self.old self.new object lsn length }
     {

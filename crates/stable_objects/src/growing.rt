@@ -54,11 +54,11 @@ impl Slots {
             OnOk result (IsFilledTo params (object + 1) (pair_before self.now.params start) (seconded ((M.disk machine.new).reads Objects))) }
         ensures cause { IfErr result (MovesNot (M.disk machine.old) (M.disk machine.new) self.now) }
     {
-        let id = self.read(machine, object, value)?;
-        if id == 0 {
+        let lsn = self.read(machine, object, value)?;
+        if lsn == 0 {
             return Ok(());
         }
-        Slots::put_first(machine, self.larger_layout(params), object, id, value)?;
+        Slots::put_first(machine, self.larger_layout(params), object, lsn, value)?;
         Ok(())
     }
 

@@ -12,17 +12,17 @@ use crate::layout::{OPEN, SLOT_HEAD_BYTES, place_of};
 use crate::window::Window;
 use byteorder::{ByteOrder, LittleEndian};
 use disk_model::Machine;
-use formats::{Layout, NUMBERS_END, ReadErr};
+use formats::{LSN_END, Layout, ReadErr};
 use std::alloc::Global;
 
-// The identifier in a slot and the length of its value, 0 and 0 where its gate is closed.
+// The LSN in a slot and the length of its value, 0 and 0 where its gate is closed.
 #[derive(Clone, Copy)]
 struct SlotHead {
-    id: u64,
+    lsn: u64,
     long: u32,
 }
 
-// The identifiers in the two slots of an object, and the length of the value that it holds.
+// The LSNs in the two slots of an object, and the length of the value that it holds.
 #[derive(Clone, Copy)]
 struct Pair {
     first: u64,
@@ -34,14 +34,14 @@ struct Pair {
 fn parse_head(head: &[u8], cap: u32, place: u64, size: u64) -> Result<SlotHead, ReadErr>
     requires long { length head.now ≡ 13 }
     requires small { place < 2 ^ 40 }
-    ensures read { IfOk result (λ found. IsReadWhole cap place size (head_at 0 head.now) found.id found.long) }
+    ensures read { IfOk result (λ found. IsReadWhole cap place size (head_at 0 head.now) found.lsn found.long) }
     ensures cause { IfErr result (FailsBy ⊥ (FailsAt (IsHeadFault cap place size (head_at 0 head.now)))) }
 {
     if head[0] != OPEN {
-        return Ok(SlotHead { id: 0, long: 0 });
+        return Ok(SlotHead { lsn: 0, long: 0 });
     }
-    let id = LittleEndian::read_u64(&head[1..]);
-    if id == 0 || id >= NUMBERS_END {
+    let lsn = LittleEndian::read_u64(&head[1..]);
+    if lsn == 0 || lsn >= LSN_END {
         return Err(damaged_at(place + 1));
     }
     let long = LittleEndian::read_u32(&head[9..]);
@@ -51,7 +51,7 @@ fn parse_head(head: &[u8], cap: u32, place: u64, size: u64) -> Result<SlotHead, 
     if long != 0 && size < place + SLOT_HEAD_BYTES + long as u64 {
         return Err(damaged_at(place + 9));
     }
-    Ok(SlotHead { id, long })
+    Ok(SlotHead { lsn, long })
 }
 
 // The head of the slot at a place.
@@ -66,7 +66,7 @@ fn read_head<M: Machine>(
     requires small { place < 2 ^ 40 }
     ensures shows { OnOk result (ShowsFile (M.disk machine.new) window.new.place window.new.bytes.items) }
     ensures kept { Stays (M.disk machine.old) (M.disk machine.new) }
-    ensures read { (files : Files) → (M.disk machine.new).agrees files → IfOk result (λ found. IsReadWhole cap place size (head_at place (files Objects)) found.id found.long) }
+    ensures read { (files : Files) → (M.disk machine.new).agrees files → IfOk result (λ found. IsReadWhole cap place size (head_at place (files Objects)) found.lsn found.long) }
     ensures cause { IfErr result (FailsBy (Rises (M.disk machine.old).disk_faults (M.disk machine.new).disk_faults)
         (FailsAt (λ at. (files : Files) → (M.disk machine.new).agrees files → IsHeadFault cap place size (head_at place (files Objects)) at))) }
 {
@@ -77,9 +77,9 @@ fn read_head<M: Machine>(
 
 // The length of the value of an object whose slots have these heads.
 fn held_long(first: SlotHead, second: SlotHead) -> u32
-    ensures { result ≡ (if nat_lt first.id second.id then second.long else first.long) }
+    ensures { result ≡ (if nat_lt first.lsn second.lsn then second.long else first.long) }
 {
-    if first.id < second.id {
+    if first.lsn < second.lsn {
         second.long
     } else {
         first.long
@@ -107,17 +107,17 @@ fn read_pair<M: Machine>(
     let first = read_head(machine, window, cap, place_of(layout, object, 0), size)?;
     let place = place_of(layout, object, 1);
     let second = read_head(machine, window, cap, place, size)?;
-    if first.id != 0 && first.id == second.id {
+    if first.lsn != 0 && first.lsn == second.lsn {
         return Err(damaged_at(place + 1));
     }
     Ok(Pair {
-        first: first.id,
-        second: second.id,
+        first: first.lsn,
+        second: second.lsn,
         long: held_long(first, second),
     })
 }
 
-/// The identifiers in all slots of a file of this size, two for each object, 0 where a slot is closed, and the length of
+/// The LSNs in all slots of a file of this size, two for each object, 0 where a slot is closed, and the length of
 /// each object's value.
 pub fn read_heads<M: Machine>(
     alloc: Global,

@@ -18,17 +18,17 @@ ghost use Rattle.stable_objects.specs.Spares.{IsUnseen, KeepsButGates, KeepsButS
 /// a pair is passed over.
 pub fn a_file_is_filled()
     ensures begins { (p : Params) (cells : ℕ → Cell) (file : List ℕ) → IsNewFile p file → IsFilledTo p 0 cells file }
-    ensures put { (p : Params) (n : ℕ) (cells : ℕ → Cell) (old new : List ℕ) → IsFilledTo p n cells old → n < p.objects → 1 ≤ (cells n).id → (cells n).id < 2 ^ 62 →
-        length (cells n).value ≤ p.cap → IsPut (place_in old n 0) (cells n).id (cells n).value old new → IsFilledTo p (n + 1) cells new × (layout_in new ≡ layout_in old) }
-    ensures passed { (p : Params) (n : ℕ) (cells : ℕ → Cell) (file : List ℕ) → IsFilledTo p n cells file → n < p.objects → cells n ≡ record { id = 0; value = [] } →
+    ensures put { (p : Params) (n : ℕ) (cells : ℕ → Cell) (old new : List ℕ) → IsFilledTo p n cells old → n < p.objects → 1 ≤ (cells n).lsn → (cells n).lsn < 2 ^ 62 →
+        length (cells n).value ≤ p.cap → IsPut (place_in old n 0) (cells n).lsn (cells n).value old new → IsFilledTo p (n + 1) cells new × (layout_in new ≡ layout_in old) }
+    ensures passed { (p : Params) (n : ℕ) (cells : ℕ → Cell) (file : List ℕ) → IsFilledTo p n cells file → n < p.objects → cells n ≡ record { lsn = 0; value = [] } →
         IsFilledTo p (n + 1) cells file }
 {}
 
 /// What is put into a slot is put so whatever a byte before it is. So the byte of the gate, or of the version, that makes
 /// the file one of a store may be written last.
 pub fn a_byte_is_written_later()
-    ensures put { (at byte place id : ℕ) (value old new : List ℕ) → at < place → at < length old → IsPut place id value old new →
-        IsPut place id value (written_over at (byte ∷ []) old) (written_over at (byte ∷ []) new) }
+    ensures put { (at byte place lsn : ℕ) (value old new : List ℕ) → at < place → at < length old → IsPut place lsn value old new →
+        IsPut place lsn value (written_over at (byte ∷ []) old) (written_over at (byte ∷ []) new) }
     ensures gate { (file : List ℕ) → opened file ≡ written_over 0 (1 ∷ []) file }
 {}
 

@@ -45,7 +45,7 @@ pub const FIRST_SLOT: u64 = 32;
 // In versions 2 and 3 the numbers have so many bytes, of which the last 20 are free.
 pub const NUMBERS_ROOM: u64 = 32;
 
-// A slot's gate, its identifier and its length.
+// A slot's gate, its LSN and its length.
 pub const SLOT_HEAD_BYTES: u64 = 13;
 
 pub const MIN_CAP: u32 = 16;

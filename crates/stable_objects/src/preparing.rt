@@ -4,7 +4,7 @@ ghost use Rattle.std.specs.Prelude.{◌≡◌, ◌<◌, ◌≤◌, length, OnOk,
 ghost use Rattle.disk_model.specs.Disk.{Rises, Runs, In, Same};
 ghost use Rattle.disk_model.specs.declared.machine.FileNo.TheVariants.{Objects};
 ghost use Rattle.stable_objects.specs.Replacing.{IsFilled};
-ghost use Rattle.stable_objects.specs.Spares.{IsClosing, KeepsButGates, KeepsButSpares, KeepsFilledBut, spare_id, spare_place};
+ghost use Rattle.stable_objects.specs.Spares.{IsClosing, KeepsButGates, KeepsButSpares, KeepsFilledBut, spare_lsn, spare_place};
 ghost use Rattle.stable_objects.specs.SlotsView.{AreOf};
 
 use crate::Slots;
@@ -19,7 +19,7 @@ impl Slots {
         requires { object < self.old.params.objects }
         ensures runs { Runs (In Objects (KeepsButGates self.old)) Same (M.disk machine.old) (M.disk machine.new) }
         ensures slots { IsClosing self.old self.new }
-        ensures closed { OnOk result (spare_id self.new object ≡ 0) }
+        ensures closed { OnOk result (spare_lsn self.new object ≡ 0) }
         ensures are { (M.disk machine.old).tells_files → AreOf self.old ((M.disk machine.old).reads Objects) →
             OnOk result (AreOf self.new ((M.disk machine.new).reads Objects)) }
         ensures cause { IsErr result → Rises (M.disk machine.old).disk_faults (M.disk machine.new).disk_faults }
@@ -34,7 +34,7 @@ impl Slots {
         Ok(())
     }
 
-    /// Writes an identifier and a value into the slot that doesn't hold an object, if it is closed, and leaves its gate so.
+    /// Writes an LSN and a value into the slot that doesn't hold an object, if it is closed, and leaves its gate so.
     /// What stands there already is not written again. Nothing is synced. It fails where the device does, and takes no
     /// memory.
     pub fn fill_spare<M: Machine>(
@@ -47,7 +47,7 @@ impl Slots {
         requires object { object < self.now.params.objects }
         requires short { length bytes.now ≤ self.now.params.cap }
         ensures runs { Runs (In Objects (KeepsButSpares self.now)) Same (M.disk machine.old) (M.disk machine.new) }
-        ensures filled { (M.disk machine.old).tells_files → spare_id self.now object ≡ 0 →
+        ensures filled { (M.disk machine.old).tells_files → spare_lsn self.now object ≡ 0 →
             OnOk result (IsFilled (spare_place self.now object) lsn bytes.now ((M.disk machine.new).reads Objects)) }
         ensures others { (M.disk machine.old).tells_files → KeepsFilledBut self.now object ((M.disk machine.old).reads Objects) ((M.disk machine.new).reads Objects) }
         ensures cause { IsErr result → Rises (M.disk machine.old).disk_faults (M.disk machine.new).disk_faults }

@@ -1,7 +1,7 @@
 ghost use Rattle.std.specs.Prelude.{◌≡◌, ◌<◌, ◌≤◌, ◌+◌, ◌*◌, ◌&&◌, ℕ, IfSome, IfNone, nat_lt, nat_le, position};
 ghost use Rattle.formats.specs.Objects.{bounds_of};
 ghost use Rattle.stable_objects.specs.Layouts.{IsLayout};
-ghost use Rattle.stable_objects.specs.SlotsView.{id_in, holder_in, layout_of, length_in, place_of, IsLate};
+ghost use Rattle.stable_objects.specs.SlotsView.{lsn_in, holder_in, layout_of, length_in, place_of, IsLate};
 
 use crate::layout::gate_place;
 use formats::{Layout, Params};
@@ -10,14 +10,14 @@ use std::marker::Model;
 
 /// The slots of a store whose objects file is whole.
 ///
-/// Each object has two. The open one with the greater identifier holds its value; with none open the object is empty and
-/// has the identifier 0.
+/// Each object has two. The open one with the greater LSN holds its value; with none open the object is empty and
+/// has the LSN 0.
 #[derive(Drop)]
 pub struct Slots {
     pub(crate) params: Params,
     /// The place of the first slot.
     pub(crate) first: u64,
-    /// The identifier in each slot, two for each object, 0 where the slot is closed.
+    /// The LSN in each slot, two for each object, 0 where the slot is closed.
     pub(crate) heads: Vec<u64>,
     /// How long the value of each object is.
     pub(crate) lengths: Vec<u32>,
@@ -33,11 +33,11 @@ impl Model for Slots {
     ghost invariant = { λ s. AreHeads (record { params = s.params; first = s.first }) s.heads.items s.lengths.items };
 }
 
-// Which of these identifiers is the first that is not 0, and is `next` or more.
+// Which of these LSNs is the first that is not 0, and is `next` or more.
 fn first_late(heads: &[u64], next: u64) -> Option<usize>
-    ensures { result ≡ position (λ id. nat_lt 0 id && nat_le next id) heads.now }
+    ensures { result ≡ position (λ lsn. nat_lt 0 lsn && nat_le next lsn) heads.now }
 {
-    heads.iter().position(|id| *id > 0 && *id >= next)
+    heads.iter().position(|lsn| *lsn > 0 && *lsn >= next)
 }
 
 impl Slots {
@@ -70,10 +70,10 @@ impl Slots {
         }
     }
 
-    /// The identifier of an object: the number of the record whose value its slot holds, 0 where none is open.
-    pub fn id(&self, object: u32) -> u64
+    /// The LSN of an object: that of the record whose value its slot holds, 0 where none is open.
+    pub fn lsn(&self, object: u32) -> u64
         requires { object < self.now.params.objects }
-        ensures { result ≡ id_in self.now object }
+        ensures { result ≡ lsn_in self.now object }
     {
         self.heads[self.holder(object)]
     }
@@ -86,7 +86,7 @@ impl Slots {
         self.lengths[object as usize]
     }
 
-    /// Which of all slots holds an object: of its two the one with the greater identifier, the first where both are
+    /// Which of all slots holds an object: of its two the one with the greater LSN, the first where both are
     /// closed.
     pub(crate) fn holder(&self, object: u32) -> usize
         requires { object < self.now.params.objects }
@@ -100,7 +100,7 @@ impl Slots {
         }
     }
 
-    /// The place of the first identifier, in the order of the file, of an open slot that is `next` or more; none exactly
+    /// The place of the first LSN, in the order of the file, of an open slot that is `next` or more; none exactly
     /// where there is none.
     pub fn first_at(&self, next: u64) -> Option<u64>
         ensures some { IfSome result (λ place. (x : ℕ) × (s : ℕ) × IsLate self.now next x s × (place ≡ place_of self.now x s + 1)

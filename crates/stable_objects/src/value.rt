@@ -4,7 +4,7 @@ ghost use Rattle.disk_model.specs.Disk.{Files, Rises, Stays};
 ghost use Rattle.disk_model.specs.declared.machine.FileNo.TheVariants.{Objects};
 ghost use Rattle.formats.specs.Objects.{value_at, cell_of};
 ghost use Rattle.formats.specs.Reading.{FailsBy, TellsDamage};
-ghost use Rattle.stable_objects.specs.SlotsView.{AreOf, id_in, holder_in, place_of};
+ghost use Rattle.stable_objects.specs.SlotsView.{AreOf, lsn_in, holder_in, place_of};
 ghost use Rattle.stable_objects.specs.Reading.{FailsAt, IsLongValue};
 
 use crate::Slots;
@@ -47,7 +47,7 @@ fn read_value<M: Machine>(
 }
 
 impl Slots {
-    /// Reads the value of an object, in place of what was in the vector, and answers its identifier. Where no slot is
+    /// Reads the value of an object, in place of what was in the vector, and answers its LSN. Where no slot is
     /// open the device is not called.
     ///
     /// It answers `Damaged` where the value in the slot is longer than CAP or not within the file, `DiskFault` where the
@@ -60,13 +60,13 @@ impl Slots {
     ) -> Result<u64, ReadErr>
         requires { object < self.now.params.objects }
         ensures kept { Stays (M.disk machine.old) (M.disk machine.new) }
-        ensures id { IfOk result (λ id. id ≡ id_in self.now object) }
+        ensures lsn { IfOk result (λ lsn. lsn ≡ lsn_in self.now object) }
         ensures short { OnOk result (length into.new.items ≤ self.now.params.cap) }
         ensures value { (files : Files) → (M.disk machine.new).agrees files → AreOf self.now (files Objects) →
             OnOk result (into.new.items ≡ (cell_of object (files Objects)).value) }
 
         // An object without an open slot costs no call.
-        ensures none { id_in self.now object ≡ 0 → IsOk result × (into.new.items ≡ []) × (machine.new ≡ machine.old) }
+        ensures none { lsn_in self.now object ≡ 0 → IsOk result × (into.new.items ≡ []) × (machine.new ≡ machine.old) }
 
         ensures cause { IfErr result (FailsBy (Rises (M.disk machine.old).disk_faults (M.disk machine.new).disk_faults)
             (FailsAt (λ place. (files : Files) → (M.disk machine.new).agrees files →
@@ -74,12 +74,12 @@ impl Slots {
         ensures whole { (files : Files) → (M.disk machine.new).agrees files → AreOf self.now (files Objects) → IfErr result (λ e. TellsDamage e → ⊥) }
     {
         into.clear();
-        let id = self.id(object);
-        if id == 0 {
+        let lsn = self.lsn(object);
+        if lsn == 0 {
             return Ok(0);
         }
         let place = gate_place(self.layout(), self.holder(object) as u32);
         read_value(machine, self.params.cap, place, into)?;
-        Ok(id)
+        Ok(lsn)
     }
 }

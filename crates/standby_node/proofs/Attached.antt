@@ -25,7 +25,7 @@ shown_in meaning p d engine w unbroken none shows = record {
   sound = shows.running.sound;
   group = shows.running.alone ∙ sym none;
   shows = subst (λ (v : World _). Shows (meaning_in meaning p) p d engine.parts v) (sym (ungrouped_alone w shows.running.alone)) shows;
-  no_check = subst (λ (o : Option ℕ). IfSome o (λ begun. w.pending ≡ [])) (sym none) tt;
+  no_checkpoint = subst (λ (o : Option ℕ). IfSome o (λ begun. w.pending ≡ [])) (sym none) tt;
 }
 
 module _ {O : Type 0} (meaning : Bounds → Meaning O) (p : Params) (new : Disk) (w : World O) (limit used : ℕ) (engine : EngineView) (frames : FrameBufferView) (unbroken : engine.broken ≡ false) (none : engine.group ≡ None) (passed : HasPassed [] [] frames)
@@ -55,7 +55,7 @@ module _ {O : Type 0} (meaning : Bounds → Meaning O) (p : Params) (new : Disk)
     shows = shown_in meaning p new engine v unbroken none shows;
     fine = refl;
     members = refl;
-    no_check = settled.none;
+    no_checkpoint = settled.none;
     forced = inl (settled.forced ∙ ap (λ (h : List (Member O)). length h) (sym settled.history));
   }
 

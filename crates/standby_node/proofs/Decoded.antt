@@ -8,11 +8,11 @@ use Rattle.oper_core.specs.Meaning.{Meaning, Widens}
 use Rattle.formats.specs.Log.{IsPayload}
 use Rattle.formats.specs.Records.{AreRecords, payload_of, record_code, records_of}
 use Rattle.formats.specs.declared.record.Record.{Record}
-use Rattle.formats.specs.declared.record.Record.TheVariants.{Command as Logged_command, Identity as Logged_identity, Check as Logged_check}
+use Rattle.formats.specs.declared.record.Record.TheVariants.{Command as Logged_command, Identity as Logged_identity, Checkpoint as Logged_checkpoint}
 use Rattle.frame_stream.specs.Frames.{frame, frames}
 use Rattle.log_records.specs.BlockReader.{blocks_from, is_some_list, payloads_from}
-use Rattle.log_records.specs.Rewriting.{is_numbered_from, numbered_from}
-use Rattle.explain_core.specs.History.{Member, numbered}
+use Rattle.log_records.specs.Rewriting.{is_from_lsn, from_lsn}
+use Rattle.explain_core.specs.History.{Member, with_lsn}
 use Rattle.explain_core.specs.History.Member.{Command, Identity}
 use Rattle.explain_core.specs.World.{World}
 use Rattle.standing.specs.Members.{members_of}
@@ -23,7 +23,7 @@ use Rattle.standby_node.proofs.Ends.{frames_join}
 use Rattle.standby_node.proofs.Primary.{IsRecordOf, first_there}
 use Rattle.standby_node.proofs.Recorded.{some_bytes}
 use Rattle.standby_node.proofs.Shipped.{blocks_joined, shipped}
-use Rattle.standby_node.proofs.Stays.{front_numbered, run_grown}
+use Rattle.standby_node.proofs.Stays.{front_with_lsn, run_grown}
 
 -- ---- payloads
 
@@ -40,22 +40,22 @@ module _ {O : Type 0} (m : Meaning O) where
       let all = length-append (record_code m r) (payload_of m records) in
       cond_both (test r) (r ∷ kept) kept (λ (l : List (Record O)). length (payload_of m l) ≤ length (payload_of m (r ∷ records))) (λ is. omega (arith, rest, all, length-append (record_code m r) (payload_of m kept))) (λ is. omega (arith, rest, all))
 
-  -- what blocks have from a number on may be payloads, as they may
+  -- what blocks have from an LSN on may be payloads, as they may
   pub whole_from : (from : ℕ) (groups : List (List (Record O))) → AllByRecursion IsPayload (map (payload_of m) groups) → AllByRecursion IsPayload (payloads_from m from groups)
   whole_from from [] all = tt
   whole_from from (g ∷ groups) all =
-      let here = numbered_from from g in
+      let here = from_lsn from g in
       let rest = whole_from from groups all.1 in
       cond_both (is_some_list here) (here ∷ blocks_from from groups) (blocks_from from groups) (λ (l : List (List (Record O))). AllByRecursion IsPayload (map (payload_of m) l))
-      (λ some. (record { some = some_code here some; short = omega (arith, kept_short (is_numbered_from from) g, all.0.short) }, rest)) (λ none. rest)
+      (λ some. (record { some = some_code here some; short = omega (arith, kept_short (is_from_lsn from) g, all.0.short) }, rest)) (λ none. rest)
 
 -- ---- records
 
 module _ {O : Type 0} (m : Meaning O) (stable h : List (Member O)) (front : IsFront stable h) where
-  member_there : (number next : ℕ) (member : Member O) (rest : List (Member O)) → number ≡ next → 1 ≤ next → member ∷ rest ≡ drop (next - 1) stable → numbered h number ≡ Some member
-  member_there number next member rest at low is =
-      let one : number ≡ suc (next - 1) = omega (arith, at, low) in
-      front_numbered stable h front number member (ap (λ (n : ℕ). numbered stable n) one ∙ (first_there stable (next - 1) member rest is).0)
+  member_there : (lsn next : ℕ) (member : Member O) (rest : List (Member O)) → lsn ≡ next → 1 ≤ next → member ∷ rest ≡ drop (next - 1) stable → with_lsn h lsn ≡ Some member
+  member_there lsn next member rest at low is =
+      let one : lsn ≡ suc (next - 1) = omega (arith, at, low) in
+      front_with_lsn stable h front lsn member (ap (λ (n : ℕ). with_lsn stable n) one ∙ (first_there stable (next - 1) member rest is).0)
 
   rest_there : (next : ℕ) (member : Member O) (rest : List (Member O)) → 1 ≤ next → member ∷ rest ≡ drop (next - 1) stable → rest ≡ drop (next + 1 - 1) stable
   rest_there next member rest low is =
@@ -64,11 +64,11 @@ module _ {O : Type 0} (m : Meaning O) (stable h : List (Member O)) (front : IsFr
 
   log_records : (base next : ℕ) (records : List (Record O)) → AreRecords m base next records → 1 ≤ next → members_of records ≡ drop (next - 1) stable → AllByRecursion (IsRecordOf h) records
   log_records base next [] are low members = tt
-  log_records base next (Logged_check table ∷ records) are low members = (tt, log_records base next records are.2 low members)
-  log_records base next (Logged_command number op ∷ records) are low members =
-      (member_there number next (Command op) (members_of records) are.1.0 low members, log_records base (next + 1) records are.2 (omega arith) (rest_there next (Command op) (members_of records) low members))
-  log_records base next (Logged_identity number x value ∷ records) are low members =
-      (member_there number next (Identity x value) (members_of records) are.1.0 low members, log_records base (next + 1) records are.2 (omega arith) (rest_there next (Identity x value) (members_of records) low members))
+  log_records base next (Logged_checkpoint table ∷ records) are low members = (tt, log_records base next records are.2 low members)
+  log_records base next (Logged_command lsn op ∷ records) are low members =
+      (member_there lsn next (Command op) (members_of records) are.1.0 low members, log_records base (next + 1) records are.2 (omega arith) (rest_there next (Command op) (members_of records) low members))
+  log_records base next (Logged_identity lsn x value ∷ records) are low members =
+      (member_there lsn next (Identity x value) (members_of records) are.1.0 low members, log_records base (next + 1) records are.2 (omega arith) (rest_there next (Identity x value) (members_of records) low members))
 
 -- ---- frames
 
@@ -104,7 +104,7 @@ module _ {O : Type 0} (m wide : Meaning O) (widens : Widens m wide) (objects : m
         is = it.frames_are;
         whole = whole_from m from it.groups (recursion_from_All IsPayload (map (payload_of m) it.groups) it.log.log.whole);
         frames_are = shipped m wide widens objects cap base base from it.groups it.log.placed;
-        records = subst (λ (l : List (Record O)). AllByRecursion (IsRecordOf h) l) (sym (blocks_joined from it.groups)) (all_kept (IsRecordOf h) (is_numbered_from from) (records_of it.groups) all);
+        records = subst (λ (l : List (Record O)). AllByRecursion (IsRecordOf h) l) (sym (blocks_joined from it.groups)) (all_kept (IsRecordOf h) (is_from_lsn from) (records_of it.groups) all);
       }
 
   -- and has shipped before

@@ -74,7 +74,7 @@ module _ {O : Type 0} (meaning : Bounds → Meaning O) (p : Params) (first : Lis
   -- another world is shown, with the same members
   abbrev pub other_world : (new : Disk) (after : EngineView) (v : World O) → ShowsIn meaning p new after v → v.history ≡ w.history → v.pending ≡ []
       → (v.forced ≡ length (past meaning p first bytes old before f)) ⊎ (BeginsWithFrameOf m before.frames.kept f.begun × (v.forced ≡ length v.history)) → IsFollowing meaning p first bytes new (record before { engine = after })
-  other_world new after v there history no_check forced = record {
+  other_world new after v there history no_checkpoint forced = record {
     payloads = f.payloads;
     groups = f.groups;
     begun = f.begun;
@@ -85,7 +85,7 @@ module _ {O : Type 0} (meaning : Bounds → Meaning O) (p : Params) (first : Lis
     shows = there;
     fine = f.fine;
     members = history ∙ f.members;
-    no_check = no_check;
+    no_checkpoint = no_checkpoint;
     forced = forced;
   }
 
@@ -108,7 +108,7 @@ module _ {O : Type 0} (meaning : Bounds → Meaning O) (p : Params) (first : Lis
       omega (arith, ap (λ (h : List (Member O)). length h) behind, length-drop w.forced w.history, f.shows.sound.forced)
 
   pub settled_here : before.engine.parts.log.log.pending ≡ [] → IsSettledAt w.history w
-  settled_here none = record { history = refl; forced = all_stable none; none = f.no_check }
+  settled_here none = record { history = refl; forced = all_stable none; none = f.no_checkpoint }
 
 -- ---- a thin node is installed
 
@@ -398,7 +398,7 @@ module _ {O : Type 0} (meaning : Bounds → Meaning O) (d : Disk) (before : Stan
           shows = f.shows;
           fine = ap (λ (rs : List (Record O)). first_refused m first rs) every ∙ f.fine;
           members = f.members ∙ ap (λ (rs : List (Record O)). follows m first rs) (sym every);
-          no_check = f.no_check;
+          no_checkpoint = f.no_checkpoint;
           forced = inl (all_stable meaning p first bytes d before f none ∙ ap (λ (h : List (Member O)). length h) members);
         },
         refl,

@@ -70,7 +70,7 @@ module _ {O : Type 0} (meaning : Bounds → Meaning O) where
         shows = f.shows;
         fine = f.fine;
         members = f.members;
-        no_check = f.no_check;
+        no_checkpoint = f.no_checkpoint;
         forced = ⊎_elim (λ same. inl same) (λ both. inr (subst (λ (l : List ℕ). BeginsWithFrameOf m l f.begun) kept_is (frame_more m before.frames.kept piece f.begun both.0), both.1)) f.forced;
       }
 
@@ -123,7 +123,7 @@ module _ {O : Type 0} (meaning : Bounds → Meaning O) where
     shows = f.shows;
     fine = f.fine;
     members = f.members;
-    no_check = f.no_check;
+    no_checkpoint = f.no_checkpoint;
     forced = f.forced;
   }
 
@@ -135,7 +135,7 @@ module _ {O : Type 0} (meaning : Bounds → Meaning O) where
     next_noted rest it = record { payload = it.payload; later = it.later; is_payload = it.is_payload; stands = it.stands; left = it.left; rest_is = it.rest_is }
 
     judged_noted : (judged : Judged O) → IsJudgedNext m h s judged → IsJudgedNext m h so judged
-    judged_noted judged it = record { rest = it.rest; next = next_noted it.rest it.next; logged = it.logged; starts = it.starts; numbered = it.numbered; judged_so = it.judged_so }
+    judged_noted judged it = record { rest = it.rest; next = next_noted it.rest it.next; logged = it.logged; starts = it.starts; with_lsn = it.with_lsn; judged_so = it.judged_so }
 
     refused_noted : (e : FollowErr) → HasRefused m h s e → HasRefused m h so e
     refused_noted (BadFrame place) is = ⊎_elim (λ bad. inl bad)
@@ -176,7 +176,7 @@ module _ {O : Type 0} (meaning : Bounds → Meaning O) where
     none_waits =
         let counted = buffered_shown m d s.engine.parts.log (ungrouped f.world) f.shows.shows.log in
         let late : drop f.world.forced f.world.history ≡ [] = ap (λ (n : ℕ). drop n f.world.history) all_forced ∙ drop-length f.world.history in
-        no_bytes s.engine.parts.log.log.pending (omega (arith, counted, ap (λ (h : List (Member O)). records_length m h) late, ap (λ l. tables_length m l) f.no_check))
+        no_bytes s.engine.parts.log.log.pending (omega (arith, counted, ap (λ (h : List (Member O)). records_length m h) late, ap (λ l. tables_length m l) f.no_checkpoint))
 
     pub all_stable : forced_in s.engine ≡ accepted_in s.engine
     all_stable =

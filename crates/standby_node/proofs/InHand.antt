@@ -8,13 +8,13 @@ use Rattle.oper_core.specs.Meaning.{Meaning}
 use Rattle.formats.specs.Log.{IsPayload}
 use Rattle.formats.specs.Records.{payload_of, record_code}
 use Rattle.formats.specs.declared.record.Record.{Record}
-use Rattle.formats.specs.declared.record.Record.TheVariants.{Command as Logged_command, Identity as Logged_identity, Check as Logged_check}
+use Rattle.formats.specs.declared.record.Record.TheVariants.{Command as Logged_command, Identity as Logged_identity, Checkpoint as Logged_checkpoint}
 use Rattle.frame_stream.specs.Frames.{IsUnfinished, frame}
 use Rattle.frame_stream.specs.FrameBuffer.{BeginsWith}
 use Rattle.frame_stream.specs.Laws.{frame_cancel, length-frame}
 use Rattle.log_records.specs.Codec.{StartsWithRecord}
 use Rattle.log_records.specs.RecordLaws.{payload_push}
-use Rattle.execution.specs.Following.{IsNumbered}
+use Rattle.execution.specs.Following.{HasLsn}
 use Rattle.standby_node.specs.Feeding.{ComeNext}
 use Rattle.standby_node.specs.Standby.{BeginsWithFrameOf, HasBegun, IsWithinFrame, MayBeShipped, StandbyView}
 use Rattle.standby_node.specs.Steps.{HasWholeFrame, IsReading, left_of}
@@ -69,9 +69,9 @@ module _ {O : Type 0} (m : Meaning O) where
   shipped_more (first ∷ begun) r all one = (all.0, shipped_more begun r all.1 one)
 
   pub no_code : (r : Record O) (records : List (Record O)) → payload_of m (r ∷ records) ≡ [] → ⊥
-  no_code (Logged_command number op) records none = cc
-  no_code (Logged_identity number x value) records none = cc
-  no_code (Logged_check table) records none = cc
+  no_code (Logged_command lsn op) records none = cc
+  no_code (Logged_identity lsn x value) records none = cc
+  no_code (Logged_checkpoint table) records none = cc
 
   -- between two frames no record was followed
   pub none_begun : (kept : List ℕ) (begun : List (Record O)) → HasBegun m kept 0 begun → begun ≡ []
@@ -121,7 +121,7 @@ module _ {O : Type 0} (m : Meaning O) where
         omega (arith, left, ap (λ (l : List ℕ). length l) same, has.count, whole.3)
 
     -- a record more
-    module _ (left : s.done < size) (r : Record O) (starts : StartsWithRecord m (left_of s size) r) (numbered : IsNumbered r) where
+    module _ (left : s.done < size) (r : Record O) (starts : StartsWithRecord m (left_of s size) r) (with_lsn : HasLsn r) where
       payload_more : whole.0 ≡ payload_of m (begun ++ r ∷ []) ++ starts.rest
       payload_more =
           payload_is ∙ ap (λ (l : List ℕ). payload_of m begun ++ l) (code_next s size whole left r starts) ∙ sym (append_assoc (payload_of m begun) (record_code m r) starts.rest)
@@ -132,5 +132,5 @@ module _ {O : Type 0} (m : Meaning O) where
         count = omega (arith, has.count, ap (λ (l : List ℕ). length l) (payload_push m begun r), length-append (payload_of m begun) (record_code m r));
         within = inr (whole.0, whole.1, whole.2, whole.4, omega (arith, ends_within s size whole left r starts, whole.3));
         front = λ some. (starts.rest, whole.1, subst IsPayload payload_more whole.2, whole.4 ∙ ap (λ (l : List ℕ). frame l ++ whole.1) payload_more);
-        shipped = shipped_more begun r has.shipped (starts.in_grammar, numbered);
+        shipped = shipped_more begun r has.shipped (starts.in_grammar, with_lsn);
       }

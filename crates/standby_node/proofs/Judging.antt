@@ -7,7 +7,7 @@ use Rattle.oper_core.specs.Meaning.{Meaning}
 use Rattle.oper_core.specs.State.{State}
 use Rattle.formats.specs.Records.{payload_of, record_code}
 use Rattle.formats.specs.declared.record.Record.{Record}
-use Rattle.formats.specs.declared.record.Record.TheVariants.{Command as Logged_command, Identity as Logged_identity, Check as Logged_check}
+use Rattle.formats.specs.declared.record.Record.TheVariants.{Command as Logged_command, Identity as Logged_identity, Checkpoint as Logged_checkpoint}
 use Rattle.explain_core.specs.History.{Member, value_at}
 use Rattle.explain_core.specs.History.Member.{Command, Identity}
 use Rattle.execution.specs.Judged.{Judged, first_refused, follows, is_refused, judge, judge_behind, judge_member, may_follow, with_judged}
@@ -81,36 +81,36 @@ module _ {O : Type 0} (m : Meaning O) where
 
   -- ---- what is taken
 
-  member_taken : (s : State) (next number : ℕ) (member taken : Member O) → judge_member m s next number member ≡ Taken taken → (number ≡ next) × (taken ≡ member)
-  member_taken s next number member taken is =
-      let late : Judged O = if may_follow m s member then Taken member else Differs number in
-      let there : Judged O = if nat_lt next number then Gap next number else late in
-      elim (cases_Bool (nat_lt number next)) [
-        | inl below ↦ let j : Passed ≡ Taken taken = sym (cond-true (nat_lt number next) Passed there below) ∙ is in absurd cc
+  member_taken : (s : State) (next lsn : ℕ) (member taken : Member O) → judge_member m s next lsn member ≡ Taken taken → (lsn ≡ next) × (taken ≡ member)
+  member_taken s next lsn member taken is =
+      let late : Judged O = if may_follow m s member then Taken member else Differs lsn in
+      let there : Judged O = if nat_lt next lsn then Gap next lsn else late in
+      elim (cases_Bool (nat_lt lsn next)) [
+        | inl below ↦ let j : Passed ≡ Taken taken = sym (cond-true (nat_lt lsn next) Passed there below) ∙ is in absurd cc
         | inr not_below ↦
-            let is_there : there ≡ Taken taken = sym (cond-false (nat_lt number next) Passed there not_below) ∙ is in
-            elim (cases_Bool (nat_lt next number)) [
-              | inl above ↦ let j : Gap next number ≡ Taken taken = sym (cond-true (nat_lt next number) (Gap next number) late above) ∙ is_there in absurd cc
+            let is_there : there ≡ Taken taken = sym (cond-false (nat_lt lsn next) Passed there not_below) ∙ is in
+            elim (cases_Bool (nat_lt next lsn)) [
+              | inl above ↦ let j : Gap next lsn ≡ Taken taken = sym (cond-true (nat_lt next lsn) (Gap next lsn) late above) ∙ is_there in absurd cc
               | inr not_above ↦
-                  let is_late : late ≡ Taken taken = sym (cond-false (nat_lt next number) (Gap next number) late not_above) ∙ is_there in
+                  let is_late : late ≡ Taken taken = sym (cond-false (nat_lt next lsn) (Gap next lsn) late not_above) ∙ is_there in
                   elim (cases_Bool (may_follow m s member)) [
                     | inl may ↦
-                        let j : Taken member ≡ Taken taken = sym (cond-true (may_follow m s member) (Taken member) (Differs number) may) ∙ is_late in
+                        let j : Taken member ≡ Taken taken = sym (cond-true (may_follow m s member) (Taken member) (Differs lsn) may) ∙ is_late in
                         (omega (arith, ltb-false _ _ not_below, ltb-false _ _ not_above), cc)
-                    | inr not ↦ let j : Differs number ≡ Taken taken = sym (cond-false (may_follow m s member) (Taken member) (Differs number) not) ∙ is_late in absurd cc
+                    | inr not ↦ let j : Differs lsn ≡ Taken taken = sym (cond-false (may_follow m s member) (Taken member) (Differs lsn) not) ∙ is_late in absurd cc
                   ]
             ]
       ]
 
-  -- a record that is taken is its member, with the next number
+  -- a record that is taken is its member, with the next LSN
   pub record_taken : (s : State) (next : ℕ) (r : Record O) (taken : Member O) → judge m s next r ≡ Taken taken → r ≡ record_of next taken
-  record_taken s next (Logged_command number op) taken is =
-      let so = member_taken s next number (Command op) taken is in
+  record_taken s next (Logged_command lsn op) taken is =
+      let so = member_taken s next lsn (Command op) taken is in
       (λ i. Logged_command (so.0 i) op) ∙ ap (λ (t : Member O). record_of next t) (sym so.1)
-  record_taken s next (Logged_identity number x value) taken is =
-      let so = member_taken s next number (Identity x value) taken is in
+  record_taken s next (Logged_identity lsn x value) taken is =
+      let so = member_taken s next lsn (Identity x value) taken is in
       (λ i. Logged_identity (so.0 i) x value) ∙ ap (λ (t : Member O). record_of next t) (sym so.1)
-  record_taken s next (Logged_check table) taken is = let j : Passed ≡ Taken taken = is in absurd cc
+  record_taken s next (Logged_checkpoint table) taken is = let j : Passed ≡ Taken taken = is in absurd cc
 
   pub bytes_taken : (s : State) (next : ℕ) (r : Record O) (taken : Member O) → judge m s next r ≡ Taken taken → length (record_code m r) ≡ record_length m taken
   bytes_taken s next r taken is = ap (λ (k : Record O). length (record_code m k)) (record_taken s next r taken is) ∙ code_length m next taken
@@ -128,7 +128,7 @@ module _ {O : Type 0} (m : Meaning O) where
   one_longer h r Passed is = as_long h _
   one_longer h r (Taken member) is = record { more = member ∷ []; is = refl; short = omega (arith, bytes_taken (λ x. value_at m h (length h) x) (length h + 1) r member is) }
   one_longer h r (Gap expected got) is = as_long h _
-  one_longer h r (Differs number) is = as_long h _
+  one_longer h r (Differs lsn) is = as_long h _
 
   pub follows_longer : (h : List (Member O)) (rs : List (Record O)) → IsLonger h (follows m h rs) (length (payload_of m rs))
   follows_longer h [] = as_long h 0

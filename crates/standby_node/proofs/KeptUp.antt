@@ -16,11 +16,11 @@ use Rattle.explain_core.specs.History.{Member}
 use Rattle.explain_core.specs.RunLaws.{Begins, begins-all}
 use Rattle.explain_core.specs.World.{Step, World, run}
 use Rattle.checkpointing.specs.Courses.{checkpoint_course, trim_course}
-use Rattle.checkpointing.specs.declared.check_err.CheckErr.{CheckErr}
-use Rattle.checkpointing.specs.declared.check_err.CheckErr.TheVariants as of_check
+use Rattle.checkpointing.specs.declared.checkpoint_err.CheckpointErr.{CheckpointErr}
+use Rattle.checkpointing.specs.declared.checkpoint_err.CheckpointErr.TheVariants as of_taking
 use Rattle.running_store.specs.declared.store_err.StoreErr.{StoreErr}
 use Rattle.running_store.specs.declared.store_err.StoreErr.TheVariants as of_store
-use Rattle.store_engine.specs.Calls.{IsChecking, IsForcing, IsTrimming, work_of_check, work_of_force, work_of_trim}
+use Rattle.store_engine.specs.Calls.{IsTakingCheckpoint, IsForcing, IsTrimming, work_of_checkpoint, work_of_force, work_of_trim}
 use Rattle.store_engine.specs.Engine.{EngineView, ShowsIn, used_in}
 use Rattle.store_engine.specs.Following.{HasInstalledThin}
 use Rattle.store_engine.specs.Store.{meaning_in}
@@ -74,16 +74,16 @@ module _ {O : Type 0} (meaning : Bounds → Meaning O) (p : Params) (first : Lis
   abbrev used : ℕ
   used = used_in before.engine
 
-  -- after a check
-  checked_on : (new : Disk) (after : EngineView) → ShowsIn meaning p new after (run m f.world (checkpoint_course m f.world used).steps) → IsFollowing meaning p first bytes new (record before { engine = after })
-  checked_on new after there = go_on new after (run m f.world (checkpoint_course m f.world used).steps) (checkpoint_settled m f.world.history f.world used settled_between) there
+  -- after a checkpoint
+  checkpointed_on : (new : Disk) (after : EngineView) → ShowsIn meaning p new after (run m f.world (checkpoint_course m f.world used).steps) → IsFollowing meaning p first bytes new (record before { engine = after })
+  checkpointed_on new after there = go_on new after (run m f.world (checkpoint_course m f.world used).steps) (checkpoint_settled m f.world.history f.world used settled_between) there
 
-  pub checked_following : {T : Type 0} (new : Disk) (after : EngineView) (answer : Result T CheckErr) → IsChecking meaning old new before.engine after answer
-      → (IsErrOf (work_of_check answer) DiskFault ⊎ IsErrOf (work_of_check answer) Memory) ⊎ IsFollowing meaning p first bytes new (record before { engine = after })
-  checked_following new after (Ok value) it = inr (checked_on new after (it.takes.follows p f.world f.shows).1.shows)
-  checked_following new after (Err (of_check.LogFull full need limit)) it = inr (checked_on new after (it.takes.follows p f.world f.shows).1.shows)
-  checked_following new after (Err of_check.DiskFault) it = inl (inl refl)
-  checked_following new after (Err of_check.Memory) it = inl (inr refl)
+  pub checkpointed_following : {T : Type 0} (new : Disk) (after : EngineView) (answer : Result T CheckpointErr) → IsTakingCheckpoint meaning old new before.engine after answer
+      → (IsErrOf (work_of_checkpoint answer) DiskFault ⊎ IsErrOf (work_of_checkpoint answer) Memory) ⊎ IsFollowing meaning p first bytes new (record before { engine = after })
+  checkpointed_following new after (Ok value) it = inr (checkpointed_on new after (it.takes.follows p f.world f.shows).1.shows)
+  checkpointed_following new after (Err (of_taking.LogFull full need limit)) it = inr (checkpointed_on new after (it.takes.follows p f.world f.shows).1.shows)
+  checkpointed_following new after (Err of_taking.DiskFault) it = inl (inl refl)
+  checkpointed_following new after (Err of_taking.Memory) it = inl (inr refl)
 
   -- after a trim
   abbrev trimming : List (Step O)

@@ -175,7 +175,7 @@ module _ {O : Type 0} (meaning : Bounds → Meaning O) (q : Params) (h : List (M
       pub gap_alone : (e : FollowErr) → HasRefused m b.world.history s e → IsOfStream e → IsGap e
       gap_alone e refused stream = gap_at e (reason m b.world.history s e refused stream) rest_of.more rest_of.are rest_of.kept
 
--- ---- what is shipped up from the next number
+-- ---- what is shipped up from the next LSN
 
 module _ {O : Type 0} (m wide : Meaning O) (w : World O) (low : 1 ≤ w.base) (may : MayFollow wide (stable_in w)) (first : List (Member O)) (front : IsFront first (stable_in w)) (from : ℕ) (near : from ≤ length first + 1) (bytes : List ℕ) (it : IsShipped m w from bytes) where
   abbrev pub records_on : List (Record O)

@@ -70,9 +70,9 @@ module _ {O : Type 0} (m : Meaning O) (one_record : (bytes : List ℕ) (first se
       ⊎_elim
       (λ (none : BeginsNoRecord m x × (e ≡ BadFrame (s.frames.passed + (4 + s.done)))).
       ⊎_elim (λ (none_too : BeginsNoRecord m y × (f ≡ BadFrame (t.frames.passed + (4 + t.done)))). none.1 ∙ ap (λ (n : ℕ). BadFrame n) place ∙ sym none_too.1)
-      (λ (is : IsJudgedAt m k t y f). absurd (none.0 is.logged (subst (λ (l : List ℕ). StartsWithRecord m l is.logged) (sym left) is.starts) is.numbered)) other)
+      (λ (is : IsJudgedAt m k t y f). absurd (none.0 is.logged (subst (λ (l : List ℕ). StartsWithRecord m l is.logged) (sym left) is.starts) is.with_lsn)) other)
       (λ (is : IsJudgedAt m h s x e).
-      ⊎_elim (λ (none : BeginsNoRecord m y × (f ≡ BadFrame (t.frames.passed + (4 + t.done)))). absurd (none.0 is.logged (subst (λ (l : List ℕ). StartsWithRecord m l is.logged) left is.starts) is.numbered))
+      ⊎_elim (λ (none : BeginsNoRecord m y × (f ≡ BadFrame (t.frames.passed + (4 + t.done)))). absurd (none.0 is.logged (subst (λ (l : List ℕ). StartsWithRecord m l is.logged) left is.starts) is.with_lsn))
       (λ (too : IsJudgedAt m k t y f).
       let same : is.logged ≡ too.logged = one_record y is.logged too.logged (subst (λ (l : List ℕ). StartsWithRecord m l is.logged) left is.starts) too.starts in
       is.answer ∙ (λ i. answer_to (judge_behind m (history i) (same i))) ∙ sym too.answer) other) one

@@ -7,9 +7,9 @@ use Rattle.oper_core.specs.Meaning.{Meaning}
 use Rattle.oper_core.specs.State.{State}
 use Rattle.formats.specs.Records.{AreRecords}
 use Rattle.formats.specs.declared.record.Record.{Record}
-use Rattle.formats.specs.declared.record.Record.TheVariants.{Command as Logged_command, Identity as Logged_identity, Check as Logged_check}
+use Rattle.formats.specs.declared.record.Record.TheVariants.{Command as Logged_command, Identity as Logged_identity, Checkpoint as Logged_checkpoint}
 use Rattle.explain_core.specs.GraphLaws.{slice_get-take}
-use Rattle.explain_core.specs.History.{IsHistory, IsMember, Member, made_by, numbered, value_at}
+use Rattle.explain_core.specs.History.{IsHistory, IsMember, Member, made_by, with_lsn, value_at}
 use Rattle.explain_core.specs.History.Member.{Command, Identity}
 use Rattle.explain_core.specs.Stable.{IsStableOf, Stable}
 use Rattle.execution.specs.Judged.{Judged, first_refused, follows, is_refused, judge_behind, judge_member, may_follow, with_judged}
@@ -23,7 +23,7 @@ abbrev first_installed : ℕ → Bool
 first_installed n = n == 0
 
 abbrev pub parts_of : {O : Type 0} → List (Member O) → Stable O
-parts_of h = record { slots = λ x. record { id = 0; value = [] }; tables = []; base = 1; commands_before = 0; records = h }
+parts_of h = record { slots = λ x. record { lsn = 0; value = [] }; tables = []; base = 1; commands_before = 0; records = h }
 
 pub stable_parts : {O : Type 0} (m : Meaning O) (h : List (Member O)) → IsHistory m h → IsStableOf m (parts_of h) h first_installed
 stable_parts m h is = record {
@@ -45,11 +45,11 @@ stable_parts m h is = record {
 
 -- ---- the members of a history, one after the other
 
--- a record is the member that its number says; a check is none
+-- a record is the member that its LSN says; a checkpoint is none
 abbrev pub IsRecordOf : {O : Type 0} → List (Member O) → Record O → Type 0
-IsRecordOf h (Logged_command number op) = numbered h number ≡ Some (Command op)
-IsRecordOf h (Logged_identity number x value) = numbered h number ≡ Some (Identity x value)
-IsRecordOf h (Logged_check table) = ⊤
+IsRecordOf h (Logged_command lsn op) = with_lsn h lsn ≡ Some (Command op)
+IsRecordOf h (Logged_identity lsn x value) = with_lsn h lsn ≡ Some (Identity x value)
+IsRecordOf h (Logged_checkpoint table) = ⊤
 
 module _ {O : Type 0} where
   -- one member more of a list, where there is one
@@ -99,8 +99,8 @@ module _ {O : Type 0} (m : Meaning O) (h : List (Member O)) where
         cond-false (nat_lt (k + 1) end) Passed _ (le-ltb (k + 1) end (omega (arith, count))) ∙ cond-false (nat_lt end (k + 1)) (Gap end (k + 1)) _ (le-ltb end (k + 1) (omega (arith, count)))
         ∙ cond-true (may_follow m s member) (Taken member) (Differs (k + 1)) allowed
 
-    passed_before : (k number : ℕ) (member : Member O) → number ≤ k → k ≤ length h → judge_member m (λ x. value_at m (take k h) (length (take k h)) x) (length (take k h) + 1) number member ≡ Passed
-    passed_before k number member old within = cond-true (nat_lt number (length (take k h) + 1)) Passed _ (lt-ltb number (length (take k h) + 1) (omega (arith, old, within, length-take k h)))
+    passed_before : (k lsn : ℕ) (member : Member O) → lsn ≤ k → k ≤ length h → judge_member m (λ x. value_at m (take k h) (length (take k h)) x) (length (take k h) + 1) lsn member ≡ Passed
+    passed_before k lsn member old within = cond-true (nat_lt lsn (length (take k h) + 1)) Passed _ (lt-ltb lsn (length (take k h) + 1) (omega (arith, old, within, length-take k h)))
 
     -- ---- all records
 
@@ -119,7 +119,7 @@ module _ {O : Type 0} (m : Meaning O) (h : List (Member O)) where
           followed = cond-false (is_refused (judge_behind m (take k h) r)) _ _ not ∙ ap (λ (l : List (Member O)). follows m l records) next ∙ it.followed;
         }
 
-    -- a member's record, with its number
+    -- a member's record, with its LSN
     one_in_front : (k j : ℕ) (member : Member O) (r : Record O) (records : List (Record O)) → judge_behind m (take k h) r ≡ judge_member m (λ x. value_at m (take k h) (length (take k h)) x) (length (take k h) + 1) j member → k ≤ length h → 1 ≤ j → j ≤ k + 1
         → member ∷ members_of records ≡ take (suc (length (members_of records))) (drop (j - 1) h)
         → ((later : ℕ) → later ≤ length h → j ≤ later → LeadTo later (max later (j + length (members_of records))) records) → LeadTo k (max k (j - 1 + suc (length (members_of records)))) (r ∷ records)
@@ -143,35 +143,35 @@ module _ {O : Type 0} (m : Meaning O) (h : List (Member O)) where
 
     pub all_lead : (narrow : Meaning O) (from k j : ℕ) (records : List (Record O)) → AreRecords narrow from j records → k ≤ length h → 1 ≤ j → j ≤ k + 1 → members_of records ≡ take (length (members_of records)) (drop (j - 1) h) → LeadTo k (max k (j - 1 + length (members_of records))) records
     all_lead narrow from k j [] are within low high members = let total : k ≡ max k (j - 1 + 0) = omega (arith, high) in record { fine = refl; followed = ap (λ (n : ℕ). take n h) total }
-    all_lead narrow from k j (Logged_check table ∷ records) are within low high members = in_front k k (max k (j - 1 + length (members_of records))) (Logged_check table) records Passed refl refl refl (all_lead narrow from k j records are.2 within low high members)
-    all_lead narrow from k j (Logged_command number op ∷ records) are within low high members =
-        let at : number ≡ j = are.1.0 in
+    all_lead narrow from k j (Logged_checkpoint table ∷ records) are within low high members = in_front k k (max k (j - 1 + length (members_of records))) (Logged_checkpoint table) records Passed refl refl refl (all_lead narrow from k j records are.2 within low high members)
+    all_lead narrow from k j (Logged_command lsn op ∷ records) are within low high members =
+        let at : lsn ≡ j = are.1.0 in
         let so = ap (λ (i : ℕ). judge_member m (λ x. value_at m (take k h) (length (take k h)) x) (length (take k h) + 1) i (Command op)) at in
         let split = rest_is h (j - 1) (length (members_of records)) (Command op) (members_of records) members in
         let n = length (members_of records) in
         let after : suc (j - 1) ≡ j + 1 - 1 = omega (arith, low) in
         let behind = split.1 ∙ ap (λ (i : ℕ). take n (drop i h)) after in
         let total : (later : ℕ) → max later (j + 1 - 1 + n) ≡ max later (j + n) = λ later. omega arith in
-        one_in_front k j (Command op) (Logged_command number op) records so within low high members (λ later few old.
+        one_in_front k j (Command op) (Logged_command lsn op) records so within low high members (λ later few old.
         subst (λ (t : ℕ). LeadTo later t records) (total later) (all_lead narrow from later (j + 1) records are.2 few (omega arith) (omega (arith, old)) behind))
-    all_lead narrow from k j (Logged_identity number x value ∷ records) are within low high members =
-        let at : number ≡ j = are.1.0 in
+    all_lead narrow from k j (Logged_identity lsn x value ∷ records) are within low high members =
+        let at : lsn ≡ j = are.1.0 in
         let so = ap (λ (i : ℕ). judge_member m (λ x. value_at m (take k h) (length (take k h)) x) (length (take k h) + 1) i (Identity x value)) at in
         let split = rest_is h (j - 1) (length (members_of records)) (Identity x value) (members_of records) members in
         let n = length (members_of records) in
         let after : suc (j - 1) ≡ j + 1 - 1 = omega (arith, low) in
         let behind = split.1 ∙ ap (λ (i : ℕ). take n (drop i h)) after in
         let total : (later : ℕ) → max later (j + 1 - 1 + n) ≡ max later (j + n) = λ later. omega arith in
-        one_in_front k j (Identity x value) (Logged_identity number x value) records so within low high members (λ later few old.
+        one_in_front k j (Identity x value) (Logged_identity lsn x value) records so within low high members (λ later few old.
         subst (λ (t : ℕ). LeadTo later t records) (total later) (all_lead narrow from later (j + 1) records are.2 few (omega arith) (omega (arith, old)) behind))
 
     -- ---- some of its records, in any order
 
-    late_gap : (k number : ℕ) (member : Member O) → k ≤ length h → k + 1 < number → judge_member m (λ x. value_at m (take k h) (length (take k h)) x) (length (take k h) + 1) number member ≡ Gap (k + 1) number
-    late_gap k number member within late =
+    late_gap : (k lsn : ℕ) (member : Member O) → k ≤ length h → k + 1 < lsn → judge_member m (λ x. value_at m (take k h) (length (take k h)) x) (length (take k h) + 1) lsn member ≡ Gap (k + 1) lsn
+    late_gap k lsn member within late =
         let count : length (take k h) ≡ k = omega (arith, length-take k h, within) in
         let end = length (take k h) + 1 in
-        cond-false (nat_lt number end) Passed _ (le-ltb number end (omega (arith, count, late))) ∙ cond-true (nat_lt end number) (Gap end number) _ (lt-ltb end number (omega (arith, count, late))) ∙ ap (λ (n : ℕ). Gap (n + 1) number) count
+        cond-false (nat_lt lsn end) Passed _ (le-ltb lsn end (omega (arith, count, late))) ∙ cond-true (nat_lt end lsn) (Gap end lsn) _ (lt-ltb end lsn (omega (arith, count, late))) ∙ ap (λ (n : ℕ). Gap (n + 1) lsn) count
 
     -- what one of them is behind the first k members: it is there already, it is the next, or it leaves a gap
     pub data IsJudgedOf (k : ℕ) (r : Record O) : Type 0 where
@@ -179,7 +179,7 @@ module _ {O : Type 0} (m : Meaning O) (h : List (Member O)) where
       Due : (member : Member O) → k < length h → judge_behind m (take k h) r ≡ Taken member → take k h ++ member ∷ [] ≡ take (k + 1) h → IsJudgedOf k r
       Ahead : (got : ℕ) → judge_behind m (take k h) r ≡ Gap (k + 1) got → IsJudgedOf k r
 
-    member_judged : (k number : ℕ) (member : Member O) (r : Record O) → judge_behind m (take k h) r ≡ judge_member m (λ x. value_at m (take k h) (length (take k h)) x) (length (take k h) + 1) number member → k ≤ length h → numbered h number ≡ Some member → IsJudgedOf k r
+    member_judged : (k lsn : ℕ) (member : Member O) (r : Record O) → judge_behind m (take k h) r ≡ judge_member m (λ x. value_at m (take k h) (length (take k h)) x) (length (take k h) + 1) lsn member → k ≤ length h → with_lsn h lsn ≡ Some member → IsJudgedOf k r
     member_judged k zero member r is within there = cc
     member_judged k (suc i) member r is within there = elim (cases_lt i k) [
       | inl old ↦ IsJudgedOf.Behind (is ∙ passed_before k (suc i) member (omega (arith, old)) within)
@@ -196,9 +196,9 @@ module _ {O : Type 0} (m : Meaning O) (h : List (Member O)) where
     ]
 
     pub record_judged : (k : ℕ) → k ≤ length h → (r : Record O) → IsRecordOf h r → IsJudgedOf k r
-    record_judged k within (Logged_command number op) is = member_judged k number (Command op) (Logged_command number op) refl within is
-    record_judged k within (Logged_identity number x value) is = member_judged k number (Identity x value) (Logged_identity number x value) refl within is
-    record_judged k within (Logged_check table) is = IsJudgedOf.Behind refl
+    record_judged k within (Logged_command lsn op) is = member_judged k lsn (Command op) (Logged_command lsn op) refl within is
+    record_judged k within (Logged_identity lsn x value) is = member_judged k lsn (Identity x value) (Logged_identity lsn x value) refl within is
+    record_judged k within (Logged_checkpoint table) is = IsJudgedOf.Behind refl
 
     -- so they lead to first members of it
     pub record LeadWithin (k : ℕ) (records : List (Record O)) : Type 0 where

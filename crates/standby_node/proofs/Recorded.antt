@@ -13,9 +13,9 @@ use Rattle.formats.specs.Objects.{bounds_of}
 use Rattle.formats.specs.Records.{record_code, records_of}
 use Rattle.formats.specs.declared.params.Params.{Params}
 use Rattle.formats.specs.declared.record.Record.{Record}
-use Rattle.formats.specs.declared.record.Record.TheVariants.{Command as Logged_command, Identity as Logged_identity, Check as Logged_check}
+use Rattle.formats.specs.declared.record.Record.TheVariants.{Command as Logged_command, Identity as Logged_identity, Checkpoint as Logged_checkpoint}
 use Rattle.frame_stream.specs.FrameBuffer.{taken_by}
-use Rattle.log_frames.specs.LogView.{growth_of}
+use Rattle.log_blocks.specs.LogView.{growth_of}
 use Rattle.log_records.specs.Codec.{StartsWithRecord}
 use Rattle.explain_core.specs.History.{Member, commands_of}
 use Rattle.explain_core.specs.RunLaws.{Begins, begins-empty, begins-one}
@@ -23,12 +23,12 @@ use Rattle.explain_core.specs.Sound.{IsSound}
 use Rattle.explain_core.specs.World.{IsLive, Step, World, end_of, run, step}
 use Rattle.explain_core.specs.World.Step.{Append}
 use Rattle.execution.specs.Courses.{needed}
-use Rattle.execution.specs.Following.{IsNumbered, ending_of_follow, follow_course, grown_by, judge_in, judged_course}
+use Rattle.execution.specs.Following.{HasLsn, ending_of_follow, follow_course, grown_by, judge_in, judged_course}
 use Rattle.execution.specs.Judged.{Judged, first_refused, follows, is_refused, judge_behind, with_judged}
 use Rattle.execution.specs.Judged.Judged.{Passed, Taken, Gap, Differs}
 use Rattle.execution.specs.declared.record_err.RecordErr.{RecordErr}
 use Rattle.execution.specs.declared.record_err.RecordErr.TheVariants as of_record
-use Rattle.running_store.specs.Appended.{next_number}
+use Rattle.running_store.specs.Appended.{next_lsn}
 use Rattle.running_store.specs.Buffered.{buffered_shown, room_none}
 use Rattle.running_store.specs.Calls.{IsFailed}
 use Rattle.running_store.specs.Courses.{Course, buffered, course, record_length, records_length, room_steps, tables_length, waits}
@@ -65,11 +65,11 @@ same_world meaning p first bytes old new before after f there = record {
   shows = there;
   fine = f.fine;
   members = f.members;
-  no_check = f.no_check;
+  no_checkpoint = f.no_checkpoint;
   forced = f.forced;
 }
 
-module _ {O : Type 0} (meaning : Bounds → Meaning O) (old new : Disk) (before : StandbyView) (after : EngineView) (size : ℕ) (whole : HasWholeFrame before size) (left : before.done < size) (r : Record O) (numbered : IsNumbered r)
+module _ {O : Type 0} (meaning : Bounds → Meaning O) (old new : Disk) (before : StandbyView) (after : EngineView) (size : ℕ) (whole : HasWholeFrame before size) (left : before.done < size) (r : Record O) (with_lsn : HasLsn r)
     (p : Params) (first : List (Member O)) (bytes : List ℕ) (f : IsFollowing meaning p first bytes old before) (starts : StartsWithRecord (meaning_in meaning p) (left_of before size) r)
     (judges : judge_in (meaning_in meaning p) f.world r ≡ judge_behind (meaning_in meaning p) f.world.history r) where
   abbrev m : Meaning O
@@ -99,7 +99,7 @@ module _ {O : Type 0} (meaning : Bounds → Meaning O) (old new : Disk) (before 
   waits_little : length before.engine.parts.log.log.pending ≤ before.done
   waits_little =
       let counted : length before.engine.parts.log.log.pending ≡ records_length m (drop w.forced w.history) + tables_length m w.pending = buffered_shown m old before.engine.parts.log (ungrouped w) shown.log in
-      let tables : tables_length m w.pending ≡ 0 = ap (λ l. tables_length m l) f.no_check in
+      let tables : tables_length m w.pending ≡ 0 = ap (λ l. tables_length m l) f.no_checkpoint in
       let rest = behind meaning p first bytes old before f in
       let few : records_length m (drop w.forced w.history) ≤ before.done = ⊎_elim
       (λ same.
@@ -151,7 +151,7 @@ module _ {O : Type 0} (meaning : Bounds → Meaning O) (old new : Disk) (before 
     | inr room ↦ inr (member, is, append_course member is room)
   ]
   steps_by (Gap expected got) is = inl (ap (λ (j : Judged O). (judged_course m j w used).steps) is)
-  steps_by (Differs number) is = inl (ap (λ (j : Judged O). (judged_course m j w used).steps) is)
+  steps_by (Differs lsn) is = inl (ap (λ (j : Judged O). (judged_course m j w used).steps) is)
 
   -- ---- what is shown after it
 
@@ -171,7 +171,7 @@ module _ {O : Type 0} (meaning : Bounds → Meaning O) (old new : Disk) (before 
       ⊎_elim (λ nothing. subst shows nothing there)
       (λ all.
       let after_it : ShowsIn meaning p new after (step m w (Append one.0)) = subst shows all there in
-      absurd (omega (arith, same, next_number m p old before.engine.parts (ungrouped w) shown, next_number m p new after.parts (ungrouped (step m w (Append one.0))) after_it.shows, length-append w.history (one.0 ∷ []))))
+      absurd (omega (arith, same, next_lsn m p old before.engine.parts (ungrouped w) shown, next_lsn m p new after.parts (ungrouped (step m w (Append one.0))) after_it.shows, length-append w.history (one.0 ∷ []))))
       (begins-one (Append one.0) taken (subst (λ (l : List (Step O)). Begins l taken) one.2 begins))) few
 
   -- ---- the standby goes on
@@ -184,7 +184,7 @@ module _ {O : Type 0} (meaning : Bounds → Meaning O) (old new : Disk) (before 
 
   following_more : (j : Judged O) → judge_in m w r ≡ j → is_refused j ≡ false → (v : World O) → ShowsIn meaning p new after v → v.history ≡ with_judged w.history j → v.pending ≡ [] → v.forced ≡ w.forced
       → IsFollowing meaning p first bytes new followed
-  following_more j is fine v there history no_check forced =
+  following_more j is fine v there history no_checkpoint forced =
       let behind_it : judge_behind m (follows m first (gone ++ f.begun)) r ≡ j = ap (λ (h : List (Member O)). judge_behind m h r) (sym f.members) ∙ sym judges ∙ is in
       let more = one_more m first (gone ++ f.begun) r j f.fine behind_it fine in
       let all : (gone ++ f.begun) ++ r ∷ [] ≡ gone ++ (f.begun ++ r ∷ []) = append_assoc gone f.begun (r ∷ []) in
@@ -194,12 +194,12 @@ module _ {O : Type 0} (meaning : Bounds → Meaning O) (old new : Disk) (before 
         begun = f.begun ++ r ∷ [];
         passed = f.passed;
         frames_are = f.frames_are;
-        in_hand = begun_more m before f.begun f.in_hand size whole left r starts numbered;
+        in_hand = begun_more m before f.begun f.in_hand size whole left r starts with_lsn;
         world = v;
         shows = there;
         fine = ap (λ (rs : List (Record O)). first_refused m first rs) (sym all) ∙ more.1;
         members = history ∙ ap (λ (h : List (Member O)). with_judged h j) f.members ∙ sym more.0 ∙ ap (λ (rs : List (Record O)). follows m first rs) all;
-        no_check = no_check;
+        no_checkpoint = no_checkpoint;
         forced = ⊎_elim (λ same. inl (forced ∙ same)) (λ both. absurd (not_whole m before f.begun f.in_hand size whole left both.0)) f.forced;
       }
 
@@ -207,7 +207,7 @@ module _ {O : Type 0} (meaning : Bounds → Meaning O) (old new : Disk) (before 
   following_taken : (member : Member O) → judge_in m w r ≡ Taken member → c.steps ≡ Append member ∷ [] → ShowsIn meaning p new after (run m w c.steps) → IsFollowing meaning p first bytes new followed
   unfolding run step
   following_taken member is steps there =
-      following_more (Taken member) is refl (step m w (Append member)) (subst (λ (l : List (Step O)). ShowsIn meaning p new after (run m w l)) steps there) refl f.no_check refl
+      following_more (Taken member) is refl (step m w (Append member)) (subst (λ (l : List (Step O)). ShowsIn meaning p new after (run m w l)) steps there) refl f.no_checkpoint refl
 
   -- ---- as many commands are stable
 
@@ -243,7 +243,7 @@ module _ {O : Type 0} (meaning : Bounds → Meaning O) (old new : Disk) (before 
     next = comes_next refusing size whole left;
     logged = r;
     starts = starts;
-    numbered = numbered;
+    with_lsn = with_lsn;
     judged_so = sym judges ∙ is;
   }
 
@@ -261,7 +261,7 @@ module _ {O : Type 0} (meaning : Bounds → Meaning O) (old new : Disk) (before 
       let is : judge_in m w r ≡ Passed = it.in_world p w f.shows in
       let none : c.steps ≡ [] = ap (λ (j : Judged O). (judged_course m j w used).steps) is in
       let there = shown_still none (it.takes.follows p w f.shows).1.shows in
-      (following_more Passed is refl w there refl f.no_check refl, rising_still there)
+      (following_more Passed is refl w there refl f.no_checkpoint refl, rising_still there)
   by_answer (Ok true) it =
       let why = it.in_world p w f.shows in
       let member = why.0 in
@@ -275,11 +275,11 @@ module _ {O : Type 0} (meaning : Bounds → Meaning O) (old new : Disk) (before 
       let none : c.steps ≡ [] = ap (λ (j : Judged O). (judged_course m j w used).steps) is in
       let there = shown_still none (it.takes.follows p w f.shows).1.shows in
       (record { following = following_same there; refused = judged_next (Gap expected got) is }, rising_still there)
-  by_answer (Err (of_record.Differs number)) it =
-      let is : judge_in m w r ≡ Differs number = it.in_world p w f.shows in
+  by_answer (Err (of_record.Differs lsn)) it =
+      let is : judge_in m w r ≡ Differs lsn = it.in_world p w f.shows in
       let none : c.steps ≡ [] = ap (λ (j : Judged O). (judged_course m j w used).steps) is in
       let there = shown_still none (it.takes.follows p w f.shows).1.shows in
-      (record { following = following_same there; refused = judged_next (Differs number) is }, rising_still there)
+      (record { following = following_same there; refused = judged_next (Differs lsn) is }, rising_still there)
   by_answer (Err (of_record.LogFull held need limit)) it =
       let why = it.in_world p w f.shows in
       let member = why.0 in
@@ -320,7 +320,7 @@ step_of (Err e) = Err (follow_from_record e)
 failed_so : (answer : Result Bool RecordErr) → IsFailed (ending_of_follow answer) ↔ IsErrOf (step_of answer) DiskFault
 failed_so (Ok taken) = (λ failed. absurd failed, λ same. cc)
 failed_so (Err (of_record.Gap expected got)) = (λ failed. absurd failed, λ same. cc)
-failed_so (Err (of_record.Differs number)) = (λ failed. absurd failed, λ same. cc)
+failed_so (Err (of_record.Differs lsn)) = (λ failed. absurd failed, λ same. cc)
 failed_so (Err (of_record.LogFull used need limit)) = (λ failed. absurd failed, λ same. cc)
 failed_so (Err of_record.DiskFault) = (λ failed. refl, λ same. tt)
 failed_so (Err (of_record.Damaged file place)) = (λ failed. absurd failed, λ same. cc)
@@ -329,16 +329,16 @@ failed_so (Err of_record.Memory) = (λ failed. absurd failed, λ same. cc)
 damaged_so : (answer : Result Bool RecordErr) (file : FileNo) (place : ℕ) → IsErrOf (step_of answer) (Damaged file place) → IsErrOf answer (of_record.Damaged file place)
 damaged_so (Ok taken) file place same = cc
 damaged_so (Err (of_record.Gap expected got)) file place same = cc
-damaged_so (Err (of_record.Differs number)) file place same = cc
+damaged_so (Err (of_record.Differs lsn)) file place same = cc
 damaged_so (Err (of_record.LogFull used need limit)) file place same = cc
 damaged_so (Err of_record.DiskFault) file place same = cc
 damaged_so (Err (of_record.Damaged f n)) file place same = cc
 damaged_so (Err of_record.Memory) file place same = cc
 
 pub some_bytes : {O : Type 0} (m : Meaning O) (r : Record O) → 0 < length (record_code m r)
-some_bytes m (Logged_command number op) = omega arith
-some_bytes m (Logged_identity number x value) = omega arith
-some_bytes m (Logged_check table) = omega arith
+some_bytes m (Logged_command lsn op) = omega arith
+some_bytes m (Logged_identity lsn x value) = omega arith
+some_bytes m (Logged_checkpoint table) = omega arith
 
 -- records are judged on the values of a live world as behind its history
 abbrev pub Judges : {O : Type 0} → (Bounds → Meaning O) → Record O → Type 0
@@ -360,7 +360,7 @@ module _ {O : Type 0} (meaning : Bounds → Meaning O) (old new : Disk) (before 
   not_read (Damaged file place) is lawful unbroken stand = absurd is
   not_read (Stopped place) is lawful unbroken stand = absurd is
 
-  module _ (r : Record O) (numbered : IsNumbered r) (begins : StartsWithRecord (with (params_of before.engine)) (left_of before size) r) (judges : Judges meaning r) (stand : Stand meaning) where
+  module _ (r : Record O) (with_lsn : HasLsn r) (begins : StartsWithRecord (with (params_of before.engine)) (left_of before size) r) (judges : Judges meaning r) (stand : Stand meaning) where
     abbrev pub left_by : Result Bool RecordErr → StandbyView
     left_by (Ok taken) = record before { engine = after; done = before.done + length (record_code (with (params_of before.engine)) r) }
     left_by (Err e) = record before { engine = after }
@@ -375,18 +375,18 @@ module _ {O : Type 0} (meaning : Bounds → Meaning O) (old new : Disk) (before 
       judged_so : judge_in (with p) f.world r ≡ judge_behind (with p) f.world.history r
       judged_so = judges (bounds_of p) f.world f.shows.sound f.shows.shows.running.live
 
-      leaves : (answer : Result Bool RecordErr) → HasFollowed meaning old new before.engine after r answer → LeavesSo meaning old new before after size whole left r numbered p first bytes f starts judged_so answer
-      leaves answer it = by_answer meaning old new before after size whole left r numbered p first bytes f starts judged_so answer it
+      leaves : (answer : Result Bool RecordErr) → HasFollowed meaning old new before.engine after r answer → LeavesSo meaning old new before after size whole left r with_lsn p first bytes f starts judged_so answer
+      leaves answer it = by_answer meaning old new before after size whole left r with_lsn p first bytes f starts judged_so answer it
 
       still : (answer : Result Bool RecordErr) → HasFollowed meaning old new before.engine after r answer → Stays old new
-      still answer it = it.quiet (subst (λ (q : Params). length before.engine.parts.log.log.pending + length (record_code (with q) r) ≤ 2 ^ 30) (sym here) (fits meaning old new before after size whole left r numbered p first bytes f starts judged_so))
+      still answer it = it.quiet (subst (λ (q : Params). length before.engine.parts.log.log.pending + length (record_code (with q) r) ≤ 2 ^ 30) (sym here) (fits meaning old new before after size whole left r with_lsn p first bytes f starts judged_so))
 
       follows_so : (answer : Result Bool RecordErr) → HasFollowed meaning old new before.engine after r answer → FollowsStep meaning AnyWorld p first bytes new (left_by answer) (step_of answer)
       follows_so (Ok taken) it =
           let n_is = λ (q : Params). record before { engine = after; done = before.done + length (record_code (with q) r) } in
           (subst (λ (q : Params). IsFollowing meaning p first bytes new (n_is q)) (sym here) (leaves (Ok taken) it).0, tt)
       follows_so (Err (of_record.Gap expected got)) it = (leaves (Err (of_record.Gap expected got)) it).0
-      follows_so (Err (of_record.Differs number)) it = (leaves (Err (of_record.Differs number)) it).0
+      follows_so (Err (of_record.Differs lsn)) it = (leaves (Err (of_record.Differs lsn)) it).0
       follows_so (Err (of_record.LogFull used need limit)) it = (leaves (Err (of_record.LogFull used need limit)) it).0
       follows_so (Err of_record.DiskFault) it = tt
       follows_so (Err (of_record.Damaged file place)) it = absurd (it.in_world p f.world f.shows)
@@ -395,7 +395,7 @@ module _ {O : Type 0} (meaning : Bounds → Meaning O) (old new : Disk) (before 
       rises_so : (answer : Result Bool RecordErr) → HasFollowed meaning old new before.engine after r answer → IsErrOf (step_of answer) DiskFault ⊎ (forced_in before.engine ≤ forced_in after)
       rises_so (Ok taken) it = inr (leaves (Ok taken) it).1
       rises_so (Err (of_record.Gap expected got)) it = inr (leaves (Err (of_record.Gap expected got)) it).1
-      rises_so (Err (of_record.Differs number)) it = inr (leaves (Err (of_record.Differs number)) it).1
+      rises_so (Err (of_record.Differs lsn)) it = inr (leaves (Err (of_record.Differs lsn)) it).1
       rises_so (Err (of_record.LogFull used need limit)) it = inr (leaves (Err (of_record.LogFull used need limit)) it).1
       rises_so (Err of_record.DiskFault) it = inl refl
       rises_so (Err (of_record.Damaged file place)) it = absurd (it.in_world p f.world f.shows)
@@ -438,7 +438,7 @@ module _ {O : Type 0} (meaning : Bounds → Meaning O) (old new : Disk) (before 
     record_refused e it = step_with (Err e) (left_by (Err e)) refl it refl refl refl tt
 
 -- The same of a standby that is told apart into its parts.
-module _ {O : Type 0} (meaning : Bounds → Meaning O) (old new : Disk) (now parts : StandbyView) (same : parts ≡ now) (after : EngineView) (size : ℕ) (whole : HasWholeFrame now size) (left : now.done < size) (r : Record O) (numbered : IsNumbered r)
+module _ {O : Type 0} (meaning : Bounds → Meaning O) (old new : Disk) (now parts : StandbyView) (same : parts ≡ now) (after : EngineView) (size : ℕ) (whole : HasWholeFrame now size) (left : now.done < size) (r : Record O) (with_lsn : HasLsn r)
     (begins : StartsWithRecord (meaning_in meaning (params_of now.engine)) (left_of now size) r) where
   abbrev Given : StandbyView → Type 0 → Type 0
   Given s P = HasWholeFrame s size → s.done < size → StartsWithRecord (meaning_in meaning (params_of s.engine)) (left_of s size) r → P
@@ -461,7 +461,7 @@ module _ {O : Type 0} (meaning : Bounds → Meaning O) (old new : Disk) (now par
   pub refused_from : Judges meaning r → Stand meaning → (e : RecordErr) → HasFollowed meaning old new parts.engine after r (Err e) → IsRecordFollowed meaning old new now (record parts { engine = after }) size (Err (follow_from_record e))
   refused_from judges stand e it =
       subst (λ (s : StandbyView). Given s (IsRecordFollowed meaning old new s (record parts { engine = after }) size (Err (follow_from_record e)))) same
-      (λ whole left begins. record_refused meaning old new parts after size whole left r numbered begins judges stand e it) whole left begins
+      (λ whole left begins. record_refused meaning old new parts after size whole left r with_lsn begins judges stand e it) whole left begins
 
   pub followed_from : Judges meaning r → Stand meaning → (n : ℕ) → n ≡ length (record_code (meaning_in meaning (params_of now.engine)) r) → (taken : Bool) → HasFollowed meaning old new parts.engine after r (Ok taken)
       → IsRecordFollowed meaning old new now (record parts { engine = after; done = parts.done + n }) size (Ok tt)
@@ -469,7 +469,7 @@ module _ {O : Type 0} (meaning : Bounds → Meaning O) (old new : Disk) (now par
       let long : n ≡ length (record_code (meaning_in meaning (params_of parts.engine)) r) = is ∙ ap (λ (s : StandbyView). length (record_code (meaning_in meaning (params_of s.engine)) r)) (sym same) in
       subst (λ (k : ℕ). IsRecordFollowed meaning old new now (record parts { engine = after; done = parts.done + k }) size (Ok tt)) (sym long)
       (subst (λ (s : StandbyView). Given s (IsRecordFollowed meaning old new s (record parts { engine = after; done = parts.done + length (record_code (meaning_in meaning (params_of parts.engine)) r) }) size (Ok tt))) same
-      (λ whole left begins. record_followed meaning old new parts after size whole left r numbered begins judges stand taken it) whole left begins)
+      (λ whole left begins. record_followed meaning old new parts after size whole left r with_lsn begins judges stand taken it) whole left begins)
 
 -- no frame can be read
 pub no_frame_read : {O : Type 0} (meaning : Bounds → Meaning O) (d : Disk) → IsDisk d → (s : StandbyView) → s.engine.broken ≡ false → Stand meaning → (Reached : Type 0) (Left : Meaning O → World O → Type 0) (e : FollowErr) → IsReading s (Err e)

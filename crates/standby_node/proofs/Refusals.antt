@@ -15,7 +15,7 @@ use Rattle.frame_stream.specs.Frames.{HasBadLength, IsFrameLength, IsUnfinished,
 use Rattle.frame_stream.specs.Laws.{frame_cancel, length_stands}
 use Rattle.log_records.specs.Codec.{StartsWithRecord}
 use Rattle.explain_core.specs.History.{Member}
-use Rattle.execution.specs.Following.{IsNumbered}
+use Rattle.execution.specs.Following.{HasLsn}
 use Rattle.execution.specs.Judged.{Judged, first_refused, follows, is_refused, judge_behind, with_judged}
 use Rattle.execution.specs.Judged.Judged.{Passed, Taken, Gap as Leaves_gap, Differs as Is_different}
 use Rattle.store_engine.specs.Store.{meaning_in}
@@ -165,7 +165,7 @@ module _ {O : Type 0} (m : Meaning O) (h : List (Member O)) (s : StandbyView) wh
   pub record IsJudgedAt (left : List ℕ) (e : FollowErr) : Type 0 where
     pub logged : Record O
     pub starts : StartsWithRecord m left logged
-    pub numbered : IsNumbered logged
+    pub with_lsn : HasLsn logged
     pub refused : is_refused (judge_behind m h logged) ≡ true
     pub answer : e ≡ answer_to (judge_behind m h logged)
 
@@ -178,7 +178,7 @@ module _ {O : Type 0} (m : Meaning O) (h : List (Member O)) (s : StandbyView) wh
   HasReason e = (HasBadLength s.frames.kept × (e ≡ BadFrame s.frames.passed)) ⊎ ((left : List ℕ) × ComeNext s left × IsRefusedAt left e)
 
   judged_reason : (j : Judged O) → is_refused j ≡ true → IsJudgedNext m h s j → HasReason (answer_to j)
-  judged_reason j refused is = inr (is.rest, is.next, inr (record { logged = is.logged; starts = is.starts; numbered = is.numbered; refused = ap is_refused is.judged_so ∙ refused; answer = ap answer_to (sym is.judged_so) }))
+  judged_reason j refused is = inr (is.rest, is.next, inr (record { logged = is.logged; starts = is.starts; with_lsn = is.with_lsn; refused = ap is_refused is.judged_so ∙ refused; answer = ap answer_to (sym is.judged_so) }))
 
   pub reason : (e : FollowErr) → HasRefused m h s e → IsOfStream e → HasReason e
   reason (BadFrame place) refused stream =

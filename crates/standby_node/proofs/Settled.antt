@@ -1,24 +1,24 @@
--- Worlds of which all members are stable and no check waits, and the calls that leave such ones.
+-- Worlds of which all members are stable and no checkpoint waits, and the calls that leave such ones.
 use Rattle.std.proofs.Common.{◌≡◌, sym, subst, ap, ℕ, zero, suc, ◌≤◌, Bool, false, ◌+◌, List, [], ◌∷◌, ◌++◌, length, take, refl, arith, length-take}
 use Rattle.std.specs.Prelude.{⊤, ◌^◌, nat_lt, nat_le, if◌then◌else◌}
 use Rattle.std.proofs.lemmas.Bool.{cond_both, ltb-false, or_parts}
 use Rattle.oper_core.specs.Meaning.{Meaning}
-use Rattle.formats.specs.Limits.{log_limit, numbers_end}
+use Rattle.formats.specs.Limits.{log_limit, lsn_end}
 use Rattle.install_order.specs.Computed.{least_below, some_below}
 use Rattle.explain_core.specs.History.{Member}
 use Rattle.explain_core.specs.RunLaws.{Begins, begins-each, run-append}
 use Rattle.explain_core.specs.Turns.{has_thin, has_work, must_install, thin_name, thin_steps, turn, turns}
 use Rattle.explain_core.specs.World.{Starts, Step, World, node_named, run, step}
-use Rattle.explain_core.specs.World.Step.{Begin, End, Append, Block_gate, Check, Slot_gate, Removal, Header_gate, Replay, Crash}
+use Rattle.explain_core.specs.World.Step.{Begin, End, Append, Block_gate, Checkpoint, Slot_gate, Removal, Header_gate, Replay, Crash}
 use Rattle.running_store.specs.Courses.{Course, buffered, course, force_steps, grown, is_through, room_steps, waits}
 use Rattle.running_store.specs.Courses.Stop.{Full, Through, Worn}
-use Rattle.running_store.specs.Rewrites.{check_length, new_base, rewrite_course, trimmed, trimmed_file}
-use Rattle.checkpointing.specs.Courses.{check_course, check_steps, checkpoint_course, logged_course, trim_course}
+use Rattle.running_store.specs.Rewrites.{checkpoint_length, new_base, rewrite_course, trimmed, trimmed_file}
+use Rattle.checkpointing.specs.Courses.{taking_course, checkpoint_steps, checkpoint_course, logged_course, trim_course}
 use Rattle.redo_pass.specs.Redo.{redo_steps}
 use Rattle.restart.specs.Courses.{redo_course, restart_course}
 use Rattle.store_engine.specs.Following.{thin_course}
 
--- the world has these members, all of them stable, and no check waits
+-- the world has these members, all of them stable, and no checkpoint waits
 pub record IsSettledAt {O : Type 0} (h : List (Member O)) (w : World O) : Type 0 where
   pub history : w.history ≡ h
   pub forced : w.forced ≡ length h
@@ -30,7 +30,7 @@ IsCalm Begin = ⊥
 IsCalm End = ⊥
 IsCalm (Append member) = ⊥
 IsCalm Block_gate = ⊤
-IsCalm Check = ⊥
+IsCalm Checkpoint = ⊥
 IsCalm (Slot_gate node x) = ⊤
 IsCalm (Removal node) = ⊤
 IsCalm (Header_gate base) = ⊤
@@ -56,7 +56,7 @@ module _ {O : Type 0} (m : Meaning O) where
   step_settled h w End calm is = absurd calm
   step_settled h w (Append member) calm is = absurd calm
   step_settled h w Block_gate calm is = record { history = is.history; forced = ap (λ (l : List (Member O)). length l) is.history; none = refl }
-  step_settled h w Check calm is = absurd calm
+  step_settled h w Checkpoint calm is = absurd calm
   step_settled h w (Slot_gate node x) calm is = record { history = is.history; forced = is.forced; none = is.none }
   step_settled h w (Removal node) calm is = record { history = is.history; forced = is.forced; none = is.none }
   step_settled h w (Header_gate base) calm is = record { history = is.history; forced = is.forced; none = refl }
@@ -94,7 +94,7 @@ module _ {O : Type 0} (m : Meaning O) where
       let parts = or_parts (nat_lt w.forced (length w.history)) (nat_lt 0 (length w.pending)) none in
       record { history = refl; forced = omega (arith, within, ltb-false _ _ parts.0); none = no_tables w.pending parts.1 })
 
-  -- ---- a check
+  -- ---- a checkpoint
 
   room_calm : (w : World O) (n : ℕ) → AreCalm (room_steps m w n)
   room_calm w n = cond_both (nat_lt (2 ^ 30) (buffered m w + n)) (force_steps m w) [] (λ (l : List (Step O)). AreCalm l) (λ is. force_calm w) (λ is. tt)
@@ -102,23 +102,23 @@ module _ {O : Type 0} (m : Meaning O) where
   logged_settled : (h : List (Member O)) (w : World O) (used : ℕ) → IsSettledAt h w → IsSettledAt h (run m w (logged_course m w used).steps)
   unfolding run step
   logged_settled h w used is =
-      let n = check_length m w in
-      cond_both (nat_lt log_limit (grown m w used n)) (course [] used (Full used (n + 5) log_limit)) (course check_steps (grown m w used n) Through) (λ (c : Course O). IsSettledAt h (run m w c.steps)) (λ full. is)
+      let n = checkpoint_length m w in
+      cond_both (nat_lt log_limit (grown m w used n)) (course [] used (Full used (n + 5) log_limit)) (course checkpoint_steps (grown m w used n) Through) (λ (c : Course O). IsSettledAt h (run m w c.steps)) (λ full. is)
       (λ room. record { history = is.history; forced = ap (λ (l : List (Member O)). length l) is.history; none = refl })
 
-  pub check_settled : (h : List (Member O)) (w : World O) (used : ℕ) → IsSettledAt h w → IsSettledAt h (run m w (check_course m w used).steps)
-  check_settled h w used is =
-      let room : List (Step O) = room_steps m w (check_length m w) in
+  pub taking_settled : (h : List (Member O)) (w : World O) (used : ℕ) → IsSettledAt h w → IsSettledAt h (run m w (taking_course m w used).steps)
+  taking_settled h w used is =
+      let room : List (Step O) = room_steps m w (checkpoint_length m w) in
       let v : World O = run m w room in
-      subst (λ (u : World O). IsSettledAt h u) (sym (run-append m w room (logged_course m v used).steps)) (logged_settled h v used (run_settled h w room (room_calm w (check_length m w)) is))
+      subst (λ (u : World O). IsSettledAt h u) (sym (run-append m w room (logged_course m v used).steps)) (logged_settled h v used (run_settled h w room (room_calm w (checkpoint_length m w)) is))
 
   pub checkpoint_settled : (h : List (Member O)) (w : World O) (used : ℕ) → IsSettledAt h w → IsSettledAt h (run m w (checkpoint_course m w used).steps)
   checkpoint_settled h w used is =
-      let c : Course O = check_course m w used in
+      let c : Course O = taking_course m w used in
       let v : World O = run m w c.steps in
-      let checked = check_settled h w used is in
-      cond_both (is_through c.stop) c (course (c.steps ++ force_steps m v) c.used c.stop) (λ (k : Course O). IsSettledAt h (run m w k.steps)) (λ through. checked)
-      (λ stopped. subst (λ (u : World O). IsSettledAt h u) (sym (run-append m w c.steps (force_steps m v))) (run_settled h v (force_steps m v) (force_calm v) checked))
+      let checkpointed = taking_settled h w used is in
+      cond_both (is_through c.stop) c (course (c.steps ++ force_steps m v) c.used c.stop) (λ (k : Course O). IsSettledAt h (run m w k.steps)) (λ through. checkpointed)
+      (λ stopped. subst (λ (u : World O). IsSettledAt h u) (sym (run-append m w c.steps (force_steps m v))) (run_settled h v (force_steps m v) (force_calm v) checkpointed))
 
   -- ---- a trim
 
@@ -129,7 +129,7 @@ module _ {O : Type 0} (m : Meaning O) where
   pub trim_calm : (epoch : ℕ) (w : World O) (used : ℕ) → AreCalm (trim_course m epoch w used).steps
   trim_calm epoch w used =
       let v : World O = run m w (force_steps m w) in
-      cond_both (nat_le numbers_end epoch) (course [] used (Worn epoch)) (course (force_steps m w ++ (rewrite_course m v used).steps) (rewrite_course m v used).used (rewrite_course m v used).stop) (λ (c : Course O). AreCalm c.steps) (λ is. tt)
+      cond_both (nat_le lsn_end epoch) (course [] used (Worn epoch)) (course (force_steps m w ++ (rewrite_course m v used).steps) (rewrite_course m v used).used (rewrite_course m v used).stop) (λ (c : Course O). AreCalm c.steps) (λ is. tt)
       (λ is. calm_append (force_steps m w) (rewrite_course m v used).steps (force_calm w) (rewrite_calm v used))
 
   -- ---- a restart
@@ -157,4 +157,4 @@ module _ {O : Type 0} (m : Meaning O) where
       let first : List (Step O) = (redo_course m limit w used).steps in
       let v : World O = run m w first in
       let begun = run_settled h (step m w Crash) (redo_steps m limit (step m w Crash)) (turns_calm limit _ (step m w Crash)) (crash_settled w within) in
-      subst (λ (u : World O). IsSettledAt h u) (sym (run-append m w first (check_course m v used).steps)) (check_settled h v used begun)
+      subst (λ (u : World O). IsSettledAt h u) (sym (run-append m w first (taking_course m v used).steps)) (taking_settled h v used begun)

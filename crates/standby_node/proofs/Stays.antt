@@ -4,9 +4,9 @@ use Rattle.std.specs.Prelude.{slice_get}
 use Rattle.std.proofs.Math.Seq.{take-length}
 use Rattle.std.proofs.lemmas.List.{append-nil, take-append-le, take-take}
 use Rattle.oper_core.specs.Meaning.{Meaning}
-use Rattle.explain_core.specs.History.{Member, numbered}
+use Rattle.explain_core.specs.History.{Member, with_lsn}
 use Rattle.explain_core.specs.World.{Step, World, run, step}
-use Rattle.explain_core.specs.World.Step.{Begin, End, Append, Block_gate, Check, Slot_gate, Removal, Header_gate, Replay, Crash}
+use Rattle.explain_core.specs.World.Step.{Begin, End, Append, Block_gate, Checkpoint, Slot_gate, Removal, Header_gate, Replay, Crash}
 use Rattle.standby_node.specs.OnePrimary.{IsFront, stable_in}
 
 pub front_of_front : {A : Type 0} (xs ys zs : List A) → IsFront xs ys → IsFront ys zs → IsFront xs zs
@@ -23,9 +23,9 @@ front_at (y ∷ front) more zero x is = is
 front_at (y ∷ front) more (suc i) x is = front_at front more i x is
 
 module _ {O : Type 0} where
-  pub front_numbered : (front all : List (Member O)) → IsFront front all → (n : ℕ) (member : Member O) → numbered front n ≡ Some member → numbered all n ≡ Some member
-  front_numbered front all is zero member there = cc
-  front_numbered front all is (suc n) member there = ap (λ (h : List (Member O)). slice_get h n) is.1 ∙ front_at front is.0 n member there
+  pub front_with_lsn : (front all : List (Member O)) → IsFront front all → (n : ℕ) (member : Member O) → with_lsn front n ≡ Some member → with_lsn all n ≡ Some member
+  front_with_lsn front all is zero member there = cc
+  front_with_lsn front all is (suc n) member there = ap (λ (h : List (Member O)). slice_get h n) is.1 ∙ front_at front is.0 n member there
 
 module _ {O : Type 0} (m : Meaning O) where
   -- the stable members of one world are a front of another's, which has no more stable ones than members
@@ -46,7 +46,7 @@ module _ {O : Type 0} (m : Meaning O) where
     within = omega (arith, within, length-append w.history (member ∷ []));
   }
   step_grown w Block_gate within = record { front = (drop w.forced w.history, take-length w.history ∙ sym (take-append-drop w.forced w.history)); within = omega arith }
-  step_grown w Check within = record { front = whole_front (stable_in w); within = within }
+  step_grown w Checkpoint within = record { front = whole_front (stable_in w); within = within }
   step_grown w (Slot_gate node x) within = record { front = whole_front (stable_in w); within = within }
   step_grown w (Removal node) within = record { front = whole_front (stable_in w); within = within }
   step_grown w (Header_gate base) within = record { front = whole_front (stable_in w); within = within }

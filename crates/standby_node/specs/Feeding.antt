@@ -12,12 +12,12 @@ use Rattle.formats.specs.declared.params.Params.{Params}
 use Rattle.formats.specs.declared.record.Record.{Record}
 use Rattle.frame_stream.specs.Frames.{frame, frames, HasBadLength}
 use Rattle.frame_stream.specs.FrameBuffer.{taken_by}
-use Rattle.log_frames.specs.LogView.{growth_of}
+use Rattle.log_blocks.specs.LogView.{growth_of}
 use Rattle.log_records.specs.Codec.{StartsWithRecord}
 use Rattle.explain_core.specs.History.{Member, commands_of}
 use Rattle.explain_core.specs.Turns.{count_below, dirty_in, has_thin, thin_steps}
 use Rattle.explain_core.specs.World.{World, end_of, run}
-use Rattle.execution.specs.Following.{IsNumbered, follow_course}
+use Rattle.execution.specs.Following.{HasLsn, follow_course}
 use Rattle.execution.specs.Judged.{Judged, first_refused, follows, judge_behind}
 use Rattle.execution.specs.Judged.Judged.{Taken, Gap as Leaves_gap, Differs as Is_different}
 use Rattle.running_store.specs.Courses.{force_steps, record_length}
@@ -56,7 +56,7 @@ abbrev pub may_relieve : {O : Type 0} → Meaning O → World O → Bool
 may_relieve m w = is_over m low_mark w && has_thin m w
 
 -- The worlds that a standby may come to from this one: a record of a stream is followed, what waits is forced, and a thin node is
--- installed where one may be. No check is taken, and no log is trimmed.
+-- installed where one may be. No checkpoint is taken, and no log is trimmed.
 pub data FeedsTo {O : Type 0} (m : Meaning O) (w : World O) : World O → Type 0 where
   Nothing : FeedsTo m w w
   Followed : (v : World O) (r : Record O) (used : ℕ) → FeedsTo m w v → FeedsTo m w (run m v (follow_course m r v used).steps)
@@ -85,9 +85,9 @@ pub record ComeNext (s : StandbyView) (rest : List ℕ) : Type 0 where
   pub left : s.done < length payload
   pub rest_is : rest ≡ drop s.done payload
 
--- no record of a frame begins the bytes: they break the grammar, run past their frame, or are a check
+-- no record of a frame begins the bytes: they break the grammar, run past their frame, or are a checkpoint
 abbrev pub BeginsNoRecord : {O : Type 0} → Meaning O → List ℕ → Type 0
-BeginsNoRecord {O} m bytes = (r : Record O) → StartsWithRecord m bytes r → IsNumbered r → ⊥
+BeginsNoRecord {O} m bytes = (r : Record O) → StartsWithRecord m bytes r → HasLsn r → ⊥
 
 -- it is the stream that is refused
 abbrev pub IsOfStream : FollowErr → Type 0
@@ -107,7 +107,7 @@ module _ {O : Type 0} (m : Meaning O) (h : List (Member O)) (s : StandbyView) wh
     pub next : ComeNext s rest
     pub logged : Record O
     pub starts : StartsWithRecord m rest logged
-    pub numbered : IsNumbered logged
+    pub with_lsn : HasLsn logged
     pub judged_so : judge_behind m h logged ≡ judged
 
   -- it is taken, but for want of room: so many bytes are needed behind those that wait

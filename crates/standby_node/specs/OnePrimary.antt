@@ -1,4 +1,4 @@
--- What one primary ships, from whichever numbers and between whichever of its calls, and a standby to which some of that comes.
+-- What one primary ships, from whichever LSNs and between whichever of its calls, and a standby to which some of that comes.
 use Rattle.std.specs.Prelude.{◌≡◌, ◌-◌, ◌+◌, ◌≤◌, ◌++◌, ⊤, ℕ, List, drop, length, take}
 use Rattle.std.specs.List.{AllByRecursion, concat}
 use Rattle.oper_core.specs.Meaning.{AreWithin, Meaning}
@@ -22,7 +22,7 @@ use Rattle.standby_node.specs.declared.follow_err.FollowErr.TheVariants.{Gap}
 abbrev pub IsFront : {A : Type 0} → List A → List A → Type 0
 IsFront {A} front all = (more : List A) × (all ≡ front ++ more)
 
--- it is answered that a record's number leaves a gap
+-- it is answered that a record's LSN leaves a gap
 abbrev pub IsGap : FollowErr → Type 0
 IsGap (Gap expected got) = ⊤
 IsGap e = ⊥
@@ -32,7 +32,7 @@ abbrev pub stable_in : {O : Type 0} → World O → List (Member O)
 stable_in w = take w.forced w.history
 
 module _ {O : Type 0} (m : Meaning O) where
-  -- A store in this world ships these bytes from a number on: its log, which has the stable members from the world's base on, begins
+  -- A store in this world ships these bytes from an LSN on: its log, which has the stable members from the world's base on, begins
   -- no later, and they are the frames of what the log's blocks have from there.
   pub record IsShipped (w : World O) (from : ℕ) (bytes : List ℕ) : Type 0 where
     pub file : List ℕ
@@ -57,7 +57,7 @@ module _ {O : Type 0} (m : Meaning O) where
 module _ {O : Type 0} (meaning : Bounds → Meaning O) where
   -- A standby with the numbers q, and a primary in this world, whose numbers p are not larger. The standby began with a front of
   -- what is stable of the primary, and these bytes came to it, in order: a front of pieces that the primary has shipped, from
-  -- whichever numbers, some of them twice, in another order, or not at all.
+  -- whichever LSNs, some of them twice, in another order, or not at all.
   pub record IsFedBy (p q : Params) (w : World O) (first : List (Member O)) (bytes : List ℕ) : Type 0 where
     pub within : AreWithin (bounds_of p) (bounds_of q)
     pub sound : IsSound (meaning_in meaning p) w
@@ -66,7 +66,7 @@ module _ {O : Type 0} (meaning : Bounds → Meaning O) where
     pub shipped : AllByRecursion (WasShipped (meaning_in meaning p) w) pieces
     pub came : IsFront bytes (concat pieces)
 
-  -- The same, where the bytes are what the primary ships now, from a number up to the next one of the standby.
+  -- The same, where the bytes are what the primary ships now, from an LSN up to the next one of the standby.
   pub record ShipsOnTo (p q : Params) (w : World O) (first : List (Member O)) (bytes : List ℕ) : Type 0 where
     pub within : AreWithin (bounds_of p) (bounds_of q)
     pub sound : IsSound (meaning_in meaning p) w

@@ -12,7 +12,7 @@ use Rattle.frame_stream.specs.Frames.{frame, IsUnfinished, HasBadLength}
 use Rattle.frame_stream.specs.FrameBuffer.{FrameBufferView, HasPassed}
 use Rattle.explain_core.specs.History.{Member}
 use Rattle.explain_core.specs.World.{World}
-use Rattle.execution.specs.Following.{IsNumbered}
+use Rattle.execution.specs.Following.{HasLsn}
 use Rattle.execution.specs.Judged.{first_refused, follows}
 use Rattle.store_engine.specs.Engine.{EngineView, ShowsIn}
 use Rattle.store_engine.specs.Store.{meaning_in}
@@ -49,9 +49,9 @@ pub record MayBeKeptUp (s : StandbyView) : Type 0 where
   pub fine : s.stopped ≡ None
 
 module _ {O : Type 0} (m : Meaning O) where
-  -- a record may stand in a frame: it is in its grammar, and no check
+  -- a record may stand in a frame: it is in its grammar, and no checkpoint
   abbrev pub MayBeShipped : Record O → Type 0
-  MayBeShipped r = IsRecord m r × IsNumbered r
+  MayBeShipped r = IsRecord m r × HasLsn r
 
   -- the payload has these records
   pub record IsFrameOf (payload : List ℕ) (records : List (Record O)) : Type 0 where
@@ -90,7 +90,7 @@ module _ {O : Type 0} (meaning : Bounds → Meaning O) where
     pub shows : ShowsIn meaning p d s.engine world
     pub fine : first_refused (meaning_in meaning p) first (records_of groups ++ begun) ≡ None
     pub members : world.history ≡ follows (meaning_in meaning p) first (records_of groups ++ begun)
-    pub no_check : world.pending ≡ []
+    pub no_checkpoint : world.pending ≡ []
     pub forced : (world.forced ≡ length (follows (meaning_in meaning p) first (records_of groups)))
         ⊎ (BeginsWithFrameOf (meaning_in meaning p) s.frames.kept begun × (world.forced ≡ length world.history))
 

@@ -12,7 +12,7 @@ use Rattle.frame_stream.specs.FrameBuffer.{BeginsWith, taken_by}
 use Rattle.log_records.specs.Codec.{StartsWithRecord}
 use Rattle.explain_core.specs.History.{Member}
 use Rattle.explain_core.specs.World.{World}
-use Rattle.execution.specs.Following.{IsNumbered}
+use Rattle.execution.specs.Following.{HasLsn}
 use Rattle.store_engine.specs.Engine.{IsAttached, forced_in, params_of}
 use Rattle.store_engine.specs.Store.{meaning_in}
 use Rattle.standby_node.specs.Feeding.{BeginsNoRecord, FeedsThrough, HasRefusedIn, IsAtFrameEnd, must_relieve}
@@ -36,7 +36,7 @@ left_of s size = take (size - s.done) (drop (4 + s.done) s.frames.kept)
 
 -- and where a record may begin in it
 abbrev pub IsReadingOf : {O : Type 0} → Meaning O → StandbyView → ℕ → Result (Record O × ℕ) FollowErr → Type 0
-IsReadingOf m s size (Ok pair) = StartsWithRecord m (left_of s size) pair.0 × IsNumbered pair.0 × (pair.1 ≡ length (record_code m pair.0))
+IsReadingOf m s size (Ok pair) = StartsWithRecord m (left_of s size) pair.0 × HasLsn pair.0 × (pair.1 ≡ length (record_code m pair.0))
 IsReadingOf m s size (Err (BadFrame place)) = BeginsNoRecord m (left_of s size) × (place ≡ s.frames.passed + (4 + s.done))
 IsReadingOf m s size (Err Memory) = ⊤
 IsReadingOf m s size (Err e) = ⊥

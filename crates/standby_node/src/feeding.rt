@@ -4,7 +4,7 @@ ghost use Rattle.frame_stream.specs.FrameBuffer.{taken_by};
 ghost use Rattle.oper_core.specs.Meaning.{IsSmall};
 ghost use Rattle.formats.specs.Records.{record_code};
 ghost use Rattle.log_records.specs.Codec.{StartsWithRecord};
-ghost use Rattle.execution.specs.Following.{IsNumbered};
+ghost use Rattle.execution.specs.Following.{HasLsn};
 ghost use Rattle.store_engine.specs.Engine.{params_of};
 ghost use Rattle.store_engine.specs.Store.{meaning_in};
 ghost use Rattle.standby_node.specs.Feeding.{BeginsNoRecord, IsFed, is_above, low_mark, stopped_by, waiting_limit};
@@ -13,7 +13,7 @@ ghost use Rattle.standby_node.specs.Steps.{AreFramesFollowed, HasWholeFrame, IsF
 
 use crate::{FollowErr, Standby};
 use disk_model::Machine;
-use formats::{NUMBERS_END, Record};
+use formats::{LSN_END, Record};
 use oper_core::{Bounds, Memory, Oper};
 use std::alloc::Global;
 use store_engine::Stat;
@@ -37,12 +37,12 @@ fn is_over(stat: Stat, most: u64) -> bool
     stat.dirty > DIRTY || stat.uninstalled > most
 }
 
-// Whether a record has a number that a store may give.
-fn is_numbered<O: Oper>(logged: &Record<O>) -> bool
-    ensures { IsTrue result ↔ IsNumbered logged.now }
+// Whether a record has an LSN that a store may give.
+fn has_lsn<O: Oper>(logged: &Record<O>) -> bool
+    ensures { IsTrue result ↔ HasLsn logged.now }
 {
-    match logged.number() {
-        Some(number) => number < NUMBERS_END,
+    match logged.lsn() {
+        Some(lsn) => lsn < LSN_END,
         None => false,
     }
 }
@@ -54,12 +54,12 @@ fn decode_shipped<O: Oper>(
     bytes: &[u8],
 ) -> Result<Option<(Record<O>, usize)>, Memory>
     requires small { IsSmall b }
-    ensures some { IfOk result (λ found. IfSome found (λ pair. StartsWithRecord (O.meaning b) bytes.now pair.0 × IsNumbered pair.0 × (pair.1 ≡ length (record_code (O.meaning b) pair.0)))) }
+    ensures some { IfOk result (λ found. IfSome found (λ pair. StartsWithRecord (O.meaning b) bytes.now pair.0 × HasLsn pair.0 × (pair.1 ≡ length (record_code (O.meaning b) pair.0)))) }
     ensures none { IfOk result (λ found. IfNone found (BeginsNoRecord (O.meaning b) bytes.now)) }
 {
     log_records::one_record::<O>();
     if let Some((logged, n)) = log_records::decode::<O>(alloc, b, bytes)? {
-        if is_numbered(&logged) {
+        if has_lsn(&logged) {
             return Ok(Some((logged, n)));
         }
     }
@@ -205,8 +205,8 @@ impl<O: Oper> Standby<O> {
     /// than 1,024 do. It answers how many commands were accepted since the store was made.
     ///
     /// A frame's length is judged once its four bytes came, a record once its frame is whole, the records of a frame one after the
-    /// other. It answers `BadFrame` where a length is not 1 to 2^30, or where a record breaks the grammar, is a check, has a number
-    /// from 2^62 on, or runs past its frame; `Gap` where a number is above the next; `Differs` where a command is refused, or an
+    /// other. It answers `BadFrame` where a length is not 1 to 2^30, or where a record breaks the grammar, is a checkpoint, has an LSN
+    /// from 2^62 on, or runs past its frame; `Gap` where an LSN is above the next; `Differs` where a command is refused, or an
     /// identity write has not its object's value; `LogFull` where the log would pass 2^48 bytes; `DiskFault`, `Damaged` and `Memory`.
     /// The records before it were followed, and are not forced in their frame. After `Memory` the next piece, which may be
     /// empty, goes on: `taken` tells whether this one is kept. After any other it answers `Stopped`, and nothing is done.

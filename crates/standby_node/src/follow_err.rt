@@ -12,10 +12,10 @@ pub enum FollowErr {
     /// The length of a frame, or a record in one, which begins here, is not in the grammar.
     #[error("the stream is no stream of frames at {place}")]
     BadFrame { place: u64 },
-    /// A record's number is above the next one.
+    /// A record's LSN is above the next one.
     #[error("the next record has the number {expected}, and this one {got}")]
     Gap { expected: u64, got: u64 },
-    /// A record has the next number, and is not what may come next here.
+    /// A record has the next LSN, and is not what may come next here.
     #[error("the record {lsn} differs")]
     Differs { lsn: u64 },
     /// The log has no room for a record.

@@ -87,7 +87,7 @@ pub fn a_primary_is_followed<O: Oper>()
     store_engine::records_are_judged::<O>();
 }
 
-/// What a store ships are frames for each store of its bounds or larger ones, and their records are those of its log from the number
+/// What a store ships are frames for each store of its bounds or larger ones, and their records are those of its log from the LSN
 /// on, as [`a_primary_is_followed`] asks for them.
 pub fn what_is_shipped_is_followed<O: Oper>()
     ensures frames { (b c : Bounds) (base from : ℕ) (groups : List (List (Record O))) → IsSmall b → IsSmall c → AreWithin b c → AreRecords (O.meaning b) base base (records_of groups)
@@ -116,10 +116,10 @@ pub fn a_log_is_shipped<O: Oper, M: Machine>()
         → header.base ≤ from → IsShipped (meaning_in O.meaning p) w from (frames (payloads_from (meaning_in O.meaning p) from groups)) }
 {}
 
-/// However often a primary ships its log, from whichever numbers, and whatever it does in between, a trim too; whichever of these
+/// However often a primary ships its log, from whichever LSNs, and whatever it does in between, a trim too; whichever of these
 /// ships are lost whole, come twice, or in another order, the last one perhaps in part: a standby that began with a front of what is
 /// stable of the primary has such a front, its files stand at each moment for commands that the primary's begin with, and it refuses
-/// nothing but a number that leaves a gap. Of a ship that loses bytes and goes on behind them nothing is said.
+/// nothing but an LSN that leaves a gap. Of a ship that loses bytes and goes on behind them nothing is said.
 pub fn one_primary_is_followed<O: Oper, M: Machine>()
     ensures followed { (p q : Params) (w : World O) (first : List (Member O)) (bytes : List ℕ) → IsFedBy O.meaning p q w first bytes
         → (now : M) (standby : StandbyView) → (is : IsFollowing O.meaning q first bytes (M.disk now) standby) → IsFront is.world.history (stable_in w) }
@@ -139,7 +139,7 @@ pub fn one_primary_is_followed<O: Oper, M: Machine>()
     store_engine::records_are_judged::<O>();
 }
 
-/// What a primary ships now from a number up to the standby's next one is refused nowhere, and where all of it came the standby has
+/// What a primary ships now from an LSN up to the standby's next one is refused nowhere, and where all of it came the standby has
 /// all that is stable of the primary. So does one that begins with a backup: [`what_is_stable_stays`] makes its history a front.
 pub fn a_standby_catches_up<O: Oper, M: Machine>()
     ensures unrefused { (p q : Params) (w : World O) (first : List (Member O)) (bytes more : List ℕ) → ShipsOnTo O.meaning p q w first (bytes ++ more)

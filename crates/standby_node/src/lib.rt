@@ -10,8 +10,8 @@
 //! primary's history, new or as a backup, stays one, whatever comes of what this ships before and behind its trims
 //! ([`one_primary_is_followed`]), and comes to have all ([`a_standby_catches_up`]).
 //!
-//! Between two frames the standby may install, take a check and trim its log, and goes on. It logs no identity write of its own, so
-//! that its records keep their numbers.
+//! Between two frames the standby may install, take a checkpoint and trim its log, and goes on. It logs no identity write of its own, so
+//! that its records keep their LSNs.
 //!
 //! It depends on store_engine, whose engine it is made of, and on frame_stream for the frames.
 #![tactic(auto)]

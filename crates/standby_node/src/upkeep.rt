@@ -1,8 +1,8 @@
 // What may be done between two frames.
 ghost use Rattle.std.specs.Prelude.{◌≡◌, ◌⊎◌, Result, IsErrOf};
 ghost use Rattle.log_records.specs.declared.rewrite_err.RewriteErr.{RewriteErr as RewriteFailure};
-ghost use Rattle.checkpointing.specs.declared.check_err.CheckErr.{CheckErr as CheckFailure};
-ghost use Rattle.store_engine.specs.Calls.{IsChecking, IsTrimming, work_of_check, work_of_trim};
+ghost use Rattle.checkpointing.specs.declared.checkpoint_err.CheckpointErr.{CheckpointErr as CheckpointFailure};
+ghost use Rattle.store_engine.specs.Calls.{IsTakingCheckpoint, IsTrimming, work_of_checkpoint, work_of_trim};
 ghost use Rattle.standby_node.specs.Standby.{MayBeKeptUp, StillFollows};
 ghost use Rattle.standby_node.specs.Upkeep.{HasForcedAndInstalled};
 
@@ -26,18 +26,18 @@ impl<O: Oper> Standby<O> {
         self.engine.install_thin(machine)
     }
 
-    /// Takes a check of where a redo begins now, and forces it, as [`store_engine::Engine::checkpoint`] does. After `Memory` the
-    /// check may wait for a force, so nothing is said of what is followed then: a new standby is to be attached.
+    /// Takes a checkpoint of where a redo begins now, and forces it, as [`store_engine::Engine::checkpoint`] does. After `Memory` the
+    /// checkpoint may wait for a force, so nothing is said of what is followed then: a new standby is to be attached.
     pub fn checkpoint<M: Machine>(&mut self, machine: &mut M) -> Result<(), WorkErr>
         requires ready { MayBeKeptUp self.old }
-        ensures checked { (answer : Result _ CheckFailure) × (result ≡ work_of_check answer) × IsChecking O.meaning (M.disk machine.old) (M.disk machine.new) self.old.engine self.new.engine answer }
+        ensures checkpointed { (answer : Result _ CheckpointFailure) × (result ≡ work_of_checkpoint answer) × IsTakingCheckpoint O.meaning (M.disk machine.old) (M.disk machine.new) self.old.engine self.new.engine answer }
         ensures rest { self.new ≡ record self.old { engine = self.new.engine } }
         ensures kept { StillFollows O.meaning (M.disk machine.old) (M.disk machine.new) self.old self.new (IsErrOf result WorkErr.DiskFault ⊎ IsErrOf result WorkErr.Memory) }
     {
         self.engine.checkpoint(machine)
     }
 
-    /// Puts a log in the place of this one that begins with the least number in the write graph, as [`store_engine::Engine::trim`]
+    /// Puts a log in the place of this one that begins with the least LSN in the write graph, as [`store_engine::Engine::trim`]
     /// does. It is how the log stays short: no store's limit stops what is followed.
     pub fn trim<M: Machine>(&mut self, machine: &mut M) -> Result<(), WorkErr>
         requires ready { MayBeKeptUp self.old }

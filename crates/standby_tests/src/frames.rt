@@ -94,7 +94,7 @@ fn ships(alloc: Global, from: u64, base: Option<u64>, wanted: &[u8]) -> Result<b
 }
 
 #[test]
-fn a_log_is_shipped_from_a_number_on(rt: HostRuntime) -> Result<(), Fail> {
+fn a_log_is_shipped_from_an_lsn_on(rt: HostRuntime) -> Result<(), Fail> {
     for (from, base, wanted) in ROWS {
         assert!(rt; ships(rt.alloc(), from, base, wanted)?, "from {from}");
     }

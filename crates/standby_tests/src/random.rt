@@ -41,22 +41,22 @@ fn draw(seed: &mut u64, below: u64) -> u64
 }
 
 // What is made of a record of the frame in hand, which sets an object to a value, or says that it has it.
-fn judge(drawn: &mut Drawn, kind: u8, number: u64, object: usize, value: u64)
+fn judge(drawn: &mut Drawn, kind: u8, lsn: u64, object: usize, value: u64)
     requires { object < 4 }
 {
-    if drawn.refused.is_some() || number < drawn.next {
+    if drawn.refused.is_some() || lsn < drawn.next {
         return;
     }
     let start = drawn.stream.len() as u64;
-    if number > drawn.next {
-        drawn.refused = Some(([2, drawn.next, number], start));
+    if lsn > drawn.next {
+        drawn.refused = Some(([2, drawn.next, lsn], start));
         return;
     }
     if kind == COMMAND {
         drawn.values[object] = value;
         drawn.commands = drawn.commands.wrapping_add(1);
     } else if drawn.values[object] != value {
-        drawn.refused = Some(([3, number, 0], start));
+        drawn.refused = Some(([3, lsn, 0], start));
         return;
     }
     drawn.next = drawn.next.wrapping_add(1);
@@ -66,15 +66,15 @@ fn judge(drawn: &mut Drawn, kind: u8, number: u64, object: usize, value: u64)
 fn push_record(
     drawn: &mut Drawn,
     kind: u8,
-    number: u64,
+    lsn: u64,
     object: u32,
     value: u8,
 ) -> Result<(), AllocError>
     requires { object < 4 }
 {
-    judge(drawn, kind, number, object as usize, value as u64);
+    judge(drawn, kind, lsn, object as usize, value as u64);
     drawn.payload.push(kind)?;
-    drawn.payload.extend_from_slice(&number.to_le_bytes())?;
+    drawn.payload.extend_from_slice(&lsn.to_le_bytes())?;
     if kind == COMMAND {
         drawn.payload.push(1)?;
     }

@@ -36,7 +36,7 @@ static STREAMS: [(&[u8], Seen); 15] = [
     // Lengths that no payload has.
     (b"\0\0\0\0", [1, 0, 0, 0, 4, 4, 0, 0]),
     (b"\x01\0\0\x40", [1, 0, 0, 0, 4, 4, 0, 0]),
-    // A check, a number of 2^62, an object that is not there, a kind that is none.
+    // A checkpoint, a number of 2^62, an object that is not there, a kind that is none.
     (
         b"\x0d\0\0\0\x03\x01\0\0\0\0\0\0\0\0\0\0\0",
         [1, 4, 0, 0, 17, 4, 0, 0],

@@ -11,7 +11,7 @@ use Rattle.oper_core.specs.Meaning.{Meaning}
 use Rattle.formats.specs.Records.{payload_of, records_of}
 use Rattle.formats.specs.declared.params.Params.{Params}
 use Rattle.formats.specs.declared.record.Record.{Record}
-use Rattle.formats.specs.declared.record.Record.TheVariants.{Command as Logged_command, Identity as Logged_identity, Check as Logged_check}
+use Rattle.formats.specs.declared.record.Record.TheVariants.{Command as Logged_command, Identity as Logged_identity, Checkpoint as Logged_checkpoint}
 use Rattle.frame_stream.specs.Frames.{frame, frames}
 use Rattle.formats.specs.Log.{IsPayload}
 use Rattle.frame_stream.specs.FrameBuffer.{first_kept, taken_by}
@@ -56,7 +56,7 @@ no_records : {O : Type 0} (m : Meaning O) (records : List (Record O)) → 0 ≡ 
 no_records m [] none = refl
 no_records m (Logged_command number op ∷ records) none = absurd (omega (arith, none))
 no_records m (Logged_identity number x value ∷ records) none = absurd (omega (arith, none))
-no_records m (Logged_check table ∷ records) none = absurd (omega (arith, none))
+no_records m (Logged_checkpoint table ∷ records) none = absurd (omega (arith, none))
 
 -- where more bytes come, the rest is longer
 longer : {p : Params} {first : List (Member Command)} {bytes rest : List ℕ} {commands : List Command} (more : List ℕ) → FollowsFrames p first bytes rest commands → FollowsFrames p first (bytes ++ more) (rest ++ more) commands
@@ -380,7 +380,7 @@ following_said says following = record {
   shows = shows_stays says following.shows;
   fine = following.fine;
   members = following.members;
-  no_check = following.no_check;
+  no_checkpoint = following.no_checkpoint;
   forced = following.forced;
 }
 

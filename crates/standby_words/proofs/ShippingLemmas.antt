@@ -13,13 +13,13 @@ use Rattle.formats.specs.Log.{IsWholeLog}
 use Rattle.formats.specs.Reading.{FailsBy}
 use Rattle.formats.specs.Records.{AreRecords, HoldsRecordLog, payload_of, records_of}
 use Rattle.formats.specs.declared.record.Record.{Record}
-use Rattle.log_frames.specs.Forcing.{with_block}
-use Rattle.log_frames.specs.Payloads.{untaken}
+use Rattle.log_blocks.specs.Forcing.{with_block}
+use Rattle.log_blocks.specs.Payloads.{untaken}
 use Rattle.formats.specs.declared.params.Params.{Params}
 use Rattle.formats.specs.declared.read_err.ReadErr.{ReadErr}
 use Rattle.formats.specs.declared.read_err.ReadErr.TheVariants as of_read
 use Rattle.frame_stream.specs.Frames.{frame, frames}
-use Rattle.log_frames.specs.LogView.{LogView}
+use Rattle.log_blocks.specs.LogView.{LogView}
 use Rattle.log_records.specs.BlockReader.{AreAllBlocks, BlockReaderView, HasGivenBlock, IsReadingBlocks, payloads_from}
 use Rattle.op_codec.specs.AllOps.{all_meaning}
 use Rattle.restart.specs.Starts.{OrAtStart, from_settled, or_weaker}

@@ -8,7 +8,7 @@ use Rattle.formats.specs.Records.{AreRecords, HoldsRecordLog, payload_of, record
 use Rattle.formats.specs.declared.params.Params.{Params}
 use Rattle.formats.specs.declared.record.Record.{Record}
 use Rattle.frame_stream.specs.Frames.{frames}
-use Rattle.log_frames.specs.LogView.{LogView}
+use Rattle.log_blocks.specs.LogView.{LogView}
 use Rattle.oper_core.specs.Meaning.{Meaning}
 use Rattle.log_records.specs.BlockReader.{payloads_from}
 use Rattle.restart.specs.Starts.{OrAtStart}

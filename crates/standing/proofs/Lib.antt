@@ -1,9 +1,9 @@
 pub mod Found
 pub mod NewStore
 pub mod NoFault
-pub mod Checks
+pub mod Checkpoints
 pub mod WorkedStore
-pub mod SkippingCheck
+pub mod SkippingCheckpoint
 pub mod WorkedNew
 pub mod WiderLog
 pub mod ObjectsChanged

@@ -9,7 +9,7 @@ use Rattle.oper_core.specs.Meaning.{Meaning}
 use Rattle.formats.specs.Log.{new_header}
 use Rattle.formats.specs.Objects.{AreSlotsClosed, cell_of}
 use Rattle.formats.specs.declared.params.Params.{Params}
-use Rattle.log_frames.specs.Creating.{IsNewLog}
+use Rattle.log_blocks.specs.Creating.{IsNewLog}
 use Rattle.stable_objects.specs.Making.{IsNewFile}
 use Rattle.stable_objects.specs.SlotLaws.{closed_cells}
 use Rattle.explain_core.specs.World.{new_world}
@@ -17,7 +17,7 @@ use Rattle.standing.specs.Standing.{FilesShow, stored}
 
 -- an object without bytes, that no record wrote
 abbrev empty : Cell
-empty = record { id = 0; value = [] }
+empty = record { lsn = 0; value = [] }
 
 pub stored_empty : (p : Params) (file : List ℕ) → AreSlotsClosed p file → (x : ℕ) → stored p file x ≡ empty
 stored_empty p file closed x = elim (cases_lt x p.objects) [

@@ -9,11 +9,11 @@ use Rattle.oper_core.specs.Cell.{Cell}
 use Rattle.oper_core.specs.Meaning.{Meaning}
 use Rattle.oper_core.specs.declared.bounds.Bounds.{Bounds}
 use Rattle.formats.specs.Bytes.{IsOpenAt}
-use Rattle.formats.specs.Objects.{params_in, bounds_of, place_in, open_identifier, identifier_at, holder, cell_of}
+use Rattle.formats.specs.Objects.{params_in, bounds_of, place_in, open_lsn, lsn_at, holder, cell_of}
 use Rattle.formats.specs.Image.{IsRecordFault, IsLateSlot, IsFault, in_objects, in_log, in_record, in_late_slot}
 use Rattle.formats.specs.Records.{payload_of, records_of, next_after}
 use Rattle.formats.specs.declared.params.Params.{Params}
-use Rattle.log_frames.specs.Laws.{no_log_fault, one_place}
+use Rattle.log_blocks.specs.Laws.{no_log_fault, one_place}
 use Rattle.log_records.specs.CodecLaws.{HasCodes}
 use Rattle.log_records.specs.Uniqueness.{log_of, one_records, no_record_fault}
 use Rattle.stable_objects.specs.Laws.{params_of_file, no_fault}
@@ -41,27 +41,27 @@ greater f s two = elim (cases_lt (f 0) (f 1)) [
     second (suc zero) two is more = omega (arith, is, more)
     second (suc (suc s)) two is more = absurd (omega (arith, two))
 
--- the cell of an object has the greatest identifier of its slots
-cell_latest : (p : Params) (file : List ℕ) (x s : ℕ) → x < p.objects → s < 2 → open_identifier (place_in file x s) file ≤ (stored p file x).id
+-- the cell of an object has the greatest LSN of its slots
+cell_latest : (p : Params) (file : List ℕ) (x s : ℕ) → x < p.objects → s < 2 → open_lsn (place_in file x s) file ≤ (stored p file x).lsn
 cell_latest p file x s below two =
-    let cell : stored p file x ≡ cell_of x file = cond-true (nat_lt x p.objects) (cell_of x file) (record { id = 0; value = [] }) (lt-ltb x p.objects below) in
-    let id : (stored p file x).id ≡ open_identifier (place_in file x (holder x file)) file = ap (λ (c : Cell). c.id) cell in
-    omega (arith, id, greater (λ k. open_identifier (place_in file x k) file) s two)
+    let cell : stored p file x ≡ cell_of x file = cond-true (nat_lt x p.objects) (cell_of x file) (record { lsn = 0; value = [] }) (lt-ltb x p.objects below) in
+    let lsn : (stored p file x).lsn ≡ open_lsn (place_in file x (holder x file)) file = ap (λ (c : Cell). c.lsn) cell in
+    omega (arith, lsn, greater (λ k. open_lsn (place_in file x k) file) s two)
 
 module _ {O : Type 0} (meaning : Bounds → Meaning O) (p : Params) (files : Files) (commands : List O) (it : StandsFor meaning p files commands) where
   next_is : next_after it.holds.header.base (records_of it.holds.groups) ≡ length it.history + 1
   next_is = next-stands (meaning (bounds_of p)) p files it.parts it.holds it.history it.installed it.stable
 
-  -- each open slot has the number of a member
+  -- each open slot has the LSN of a member
   pub none_late : (x s : ℕ) → x < p.objects → s < 2 → IsOpenAt (place_in (files Objects) x s) (files Objects)
-      → identifier_at (place_in (files Objects) x s) (files Objects) < next_after it.holds.header.base (records_of it.holds.groups)
+      → lsn_at (place_in (files Objects) x s) (files Objects) < next_after it.holds.header.base (records_of it.holds.groups)
   none_late x s below two is_open =
       let told = open_tells (place_in (files Objects) x s) (files Objects) is_open in
       let latest = cell_latest p (files Objects) x s below two in
-      let cell = ap (λ (c : Cell). c.id) (it.holds.cells x) in
+      let cell = ap (λ (c : Cell). c.lsn) (it.holds.cells x) in
       elim (it.stable.slots.origin x) [
         | inl zero_is ↦ omega (arith, next_is, told, latest, cell, zero_is.0)
-        | inr member ↦ omega (arith, next_is, told, latest, cell, it.stable.within (it.parts.slots x).id member.0)
+        | inr member ↦ omega (arith, next_is, told, latest, cell, it.stable.within (it.parts.slots x).lsn member.0)
       ]
 
   module _ (codes : HasCodes (meaning (bounds_of p))) where

@@ -22,7 +22,7 @@ use Rattle.standing.proofs.WiderLog.{log_wider}
 
 -- no pair
 abbrev none : Cell
-none = record { id = 0; value = [] }
+none = record { lsn = 0; value = [] }
 
 -- the other log is no objects file
 other_log : (active : FileNo) → active ≢ Objects → other_of active ≢ Objects

@@ -7,29 +7,29 @@ use Rattle.oper_core.specs.Meaning.{Meaning, Widens}
 use Rattle.formats.specs.Log.{Header, IsWholeLog}
 use Rattle.formats.specs.Records.{record_code, payload_of, records_of, IsRecord, IsPlaced, AreRecords, IsRecordLog, next_behind}
 use Rattle.formats.specs.declared.record.Record.{Record}
-use Rattle.formats.specs.declared.record.Record.TheVariants.{Command, Identity, Check}
+use Rattle.formats.specs.declared.record.Record.TheVariants.{Command, Identity, Checkpoint}
 
 module _ {O : Type 0} (m wide : Meaning O) (widens : Widens m wide) (objects : m.objects ≤ wide.objects) (cap : m.cap ≤ wide.cap) where
   codes_same : m.code ≡ wide.code
   codes_same i op = sym (widens.code op) i
 
   code_same : (r : Record O) → record_code m r ≡ record_code wide r
-  code_same (Command number op) = ap (λ (code : O → List ℕ). record_code (record m { code = code }) (Command number op)) codes_same
-  code_same (Identity number x value) = refl
-  code_same (Check table) = refl
+  code_same (Command lsn op) = ap (λ (code : O → List ℕ). record_code (record m { code = code }) (Command lsn op)) codes_same
+  code_same (Identity lsn x value) = refl
+  code_same (Checkpoint table) = refl
 
   payloads_same : (groups : List (List (Record O))) → map (payload_of m) groups ≡ map (payload_of wide) groups
   payloads_same groups i = map (λ records. flat_map (λ r. code_same r i) records) groups
 
   record_wider : (r : Record O) → IsRecord m r → IsRecord wide r
-  record_wider (Command number op) is = (is.0, widens.in_grammar op is.1)
-  record_wider (Identity number x value) is = (is.0, omega (arith, is.1, objects), omega (arith, is.2, cap))
-  record_wider (Check table) is = is
+  record_wider (Command lsn op) is = (is.0, widens.in_grammar op is.1)
+  record_wider (Identity lsn x value) is = (is.0, omega (arith, is.1, objects), omega (arith, is.2, cap))
+  record_wider (Checkpoint table) is = is
 
   placed_wider : (base next : ℕ) (r : Record O) → IsPlaced m base next r → IsPlaced wide base next r
-  placed_wider base next (Command number op) is = is
-  placed_wider base next (Identity number x value) is = is
-  placed_wider base next (Check table) is = record {
+  placed_wider base next (Command lsn op) is = is
+  placed_wider base next (Identity lsn x value) is = is
+  placed_wider base next (Checkpoint table) is = record {
     next_is = is.next_is;
     rising = is.rising;
     there = All-weaker (λ s. s.0 < m.objects) (λ s. s.0 < wide.objects) (λ s below. omega (arith, below, objects)) table.starts is.there;

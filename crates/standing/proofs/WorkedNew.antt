@@ -4,7 +4,7 @@ use Rattle.std.proofs.lemmas.List.Elements.{All-nil}
 use Rattle.disk_model.specs.declared.machine.FileNo.TheVariants.{Objects}
 use Rattle.formats.specs.Objects.{AreSlotsClosed, form_in}
 use Rattle.formats.specs.Log.{IsPayload}
-use Rattle.log_frames.specs.Creating.{IsNewLog}
+use Rattle.log_blocks.specs.Creating.{IsNewLog}
 use Rattle.stable_objects.specs.Making.{IsNewFile}
 use Rattle.standing.specs.Worked.{small, new_objects, new_files}
 

@@ -4,8 +4,8 @@ use Rattle.std.specs.Prelude.{Bool, false, ◌||◌, ◌==◌, nat_lt, All}
 use Rattle.std.proofs.Math.Path.{fun_ext}
 use Rattle.std.proofs.lemmas.List.Elements.{All-nil, All-cons}
 use Rattle.std.proofs.lemmas.Bool.{ne_eqb, le-ltb, cond-false}
-use Rattle.redo_tables.specs.Codec.{IsTable, FitsStart, table_code}
-use Rattle.redo_tables.specs.declared.table.Table.{Table}
+use Rattle.dirty_page_table.specs.Codec.{IsTable, FitsStart, table_code}
+use Rattle.dirty_page_table.specs.declared.table.DirtyPageTable.{DirtyPageTable}
 use Rattle.disk_model.specs.Disk.{Files}
 use Rattle.disk_model.specs.declared.machine.FileNo.{FileNo}
 use Rattle.disk_model.specs.declared.machine.FileNo.TheVariants.{Objects, LogA, LogB}
@@ -14,11 +14,11 @@ use Rattle.oper_core.specs.Meaning.{IsLawful, IsSmall}
 use Rattle.formats.specs.Bytes.{IsOpenAt}
 use Rattle.formats.specs.InForce.{HasHeader, IsInForce}
 use Rattle.formats.specs.Log.{Header, IsHeader, IsPayload, new_header, header_bytes, blocks}
-use Rattle.formats.specs.Objects.{IsObjectsFile, form_in, IsWholeSlot, bounds_of, slot_place, identifier_at, length_at, cell_of}
+use Rattle.formats.specs.Objects.{IsObjectsFile, form_in, IsWholeSlot, bounds_of, slot_place, lsn_at, length_at, cell_of}
 use Rattle.formats.specs.declared.layout.Layout.{Layout}
-use Rattle.formats.specs.Records.{IsCheckAt, IsRecordLog, payload_of}
+use Rattle.formats.specs.Records.{IsCheckpointAt, IsRecordLog, payload_of}
 use Rattle.formats.specs.declared.record.Record.{Record}
-use Rattle.formats.specs.declared.record.Record.TheVariants.{Command as Logged_command, Identity as Logged_identity, Check as Logged_check}
+use Rattle.formats.specs.declared.record.Record.TheVariants.{Command as Logged_command, Identity as Logged_identity, Checkpoint as Logged_checkpoint}
 use Rattle.install_order.specs.Checks.{is_minimal-gives, flushes_only-gives}
 use Rattle.install_order.specs.Computed.{IsWithin}
 use Rattle.install_order.specs.ListLaws.{all-gives}
@@ -29,13 +29,13 @@ use Rattle.explain_core.specs.RunLaws.{allowed-append}
 use Rattle.explain_core.specs.Sound.{IsSound}
 use Rattle.explain_core.specs.Stable.{Stable, stable_of}
 use Rattle.explain_core.specs.World.{Step, step, run, AreAllowed, IsInstallable, new_world, graph_access, work_of, end_of, table_now}
-use Rattle.explain_core.specs.World.Step.{Append, Block_gate, Check, Slot_gate, Removal}
+use Rattle.explain_core.specs.World.Step.{Append, Block_gate, Checkpoint, Slot_gate, Removal}
 use Rattle.explain_core.specs.History.Member.{Command, Identity}
 use Rattle.explain_core.specs.declared.byte_op.ByteOp.{ByteOp}
 use Rattle.explain_core.specs.declared.byte_op.ByteOp.TheVariants.{Put}
 use Rattle.standing.specs.Members.{table_of}
 use Rattle.standing.specs.Standing.{HoldsStable, FilesShow, stored}
-use Rattle.standing.specs.Worked.{small, small_meaning, put_node, put_installed, small_steps, after_steps, small_objects, right_check, skipping_check, log_with, files_with, rewritten_files}
+use Rattle.standing.specs.Worked.{small, small_meaning, put_node, put_installed, small_steps, after_steps, small_objects, right_checkpoint, skipping_checkpoint, log_with, files_with, rewritten_files}
 
 pub small_bounds : IsSmall (bounds_of small)
 small_bounds = record { objects = omega arith; cap = omega arith }
@@ -94,12 +94,12 @@ module _ (sound : AllSound) where
 
   pub small-allowed : AreAllowed small_meaning (new_world ByteOp) small_steps
   unfolding step run
-  small-allowed = allowed-append small_meaning (new_world ByteOp) flushed (Removal put_node ∷ Check ∷ Block_gate ∷ []) flushed-allowed (
+  small-allowed = allowed-append small_meaning (new_world ByteOp) flushed (Removal put_node ∷ Checkpoint ∷ Block_gate ∷ []) flushed-allowed (
     (
       flushed-ready,
       λ y work.
           let q : y ≡ 0 = flushes_only-gives (graph_access small_meaning (after_steps flushed)) 2 3 put_node 0 (within flushed flushed-allowed) refl y work.0 in
-          work.1 (subst (λ (y : ℕ). ((after_steps flushed).slots y).id ≡ ((after_steps flushed).cache y).id) (sym q) refl),
+          work.1 (subst (λ (y : ℕ). ((after_steps flushed).slots y).lsn ≡ ((after_steps flushed).cache y).lsn) (sym q) refl),
     ),
     ((omega arith, refl), ((omega arith, refl), tt)),
   )
@@ -111,9 +111,9 @@ small_layout = record { params = small; first = 32 }
 -- the one open slot is whole
 slot_whole : (x s : ℕ) → x < 2 → s < 2 → IsOpenAt (slot_place small_layout x s) small_objects → IsWholeSlot 16 (slot_place small_layout x s) small_objects
 slot_whole zero zero below two is_open =
-    let id : identifier_at 32 small_objects ≡ 1 = refl in
+    let lsn : lsn_at 32 small_objects ≡ 1 = refl in
     let long : length_at 32 small_objects ≡ 1 = refl in
-    record { some = omega (arith, id); numbered = omega (arith, id); short = omega (arith, long); within = λ some. omega (arith, long) }
+    record { some = omega (arith, lsn); with_lsn = omega (arith, lsn); short = omega (arith, long); within = λ some. omega (arith, long) }
 slot_whole zero (suc zero) below two is_open = absurd (omega (arith, is_open))
 slot_whole (suc zero) zero below two is_open = absurd (omega (arith, is_open))
 slot_whole (suc zero) (suc zero) below two is_open = absurd (omega (arith, is_open))
@@ -138,7 +138,7 @@ small_whole = record {
 
 -- an object without bytes, that no record wrote
 abbrev empty : Cell
-empty = record { id = 0; value = [] }
+empty = record { lsn = 0; value = [] }
 
 -- the slots are those of the world
 cells : (x : ℕ) → stored small small_objects x ≡ (after_steps small_steps).slots x
@@ -150,19 +150,19 @@ cells (suc (suc x)) =
     cond-false (nat_lt y 2) (cell_of y small_objects) empty (le-ltb y 2 (omega arith))
     ∙ sym (cond-false (y == 0) ((after_steps logged).cache 0) empty (ne_eqb y 0 (λ e. omega (arith, e))))
 
--- the records of a log with this check
-abbrev pub small_groups : Table → List (List (Record ByteOp))
-small_groups table = (Logged_command 1 (Put 0 170) ∷ Logged_identity 2 1 [] ∷ []) ∷ (Logged_check table ∷ []) ∷ []
+-- the records of a log with this checkpoint
+abbrev pub small_groups : DirtyPageTable → List (List (Record ByteOp))
+small_groups table = (Logged_command 1 (Put 0 170) ∷ Logged_identity 2 1 [] ∷ []) ∷ (Logged_checkpoint table ∷ []) ∷ []
 
-payloads_whole : (table : Table) → length (table_code table) < 30 → All IsPayload (map (payload_of small_meaning) (small_groups table))
+payloads_whole : (table : DirtyPageTable) → length (table_code table) < 30 → All IsPayload (map (payload_of small_meaning) (small_groups table))
 payloads_whole table short =
-    let check = payload_of small_meaning (Logged_check table ∷ []) in
-    let long : length check ≡ 1 + length (table_code table) = omega (arith, length-append (table_code table) []) in
-    All-cons IsPayload (payload_of small_meaning (Logged_command 1 (Put 0 170) ∷ Logged_identity 2 1 [] ∷ [])) (check ∷ []) (record { some = omega arith; short = omega arith })
-    (All-cons IsPayload check [] (record { some = omega (arith, long); short = omega (arith, short, long) }) (All-nil IsPayload))
+    let checkpoint = payload_of small_meaning (Logged_checkpoint table ∷ []) in
+    let long : length checkpoint ≡ 1 + length (table_code table) = omega (arith, length-append (table_code table) []) in
+    All-cons IsPayload (payload_of small_meaning (Logged_command 1 (Put 0 170) ∷ Logged_identity 2 1 [] ∷ [])) (checkpoint ∷ []) (record { some = omega arith; short = omega arith })
+    (All-cons IsPayload checkpoint [] (record { some = omega (arith, long); short = omega (arith, short, long) }) (All-nil IsPayload))
 
 -- and what is stable beside it
-abbrev pub parts_with : Table → Stable ByteOp
+abbrev pub parts_with : DirtyPageTable → Stable ByteOp
 parts_with table = record {
   slots = stored small small_objects;
   tables = table_of table ∷ [];
@@ -175,11 +175,11 @@ parts_with table = record {
 abbrev pub header_with : ℕ → Header
 header_with epoch = record { epoch = epoch; base = 1; commands = 0 }
 
--- the bytes of a log with this epoch and this check
-abbrev pub log_bytes : ℕ → Table → List ℕ
+-- the bytes of a log with this epoch and this checkpoint
+abbrev pub log_bytes : ℕ → DirtyPageTable → List ℕ
 log_bytes epoch table = (header_bytes (header_with epoch) ++ blocks (map (payload_of small_meaning) (small_groups table))) ++ 0 ∷ []
 
-pub is_log : (epoch : ℕ) (table : Table) (file : List ℕ) → 1 ≤ epoch → epoch < 256 → IsTable table → IsCheckAt small_meaning 1 3 table → length (table_code table) < 30
+pub is_log : (epoch : ℕ) (table : DirtyPageTable) (file : List ℕ) → 1 ≤ epoch → epoch < 256 → IsTable table → IsCheckpointAt small_meaning 1 3 table → length (table_code table) < 30
     → file ≡ log_bytes epoch table → IsRecordLog small_meaning (header_with epoch) (small_groups table) file
 is_log epoch table file some few is at short split = record {
   log = record {
@@ -191,7 +191,7 @@ is_log epoch table file some few is at short split = record {
 }
 
 -- files with such a log in force, beside these objects, hold these parts
-pub holds_parts : (active : FileNo) (epoch : ℕ) (table : Table) (files : Files) → files Objects ≡ small_objects → IsInForce active epoch files
+pub holds_parts : (active : FileNo) (epoch : ℕ) (table : DirtyPageTable) (files : Files) → files Objects ≡ small_objects → IsInForce active epoch files
     → IsRecordLog small_meaning (header_with epoch) (small_groups table) (files active) → HoldsStable small_meaning small files (parts_with table)
 holds_parts active epoch table files objects in_force log = record {
   objects = subst (IsObjectsFile small) (sym objects) small_whole;
@@ -207,11 +207,11 @@ holds_parts active epoch table files objects in_force log = record {
 }
 
 -- the first log is in force beside a closed gate
-pub first_in_force : (check : List ℕ) → IsInForce LogA 1 (files_with check)
-first_in_force check = record { a_log = λ e. cc; other = inl (λ e. absurd (omega (arith, e))) }
+pub first_in_force : (checkpoint : List ℕ) → IsInForce LogA 1 (files_with checkpoint)
+first_in_force checkpoint = record { a_log = λ e. cc; other = inl (λ e. absurd (omega (arith, e))) }
 
--- the check that the store took
-abbrev pub right_table : Table
+-- the checkpoint that the store took
+abbrev pub right_table : DirtyPageTable
 right_table = record { next = 3; starts = (1, 2) ∷ [] }
 
 right_log : (epoch : ℕ) (file : List ℕ) → 1 ≤ epoch → epoch < 256 → file ≡ log_bytes epoch right_table → IsRecordLog small_meaning (header_with epoch) (small_groups right_table) file
@@ -227,14 +227,14 @@ right_log epoch file some few split =
     })
     (omega arith) split
 
-right_holds : HoldsStable small_meaning small (files_with right_check) (parts_with right_table)
-right_holds = holds_parts LogA 1 right_table (files_with right_check) refl (first_in_force right_check) (right_log 1 (files_with right_check LogA) (omega arith) (omega arith) refl)
+right_holds : HoldsStable small_meaning small (files_with right_checkpoint) (parts_with right_table)
+right_holds = holds_parts LogA 1 right_table (files_with right_checkpoint) refl (first_in_force right_checkpoint) (right_log 1 (files_with right_checkpoint LogA) (omega arith) (omega arith) refl)
 
 -- a smaller epoch makes a log passive, whatever follows its header
 rewritten_holds : HoldsStable small_meaning small rewritten_files (parts_with right_table)
 rewritten_holds =
     let range : IsHeader new_header = record { epoch_low = omega arith; epoch_high = omega arith; base_low = omega arith; base_high = omega arith; commands = omega arith } in
-    let older : HasHeader new_header (log_with 1 skipping_check) = record { in_range = range; gate = 1; rest = drop 34 (log_with 1 skipping_check); split = refl } in
+    let older : HasHeader new_header (log_with 1 skipping_checkpoint) = record { in_range = range; gate = 1; rest = drop 34 (log_with 1 skipping_checkpoint); split = refl } in
     holds_parts LogB 2 right_table rewritten_files refl (record { a_log = λ e. cc; other = inr (new_header, older, omega arith) }) (right_log 2 (rewritten_files LogB) (omega arith) (omega arith) refl)
 
 -- its redo starts are those of the world
@@ -257,8 +257,8 @@ small_stable i = record {
   records = Command (Put 0 170) ∷ Identity 1 [] ∷ [];
 }
 
-pub small_shown : FilesShow small_meaning small (files_with right_check) (after_steps small_steps)
-small_shown = subst (λ (parts : Stable ByteOp). HoldsStable small_meaning small (files_with right_check) parts) small_stable right_holds
+pub small_shown : FilesShow small_meaning small (files_with right_checkpoint) (after_steps small_steps)
+small_shown = subst (λ (parts : Stable ByteOp). HoldsStable small_meaning small (files_with right_checkpoint) parts) small_stable right_holds
 
 pub rewritten_shown : FilesShow small_meaning small rewritten_files (after_steps small_steps)
 rewritten_shown = subst (λ (parts : Stable ByteOp). HoldsStable small_meaning small rewritten_files parts) small_stable rewritten_holds

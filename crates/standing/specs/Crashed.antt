@@ -6,7 +6,7 @@ use Rattle.explain_core.specs.World.{World, step, IsAllStable, plan_of, start_of
 use Rattle.explain_core.specs.World.Step.{Crash}
 
 module _ {O : Type 0} (m : Meaning O) (w : World O) (crashed : step m w Crash ≡ w) where
-  -- nothing newer is cached, nothing is in the graph, and no check waits
+  -- nothing newer is cached, nothing is in the graph, and no checkpoint waits
   pub crashed-cache : w.cache ≡ w.slots
   unfolding step
   crashed-cache = sym (ap (λ (v : World O). v.cache) crashed)

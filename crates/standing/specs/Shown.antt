@@ -10,12 +10,12 @@ use Rattle.explain_core.specs.History.{Member, commands_of}
 use Rattle.explain_core.specs.Stable.{Stable, IsStableOf, stable_of}
 use Rattle.explain_core.specs.StableLaws.{stand-length, stand-commands}
 use Rattle.explain_core.specs.World.{World, Step, step}
-use Rattle.explain_core.specs.World.Step.{Begin, End, Append, Block_gate, Check, Slot_gate, Removal, Header_gate, Replay, Crash}
+use Rattle.explain_core.specs.World.Step.{Begin, End, Append, Block_gate, Checkpoint, Slot_gate, Removal, Header_gate, Replay, Crash}
 use Rattle.standing.specs.Members.{next-members, commands-members}
 use Rattle.standing.specs.Standing.{HoldsStable}
 
 module _ {O : Type 0} (m : Meaning O) (p : Params) (files : Files) (parts : Stable O) (holds : HoldsStable m p files parts) where
-  -- the next number after the log's last record
+  -- the next LSN after the log's last record
   abbrev pub next_held : ℕ
   next_held = next_after holds.header.base (records_of holds.groups)
 
@@ -49,7 +49,7 @@ IsUnseen Begin = ⊤
 IsUnseen End = ⊤
 IsUnseen (Append member) = ⊤
 IsUnseen Block_gate = ⊥
-IsUnseen Check = ⊤
+IsUnseen Checkpoint = ⊤
 IsUnseen (Slot_gate node x) = ⊥
 IsUnseen (Removal node) = ⊤
 IsUnseen (Header_gate base) = ⊥
@@ -67,7 +67,7 @@ unseen-stable m w Begin within unseen = refl
 unseen-stable m w End within unseen = refl
 unseen-stable m w (Append member) within unseen = ap (with_front w) (take-append-le w.forced w.history (member ∷ []) within)
 unseen-stable m w Block_gate within unseen = absurd unseen
-unseen-stable m w Check within unseen = refl
+unseen-stable m w Checkpoint within unseen = refl
 unseen-stable m w (Slot_gate node x) within unseen = absurd unseen
 unseen-stable m w (Removal node) within unseen = refl
 unseen-stable m w (Header_gate base) within unseen = absurd unseen

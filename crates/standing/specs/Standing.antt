@@ -18,12 +18,12 @@ use Rattle.explain_core.specs.World.{World, step}
 use Rattle.explain_core.specs.World.Step.{Crash}
 use Rattle.standing.specs.Members.{members_of, tables_in}
 
--- an object as its slots hold it; past the last object of the store stand the identifier 0 and no bytes
+-- an object as its slots hold it; past the last object of the store stand the LSN 0 and no bytes
 abbrev pub stored : Params → List ℕ → ℕ → Cell
-stored p file x = if nat_lt x p.objects then cell_of x file else record { id = 0; value = [] }
+stored p file x = if nat_lt x p.objects then cell_of x file else record { lsn = 0; value = [] }
 
 -- The files are whole, and hold these parts: the slots have the cells; of the log in force the header has the base and
--- how many commands are before it, and the records are the members from the base on, and the checks.
+-- how many commands are before it, and the records are the members from the base on, and the checkpoints.
 pub record HoldsStable {O : Type 0} (m : Meaning O) (p : Params) (files : Files) (parts : Stable O) : Type 0 where
   pub objects : IsObjectsFile p (files Objects)
   pub cells : (x : ℕ) → stored p (files Objects) x ≡ parts.slots x
@@ -41,7 +41,7 @@ abbrev pub FilesShow : {O : Type 0} → Meaning O → Params → Files → World
 FilesShow m p files w = HoldsStable m p files (stable_of w)
 
 -- The files stand for the commands: what they hold may be what is stable of a history with just these commands, of which
--- some members are installed; these explain the slots, and no check skips one of the others.
+-- some members are installed; these explain the slots, and no checkpoint skips one of the others.
 pub record StandsFor {O : Type 0} (meaning : Bounds → Meaning O) (p : Params) (files : Files) (commands : List O) : Type 0 where
   pub parts : Stable O
   pub holds : HoldsStable (meaning (bounds_of p)) p files parts

@@ -1,4 +1,4 @@
--- A worked store of two objects, byte by byte: a command that is installed, an identity write that is not, and a check.
+-- A worked store of two objects, byte by byte: a command that is installed, an identity write that is not, and a checkpoint.
 use Rattle.std.specs.Prelude.{ℕ, Bool, List, [], ◌∷◌, ◌++◌, length, replicate, codes, false}
 use Rattle.disk_model.specs.Disk.{Files}
 use Rattle.disk_model.specs.declared.machine.FileNo.TheVariants.{Objects, LogA, LogB}
@@ -11,7 +11,7 @@ use Rattle.explain_core.specs.declared.byte_op.ByteOp.{ByteOp}
 use Rattle.explain_core.specs.declared.byte_op.ByteOp.TheVariants.{Put}
 use Rattle.explain_core.specs.History.Member.{Command, Identity}
 use Rattle.explain_core.specs.World.{World, Step, run, new_world}
-use Rattle.explain_core.specs.World.Step.{Append, Block_gate, Check, Slot_gate, Removal}
+use Rattle.explain_core.specs.World.Step.{Append, Block_gate, Checkpoint, Slot_gate, Removal}
 
 -- two objects of at most 16 bytes
 abbrev pub small : Params
@@ -28,9 +28,9 @@ put_node = set_of (1 ∷ [])
 abbrev pub put_installed : List (Step ByteOp)
 put_installed = Append (Command (Put 0 170)) ∷ Append (Identity 1 []) ∷ Block_gate ∷ Slot_gate put_node 0 ∷ Removal put_node ∷ []
 
--- and a check is taken and forced
+-- and a checkpoint is taken and forced
 abbrev pub small_steps : List (Step ByteOp)
-small_steps = put_installed ++ Check ∷ Block_gate ∷ []
+small_steps = put_installed ++ Checkpoint ∷ Block_gate ∷ []
 
 -- the world after these steps of a new store
 abbrev pub after_steps : List (Step ByteOp) → World ByteOp
@@ -47,7 +47,7 @@ eight n = n ∷ replicate 7 0
 abbrev pub objects_header : List ℕ
 objects_header = 1 ∷ codes "RDOOBJ01" ++ four 2 ++ four 16 ++ 32 ∷ 16 ∷ 0 ∷ 0 ∷ [] ++ replicate 11 0
 
--- an open slot with the identifier 1 and the one byte aa, and three closed ones
+-- an open slot with the LSN 1 and the one byte aa, and three closed ones
 abbrev pub small_objects : List ℕ
 small_objects =
     objects_header
@@ -62,38 +62,38 @@ new_objects = objects_header ++ replicate 116 0
 abbrev pub two_records : List ℕ
 two_records = 1 ∷ eight 1 ++ 0 ∷ 0 ∷ 170 ∷ [] ++ 2 ∷ eight 2 ++ four 1 ++ four 0
 
--- a check whose next number is 3: the redo of 1 starts with the record 2
-abbrev pub right_check : List ℕ
-right_check = 3 ∷ eight 3 ++ four 1 ++ four 1 ++ eight 2
+-- a checkpoint whose next LSN is 3: the redo of 1 starts with the record 2
+abbrev pub right_checkpoint : List ℕ
+right_checkpoint = 3 ∷ eight 3 ++ four 1 ++ four 1 ++ eight 2
 
 -- one that asks for no record
-abbrev pub skipping_check : List ℕ
-skipping_check = 3 ∷ eight 3 ++ four 0
+abbrev pub skipping_checkpoint : List ℕ
+skipping_checkpoint = 3 ∷ eight 3 ++ four 0
 
 -- a log's header: an open gate, the magic, the epoch, the base 1, no command before it
 abbrev pub log_header : ℕ → List ℕ
 log_header epoch = 1 ∷ codes "RDOLOG01" ++ eight epoch ++ eight 1 ++ eight 0
 
--- a log with this epoch and this check: a block of the two records, and one of the check; a closed gate
+-- a log with this epoch and this checkpoint: a block of the two records, and one of the checkpoint; a closed gate
 abbrev pub log_with : ℕ → List ℕ → List ℕ
-log_with epoch check =
+log_with epoch checkpoint =
     log_header epoch
     ++ 1 ∷ four 29 ++ two_records
-    ++ 1 ∷ four (length check) ++ check
+    ++ 1 ∷ four (length checkpoint) ++ checkpoint
     ++ 0 ∷ []
 
--- the files with this check; the other log has a closed gate
+-- the files with this checkpoint; the other log has a closed gate
 abbrev pub files_with : List ℕ → Files
-files_with check Objects = small_objects
-files_with check LogA = log_with 1 check
-files_with check LogB = 0 ∷ []
+files_with checkpoint Objects = small_objects
+files_with checkpoint LogA = log_with 1 checkpoint
+files_with checkpoint LogB = 0 ∷ []
 
--- the log with the right check stands in the other file, with the epoch 2; the first one, which has now a smaller epoch,
--- has the other check
+-- the log with the right checkpoint stands in the other file, with the epoch 2; the first one, which has now a smaller epoch,
+-- has the other checkpoint
 abbrev pub rewritten_files : Files
 rewritten_files Objects = small_objects
-rewritten_files LogA = log_with 1 skipping_check
-rewritten_files LogB = log_with 2 right_check
+rewritten_files LogA = log_with 1 skipping_checkpoint
+rewritten_files LogB = log_with 2 right_checkpoint
 
 -- the files of a new store
 abbrev pub new_files : Files

@@ -7,9 +7,9 @@ ghost use Rattle.oper_core.specs.Cell.{Cell};
 ghost use Rattle.oper_core.specs.Meaning.{AreWithin, state_after};
 ghost use Rattle.formats.specs.Bytes.{IsOpenAt};
 ghost use Rattle.formats.specs.Image.{IsFault};
-ghost use Rattle.formats.specs.Objects.{IsObjectsFile, bounds_of, cell_of, place_in, identifier_at};
+ghost use Rattle.formats.specs.Objects.{IsObjectsFile, bounds_of, cell_of, place_in, lsn_at};
 ghost use Rattle.formats.specs.declared.params.Params.{Params};
-ghost use Rattle.log_frames.specs.Creating.{IsNewLog};
+ghost use Rattle.log_blocks.specs.Creating.{IsNewLog};
 ghost use Rattle.stable_objects.specs.Growing.{IsGrown};
 ghost use Rattle.stable_objects.specs.Larger.{IsLarger};
 ghost use Rattle.stable_objects.specs.Making.{IsNewFile};
@@ -65,7 +65,7 @@ pub fn files_stand_for_one_state<O: Oper>()
     explain_core::one_state::<O>();
 }
 
-/// A step that changes no file leaves a sound world shown: an append, a check, a removal, a replay, a crash, and the
+/// A step that changes no file leaves a sound world shown: an append, a checkpoint, a removal, a replay, a crash, and the
 /// opening and the end of a group.
 pub fn unseen_steps_change_nothing<O: Oper>()
     ensures { (p : Params) (files : Files) (w : World O) (next : Step O) → IsSound (O.meaning (bounds_of p)) w → IsUnseen next →
@@ -107,26 +107,26 @@ pub fn a_changed_objects_file_stands<O: Oper>()
     same_parts_stand_for_the_same::<O>();
 }
 
-/// Files that stand for commands meet their format: they have no fault, and each open slot has the number of a record
+/// Files that stand for commands meet their format: they have no fault, and each open slot has the LSN of a record
 /// before the log's end.
 pub fn standing_files_have_no_fault<O: Oper>()
     ensures whole { (p : Params) (files : Files) (commands : List O) (file : FileNo) (place : ℕ) →
         StandsFor O.meaning p files commands → IsFault O.meaning files file place → ⊥ }
     ensures late { (p : Params) (files : Files) (commands : List O) (it : StandsFor O.meaning p files commands)
         (x s : ℕ) → x < p.objects → s < 2 → IsOpenAt (place_in (files Objects) x s) (files Objects) →
-        identifier_at (place_in (files Objects) x s) (files Objects)
+        lsn_at (place_in (files Objects) x s) (files Objects)
         < next_held (O.meaning (bounds_of p)) p files it.parts it.holds }
 {}
 
-/// Of the checks of a log the format says all but one thing: that no redo start is past a record that is not installed.
-pub fn checks_of_a_log_fit<O: Oper>()
+/// Of the checkpoints of a log the format says all but one thing: that no redo start is past a record that is not installed.
+pub fn checkpoints_of_a_log_fit<O: Oper>()
     ensures { (p : Params) (files : Files) (parts : Stable O) (a : Access) (installed : ℕ → Bool) →
         HoldsStable (O.meaning (bounds_of p)) p files parts →
         AllByRecursion (λ t. (n x : ℕ) → IsFalse (installed n) → IsTrue (a.writes n x) → t.redo_from x ≤ n) parts.tables →
         AllByRecursion (SkipsNothing a installed parts.base (parts.base + length parts.records)) parts.tables }
 {}
 
-/// Files that hold the copied cells, the live slots of the others, and the live log without its checks, or with one that asks
+/// Files that hold the copied cells, the live slots of the others, and the live log without its checkpoints, or with one that asks
 /// for all records, stand for the commands that are stable in the live store.
 pub fn a_copy_stands<O: Oper>()
     ensures { (p : Params) (files : Files) (w : World O) (copied : ℕ) (cells : ℕ → Cell) (tables : List Starts) →

@@ -16,7 +16,7 @@ use Rattle.explain_core.specs.Sound.{IsSound}
 use Rattle.explain_core.specs.World.{World, Step, Starts, step, run, IsAllowed}
 use Rattle.explain_core.specs.World.Step.{Begin, End, Block_gate}
 use Rattle.standing.specs.Moments.{moments_longer}
-use Rattle.running_store.specs.Appended.{next_number}
+use Rattle.running_store.specs.Appended.{next_lsn}
 use Rattle.running_store.specs.Courses.{force_steps, waits}
 use Rattle.running_store.specs.Taking.Ending.{Done, Failed}
 use Rattle.cache_manager.specs.Upkeep.{upkeep_force}
@@ -32,7 +32,7 @@ BeginKeeps {O} meaning = (b : Bounds) (w : World O) → IsSound (meaning b) w �
 abbrev pub EndKeeps : {O : Type 0} → (Bounds → Meaning O) → Type 0
 EndKeeps {O} meaning = (b : Bounds) (w : World O) → IsSound (meaning b) w → IsAllowed (meaning b) w End → IsSound (meaning b) (step (meaning b) w End)
 
--- after a force all members are stable, and no check waits
+-- after a force all members are stable, and no checkpoint waits
 pub record IsStill {O : Type 0} (w : World O) : Type 0 where
   pub forced : w.forced ≡ length w.history
   pub none : w.pending ≡ []
@@ -90,9 +90,9 @@ module _ {O : Type 0} (meaning : Bounds → Meaning O) (old new : Disk) (before 
       shown there = record {
         unbroken = there.unbroken;
         sound = begin_keeps (bounds_of p) v there.sound (there.shows.running.live, (still.forced, there.group ∙ it.call.group ∙ was));
-        group = ap (λ (k : ℕ). Some k) (sym (next_number m p new mid.parts (record v { group = None }) there.shows));
+        group = ap (λ (k : ℕ). Some k) (sym (next_lsn m p new mid.parts (record v { group = None }) there.shows));
         shows = there.shows;
-        no_check = still.none;
+        no_checkpoint = still.none;
       }
 
       shown_after : ShowsIn meaning p new mid v → ShowsIn meaning p new opened_engine (run m w (force_steps m w ++ Begin ∷ []))
@@ -140,5 +140,5 @@ module _ {O : Type 0} (meaning : Bounds → Meaning O) (p : Params) (d : Disk) (
     sound = end_keeps (bounds_of p) w shows.sound in_one;
     group = refl;
     shows = shows.shows;
-    no_check = tt;
+    no_checkpoint = tt;
   }

@@ -11,7 +11,7 @@ use Rattle.formats.specs.Limits.{log_limit}
 use Rattle.formats.specs.Objects.{bounds_of}
 use Rattle.formats.specs.declared.params.Params.{Params}
 use Rattle.explain_core.specs.Backup.{AreBeside, IsCopied}
-use Rattle.explain_core.specs.History.{Member, numbered}
+use Rattle.explain_core.specs.History.{Member, with_lsn}
 use Rattle.explain_core.specs.History.Member.{Identity}
 use Rattle.explain_core.specs.RoundGates.{Gate, gate_step, gates_of, picked}
 use Rattle.explain_core.specs.RunLaws.{Begins, allowed-append, begins-all, begins-allowed}
@@ -21,13 +21,13 @@ use Rattle.explain_core.specs.World.Step.{Begin}
 use Rattle.running_store.specs.Calls.{IsFailed}
 use Rattle.running_store.specs.Courses.{Course, course, force_steps, grown, is_through, room_steps}
 use Rattle.running_store.specs.Courses.Stop.{Through, Full}
-use Rattle.running_store.specs.Rewrites.{check_length}
+use Rattle.running_store.specs.Rewrites.{checkpoint_length}
 use Rattle.running_store.specs.Running.{IsRunning}
 use Rattle.running_store.specs.Taking.{Ending}
 use Rattle.running_store.specs.Taking.Ending.{Done, Stopped, Short, Failed}
 use Rattle.cache_manager.specs.EachStep.{each_append, each_either, each_force, each_room, each_then}
 use Rattle.cache_manager.specs.FreeSteps.{IsFree}
-use Rattle.checkpointing.specs.Courses.{check_course, check_steps, checkpoint_course, logged_course}
+use Rattle.checkpointing.specs.Courses.{taking_course, checkpoint_steps, checkpoint_course, logged_course}
 use Rattle.execution.specs.Courses.{append_course, exec_course, refusal_in, unless_refused}
 use Rattle.store_engine.specs.Beside.{MayGoBeside, ShowsCopied}
 use Rattle.store_engine.specs.Engine.{EngineView, FollowsIn, ShowsIn}
@@ -51,22 +51,22 @@ module _ {O : Type 0} (m : Meaning O) (copied : ℕ) where
   pub free_begin : (w : World O) → AllByRecursion (IsFree copied) (force_steps m w ++ Begin ∷ [])
   free_begin w = each_append m (IsFree copied) (force_steps m w) (Begin ∷ []) (free_force w) (λ v. tt, tt)
 
-  -- ---- a check
+  -- ---- a checkpoint
 
   free_logged : (w : World O) (used : ℕ) → AreFree (logged_course m w used).steps
   free_logged w used =
-      let n = check_length m w in
-      free_either (nat_lt log_limit (grown m w used n)) (course [] used (Full used (n + 5) log_limit)) (course check_steps (grown m w used n) Through) tt (λ v. tt, (λ v. tt, tt))
+      let n = checkpoint_length m w in
+      free_either (nat_lt log_limit (grown m w used n)) (course [] used (Full used (n + 5) log_limit)) (course checkpoint_steps (grown m w used n) Through) tt (λ v. tt, (λ v. tt, tt))
 
-  free_check : (w : World O) (used : ℕ) → AreFree (check_course m w used).steps
-  free_check w used =
-      each_then m (IsFree copied) w (course (room_steps m w (check_length m w)) used Through) (logged_course m) (each_room m (IsFree copied) (λ v. tt) w (check_length m w)) (λ v used. free_logged v used)
+  free_taking : (w : World O) (used : ℕ) → AreFree (taking_course m w used).steps
+  free_taking w used =
+      each_then m (IsFree copied) w (course (room_steps m w (checkpoint_length m w)) used Through) (logged_course m) (each_room m (IsFree copied) (λ v. tt) w (checkpoint_length m w)) (λ v used. free_logged v used)
 
   pub free_checkpoint : (w : World O) (used : ℕ) → AllByRecursion (IsFree copied) (checkpoint_course m w used).steps
   free_checkpoint w used =
-      let c = check_course m w used in
-      free_either (is_through c.stop) c (course (c.steps ++ force_steps m (run m w c.steps)) c.used c.stop) (free_check w used)
-      (each_append m (IsFree copied) c.steps (force_steps m (run m w c.steps)) (free_check w used) (free_force (run m w c.steps)))
+      let c = taking_course m w used in
+      free_either (is_through c.stop) c (course (c.steps ++ force_steps m (run m w c.steps)) c.used c.stop) (free_taking w used)
+      (each_append m (IsFree copied) c.steps (force_steps m (run m w c.steps)) (free_taking w used) (free_force (run m w c.steps)))
 
   -- ---- a command
 
@@ -101,7 +101,7 @@ module _ {O : Type 0} (m : Meaning O) where
   beside_picked copied which v w [] same are = tt
   beside_picked copied [] v w (g ∷ gates) same are = tt
   beside_picked copied (true ∷ which) v w (g ∷ gates) same are = (
-    λ less. let one = are.0 less in (one.0, one.1, one.2, (one.3.0, subst (λ (h : List (Member O)). numbered h one.0 ≡ Some (Identity one.1 one.3.0)) same one.3.1)),
+    λ less. let one = are.0 less in (one.0, one.1, one.2, (one.3.0, subst (λ (h : List (Member O)). with_lsn h one.0 ≡ Some (Identity one.1 one.3.0)) same one.3.1)),
     beside_picked copied which (step m v (gate_step g)) (step m w (gate_step g)) gates same are.1,
   )
   beside_picked copied (false ∷ which) v w (g ∷ gates) same are = beside_picked copied which (step m v (gate_step g)) w gates same are.1

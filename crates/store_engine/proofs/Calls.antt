@@ -20,7 +20,7 @@ use Rattle.store_engine.proofs.Holding.{Stand}
 use Rattle.store_engine.proofs.Keeping.{IsPlainCourse, KeepsRuns, MayTake, takes_keeps}
 use Rattle.store_engine.proofs.Ways.{unbroken_or}
 
--- a group that began with a number up to the next one did so still
+-- a group that began with an LSN up to the next one did so still
 pub begun_still : (group : Option ℕ) (next later : ℕ) → next ≤ later → IfSome group (λ n. n ≤ next) → IfSome group (λ n. n ≤ later)
 begun_still None next later le begun = tt
 begun_still (Some n) next later le begun = omega (arith, le, begun)

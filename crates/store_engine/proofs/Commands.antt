@@ -24,7 +24,7 @@ use Rattle.explain_core.specs.World.{World, Step, Starts, step, run, end_of, IsL
 use Rattle.explain_core.specs.World.Step.{Append, Block_gate}
 use Rattle.standing.specs.Moments.{ShowsSome, TakesSome}
 use Rattle.standing.specs.Standing.{FilesShow}
-use Rattle.running_store.specs.Appended.{next_number}
+use Rattle.running_store.specs.Appended.{next_lsn}
 use Rattle.running_store.specs.Courses.{Course, force_steps, grown, is_through, waits}
 use Rattle.running_store.specs.Parts.{Shows}
 use Rattle.running_store.specs.StoreView.{StoreView, log_length}
@@ -139,8 +139,8 @@ module _ {O : Type 0} (meaning : Bounds → Meaning O) (p : Params) (old new : D
         sound = sound_after taken begins;
         group = stays.group ∙ here;
         shows = subst (λ (v : World O). Shows m p new after.parts v) (sym stays.same) given;
-        no_check = subst (λ (o : Option ℕ). IfSome o (λ begun. (run m w taken).pending ≡ [])) here
-            (waits_none m w w.group taken (inside taken begins) (subst (λ (o : Option ℕ). IfSome o (λ begun. w.pending ≡ [])) (sym shows.group) shows.no_check));
+        no_checkpoint = subst (λ (o : Option ℕ). IfSome o (λ begun. (run m w taken).pending ≡ [])) here
+            (waits_none m w w.group taken (inside taken begins) (subst (λ (o : Option ℕ). IfSome o (λ begun. w.pending ≡ [])) (sym shows.group) shows.no_checkpoint));
       }
 
   course_after : (c : Course O) → c ≡ whole → (e : Ending) → IsFailed e ⊎ (after.broken ≡ false) → Follows m p new after.parts (ungrouped w) c e → FollowsIn meaning p new after w whole e
@@ -188,7 +188,7 @@ world_cause grouped m limit w used op (Err (LogFull held need most)) cause = (ca
     same_need : (g : Bool) → needed m g (ungrouped w) (command_length m op) ≡ needed m g w (command_length m op)
     same_need true = refl
     same_need false = refl
-world_cause grouped m limit w used op (Err (LsnEnd number)) cause = cause
+world_cause grouped m limit w used op (Err (LsnEnd lsn)) cause = cause
 world_cause grouped m limit w used op (Err DiskFault) cause = cause
 world_cause grouped m limit w used op (Err (Damaged file place)) cause = cause
 world_cause grouped m limit w used op (Err Memory) cause = cause
@@ -283,7 +283,7 @@ module _ {O : Type 0} (meaning : Bounds → Meaning O) (p : Params) (old new : D
   exec_err (Ok n) f cause grouped undone = tt
   exec_err (Err (Refused refusal)) f cause grouped undone = inr (kept_whole f.1.shows (refused_same refusal cause))
   exec_err (Err (LogFull used need limit)) f cause grouped undone = inr (kept_whole f.1.shows (may_world.stopped (ap is_through f.0)))
-  exec_err (Err (LsnEnd number)) f cause grouped undone = inr (kept_whole f.1.shows (may_world.stopped (ap is_through f.0)))
+  exec_err (Err (LsnEnd lsn)) f cause grouped undone = inr (kept_whole f.1.shows (may_world.stopped (ap is_through f.0)))
   exec_err (Err DiskFault) f cause grouped undone = inl refl
   exec_err (Err (Damaged file place)) f cause grouped undone = absurd cause
   exec_err (Err Memory) f cause grouped undone = inr (kept_short f (ap (λ (log : RecordLogView). log.accepted) undone.log))
@@ -324,8 +324,8 @@ module _ {O : Type 0} (meaning : Bounds → Meaning O) (p : Params) (old new : D
       by_group (Some begun) is =
           let some : before.group ≡ Some begun = sym holds.shows.group ∙ is in
           let in_group = subst (λ (o : Option ℕ). IfSome o (IsGroup w.history w.forced)) is holds.shows.sound.group in
-          let none = subst (λ (o : Option ℕ). IfSome o (λ b. w.pending ≡ [])) some holds.shows.no_check in
-          let next = next_number mean p old before.parts (ungrouped w) holds.shows.shows in
+          let none = subst (λ (o : Option ℕ). IfSome o (λ b. w.pending ≡ [])) some holds.shows.no_checkpoint in
+          let next = next_lsn mean p old before.parts (ungrouped w) holds.shows.shows in
           ap (λ (o : Option ℕ). needed mean (is_some o) w n) is
           ∙ by_size (before.parts.log.next - begun) (omega (arith, next, in_group.stable)) none
           ∙ sym (ap (λ (o : Option ℕ). needed_in (commands_since before.parts.log.next o) n) some)
@@ -345,7 +345,7 @@ module _ {O : Type 0} (meaning : Bounds → Meaning O) (p : Params) (old new : D
       (sym (refusal_same map) ∙ cause.0, omega (arith, cause.2, commands-members_of w.history, count), omega (arith, cause.3, count))
   exec_cause map counted (Err (Refused refusal)) cause = sym (refusal_same map) ∙ cause
   exec_cause map counted (Err (LogFull used need limit)) cause = (sym (refusal_same map) ∙ cause.0, cause.3 ∙ need_same counted (command_length mean op), cause.4)
-  exec_cause map counted (Err (LsnEnd number)) cause = sym (refusal_same map) ∙ cause.0
+  exec_cause map counted (Err (LsnEnd lsn)) cause = sym (refusal_same map) ∙ cause.0
   exec_cause map counted (Err DiskFault) cause = ⊎_elim (λ reads. inl reads) (λ accepted. inr (none_open accepted.0, sym (refusal_same map) ∙ accepted.1)) cause
   exec_cause map counted (Err (Damaged file place)) cause = cause
   exec_cause map counted (Err Memory) cause = tt

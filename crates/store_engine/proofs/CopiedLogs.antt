@@ -12,10 +12,10 @@ use Rattle.formats.specs.declared.record.Record.TheVariants as of_log
 use Rattle.explain_core.specs.History.{Member}
 use Rattle.explain_core.specs.History.Member.{Command, Identity}
 use Rattle.explain_core.specs.World.{World, plan_of}
-use Rattle.log_records.specs.LogCopy.{HoldsCopy, copied_groups, copied_records, or_check}
+use Rattle.log_records.specs.LogCopy.{HoldsCopy, copied_groups, copied_records, or_checkpoint}
 use Rattle.log_records.specs.RecordLog.{Keeps}
 use Rattle.log_records.specs.RewriteLaws.{blocks_hold}
-use Rattle.log_records.specs.Rewriting.{numbered_from}
+use Rattle.log_records.specs.Rewriting.{from_lsn}
 use Rattle.standing.specs.Members.{members_of, tables_in}
 use Rattle.running_store.specs.Parts.{Shows}
 use Rattle.store_engine.specs.Engine.{EngineView, ShowsIn}
@@ -24,36 +24,36 @@ use Rattle.store_engine.specs.Grouping.{ungrouped}
 use Rattle.store_engine.specs.Store.{meaning_in}
 
 module _ {O : Type 0} where
-  -- the records with a number are the members
-  members_numbered : (m : Meaning O) (base next : ℕ) (records more : List (Record O)) → base ≤ next → AreRecords m base next (records ++ more) → members_of (numbered_from base records) ≡ members_of records
-  members_numbered m base next [] more low are = refl
-  members_numbered m base next (of_log.Command number op ∷ records) more low are =
-      ap (λ (l : List (Record O)). members_of l) (cond-true (nat_le base number) (of_log.Command number op ∷ numbered_from base records) (numbered_from base records) (le-leb base number (omega (arith, low, are.1.0))))
-      ∙ ap (λ (l : List (Member O)). Command op ∷ l) (members_numbered m base (next + 1) records more (omega (arith, low)) are.2)
-  members_numbered m base next (of_log.Identity number x value ∷ records) more low are =
-      ap (λ (l : List (Record O)). members_of l) (cond-true (nat_le base number) (of_log.Identity number x value ∷ numbered_from base records) (numbered_from base records) (le-leb base number (omega (arith, low, are.1.0))))
-      ∙ ap (λ (l : List (Member O)). Identity x value ∷ l) (members_numbered m base (next + 1) records more (omega (arith, low)) are.2)
-  members_numbered m base next (of_log.Check table ∷ records) more low are = members_numbered m base next records more low are.2
+  -- the records with an LSN are the members
+  members_from_lsn : (m : Meaning O) (base next : ℕ) (records more : List (Record O)) → base ≤ next → AreRecords m base next (records ++ more) → members_of (from_lsn base records) ≡ members_of records
+  members_from_lsn m base next [] more low are = refl
+  members_from_lsn m base next (of_log.Command lsn op ∷ records) more low are =
+      ap (λ (l : List (Record O)). members_of l) (cond-true (nat_le base lsn) (of_log.Command lsn op ∷ from_lsn base records) (from_lsn base records) (le-leb base lsn (omega (arith, low, are.1.0))))
+      ∙ ap (λ (l : List (Member O)). Command op ∷ l) (members_from_lsn m base (next + 1) records more (omega (arith, low)) are.2)
+  members_from_lsn m base next (of_log.Identity lsn x value ∷ records) more low are =
+      ap (λ (l : List (Record O)). members_of l) (cond-true (nat_le base lsn) (of_log.Identity lsn x value ∷ from_lsn base records) (from_lsn base records) (le-leb base lsn (omega (arith, low, are.1.0))))
+      ∙ ap (λ (l : List (Member O)). Identity x value ∷ l) (members_from_lsn m base (next + 1) records more (omega (arith, low)) are.2)
+  members_from_lsn m base next (of_log.Checkpoint table ∷ records) more low are = members_from_lsn m base next records more low are.2
 
-  -- and none of them is a check
-  none_checked : (base : ℕ) (records : List (Record O)) → tables_in (numbered_from base records) ≡ []
-  none_checked base [] = refl
-  none_checked base (of_log.Command number op ∷ records) =
-      let rest = none_checked base records in
-      cond_both (nat_le base number) (of_log.Command number op ∷ numbered_from base records) (numbered_from base records) (λ (l : List (Record O)). tables_in l ≡ []) (λ is. rest) (λ is. rest)
-  none_checked base (of_log.Identity number x value ∷ records) =
-      let rest = none_checked base records in
-      cond_both (nat_le base number) (of_log.Identity number x value ∷ numbered_from base records) (numbered_from base records) (λ (l : List (Record O)). tables_in l ≡ []) (λ is. rest) (λ is. rest)
-  none_checked base (of_log.Check table ∷ records) = none_checked base records
+  -- and none of them is a checkpoint
+  no_table_among : (base : ℕ) (records : List (Record O)) → tables_in (from_lsn base records) ≡ []
+  no_table_among base [] = refl
+  no_table_among base (of_log.Command lsn op ∷ records) =
+      let rest = no_table_among base records in
+      cond_both (nat_le base lsn) (of_log.Command lsn op ∷ from_lsn base records) (from_lsn base records) (λ (l : List (Record O)). tables_in l ≡ []) (λ is. rest) (λ is. rest)
+  no_table_among base (of_log.Identity lsn x value ∷ records) =
+      let rest = no_table_among base records in
+      cond_both (nat_le base lsn) (of_log.Identity lsn x value ∷ from_lsn base records) (from_lsn base records) (λ (l : List (Record O)). tables_in l ≡ []) (λ is. rest) (λ is. rest)
+  no_table_among base (of_log.Checkpoint table ∷ records) = no_table_among base records
 
-  -- the check that stands for no record is no member
-  members_or_check : (base : ℕ) (records : List (Record O)) → members_of (or_check base records) ≡ members_of records
-  members_or_check base [] = refl
-  members_or_check base (r ∷ records) = refl
+  -- the checkpoint that stands for no record is no member
+  members_or_checkpoint : (base : ℕ) (records : List (Record O)) → members_of (or_checkpoint base records) ≡ members_of records
+  members_or_checkpoint base [] = refl
+  members_or_checkpoint base (r ∷ records) = refl
 
-  tables_or_check : (base : ℕ) (records : List (Record O)) → tables_in records ≡ [] → (tables_in (or_check base records) ≡ []) ⊎ (tables_in (or_check base records) ≡ plan_of [] base ∷ [])
-  tables_or_check base [] none = inr refl
-  tables_or_check base (r ∷ records) none = inl none
+  tables_or_checkpoint : (base : ℕ) (records : List (Record O)) → tables_in records ≡ [] → (tables_in (or_checkpoint base records) ≡ []) ⊎ (tables_in (or_checkpoint base records) ≡ plan_of [] base ∷ [])
+  tables_or_checkpoint base [] none = inr refl
+  tables_or_checkpoint base (r ∷ records) none = inl none
 
   -- the records of a copied log
   copied_hold : (m : Meaning O) (base : ℕ) (records : List (Record O)) → records_of (copied_groups m base records) ≡ copied_records base records
@@ -83,9 +83,9 @@ module _ {O : Type 0} (meaning : Bounds → Meaning O) (p : Params) (d : Disk) (
         log = here;
         base = log.base;
         commands_before = log.commands_before;
-        members = ap (λ (l : List (Record O)). members_of l) held ∙ members_or_check base (numbered_from base log.stable)
-            ∙ members_numbered m base base log.stable log.pending (omega arith) log.keeps.placed ∙ log.forced;
+        members = ap (λ (l : List (Record O)). members_of l) held ∙ members_or_checkpoint base (from_lsn base log.stable)
+            ∙ members_from_lsn m base base log.stable log.pending (omega arith) log.keeps.placed ∙ log.forced;
         tables = subst (λ (l : List (Record O)). (tables_in l ≡ []) ⊎ (tables_in l ≡ plan_of [] w.base ∷ [])) (sym held)
             (subst (λ (n : ℕ). (tables_in (copied_records base log.stable) ≡ []) ⊎ (tables_in (copied_records base log.stable) ≡ plan_of [] n ∷ [])) log.base
-            (tables_or_check base (numbered_from base log.stable) (none_checked base log.stable)));
+            (tables_or_checkpoint base (from_lsn base log.stable) (no_table_among base log.stable)));
       }

@@ -1,4 +1,4 @@
--- Behind a drain a trim leaves nothing in the log but its check.
+-- Behind a drain a trim leaves nothing in the log but its checkpoint.
 use Rattle.std.proofs.Common.{◌≡◌, ◌∙◌, sym, subst, ap, ℕ, ◌-◌, ◌<◌, List, [], ◌∷◌, ◌++◌, length, drop, arith}
 use Rattle.std.specs.Prelude.{IsFalse, nat_lt, nat_le}
 use Rattle.std.proofs.Math.Seq.{drop-length}
@@ -13,7 +13,7 @@ use Rattle.explain_core.specs.World.Step.{Block_gate, Header_gate}
 use Rattle.running_store.specs.Courses.{Course, force_steps, waits}
 use Rattle.running_store.specs.Courses.Stop.{Through}
 use Rattle.running_store.specs.Rewrites.{new_base, rewrite_course, trimmed_file}
-use Rattle.formats.specs.Limits.{numbers_end}
+use Rattle.formats.specs.Limits.{lsn_end}
 use Rattle.checkpointing.specs.Courses.{trim_course}
 use Rattle.store_engine.specs.Emptied.{IsEmptied}
 
@@ -23,7 +23,7 @@ module _ {O : Type 0} (m : Meaning O) (w : World O) (none : (n : ℕ) → IsFals
   unfolding run step
   forced_none n = cond_both (waits m w) (Block_gate ∷ []) [] (λ (l : List (Step O)). IsFalse ((run m w l).graph n)) (λ some. none n) (λ nothing. none n)
 
-  -- so the log begins at the next number
+  -- so the log begins at the next LSN
   base_is_next : (v : World O) → ((n : ℕ) → IsFalse (v.graph n)) → new_base m v ≡ end_of v
   base_is_next v empty =
       let least = least-is v.graph (end_of v) in
@@ -45,4 +45,4 @@ module _ {O : Type 0} (m : Meaning O) (w : World O) (none : (n : ℕ) → IsFals
       (λ fits. λ is. subst (λ (u : World O). IsEmptied u) (sym (run-append m w (force_steps m w) (Header_gate (new_base m v) ∷ []))) (rewritten_empty v forced_none))
 
   pub trimmed_empty : (epoch used : ℕ) → (trim_course m epoch w used).stop ≡ Through → IsEmptied (run m w (trim_course m epoch w used).steps)
-  trimmed_empty epoch used = cond_both (nat_le numbers_end epoch) _ _ (λ (c : Course O). c.stop ≡ Through → IsEmptied (run m w c.steps)) (λ worn. λ is. cc) (λ left. λ is. behind_force used is)
+  trimmed_empty epoch used = cond_both (nat_le lsn_end epoch) _ _ (λ (c : Course O). c.stop ≡ Through → IsEmptied (run m w c.steps)) (λ worn. λ is. cc) (λ left. λ is. behind_force used is)

@@ -65,7 +65,7 @@ module _ {O : Type 0} (meaning : Bounds → Meaning O) (old new : Disk) (store l
     sound = shows.sound;
     group = shows.group;
     shows = subst (λ (it : Parts). Shows (meaning_in meaning p) p new it (ungrouped w)) same_parts (read_shows (meaning_in meaning p) p old new store.parts later.parts.volatile.objects (ungrouped w) is.read shows.shows);
-    no_check = shows.no_check;
+    no_checkpoint = shows.no_checkpoint;
   }
 
   -- the value of a cached object needs no file

@@ -5,7 +5,7 @@ use Rattle.disk_model.specs.Disk.{Disk}
 use Rattle.oper_core.specs.Meaning.{Meaning}
 use Rattle.oper_core.specs.declared.bounds.Bounds.{Bounds}
 use Rattle.formats.specs.declared.params.Params.{Params}
-use Rattle.log_frames.specs.LogView.{used_of}
+use Rattle.log_blocks.specs.LogView.{used_of}
 use Rattle.explain_core.specs.World.{World, Step, run}
 use Rattle.running_store.specs.Courses.{Course}
 use Rattle.running_store.specs.Parts.{Shows}
@@ -30,7 +30,7 @@ module _ {O : Type 0} (meaning : Bounds → Meaning O) (p : Params) (d : Disk) (
     sound = shows.running.sound;
     group = shows.running.alone ∙ sym none;
     shows = subst (λ (v : World O). Shows m p d engine.parts v) (sym (ungrouped_alone w shows.running.alone)) shows;
-    no_check = subst (λ (o : Option ℕ). IfSome o (λ begun. w.pending ≡ [])) (sym none) tt;
+    no_checkpoint = subst (λ (o : Option ℕ). IfSome o (λ begun. w.pending ≡ [])) (sym none) tt;
   }
 
 -- a call outside groups that takes a course takes it in the engine
@@ -64,7 +64,7 @@ module _ {O : Type 0} (meaning : Bounds → Meaning O) (old new : Disk) (before 
       }
       by_ending p w c Failed unbroken f = tt
 
--- within a group no check waits after steps inside it
+-- within a group no checkpoint waits after steps inside it
 pub waits_none : {O : Type 0} (m : Meaning O) (w : World O) (group : Option ℕ) (steps : List (Step O)) → AreInside group steps → IfSome group (λ begun. w.pending ≡ []) → IfSome group (λ begun. (run m w steps).pending ≡ [])
 waits_none m w None steps are none = tt
 waits_none m w (Some begun) steps are none = same_waits m begun w steps are ∙ none

@@ -12,14 +12,14 @@ use Rattle.formats.specs.Image.{EndsAt}
 use Rattle.formats.specs.Records.{payload_of}
 use Rattle.formats.specs.declared.params.Params.{Params}
 use Rattle.formats.specs.declared.record.Record.{Record}
-use Rattle.formats.specs.declared.record.Record.TheVariants.{Command as Logged_command, Identity as Logged_identity, Check as Logged_check}
-use Rattle.log_frames.specs.LogView.{end_with}
+use Rattle.formats.specs.declared.record.Record.TheVariants.{Command as Logged_command, Identity as Logged_identity, Checkpoint as Logged_checkpoint}
+use Rattle.log_blocks.specs.LogView.{end_with}
 use Rattle.explain_core.specs.History.{Member, commands_of}
 use Rattle.explain_core.specs.Sound.{IsGroup, IsSound}
 use Rattle.explain_core.specs.World.{World, IsLive, end_of}
 use Rattle.standing.specs.Members.{members_of}
 use Rattle.standing.specs.Standing.{FilesShow, StandsFor}
-use Rattle.running_store.specs.Appended.{next_number}
+use Rattle.running_store.specs.Appended.{next_lsn}
 use Rattle.running_store.specs.Forced.{files_shown}
 use Rattle.running_store.specs.Joins.{cell_shown}
 use Rattle.running_store.specs.Laid.{values_in}
@@ -37,9 +37,9 @@ in_each d P settled here = (here, λ told files said left. subst P (fun_ext (λ 
 -- no record has no bytes
 pub no_records : {O : Type 0} (m : Meaning O) (records : List (Record O)) → [] ≡ payload_of m records → records ≡ []
 no_records m [] is = refl
-no_records m (Logged_command number op ∷ records) is = cc
-no_records m (Logged_identity number x value ∷ records) is = cc
-no_records m (Logged_check table ∷ records) is = cc
+no_records m (Logged_command lsn op ∷ records) is = cc
+no_records m (Logged_identity lsn x value ∷ records) is = cc
+no_records m (Logged_checkpoint table ∷ records) is = cc
 
 -- the laws of worlds and images: an image of a sound world stands for its stable commands, and a live cache is the map
 abbrev pub Stand : {O : Type 0} → (Bounds → Meaning O) → Params → Type 0
@@ -124,7 +124,7 @@ module _ {O : Type 0} (meaning : Bounds → Meaning O) (p : Params) (d : Disk) (
             holds_forced,
             front,
             counted w begun holds.shows.sound in_one,
-            next_number m p d engine.parts (ungrouped w) shown,
+            next_lsn m p d engine.parts (ungrouped w) shown,
             ap (λ (l : List O). length l) holds.commands_are,
             holds.shows.sound.forced,
           )

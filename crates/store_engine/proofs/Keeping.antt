@@ -9,7 +9,7 @@ use Rattle.oper_core.specs.Meaning.{Meaning, IsSmall}
 use Rattle.oper_core.specs.declared.bounds.Bounds.{Bounds}
 use Rattle.formats.specs.Objects.{bounds_of}
 use Rattle.formats.specs.declared.params.Params.{Params}
-use Rattle.log_frames.specs.LogView.{used_of}
+use Rattle.log_blocks.specs.LogView.{used_of}
 use Rattle.explain_core.specs.History.{Member, commands_of}
 use Rattle.explain_core.specs.RunLaws.{begins-allowed}
 use Rattle.explain_core.specs.Sound.{IsSound}

@@ -9,8 +9,8 @@ use Rattle.formats.specs.Objects.{BeginsStore}
 use Rattle.oper_core.specs.Meaning.{Meaning}
 use Rattle.oper_core.specs.declared.bounds.Bounds.{Bounds}
 use Rattle.formats.specs.declared.params.Params.{Params}
-use Rattle.log_frames.specs.Creating.{LogsAlone, IsNewLog}
-use Rattle.log_frames.specs.Laws.{log_stays}
+use Rattle.log_blocks.specs.Creating.{LogsAlone, IsNewLog}
+use Rattle.log_blocks.specs.Laws.{log_stays}
 use Rattle.stable_objects.specs.GateLaws.{closed_begins, torn_begins}
 use Rattle.stable_objects.specs.Making.{IsClosedFile, IsNewFile, IsClosedOrWhole}
 use Rattle.store_engine.specs.Engine.{InEachImage, IsNew, IsNewStore}

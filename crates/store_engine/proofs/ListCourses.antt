@@ -35,18 +35,18 @@ module _ {O : Type 0} (m : Meaning O) (limit : ℕ) (op : O) (w : World O) (used
   abbrev unplaced : List (Step O)
   unplaced = unplaced_steps m (is_some w.group) w
 
-  -- it is that, where the log has no room or no number is left, or the append
-  by_placed : (P : Course O → Type 0) → ((need : ℕ) → P (course unplaced used (Full used need limit))) → ((number : ℕ) → P (course unplaced used (At_end number)))
+  -- it is that, where the log has no room or no LSN is left, or the append
+  by_placed : (P : Course O → Type 0) → ((need : ℕ) → P (course unplaced used (Full used need limit))) → ((lsn : ℕ) → P (course unplaced used (At_end lsn)))
       → ((longer : ℕ) → P (course (Append (Command op) ∷ []) longer Through)) → P one
   by_placed P full ends fits =
       cond_both (nat_lt limit (grown m w used (command_length m op))) _ _ P (λ over. full (needed m (is_some w.group) w (command_length m op)))
       (λ not_over. cond_both (nat_le (2 ^ 62) (end_of w)) _ _ P (λ last. ends (end_of w)) (λ low. fits (grown m w used (command_length m op))))
 
   steps_through : one.stop ≡ Through → one.steps ≡ Append (Command op) ∷ []
-  steps_through = by_placed (λ (c : Course O). c.stop ≡ Through → c.steps ≡ Append (Command op) ∷ []) (λ need e. cc) (λ number e. cc) (λ longer e. refl)
+  steps_through = by_placed (λ (c : Course O). c.stop ≡ Through → c.steps ≡ Append (Command op) ∷ []) (λ need e. cc) (λ lsn e. cc) (λ longer e. refl)
 
   steps_stopped : IsFalse (is_through one.stop) → one.steps ≡ unplaced
-  steps_stopped = by_placed (λ (c : Course O). IsFalse (is_through c.stop) → c.steps ≡ unplaced) (λ need no. refl) (λ number no. refl) (λ longer no. absurd (both_ways _ no refl))
+  steps_stopped = by_placed (λ (c : Course O). IsFalse (is_through c.stop) → c.steps ≡ unplaced) (λ need no. refl) (λ lsn no. refl) (λ longer no. absurd (both_ways _ no refl))
 
   -- done, it adds the command
   command_added : commands_of (run m w (Append (Command op) ∷ [])).history ≡ commands_of w.history ++ op ∷ []
@@ -95,7 +95,7 @@ module _ {O : Type 0} (m : Meaning O) (limit : ℕ) (op : O) (w : World O) (used
   ]
 
   pub same_commands : IsSameWhereAsMany one.steps
-  same_commands = by_placed (λ (c : Course O). IsSameWhereAsMany c.steps) (λ need. same_unplaced (is_some w.group)) (λ number. same_unplaced (is_some w.group)) (λ longer. same_append)
+  same_commands = by_placed (λ (c : Course O). IsSameWhereAsMany c.steps) (λ need. same_unplaced (is_some w.group)) (λ lsn. same_unplaced (is_some w.group)) (λ longer. same_append)
 
   -- it logs no object
   none_forced : logged_in (force_steps m w) ≡ []
@@ -106,7 +106,7 @@ module _ {O : Type 0} (m : Meaning O) (limit : ℕ) (op : O) (w : World O) (used
   none_unplaced false = none_forced
 
   pub none_logged : logged_in one.steps ≡ []
-  none_logged = by_placed (λ (c : Course O). logged_in c.steps ≡ []) (λ need. none_unplaced (is_some w.group)) (λ number. none_unplaced (is_some w.group)) (λ longer. refl)
+  none_logged = by_placed (λ (c : Course O). logged_in c.steps ≡ []) (λ need. none_unplaced (is_some w.group)) (λ lsn. none_unplaced (is_some w.group)) (λ longer. refl)
 
   -- alone it is the list of one
   pub course_of_one : one.stop ≡ Through → commands_course m limit (op ∷ []) w used ≡ course (one.steps ++ []) one.used Through

@@ -18,7 +18,7 @@ abbrev pub IsNoFault : ExecErr → Type 0
 IsNoFault DiskFault = ⊥
 IsNoFault (Refused refusal) = ⊤
 IsNoFault (LogFull used need limit) = ⊤
-IsNoFault (LsnEnd number) = ⊤
+IsNoFault (LsnEnd lsn) = ⊤
 IsNoFault (Damaged file place) = ⊤
 IsNoFault Memory = ⊤
 

@@ -8,7 +8,7 @@ use Rattle.disk_model.specs.Silent.{IsSilent}
 use Rattle.oper_core.specs.Meaning.{Meaning}
 use Rattle.oper_core.specs.declared.bounds.Bounds.{Bounds}
 use Rattle.formats.specs.declared.params.Params.{Params}
-use Rattle.log_frames.specs.LogView.{used_of}
+use Rattle.log_blocks.specs.LogView.{used_of}
 use Rattle.log_records.specs.RecordLog.{RecordLogView}
 use Rattle.explain_core.specs.History.{commands_of}
 use Rattle.explain_core.specs.World.{World}

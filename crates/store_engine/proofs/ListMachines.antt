@@ -67,7 +67,7 @@ module _ {O : Type 0} (meaning : Bounds → Meaning O) (old new : Disk) (before 
   undamaged_run lawful op (Ok n) ran told attached = tt
   undamaged_run lawful op (Err (Refused refusal)) ran told attached = tt
   undamaged_run lawful op (Err (LogFull used need limit)) ran told attached = tt
-  undamaged_run lawful op (Err (LsnEnd number)) ran told attached = tt
+  undamaged_run lawful op (Err (LsnEnd lsn)) ran told attached = tt
   undamaged_run lawful op (Err DiskFault) ran told attached = tt
   undamaged_run lawful op (Err (Damaged file place)) ran told attached =
       still_none_damaged meaning before.parts after.parts lawful ran.call.time ran.outcome.0.objects.slots (⊎_elim (λ failed. absurd failed) (λ keeps. keeps) ran.call.attached) told attached ran.outcome.1.slot
@@ -77,7 +77,7 @@ module _ {O : Type 0} (meaning : Bounds → Meaning O) (old new : Disk) (before 
   damaged_run op (Ok n) ran = tt
   damaged_run op (Err (Refused refusal)) ran = tt
   damaged_run op (Err (LogFull used need limit)) ran = tt
-  damaged_run op (Err (LsnEnd number)) ran = tt
+  damaged_run op (Err (LsnEnd lsn)) ran = tt
   damaged_run op (Err DiskFault) ran = tt
   damaged_run op (Err (Damaged file place)) ran = read_as_long ran.outcome.1.slot
   damaged_run op (Err Memory) ran = tt

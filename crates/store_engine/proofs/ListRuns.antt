@@ -19,7 +19,7 @@ use Rattle.standing.specs.Moments.{TakesSome, moments_longer}
 use Rattle.running_store.specs.CourseLaws.{behind_both}
 use Rattle.running_store.specs.Courses.{Course, Stop, course, is_through}
 use Rattle.running_store.specs.Courses.Stop.{Through, Full, At_end}
-use Rattle.running_store.specs.Appended.{next_number}
+use Rattle.running_store.specs.Appended.{next_lsn}
 use Rattle.running_store.specs.Taking.{Ending}
 use Rattle.running_store.specs.Taking.Ending.{Done, Stopped, Short, Failed}
 use Rattle.execution.specs.Counted.{accepted_shown}
@@ -46,12 +46,12 @@ stop_of Done = Through
 stop_of Short = Through
 stop_of Failed = Through
 
--- a command that is not done takes no number
+-- a command that is not done takes no LSN
 same_next : (grouped : Bool) (before log : RecordLogView) (e : ExecErr) → LogWithout grouped before log e → log.next ≡ before.next
 same_next true before log (LogFull used need limit) is = ap (λ (l : RecordLogView). l.next) is
 same_next false before log (LogFull used need limit) is = ap (λ (l : RecordLogView). l.next) is
-same_next true before log (LsnEnd number) is = ap (λ (l : RecordLogView). l.next) is
-same_next false before log (LsnEnd number) is = ap (λ (l : RecordLogView). l.next) is
+same_next true before log (LsnEnd lsn) is = ap (λ (l : RecordLogView). l.next) is
+same_next false before log (LsnEnd lsn) is = ap (λ (l : RecordLogView). l.next) is
 same_next grouped before log (Refused refusal) is = ap (λ (l : RecordLogView). l.next) is
 same_next grouped before log DiskFault is = ap (λ (l : RecordLogView). l.next) is
 same_next grouped before log (Damaged file place) is = ap (λ (l : RecordLogView). l.next) is
@@ -90,7 +90,7 @@ module _ {O : Type 0} (meaning : Bounds → Meaning O) (p : Params) (old new : D
       by_group (Some begun) is =
           let in_group = subst (λ (o : Option ℕ). IfSome o (IsGroup w.history w.forced)) (shows.group ∙ is) shows.sound.group in
           ap (λ (o : Option ℕ). commands_since (before.parts.log.next + 1) o) is
-          ∙ ap (λ (k : ℕ). Some k) (omega (arith, in_group.stable, shows.sound.forced, next_number m p old before.parts (ungrouped w) shows.shows))
+          ∙ ap (λ (k : ℕ). Some k) (omega (arith, in_group.stable, shows.sound.forced, next_lsn m p old before.parts (ungrouped w) shows.shows))
           ∙ sym (ap (λ (o : Option ℕ). larger (commands_since before.parts.log.next o) 1) is)
 
   same_size : after.group ≡ before.group → after.parts.log.next ≡ before.parts.log.next → group_size after ≡ larger (group_size before) 0
@@ -244,13 +244,13 @@ module _ {O : Type 0} (meaning : Bounds → Meaning O) (p : Params) (old new : D
       (adds_none (LogFull held need limit) ran (op ∷ rest) (Stopped (Full held need limit)) tt (inr (stopped_here rest (Full held need limit) refl cause.0 (ran.takes.follows p w shows))) (inr kept.rising) (inr (which_of kept))
       (λ s at. record { op = op; rest = rest; here = refl; need = subst (λ (t : Stop). IsNeed meaning p (larger (group_size before) 0) op t) (ap stop_of at) (subst (λ (size : Option ℕ). IsNeed meaning p size op (Full held need limit)) (larger_none (group_size before)) (exact.1, exact.2)) })
       (takes_of (Err (LogFull held need limit)) ran (commands_course m p.limit (op ∷ rest) w used) (stopped_course rest (Full held need limit) refl cause.0 (ran.takes.follows p w shows))))
-  ran_stopped rest (LsnEnd number) stop ran is =
-      let kept = kept_of (LsnEnd number) (λ e. subst EndsWithNoFault e tt) ran in
+  ran_stopped rest (LsnEnd lsn) stop ran is =
+      let kept = kept_of (LsnEnd lsn) (λ e. subst EndsWithNoFault e tt) ran in
       let cause = ran.in_world p w shows in
       subst (λ (s : Stop). AddsFront meaning p old new before after w commands (op ∷ rest) (Stopped s)) (ap stop_of is)
-      (adds_none (LsnEnd number) ran (op ∷ rest) (Stopped (At_end number)) tt (inr (stopped_here rest (At_end number) refl cause.0 (ran.takes.follows p w shows))) (inr kept.rising) (inr (which_of kept))
+      (adds_none (LsnEnd lsn) ran (op ∷ rest) (Stopped (At_end lsn)) tt (inr (stopped_here rest (At_end lsn) refl cause.0 (ran.takes.follows p w shows))) (inr kept.rising) (inr (which_of kept))
       (λ s at. record { op = op; rest = rest; here = refl; need = subst (λ (t : Stop). IsNeed meaning p (larger (group_size before) 0) op t) (ap stop_of at) tt })
-      (takes_of (Err (LsnEnd number)) ran (commands_course m p.limit (op ∷ rest) w used) (stopped_course rest (At_end number) refl cause.0 (ran.takes.follows p w shows))))
+      (takes_of (Err (LsnEnd lsn)) ran (commands_course m p.limit (op ∷ rest) w used) (stopped_course rest (At_end lsn) refl cause.0 (ran.takes.follows p w shows))))
   ran_stopped rest DiskFault stop ran is = absurd (subst IsUnstopped is tt)
   ran_stopped rest (Damaged file place) stop ran is = absurd (subst IsUnstopped is tt)
   ran_stopped rest Memory stop ran is = absurd (subst IsUnstopped is tt)
@@ -311,7 +311,7 @@ module _ {O : Type 0} (meaning : Bounds → Meaning O) (p : Params) (old new : D
     pub ran_failed : (ops : List O) (e : ExecErr) → HasRun meaning old new before after op (Err e) → ComesNext meaning p commands op ops → IsCutOff (ending_of (Some e)) → AddsFront meaning p old new before after w commands ops (ending_of (Some e))
     ran_failed ops (Refused r) ran next off = absurd off
     ran_failed ops (LogFull held need limit) ran next off = absurd off
-    ran_failed ops (LsnEnd number) ran next off = absurd off
+    ran_failed ops (LsnEnd lsn) ran next off = absurd off
     ran_failed ops DiskFault ran next off = adds_none DiskFault ran ops Failed tt (inl tt) (inl tt) (inl tt) (λ stop e. absurd (subst IsUnstopped e tt)) (takes_next (Err DiskFault) ran ops next)
     ran_failed ops (Damaged file place) ran next off = absurd (ran.in_world p w shows)
     ran_failed ops Memory ran next off =

@@ -3,7 +3,7 @@ use Rattle.std.proofs.Common.{◌≡◌, ◌+◌, List, [], ◌∷◌, length, a
 use Rattle.oper_core.specs.Meaning.{Meaning}
 use Rattle.explain_core.specs.History.Member.{Command, Identity}
 use Rattle.explain_core.specs.World.{World, Step, step, run}
-use Rattle.explain_core.specs.World.Step.{Begin, End, Append, Block_gate, Check, Slot_gate, Removal, Header_gate, Replay, Crash}
+use Rattle.explain_core.specs.World.Step.{Begin, End, Append, Block_gate, Checkpoint, Slot_gate, Removal, Header_gate, Replay, Crash}
 use Rattle.cache_manager.specs.InstallCourses.{logged_by, logged_in}
 use Rattle.running_store.specs.Running.{IsUpkeep, AreUpkeep}
 
@@ -15,7 +15,7 @@ module _ {O : Type 0} (m : Meaning O) where
   one_longer w (Append (Command op)) is = absurd is
   one_longer w (Append (Identity x value)) is = length-append w.history (Identity x value ∷ [])
   one_longer w Block_gate is = omega arith
-  one_longer w Check is = omega arith
+  one_longer w Checkpoint is = omega arith
   one_longer w (Slot_gate node x) is = omega arith
   one_longer w (Removal node) is = omega arith
   one_longer w (Header_gate base) is = omega arith

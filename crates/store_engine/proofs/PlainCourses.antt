@@ -11,37 +11,37 @@ use Rattle.explain_core.specs.World.Step.{Slot_gate, Removal, Replay, Header_gat
 use Rattle.running_store.specs.Courses.{Course, course, grown, is_through, force_steps, force_course, room_steps}
 use Rattle.running_store.specs.Courses.Stop.{Through, Full}
 use Rattle.running_store.specs.Running.{AreUpkeep}
-use Rattle.running_store.specs.Rewrites.{check_length, new_base, rewrite_course, trimmed, trimmed_file}
+use Rattle.running_store.specs.Rewrites.{checkpoint_length, new_base, rewrite_course, trimmed, trimmed_file}
 use Rattle.cache_manager.specs.Upkeep.{upkeep_append, upkeep_either, upkeep_force, upkeep_room, upkeep_then}
-use Rattle.formats.specs.Limits.{numbers_end}
-use Rattle.checkpointing.specs.Courses.{check_course, check_steps, checkpoint_course, closing_course, logged_course, trim_course}
+use Rattle.formats.specs.Limits.{lsn_end}
+use Rattle.checkpointing.specs.Courses.{taking_course, checkpoint_steps, checkpoint_course, closing_course, logged_course, trim_course}
 use Rattle.redo_pass.specs.Redo.{redo_steps}
 use Rattle.store_engine.proofs.Steps.{ArePlain, plain_append}
 
 module _ {O : Type 0} (m : Meaning O) where
   upkeep_logged : (w : World O) (used : ℕ) → AreUpkeep (logged_course m w used).steps
   upkeep_logged w used =
-      let n = check_length m w in
-      upkeep_either m (nat_lt log_limit (grown m w used n)) (course [] used (Full used (n + 5) log_limit)) (course check_steps (grown m w used n) Through) tt (tt, (tt, tt))
+      let n = checkpoint_length m w in
+      upkeep_either m (nat_lt log_limit (grown m w used n)) (course [] used (Full used (n + 5) log_limit)) (course checkpoint_steps (grown m w used n) Through) tt (tt, (tt, tt))
 
-  upkeep_check : (w : World O) (used : ℕ) → AreUpkeep (check_course m w used).steps
-  upkeep_check w used = upkeep_then m w (course (room_steps m w (check_length m w)) used Through) (logged_course m) (upkeep_room m w (check_length m w)) (λ v used. upkeep_logged v used)
+  upkeep_taking : (w : World O) (used : ℕ) → AreUpkeep (taking_course m w used).steps
+  upkeep_taking w used = upkeep_then m w (course (room_steps m w (checkpoint_length m w)) used Through) (logged_course m) (upkeep_room m w (checkpoint_length m w)) (λ v used. upkeep_logged v used)
 
   pub upkeep_checkpoint : (w : World O) (used : ℕ) → AreUpkeep (checkpoint_course m w used).steps
   upkeep_checkpoint w used =
-      let c = check_course m w used in
-      upkeep_either m (is_through c.stop) c (course (c.steps ++ force_steps m (run m w c.steps)) c.used c.stop) (upkeep_check w used)
-      (upkeep_append m c.steps (force_steps m (run m w c.steps)) (upkeep_check w used) (upkeep_force m (run m w c.steps)))
+      let c = taking_course m w used in
+      upkeep_either m (is_through c.stop) c (course (c.steps ++ force_steps m (run m w c.steps)) c.used c.stop) (upkeep_taking w used)
+      (upkeep_append m c.steps (force_steps m (run m w c.steps)) (upkeep_taking w used) (upkeep_force m (run m w c.steps)))
 
   pub upkeep_closing : (w : World O) (used : ℕ) → AreUpkeep (closing_course m w used).steps
-  upkeep_closing w used = upkeep_check w used
+  upkeep_closing w used = upkeep_taking w used
 
   upkeep_rewrite : (w : World O) (used : ℕ) → AreUpkeep (rewrite_course m w used).steps
   upkeep_rewrite w used =
       upkeep_either m (nat_lt log_limit (trimmed_file m w)) (course [] used (Full used (trimmed_file m w) log_limit)) (course (Header_gate (new_base m w) ∷ []) (trimmed m w) Through) tt (tt, tt)
 
   pub upkeep_trim : (epoch : ℕ) (w : World O) (used : ℕ) → AreUpkeep (trim_course m epoch w used).steps
-  upkeep_trim epoch w used = cond_both (nat_le numbers_end epoch) _ _ (λ (c : Course O). AreUpkeep c.steps) (λ worn. tt)
+  upkeep_trim epoch w used = cond_both (nat_le lsn_end epoch) _ _ (λ (c : Course O). AreUpkeep c.steps) (λ worn. tt)
       (λ left. upkeep_then m w (force_course m w used) (rewrite_course m) (upkeep_force m w) (λ v used. upkeep_rewrite v used))
 
   plain_if : (b : Bool) (xs ys : List (Step O)) → ArePlain xs → ArePlain ys → ArePlain (if b then xs else ys)

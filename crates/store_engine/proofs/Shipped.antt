@@ -14,7 +14,7 @@ use Rattle.formats.specs.Records.{IsRecordLog, payload_of}
 use Rattle.formats.specs.declared.read_err.ReadErr.{ReadErr}
 use Rattle.formats.specs.declared.read_err.ReadErr.TheVariants as of_read
 use Rattle.frame_stream.specs.Frames.{frame, frames}
-use Rattle.log_frames.specs.LogView.{LogView}
+use Rattle.log_blocks.specs.LogView.{LogView}
 use Rattle.log_records.specs.BlockLaws.{blocks_given}
 use Rattle.log_records.specs.BlockReader.{AreAllBlocks, BlockReaderView, IsReadingBlocks}
 use Rattle.log_records.specs.CodecLaws.{HasCodes}
@@ -118,7 +118,7 @@ module _ {O : Type 0} (meaning : Bounds → Meaning O) where
       no_record_fault (meaning engine.parts.log.bounds) codes log.header keeps.groups (new.reads log.active) place here
       (fault.1 new.reads (stays.ends.agreeing (stays.time.files_told.0 told)) (map (payload_of (meaning engine.parts.log.bounds)) keeps.groups) here.log)
 
-  -- So far the log was read from a number on: the bytes are those that were there and the frames of what the reader gave.
+  -- So far the log was read from an LSN on: the bytes are those that were there and the frames of what the reader gave.
   pub record HasShipped (old now : Disk) (before here : EngineView) (from : ℕ) (reader : BlockReaderView) (were bytes : List ℕ) : Type 0 where
     pub reached : base_of before ≤ from
     pub read : IsEngineRead meaning old now before here ⊥

@@ -41,8 +41,8 @@ read_fails_so (Err (Damaged file place)) = (λ is. cc, λ is. cc)
 read_fails_so (Err Memory) = (λ is. cc, λ is. cc)
 
 -- the pair that was read is the world's
-is_pair : (r : Result ℕ ReadErr) (here cell : Cell) (bytes : List ℕ) → here ≡ cell → IfOk r (λ id. cell ≡ record { id = id; value = bytes }) → IfOk r (λ id. here ≡ record { id = id; value = bytes })
-is_pair (Ok id) here cell bytes same is = same ∙ is
+is_pair : (r : Result ℕ ReadErr) (here cell : Cell) (bytes : List ℕ) → here ≡ cell → IfOk r (λ lsn. cell ≡ record { lsn = lsn; value = bytes }) → IfOk r (λ lsn. here ≡ record { lsn = lsn; value = bytes })
+is_pair (Ok lsn) here cell bytes same is = same ∙ is
 is_pair (Err e) here cell bytes same is = tt
 
 module _ {O : Type 0} (meaning : Bounds → Meaning O) (old new : Disk) (store : StoreView) (group copied : Option ℕ) where
@@ -59,7 +59,7 @@ module _ {O : Type 0} (meaning : Bounds → Meaning O) (old new : Disk) (store :
           group = shows.group;
           shows = subst (λ (it : Parts). Shows (meaning_in meaning p) p new it (ungrouped w)) (sym (ap (λ (s : StoreView). s.parts) read.store))
               (read_shows (meaning_in meaning p) p old new store.parts store.parts.volatile.objects (ungrouped w) (has_read old new store.parts.volatile.objects read.stays) shows.shows);
-          no_check = shows.no_check;
+          no_checkpoint = shows.no_checkpoint;
         })) (unbroken_or later.broken failed (λ set. so.0 (sym flag_is ∙ set), λ fails. flag_is ∙ so.1 fails));
   }
     where
@@ -67,8 +67,8 @@ module _ {O : Type 0} (meaning : Bounds → Meaning O) (old new : Disk) (store :
       flag_is = ap (λ (s : StoreView). s.broken) read.store
 
   module _ (object : ℕ) (below : object < (store_params store).objects) (r : Result ℕ ReadErr) (bytes : List ℕ) where
-    pub slot_pair : (old.tells_files → IsLaidOn store.parts.volatile.objects (old.reads Objects) → IfOk r (λ id. cell_of object (old.reads Objects) ≡ record { id = id; value = bytes }))
-        → (p : Params) (w : World O) → ShowsIn meaning p old (engine_of store group copied) w → IfOk r (λ id. w.slots object ≡ record { id = id; value = bytes })
+    pub slot_pair : (old.tells_files → IsLaidOn store.parts.volatile.objects (old.reads Objects) → IfOk r (λ lsn. cell_of object (old.reads Objects) ≡ record { lsn = lsn; value = bytes }))
+        → (p : Params) (w : World O) → ShowsIn meaning p old (engine_of store group copied) w → IfOk r (λ lsn. w.slots object ≡ record { lsn = lsn; value = bytes })
     slot_pair is p w shows =
         let parts = shows.shows.store in
         let here = subst (λ (q : Params). object < q.objects) parts.params below in

@@ -13,7 +13,7 @@ use Rattle.install_order.specs.Computed.{IsWithin, least_below}
 use Rattle.install_order.specs.NodeLaws.{name-is, node-is, node-unique}
 use Rattle.install_order.specs.Order.{Access, IsName, IsNode}
 use Rattle.standing.specs.OneStable.{small_store}
-use Rattle.write_graph.specs.Graph.{IsCount, NamesNode, numbers}
+use Rattle.write_graph.specs.Graph.{IsCount, NamesNode, lsns}
 use Rattle.explain_core.specs.CountLaws.{count_more, count_none, count_same}
 use Rattle.explain_core.specs.GraphLaws.{graph-within}
 use Rattle.explain_core.specs.Sound.{IsSound}
@@ -62,11 +62,11 @@ module _ {O : Type 0} (m : Meaning O) (lawful : IsLawful m) (p : Params) (file :
   below n there = omega (arith, (sound.graph n there).1, sound.next.1)
 
   -- as many entries as members of the graph
-  pub entries_counted : IsStrictlyIncreasing (numbers it.entries) → length it.entries ≡ count_below end w.graph
+  pub entries_counted : IsStrictlyIncreasing (lsns it.entries) → length it.entries ≡ count_below end w.graph
   entries_counted rising =
-      sym (length-map it.entries (λ (e : Entry). e.number))
-      ∙ sym (listed end (numbers it.entries) rising (λ x is. below x (sym (shows.members x) ∙ is)))
-      ∙ count_same end (λ x. is_among x (numbers it.entries)) w.graph (λ x lt. shows.members x)
+      sym (length-map it.entries (λ (e : Entry). e.lsn))
+      ∙ sym (listed end (lsns it.entries) rising (λ x is. below x (sym (shows.members x) ∙ is)))
+      ∙ count_same end (λ x. is_among x (lsns it.entries)) w.graph (λ x lt. shows.members x)
 
   -- n is in the graph, and the least of its node
   abbrev is_named : ℕ → Bool

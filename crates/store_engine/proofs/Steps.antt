@@ -9,7 +9,7 @@ use Rattle.explain_core.specs.History.Member.{Command, Identity}
 use Rattle.explain_core.specs.RunLaws.{Begins, begins-each}
 use Rattle.explain_core.specs.StableLaws.{commands_of-append}
 use Rattle.explain_core.specs.World.{World, Step, step, run}
-use Rattle.explain_core.specs.World.Step.{Begin, End, Append, Block_gate, Check, Slot_gate, Removal, Header_gate, Replay, Crash}
+use Rattle.explain_core.specs.World.Step.{Begin, End, Append, Block_gate, Checkpoint, Slot_gate, Removal, Header_gate, Replay, Crash}
 use Rattle.running_store.specs.Running.{IsUpkeep, AreUpkeep}
 use Rattle.store_engine.specs.Grouping.{IsInside, AreInside}
 use Rattle.store_engine.specs.Counts.{take-commands, commands-fewer}
@@ -21,7 +21,7 @@ IsPlain End = ⊥
 IsPlain (Append (Command op)) = ⊥
 IsPlain (Append (Identity x value)) = ⊤
 IsPlain Block_gate = ⊤
-IsPlain Check = ⊤
+IsPlain Checkpoint = ⊤
 IsPlain (Slot_gate node x) = ⊤
 IsPlain (Removal node) = ⊤
 IsPlain (Header_gate base) = ⊤
@@ -62,7 +62,7 @@ module _ {O : Type 0} where
   upkeep_plain (Append (Command op)) is = is
   upkeep_plain (Append (Identity x value)) is = is
   upkeep_plain Block_gate is = is
-  upkeep_plain Check is = is
+  upkeep_plain Checkpoint is = is
   upkeep_plain (Slot_gate node x) is = is
   upkeep_plain (Removal node) is = is
   upkeep_plain (Header_gate base) is = is
@@ -120,7 +120,7 @@ module _ {O : Type 0} where
     silent = refl;
   }
   one_step m w Block_gate plain within = extends_same w _ refl within (omega arith) (inr (ap (λ (h : List (Member O)). length (commands_of h)) (take-length w.history)))
-  one_step m w Check plain within = extends_same w _ refl (omega arith) within (inl refl)
+  one_step m w Checkpoint plain within = extends_same w _ refl (omega arith) within (inl refl)
   one_step m w (Slot_gate node x) plain within = extends_same w _ refl (omega arith) within (inl refl)
   one_step m w (Removal node) plain within = extends_same w _ refl (omega arith) within (inl refl)
   one_step m w (Header_gate base) plain within = extends_same w _ refl (omega arith) within (inl refl)
@@ -185,7 +185,7 @@ module _ {O : Type 0} where
   step_inside m begun w End is within = absurd is
   step_inside m begun w (Append member) is within = (take-append-le w.forced w.history (member ∷ []) within, omega (arith, within, length-append w.history (member ∷ [])))
   step_inside m begun w Block_gate is within = cc is
-  step_inside m begun w Check is within = cc is
+  step_inside m begun w Checkpoint is within = cc is
   step_inside m begun w (Slot_gate node x) is within = cc is
   step_inside m begun w (Removal node) is within = cc is
   step_inside m begun w (Header_gate base) is within = cc is

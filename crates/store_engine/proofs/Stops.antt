@@ -10,14 +10,14 @@ use Rattle.oper_core.specs.declared.bounds.Bounds.{Bounds}
 use Rattle.formats.specs.Records.{next_after, payload_of}
 use Rattle.formats.specs.declared.params.Params.{Params}
 use Rattle.formats.specs.declared.record.Record.{Record}
-use Rattle.log_frames.specs.LogView.{end_with}
-use Rattle.log_frames.specs.Laws.{has_header}
+use Rattle.log_blocks.specs.LogView.{end_with}
+use Rattle.log_blocks.specs.Laws.{has_header}
 use Rattle.explain_core.specs.History.{IsCommand, Member, commands_of}
 use Rattle.explain_core.specs.History.Member.{Command, Identity}
 use Rattle.explain_core.specs.Sound.{IsGroup}
 use Rattle.explain_core.specs.World.{World}
 use Rattle.standing.specs.Members.{next-members}
-use Rattle.running_store.specs.Appended.{base_below, next_number}
+use Rattle.running_store.specs.Appended.{base_below, next_lsn}
 use Rattle.running_store.specs.Buffered.{buffered_shown}
 use Rattle.running_store.specs.Courses.{Stop, records_length, tables_length}
 use Rattle.running_store.specs.Courses.Stop.{Through, Full, At_end, Worn}
@@ -37,7 +37,7 @@ each_command : {O : Type 0} (h : List (Member O)) → ((i : ℕ) → IfSome (sli
 each_command [] each = tt
 each_command (member ∷ h) each = (each 0, each_command h (λ i. each (suc i)))
 
--- those from a number on
+-- those from an LSN on
 later_commands : {O : Type 0} (h : List (Member O)) (f : ℕ) → ((i : ℕ) → f ≤ i → IfSome (slice_get h i) IsCommand) → AreCommands (drop f h)
 later_commands h zero each = each_command h (λ i. each i (omega arith))
 later_commands [] (suc f) each = tt
@@ -74,7 +74,7 @@ module _ {O : Type 0} (meaning : Bounds → Meaning O) (p : Params) (d : Disk) (
         log = record { in_force = k.in_force; log = k.file.log };
         here = at.0 ∙ ap (λ (l : List ℕ). end_with engine.parts.log.log.end l) at.1 ∙ k.place;
       }
-  now (At_end number) at =
+  now (At_end lsn) at =
       let l = shows.shows.log in
       let k = l.keeps in
       let base = engine.parts.log.log.header.base in
@@ -106,7 +106,7 @@ module _ {O : Type 0} (meaning : Bounds → Meaning O) (p : Params) (d : Disk) (
     in_group = subst (λ (o : Option ℕ). IfSome o (IsGroup w.history w.forced)) in_one shows.sound.group
 
     none_waits : w.pending ≡ []
-    none_waits = subst (λ (o : Option ℕ). IfSome o (λ begun. w.pending ≡ [])) (sym shows.group ∙ in_one) shows.no_check
+    none_waits = subst (λ (o : Option ℕ). IfSome o (λ begun. w.pending ≡ [])) (sym shows.group ∙ in_one) shows.no_checkpoint
 
     are_commands : AreCommands (drop w.forced w.history)
     are_commands = later_commands w.history w.forced (λ i le. in_group.commands (suc i) (omega (arith, le, in_group.stable)))
@@ -131,7 +131,7 @@ module _ {O : Type 0} (meaning : Bounds → Meaning O) (p : Params) (d : Disk) (
           },
           at.0 ∙ block_bytes meaning p engine.parts.log.log.end engine.parts.log.log.pending (commands_of (drop w.forced w.history)) waiting_bytes,
         )
-    within (At_end number) at =
+    within (At_end lsn) at =
         let l = shows.shows.log in
         let k = l.keeps in
         let base = engine.parts.log.log.header.base in
@@ -147,7 +147,7 @@ module _ {O : Type 0} (meaning : Bounds → Meaning O) (p : Params) (d : Disk) (
           omega (
             arith,
             at.0,
-            next_number m p d engine.parts (ungrouped w) shows.shows,
+            next_lsn m p d engine.parts (ungrouped w) shows.shows,
             next-members base l.stable,
             ap (λ (h : List (Member O)). length h) l.forced,
             length-drop (w.base - 1) (take w.forced w.history),

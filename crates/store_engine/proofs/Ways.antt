@@ -14,7 +14,7 @@ use Rattle.store_engine.specs.declared.work_err.WorkErr.{WorkErr}
 pub unbroken_or : (broken : Bool) (P : Type 0) → (broken ≡ true) ↔ P → P ⊎ (broken ≡ false)
 unbroken_or broken P so = elim (cases_Bool broken) [ inl is ↦ inl (so.0 is) | inr not ↦ inr not ]
 
--- a bound on a count, by the numbers that were given meanwhile
+-- a bound on a count, by the LSNs that were given meanwhile
 pub bounded_so : {E : Type 0} (r : Result ℕ E) (first last entries : ℕ) → first ≤ last → IfOk r (λ n. n + first ≤ entries + last) → IfOk r (λ n. n ≤ entries + (last - first))
 bounded_so (Ok n) first last entries rising bound = omega (arith, rising, bound)
 bounded_so (Err e) first last entries rising bound = tt

@@ -29,11 +29,11 @@ use Rattle.cache_manager.specs.Told.{IsInstall, TellsParts}
 use Rattle.cache_manager.specs.Upkeep.{upkeep_drain, upkeep_force, upkeep_install}
 use Rattle.cache_manager.specs.declared.install.Install.{Install}
 use Rattle.cache_manager.specs.declared.install_err.InstallErr.{InstallErr}
-use Rattle.checkpointing.specs.Left.{ending_of_check}
+use Rattle.checkpointing.specs.Left.{ending_of_checkpoint}
 use Rattle.checkpointing.specs.Courses.{checkpoint_course, trim_course}
 use Rattle.checkpointing.specs.Left.{DamagedBy, IsTooLong}
-use Rattle.checkpointing.specs.declared.check_err.CheckErr.{CheckErr}
-use Rattle.store_engine.specs.Calls.{IsChecking, IsDraining, IsForcing, IsInstalling, IsTrimming}
+use Rattle.checkpointing.specs.declared.checkpoint_err.CheckpointErr.{CheckpointErr}
+use Rattle.store_engine.specs.Calls.{IsTakingCheckpoint, IsDraining, IsForcing, IsInstalling, IsTrimming}
 use Rattle.store_engine.specs.Engine.{engine_of, so_far}
 use Rattle.store_engine.specs.Store.{meaning_in}
 use Rattle.store_engine.proofs.Calls.{call_of, keeps_of, takes_of}
@@ -125,15 +125,15 @@ module _ {O : Type 0} (meaning : Bounds → Meaning O) (old new : Disk) (store l
         clean = λ p w shows. clean p w (alone_shown meaning p old (engine_of store None copied) w shows refl);
       }
 
-  -- ---- a check, and a trim
+  -- ---- a checkpoint, and a trim
 
-  pub checking : {T : Type 0} (r : Result T CheckErr) → of_store.IsCall meaning old new store later 0 (StopsAt log_limit) (ending_of_check r)
-      → Takes meaning old new store.parts later.parts (λ m w used. checkpoint_course m w used) (ending_of_check r) → MayTake meaning (λ m w used. checkpoint_course m w used)
-      → IsChecking meaning old new (engine_of store None copied) (engine_of later None copied) r
+  pub checking : {T : Type 0} (r : Result T CheckpointErr) → of_store.IsCall meaning old new store later 0 (StopsAt log_limit) (ending_of_checkpoint r)
+      → Takes meaning old new store.parts later.parts (λ m w used. checkpoint_course m w used) (ending_of_checkpoint r) → MayTake meaning (λ m w used. checkpoint_course m w used)
+      → IsTakingCheckpoint meaning old new (engine_of store None copied) (engine_of later None copied) r
   checking r call takes may = record {
-    call = call_of meaning old new store later 0 (StopsAt log_limit) (ending_of_check r) call log_limit None copied (λ log stop at. at);
-    takes = takes_of meaning old new store later 0 (StopsAt log_limit) (ending_of_check r) call copied (λ m w used. checkpoint_course m w used) takes;
-    commands = keeps_of meaning old new store later 0 (StopsAt log_limit) (ending_of_check r) call copied (λ m w used. checkpoint_course m w used) takes keeps stand may (λ m w used. are_plain (checkpoint_course m w used).steps (upkeep_checkpoint m w used));
+    call = call_of meaning old new store later 0 (StopsAt log_limit) (ending_of_checkpoint r) call log_limit None copied (λ log stop at. at);
+    takes = takes_of meaning old new store later 0 (StopsAt log_limit) (ending_of_checkpoint r) call copied (λ m w used. checkpoint_course m w used) takes;
+    commands = keeps_of meaning old new store later 0 (StopsAt log_limit) (ending_of_checkpoint r) call copied (λ m w used. checkpoint_course m w used) takes keeps stand may (λ m w used. are_plain (checkpoint_course m w used).steps (upkeep_checkpoint m w used));
   }
 
   abbrev epoch : ℕ

@@ -25,9 +25,9 @@ use Rattle.cache_manager.specs.declared.install.Install.{Install}
 use Rattle.cache_manager.specs.declared.install_err.InstallErr.{InstallErr}
 use Rattle.cache_manager.specs.declared.install_err.InstallErr.TheVariants as of_install
 use Rattle.checkpointing.specs.Courses.{checkpoint_course, trim_course}
-use Rattle.checkpointing.specs.Left.{IsTooLong, ending_of_check}
-use Rattle.checkpointing.specs.declared.check_err.CheckErr.{CheckErr}
-use Rattle.checkpointing.specs.declared.check_err.CheckErr.TheVariants as of_checking
+use Rattle.checkpointing.specs.Left.{IsTooLong, ending_of_checkpoint}
+use Rattle.checkpointing.specs.declared.checkpoint_err.CheckpointErr.{CheckpointErr}
+use Rattle.checkpointing.specs.declared.checkpoint_err.CheckpointErr.TheVariants as of_checkpoint
 use Rattle.store_engine.specs.Engine.{EngineView, Holds, IsAttached, IsEngineCall, KeepsCommands, ShowsIn, TakesIn, forced_in, logged_since, so_far, used_in}
 use Rattle.store_engine.specs.Store.{meaning_in}
 use Rattle.store_engine.specs.declared.work_err.WorkErr.{WorkErr}
@@ -46,14 +46,14 @@ refused_beside (Some copied) = Err (InBackup copied)
 -- why the calls below were not done, as the engine answers it
 abbrev pub work_from_install : InstallErr → WorkErr
 work_from_install (of_install.LogFull used need limit) = LogFull used need limit
-work_from_install (of_install.LsnEnd number) = LsnEnd number
+work_from_install (of_install.LsnEnd lsn) = LsnEnd lsn
 work_from_install of_install.DiskFault = DiskFault
 work_from_install of_install.Memory = Memory
 
-abbrev pub work_from_check : CheckErr → WorkErr
-work_from_check (of_checking.LogFull used need limit) = LogFull used need limit
-work_from_check of_checking.DiskFault = DiskFault
-work_from_check of_checking.Memory = Memory
+abbrev pub work_from_checkpoint : CheckpointErr → WorkErr
+work_from_checkpoint (of_checkpoint.LogFull used need limit) = LogFull used need limit
+work_from_checkpoint of_checkpoint.DiskFault = DiskFault
+work_from_checkpoint of_checkpoint.Memory = Memory
 
 abbrev pub work_from_rewrite : RewriteErr → WorkErr
 work_from_rewrite (of_rewrite.LogFull used need limit) = LogFull used need limit
@@ -73,8 +73,8 @@ work_of_force = work_of (λ e. DiskFault)
 abbrev pub work_of_install : {T : Type 0} → Result T InstallErr → Result T WorkErr
 work_of_install = work_of work_from_install
 
-abbrev pub work_of_check : {T : Type 0} → Result T CheckErr → Result T WorkErr
-work_of_check = work_of work_from_check
+abbrev pub work_of_checkpoint : {T : Type 0} → Result T CheckpointErr → Result T WorkErr
+work_of_checkpoint = work_of work_from_checkpoint
 
 abbrev pub work_of_trim : {T : Type 0} → Result T RewriteErr → Result T WorkErr
 work_of_trim = work_of work_from_rewrite
@@ -134,11 +134,11 @@ module _ {O : Type 0} (meaning : Bounds → Meaning O) (old new : Disk) (before 
     pub drained : OnOk answer (after.parts.volatile.entries ≡ [])
     pub clean : (p : Params) (w : World O) → ShowsIn meaning p old before w → OnOk answer ((x : ℕ) → is_dirty after.parts.volatile.objects.cache x ≡ false)
 
-  -- a check was taken and forced
-  pub record IsChecking {T : Type 0} (answer : Result T CheckErr) : Type 0 where
-    pub call : IsEngineCall meaning log_limit old new before after 0 (ending_of_check answer)
-    pub takes : TakesIn meaning old new before after (λ m w used. checkpoint_course m w used) (ending_of_check answer)
-    pub commands : KeepsCommands meaning old new before after (ending_of_check answer)
+  -- a checkpoint was taken and forced
+  pub record IsTakingCheckpoint {T : Type 0} (answer : Result T CheckpointErr) : Type 0 where
+    pub call : IsEngineCall meaning log_limit old new before after 0 (ending_of_checkpoint answer)
+    pub takes : TakesIn meaning old new before after (λ m w used. checkpoint_course m w used) (ending_of_checkpoint answer)
+    pub commands : KeepsCommands meaning old new before after (ending_of_checkpoint answer)
 
   -- the log was rewritten
   pub record IsTrimming {T : Type 0} (answer : Result T RewriteErr) : Type 0 where
@@ -149,7 +149,7 @@ module _ {O : Type 0} (meaning : Bounds → Meaning O) (old new : Disk) (before 
     pub undamaged : old.tells_files → IsAttached meaning old before → (file : FileNo) (place : ℕ) → IsErrOf answer (of_rewrite.Damaged file place) → ⊥
     pub damage : (file : FileNo) (place : ℕ) → IsErrOf answer (of_rewrite.Damaged file place) → IsTailFault (meaning after.parts.log.bounds) new after.parts.log.log file place
     pub long : IfErr answer IsTooLong
-    -- where all is installed the log that is left has no command and no identity write: it begins at the next number
+    -- where all is installed the log that is left has no command and no identity write: it begins at the next LSN
     pub emptied : before.parts.volatile.entries ≡ [] → OnOk answer (after.parts.log.log.header.base ≡ after.parts.log.next)
 
   -- the log was forced, and a group is open that has no command yet; or the disk failed

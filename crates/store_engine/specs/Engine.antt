@@ -11,8 +11,8 @@ use Rattle.formats.specs.Image.{EndsAt, NextIs}
 use Rattle.formats.specs.InForce.{HasHeader, IsInForce}
 use Rattle.formats.specs.Log.{Header}
 use Rattle.formats.specs.declared.params.Params.{Params}
-use Rattle.log_frames.specs.Creating.{IsNewLog}
-use Rattle.log_frames.specs.LogView.{used_of}
+use Rattle.log_blocks.specs.Creating.{IsNewLog}
+use Rattle.log_blocks.specs.LogView.{used_of}
 use Rattle.stable_objects.specs.Making.{IsNewFile}
 use Rattle.stable_objects.specs.declared.open_err.OpenErr.{OpenErr}
 use Rattle.dirty_cache.specs.Contents.{held}
@@ -46,18 +46,18 @@ pub record EngineView : Type 0 where
   pub parts : Parts
   -- so many identity writes were logged since the restart
   pub identities : ℕ
-  -- the number at which the open group began
+  -- the LSN at which the open group began
   pub group : Option ℕ
   -- so many objects are copied, while the slots are copied
   pub copied : Option ℕ
   -- a call was answered that the disk failed
   pub broken : Bool
 
--- the engine of this store, whose open group began with this number, and of whose objects so many are copied
+-- the engine of this store, whose open group began with this LSN, and of whose objects so many are copied
 abbrev pub engine_of : StoreView → Option ℕ → Option ℕ → EngineView
 engine_of store group copied = record { parts = store.parts; identities = store.identities; group = group; copied = copied; broken = store.broken }
 
--- the open group began up to the next number, and no more objects are copied than there are
+-- the open group began up to the next LSN, and no more objects are copied than there are
 pub record AreWithin (store : StoreView) (group copied : Option ℕ) : Type 0 where
   pub begun : store.broken ≡ false → IfSome group (λ n. n ≤ next_of store)
   pub few : IfSome copied (λ n. n ≤ (store_params store).objects)
@@ -82,7 +82,7 @@ accepted_in engine = engine.parts.log.accepted
 abbrev pub forced_in : EngineView → ℕ
 forced_in engine = engine.parts.log.forced
 
--- a group that began with this number has so many commands, where the next number is this one
+-- a group that began with this LSN has so many commands, where the next LSN is this one
 abbrev pub commands_since : ℕ → Option ℕ → Option ℕ
 commands_since next None = None
 commands_since next (Some begun) = Some (next - begun)
@@ -111,7 +111,7 @@ abbrev pub opened : Result EngineView OpenErr → Result Parts OpenErr
 opened (Ok engine) = Ok engine.parts
 opened (Err cause) = Err cause
 
--- so many identity writes are logged in a call that logs nothing else with a number
+-- so many identity writes are logged in a call that logs nothing else with an LSN
 abbrev pub logged_since : EngineView → EngineView → ℕ
 logged_since before after = after.parts.log.next - before.parts.log.next
 
@@ -131,7 +131,7 @@ module _ {O : Type 0} (meaning : Bounds → Meaning O) where
 
   -- What holds on every machine of each call that may change the log, which may have `most` bytes: time passes, nothing is
   -- said, the store's numbers stay, the open group, and how many objects are copied; unless it is answered that the disk
-  -- failed, the engine stays attached; so many identity writes are logged; a call that was stopped says the numbers of the log
+  -- failed, the engine stays attached; so many identity writes are logged; a call that was stopped says the LSNs of the log
   -- that it leaves; the engine is broken exactly where it is answered that the disk failed, and then the disk counted that.
   -- (The count may rise beside another answer: where a force succeeds, zeros may have been refused.)
   pub record IsEngineCall (most : ℕ) (old new : Disk) (before after : EngineView) (logged : ℕ) (ending : Ending) : Type 0 where
@@ -162,13 +162,13 @@ module _ {O : Type 0} (meaning : Bounds → Meaning O) where
   IsOutcome old new before after op answer = of_command.IsOutcome meaning (is_some before.group) old new before.parts after op answer
 
   -- Engine and files show the world, which is sound. The same group is open in both, or none; what the parts show is the
-  -- world but for that. Within a group no check waits, since all that waited was forced as it began.
+  -- world but for that. Within a group no checkpoint waits, since all that waited was forced as it began.
   pub record ShowsIn (p : Params) (d : Disk) (engine : EngineView) (w : World O) : Type 0 where
     pub unbroken : engine.broken ≡ false
     pub sound : IsSound (meaning_in meaning p) w
     pub group : w.group ≡ engine.group
     pub shows : Shows (meaning_in meaning p) p d engine.parts (ungrouped w)
-    pub no_check : IfSome engine.group (λ begun. w.pending ≡ [])
+    pub no_checkpoint : IfSome engine.group (λ begun. w.pending ≡ [])
 
   -- What holds on every machine of a call that only reads: the files and the engine stay as they are, but that it is broken
   -- exactly where it is answered that the disk failed. Unless it is, engine and files show the world that they showed.
@@ -251,7 +251,7 @@ module _ {O : Type 0} (meaning : Bounds → Meaning O) where
   HasCause size p commands op (Ok n) = (refusal_after meaning p commands op ≡ None) × (length commands + 1 < 2 ^ 62) × (n ≡ length commands + 1)
   HasCause size p commands op (Err (Refused refusal)) = refusal_after meaning p commands op ≡ Some refusal
   HasCause size p commands op (Err (LogFull used need limit)) = (refusal_after meaning p commands op ≡ None) × (need ≡ needed_in size (record_length meaning p op)) × (limit ≡ p.limit)
-  HasCause size p commands op (Err (LsnEnd number)) = refusal_after meaning p commands op ≡ None
+  HasCause size p commands op (Err (LsnEnd lsn)) = refusal_after meaning p commands op ≡ None
   HasCause size p commands op (Err DiskFault) = (IsInGrammar (meaning_in meaning p) op × (0 < length ((meaning_in meaning p).reads op))) ⊎ ((size ≡ None) × (refusal_after meaning p commands op ≡ None))
   HasCause size p commands op (Err (Damaged file place)) = ⊥
   HasCause size p commands op (Err Memory) = ⊤
@@ -260,7 +260,7 @@ module _ {O : Type 0} (meaning : Bounds → Meaning O) where
   abbrev pub SaysStop : Params → Files → Stop → Type 0
   SaysStop p files Through = ⊤
   SaysStop p files (Full used need limit) = EndsAt files used
-  SaysStop p files (At_end number) = NextIs (meaning_in meaning p) files number
+  SaysStop p files (At_end lsn) = NextIs (meaning_in meaning p) files lsn
   SaysStop p files (Worn epoch) = EpochIs files epoch
 
   -- so many bytes do the records of commands have
@@ -277,7 +277,7 @@ module _ {O : Type 0} (meaning : Bounds → Meaning O) where
   abbrev pub SaysStopWithin : Params → List O → Files → Stop → Type 0
   SaysStopWithin p ops files Through = ⊤
   SaysStopWithin p ops files (Full used need limit) = (place : ℕ) × EndsAt files place × (used ≡ place + group_bytes p ops)
-  SaysStopWithin p ops files (At_end number) = (next : ℕ) × NextIs (meaning_in meaning p) files next × (number ≡ next + length ops)
+  SaysStopWithin p ops files (At_end lsn) = (next : ℕ) × NextIs (meaning_in meaning p) files next × (lsn ≡ next + length ops)
   SaysStopWithin p ops files (Worn epoch) = ⊤
 
   -- n is in the graph, and the least of its node

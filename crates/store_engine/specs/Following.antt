@@ -19,7 +19,7 @@ use Rattle.execution.specs.declared.record_err.RecordErr.TheVariants.{Damaged}
 use Rattle.store_engine.specs.Engine.{EngineView, IsAttached, IsEngineCall, KeepsCommands, ShowsIn, TakesIn, params_of, used_in}
 use Rattle.store_engine.specs.Store.{meaning_in}
 
--- the engine as in a group that begins with its next number: there nothing is forced where a record has no room
+-- the engine as in a group that begins with its next LSN: there nothing is forced where a record has no room
 abbrev pub grouped_from : ℕ → EngineView → EngineView
 grouped_from begun engine = record engine { group = Some begun }
 

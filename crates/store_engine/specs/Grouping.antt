@@ -4,7 +4,7 @@ use Rattle.std.specs.Prelude.{⊤}
 use Rattle.oper_core.specs.Meaning.{Meaning}
 use Rattle.explain_core.specs.RunLaws.{Begins, begins-each}
 use Rattle.explain_core.specs.World.{World, Step, step, run}
-use Rattle.explain_core.specs.World.Step.{Begin, End, Append, Block_gate, Check, Slot_gate, Removal, Header_gate, Replay, Crash}
+use Rattle.explain_core.specs.World.Step.{Begin, End, Append, Block_gate, Checkpoint, Slot_gate, Removal, Header_gate, Replay, Crash}
 
 -- the same world with no group open
 abbrev pub ungrouped : {O : Type 0} → World O → World O
@@ -20,7 +20,7 @@ IsInside group Begin = ⊥
 IsInside group End = ⊥
 IsInside group (Append member) = ⊤
 IsInside group Block_gate = group ≡ None
-IsInside group Check = group ≡ None
+IsInside group Checkpoint = group ≡ None
 IsInside group (Slot_gate node x) = group ≡ None
 IsInside group (Removal node) = group ≡ None
 IsInside group (Header_gate base) = group ≡ None
@@ -43,7 +43,7 @@ module _ {O : Type 0} (m : Meaning O) where
   step_group group w End is = absurd is
   step_group group w (Append member) is = refl
   step_group group w Block_gate is = refl
-  step_group group w Check is = refl
+  step_group group w Checkpoint is = refl
   step_group group w (Slot_gate node x) is = refl
   step_group group w (Removal node) is = refl
   step_group group w (Header_gate base) is = refl
@@ -56,7 +56,7 @@ module _ {O : Type 0} (m : Meaning O) where
   step_same group w End is = absurd is
   step_same group w (Append member) is = refl
   step_same group w Block_gate is = refl
-  step_same group w Check is = refl
+  step_same group w Checkpoint is = refl
   step_same group w (Slot_gate node x) is = refl
   step_same group w (Removal node) is = refl
   step_same group w (Header_gate base) is = refl
@@ -73,14 +73,14 @@ module _ {O : Type 0} (m : Meaning O) where
         same = rest.same ∙ ap (λ (v : World O). run m v steps) (step_same group w s are.0);
       }
 
-  -- within a group no check is taken
+  -- within a group no checkpoint is taken
   step_waits : (begun : ℕ) (w : World O) (s : Step O) → IsInside (Some begun) s → (step m w s).pending ≡ w.pending
   unfolding step
   step_waits begun w Begin is = absurd is
   step_waits begun w End is = absurd is
   step_waits begun w (Append member) is = refl
   step_waits begun w Block_gate is = cc is
-  step_waits begun w Check is = cc is
+  step_waits begun w Checkpoint is = cc is
   step_waits begun w (Slot_gate node x) is = refl
   step_waits begun w (Removal node) is = refl
   step_waits begun w (Header_gate base) is = cc is

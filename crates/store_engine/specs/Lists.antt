@@ -60,7 +60,7 @@ abbrev pub IsUndamaged : Option ExecErr → Type 0
 IsUndamaged None = ⊤
 IsUndamaged (Some (Refused refusal)) = ⊤
 IsUndamaged (Some (LogFull used need limit)) = ⊤
-IsUndamaged (Some (LsnEnd number)) = ⊤
+IsUndamaged (Some (LsnEnd lsn)) = ⊤
 IsUndamaged (Some DiskFault) = ⊤
 IsUndamaged (Some (Damaged file place)) = ⊥
 IsUndamaged (Some Memory) = ⊤
@@ -71,7 +71,7 @@ abbrev pub IsReadAsLong : Disk → ℕ → Option ExecErr → Type 0
 IsReadAsLong new cap None = ⊤
 IsReadAsLong new cap (Some (Refused refusal)) = ⊤
 IsReadAsLong new cap (Some (LogFull used need limit)) = ⊤
-IsReadAsLong new cap (Some (LsnEnd number)) = ⊤
+IsReadAsLong new cap (Some (LsnEnd lsn)) = ⊤
 IsReadAsLong new cap (Some DiskFault) = ⊤
 IsReadAsLong new cap (Some (Damaged file place)) = (file ≡ Objects) × (slot : ℕ) × ((files : Files) → new.agrees files → IsLongValue cap slot (files Objects) place)
 IsReadAsLong new cap (Some Memory) = ⊤
@@ -110,7 +110,7 @@ module _ {O : Type 0} (meaning : Bounds → Meaning O) (p : Params) where
   abbrev pub IsNeed : Option ℕ → O → Stop → Type 0
   IsNeed size op Through = ⊥
   IsNeed size op (Full used need limit) = (need ≡ needed_in size (record_length meaning p op)) × (limit ≡ p.limit)
-  IsNeed size op (At_end number) = ⊤
+  IsNeed size op (At_end lsn) = ⊤
   IsNeed size op (Worn epoch) = ⊥
 
   -- of these commands the one after the first `done` was stopped so; before the first the open group had so many

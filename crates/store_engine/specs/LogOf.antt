@@ -15,7 +15,7 @@ use Rattle.standing.specs.Members.{members_of, tables_in}
 use Rattle.store_engine.specs.Engine.{EngineView, ShowsIn}
 use Rattle.store_engine.specs.Store.{meaning_in}
 
--- The log in force has the world's base, as many commands before it, and the stable members from the base on; it has no check,
+-- The log in force has the world's base, as many commands before it, and the stable members from the base on; it has no checkpoint,
 -- or one that asks for all of them.
 pub record HoldsLogOf {O : Type 0} (m : Meaning O) (w : World O) (files : Files) : Type 0 where
   pub active : FileNo

@@ -19,11 +19,11 @@ ship_from_read of_read.DiskFault = DiskFault
 ship_from_read (of_read.Damaged file place) = Damaged file place
 ship_from_read of_read.Memory = Memory
 
--- the log begins with this number
+-- the log begins with this LSN
 abbrev pub base_of : EngineView → ℕ
 base_of engine = engine.parts.log.log.header.base
 
--- Why what the log has from a number on gets this answer: the log begins later, exactly there; or the disk failed, a record breaks
+-- Why what the log has from an LSN on gets this answer: the log begins later, exactly there; or the disk failed, a record breaks
 -- its format, or memory ran out.
 abbrev pub HasShipCause : {T : Type 0} → ℕ → ℕ → Type 0 → (FileNo → ℕ → Type 0) → Result T ShipErr → Type 0
 HasShipCause base from rises fault (Ok value) = base ≤ from
@@ -33,13 +33,13 @@ HasShipCause base from rises fault (Err (Damaged file place)) = (base ≤ from) 
 HasShipCause base from rises fault (Err Memory) = base ≤ from
 
 module _ {O : Type 0} (meaning : Bounds → Meaning O) where
-  -- a reader of the engine's log from a number on, that has given none
+  -- a reader of the engine's log from an LSN on, that has given none
   pub record IsReaderFrom (d : Disk) (engine : EngineView) (from : ℕ) (it : BlockReaderView) : Type 0 where
     pub from_is : it.from ≡ from
     pub bounds : it.records.bounds ≡ engine.parts.log.bounds
     pub reading : IsReadingBlocks (meaning engine.parts.log.bounds) d engine.parts.log.log it []
 
-  -- these are the frames of what the blocks of the engine's log have from a number on, a frame for each block that has any
+  -- these are the frames of what the blocks of the engine's log have from an LSN on, a frame for each block that has any
   abbrev pub AreFramesFrom : Disk → EngineView → ℕ → List ℕ → Type 0
   AreFramesFrom d engine from bytes = (groups : List (List (Record O))) → IsRecordLog (meaning engine.parts.log.bounds) engine.parts.log.log.header groups (d.reads engine.parts.log.log.active)
       → bytes ≡ frames (payloads_from (meaning engine.parts.log.bounds) from groups)

@@ -24,7 +24,7 @@ module _ {O : Type 0} (meaning : Bounds → Meaning O) where
   abbrev pub refusal_after : Params → List O → O → Option Refusal
   refusal_after p commands op = refusal_of (meaning_in p) (state_of p commands) op
 
-  -- the length of a command's record: kind, number and code
+  -- the length of a command's record: kind, LSN and code
   abbrev pub record_length : Params → O → ℕ
   record_length p op = command_length (meaning_in p) op
 

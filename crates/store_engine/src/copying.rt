@@ -5,7 +5,7 @@ ghost use Rattle.disk_model.specs.declared.machine.FileNo.{FileNo};
 ghost use Rattle.disk_model.specs.declared.machine.FileNo.TheVariants.{LogB};
 ghost use Rattle.formats.specs.declared.params.Params.{Params};
 ghost use Rattle.formats.specs.declared.record.Record.{Record};
-ghost use Rattle.log_frames.specs.Creating.{IsNewLog};
+ghost use Rattle.log_blocks.specs.Creating.{IsNewLog};
 ghost use Rattle.log_records.specs.Loading.{IsTailFault};
 ghost use Rattle.log_records.specs.LogCopy.{copied_length, CopyFails, CopyFindsDamage, HoldsCopy, IsCopyLength, IsCopyWithin, IsTooLong};
 ghost use Rattle.log_records.specs.RecordLog.{Keeps};
@@ -37,7 +37,7 @@ impl<O: Oper> Engine<O> {
         self.copied = copied;
     }
 
-    /// Reads the pair that an object's slots hold, in place of what was in the vector, and answers its identifier: 0, and no
+    /// Reads the pair that an object's slots hold, in place of what was in the vector, and answers its LSN: 0, and no
     /// bytes, where the object was never installed. What is cached of it is left out of account.
     ///
     /// It fails with `DiskFault`, with `Damaged` where the slot breaks its format, and with `Memory`; then the vector may
@@ -52,7 +52,7 @@ impl<O: Oper> Engine<O> {
         requires below { object < (params_of self.old).objects }
         ensures read { IsEngineRead O.meaning (M.disk machine.old) (M.disk machine.new) self.old self.new (IsErrOf result ReadErr.DiskFault) }
         ensures pair { (p : Params) (w : World O) → ShowsIn O.meaning p (M.disk machine.old) self.old w →
-            IfOk result (λ id. w.slots object ≡ record { id = id; value = into.new.items }) }
+            IfOk result (λ lsn. w.slots object ≡ record { lsn = lsn; value = into.new.items }) }
         ensures short { OnOk result (length into.new.items ≤ (params_of self.old).cap) }
         ensures cause { IfErr result (IsFetchFailure (M.disk machine.old) (M.disk machine.new) self.old object) }
         ensures undamaged { (M.disk machine.old).tells_files → IsAttached O.meaning (M.disk machine.old) self.old →
@@ -63,7 +63,7 @@ impl<O: Oper> Engine<O> {
 
     /// Puts a copy of the stable log into the target, whose log files are those of a new store: log B becomes the second log of
     /// that store, with this one's base and as many commands before it, all commands and identity writes that are stable, and
-    /// no check, or, where there are none of these, one check without redo starts. What waits for a force is left out.
+    /// no checkpoint, or, where there are none of these, one checkpoint without redo starts. What waits for a force is left out.
     ///
     /// It answers `LogFull` where the target's log would be longer than a log may be, `DiskFault` and `TargetFault` where a
     /// machine fails, `Damaged` where the log that is read breaks its format, and `Memory`. After any but the two faults the

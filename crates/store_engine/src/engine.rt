@@ -23,7 +23,7 @@ use std::marker::Model;
 #[derive(Drop)]
 pub struct Engine<O: Oper> {
     pub(crate) store: Store<O>,
-    // The number at which the open group began.
+    // The LSN at which the open group began.
     pub(crate) group: Option<u64>,
     // So many objects are copied, while the slots are copied.
     pub(crate) copied: Option<u32>,
@@ -74,7 +74,7 @@ impl<O: Oper> Engine<O> {
         self.store.log().used()
     }
 
-    /// The number that the next record gets.
+    /// The LSN that the next record gets.
     pub fn next(&self) -> u64
         ensures { result ≡ self.now.parts.log.next }
     {

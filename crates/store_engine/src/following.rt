@@ -2,14 +2,14 @@
 ghost use Rattle.std.specs.Prelude.{◌≡◌, ◌≢◌, ◌≤◌, ◌^◌, ◌↔◌, ℕ, false, List, [], IsErrOf, IsTrue, length, None, Some};
 ghost use Rattle.oper_core.specs.State.{State};
 ghost use Rattle.oper_core.specs.declared.bounds.Bounds.{Bounds};
-ghost use Rattle.formats.specs.Records.{IsRecord, number_of, record_code};
+ghost use Rattle.formats.specs.Records.{IsRecord, lsn_of, record_code};
 ghost use Rattle.formats.specs.declared.params.Params.{Params};
 ghost use Rattle.formats.specs.declared.record.Record.{Record as Logged};
 ghost use Rattle.explain_core.specs.History.{IsMember, Member};
 ghost use Rattle.explain_core.specs.Turns.{dirty_in};
 ghost use Rattle.explain_core.specs.Sound.{IsSound};
 ghost use Rattle.explain_core.specs.World.{IsLive, World};
-ghost use Rattle.execution.specs.Following.{IsNumbered, judge_in};
+ghost use Rattle.execution.specs.Following.{HasLsn, judge_in};
 ghost use Rattle.execution.specs.Judged.{judge_behind, may_follow};
 ghost use Rattle.running_store.specs.Parts.{ShowsVolatile};
 ghost use Rattle.store_engine.specs.Engine.{params_of};
@@ -25,9 +25,9 @@ use running_store::StoreErr;
 
 impl<O: Oper> Engine<O> {
     /// Takes a record of another log as the next one: a command that nothing refuses, or an identity write of the value that its
-    /// object has. False where the number is below the next one: the engine had it already.
+    /// object has. False where the LSN is below the next one: the engine had it already.
     ///
-    /// It answers `Gap` where the number is above the next one; `DiskFault`, `Damaged` and `Memory` while the objects are fetched
+    /// It answers `Gap` where the LSN is above the next one; `DiskFault`, `Damaged` and `Memory` while the objects are fetched
     /// on which it is judged; `Differs` where it is not what may come next; `LogFull` where the log would pass 2^48 bytes,
     /// whatever the store's limit is, and nothing is forced then; `DiskFault` where the block that waits is forced, since it has
     /// no room for the record; and `Memory`. Where it is not taken the map is as it was, and the log has no record more.
@@ -38,12 +38,12 @@ impl<O: Oper> Engine<O> {
     ) -> Result<bool, RecordErr>
         requires unbroken { self.old.broken ≡ false }
         requires alone { self.old.group ≡ None }
-        requires numbered { IsNumbered logged }
+        requires with_lsn { HasLsn logged }
         requires grammar { IsRecord (meaning_in O.meaning (params_of self.old)) logged }
         requires short { length (record_code (meaning_in O.meaning (params_of self.old)) logged) ≤ 2 ^ 30 }
         ensures followed { HasFollowed O.meaning (M.disk machine.old) (M.disk machine.new) self.old self.new logged result }
         // A record with another number than the next costs nothing.
-        ensures idle { number_of logged ≢ Some self.old.parts.log.next → (machine.new ≡ machine.old) × (self.new ≡ self.old) }
+        ensures idle { lsn_of logged ≢ Some self.old.parts.log.next → (machine.new ≡ machine.old) × (self.new ≡ self.old) }
     {
         execution::follow(&mut self.store, machine, logged)
     }

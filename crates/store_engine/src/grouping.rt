@@ -11,7 +11,7 @@ use thiserror::Error;
 #[error("no group is open")]
 pub struct NoGroup;
 
-// So many commands has a group that began with this number, where the next number is the other.
+// So many commands has a group that began with this LSN, where the next LSN is the other.
 fn size(group: Option<u64>, next: u64) -> Option<u64>
     requires { IfSome group (λ begun. begun ≤ next) }
     ensures { result ≡ commands_since next group }

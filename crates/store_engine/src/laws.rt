@@ -37,7 +37,7 @@ pub fn engine_stands<O: Oper, M: Machine>(machine: &M, engine: &Engine<O>)
     let _ = engine;
 }
 
-/// Why a call was stopped is what each image of the moment says: where the log ends, which number is the next, or which
+/// Why a call was stopped is what each image of the moment says: where the log ends, which LSN is the next, or which
 /// epoch the log in force has. Within a group these are less by the commands of the group, which wait.
 pub fn stop_is_said<O: Oper, M: Machine>(machine: &M, engine: &Engine<O>)
     ensures alone { (p : Params) (w : World O) (most : ℕ) (stop : Stop) → ShowsIn O.meaning p (M.disk machine.now) engine.now w →
@@ -65,8 +65,8 @@ pub fn identities_are_counted<O: Oper>()
         length (run (meaning_in O.meaning p) w steps).history ≡ length w.history + length (logged_in steps) }
 {}
 
-/// A trim of a store whose write graph is empty, as a drain leaves it, leaves nothing in the log but a check: no command and
-/// no identity write, and the log begins at the next number.
+/// A trim of a store whose write graph is empty, as a drain leaves it, leaves nothing in the log but a checkpoint: no command and
+/// no identity write, and the log begins at the next LSN.
 pub fn a_trim_behind_a_drain_leaves_nothing<O: Oper>()
     ensures { (p : Params) (w : World O) (epoch used : ℕ) → ((n : ℕ) → IsFalse (w.graph n)) →
         (trim_course (meaning_in O.meaning p) epoch w used).stop ≡ Through →
@@ -85,7 +85,7 @@ pub fn opens_on_a_world<O: Oper>()
     standing::files_show_a_world::<O>();
 }
 
-/// Files that stand for commands meet their format, and stand for fewer commands than there are numbers.
+/// Files that stand for commands meet their format, and stand for fewer commands than there are LSNs.
 pub fn standing_files_meet_their_format<O: Oper>()
     ensures format { (p : Params) (files : Files) (commands : List O) → Stands O.meaning p files commands → IsWellFormed O.meaning files }
     ensures few { (p : Params) (files : Files) (commands : List O) → Stands O.meaning p files commands → length commands < 2 ^ 62 }

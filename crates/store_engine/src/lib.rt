@@ -16,7 +16,7 @@
 //! ([`calls_go_beside_a_copy`]), and these leave a copy of the first slots of the world that engine and files then show
 //! ([`a_copy_goes_on`]), so no call here knows where the backup goes.
 //!
-//! The log is read for whoever follows the store: [`Engine::frames`] says what its blocks have from a number on, a frame for
+//! The log is read for whoever follows the store: [`Engine::frames`] says what its blocks have from an LSN on, a frame for
 //! each block, and [`Engine::ship`] and [`Engine::next_shipped`] do so one block at a time. [`Engine::follow`] takes a record
 //! of another log as the next one of this log, [`Engine::install_thin`] keeps few objects dirty meanwhile, and
 //! [`records_are_judged`] says what of a record is taken.
@@ -45,7 +45,7 @@ mod working;
 
 pub use beside::{a_copied_log_is_of_the_world, a_copy_goes_on, calls_go_beside_a_copy};
 pub use cache_manager::{Install, InstallErr};
-pub use checkpointing::CheckErr;
+pub use checkpointing::CheckpointErr;
 pub use engine::Engine;
 pub use execution::{ExecErr, RecordErr};
 pub use following::records_are_judged;

@@ -20,7 +20,7 @@ use std::alloc::Global;
 
 impl<O: Oper> Engine<O> {
     /// Opens the files: what a process before this one left unsynced is synced, the log and the slots are read, what is not
-    /// installed is done again, and one check is logged and forced, where the log stays within 2^48 bytes.
+    /// installed is done again, and one checkpoint is logged and forced, where the log stays within 2^48 bytes.
     ///
     /// The machine need not be settled: what reads give is what the files stand for. `Memory` comes only
     /// where the objects gate is open.

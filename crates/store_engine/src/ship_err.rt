@@ -9,7 +9,7 @@ use thiserror::Error;
 /// Why the log was not shipped.
 #[derive(Debug, Drop, Error)]
 pub enum ShipErr {
-    /// The log begins with this number, which is above the one that was asked for.
+    /// The log begins with this LSN, which is above the one that was asked for.
     #[error("the log begins with {base}")]
     Gone { base: u64 },
     /// The disk failed, and the engine is not used again.

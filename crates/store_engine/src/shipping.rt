@@ -3,7 +3,7 @@ ghost use Rattle.std.specs.Prelude.{◌≡◌, ◌<◌, ◌++◌, false, ℕ, Li
 ghost use Rattle.disk_model.specs.Disk.{Rises};
 ghost use Rattle.disk_model.specs.declared.machine.FileNo.{FileNo};
 ghost use Rattle.formats.specs.Reading.{FailsBy};
-ghost use Rattle.log_frames.specs.Payloads.{ahead};
+ghost use Rattle.log_blocks.specs.Payloads.{ahead};
 ghost use Rattle.log_records.specs.BlockReader.{HasGivenBlock, IsReadingBlocks};
 ghost use Rattle.log_records.specs.Loading.{IsTailFault};
 ghost use Rattle.store_engine.specs.Engine.{IsAttached, IsEngineRead};
@@ -18,7 +18,7 @@ use log_records::BlockReader;
 use oper_core::Oper;
 
 impl<O: Oper> Engine<O> {
-    /// A reader of what the log's blocks have of stable commands and identity writes from a number on. It answers `Gone` where
+    /// A reader of what the log's blocks have of stable commands and identity writes from an LSN on. It answers `Gone` where
     /// the log begins later, and nothing is done then; else it may fail with `DiskFault` and `Memory`.
     pub fn ship<M: Machine>(
         &mut self,
@@ -63,7 +63,7 @@ impl<O: Oper> Engine<O> {
         self.store.next_block(machine, reader, into)
     }
 
-    /// Appends the frames of what the log's blocks have of stable commands and identity writes from a number on: one for each
+    /// Appends the frames of what the log's blocks have of stable commands and identity writes from an LSN on: one for each
     /// block that has any. All of them are in memory at once.
     ///
     /// It answers `Gone` where the log begins later, and nothing is done then; else it may fail with `DiskFault`, with `Damaged`

@@ -1,9 +1,9 @@
 ghost use Rattle.std.specs.Prelude.{◌≡◌};
-ghost use Rattle.store_engine.specs.Calls.{work_from_check, work_from_install, work_from_rewrite};
+ghost use Rattle.store_engine.specs.Calls.{work_from_checkpoint, work_from_install, work_from_rewrite};
 ghost use Rattle.store_engine.specs.declared.work_err.WorkErr.TheVariants.{DiskFault};
 
 use cache_manager::InstallErr;
-use checkpointing::CheckErr;
+use checkpointing::CheckpointErr;
 use disk_model::{Failed, FileNo};
 use log_records::RewriteErr;
 use thiserror::Error;
@@ -20,9 +20,9 @@ pub enum WorkErr {
     /// The log has no room for a record, or for the one that would take its place.
     #[error("the log is full: {used} bytes are used, {need} more are needed, the limit is {limit}")]
     LogFull { used: u64, need: u64, limit: u64 },
-    /// No record may have this number.
-    #[error("no record may have the number {number}")]
-    LsnEnd { number: u64 },
+    /// No record may have this LSN.
+    #[error("no record may have the number {lsn}")]
+    LsnEnd { lsn: u64 },
     /// No log may have a greater epoch.
     #[error("no log may have an epoch greater than {epoch}")]
     Exhausted { epoch: u64 },
@@ -51,21 +51,21 @@ impl From<InstallErr> for WorkErr {
     fn from(cause: InstallErr) -> Self {
         match cause {
             InstallErr::LogFull { used, need, limit } => WorkErr::LogFull { used, need, limit },
-            InstallErr::LsnEnd { number } => WorkErr::LsnEnd { number },
+            InstallErr::LsnEnd { lsn } => WorkErr::LsnEnd { lsn },
             InstallErr::DiskFault => WorkErr::DiskFault,
             InstallErr::Memory => WorkErr::Memory,
         }
     }
 }
 
-impl From<CheckErr> for WorkErr {
-    ghost from_gives = { λ cause e. e ≡ work_from_check cause };
+impl From<CheckpointErr> for WorkErr {
+    ghost from_gives = { λ cause e. e ≡ work_from_checkpoint cause };
 
-    fn from(cause: CheckErr) -> Self {
+    fn from(cause: CheckpointErr) -> Self {
         match cause {
-            CheckErr::LogFull { used, need, limit } => WorkErr::LogFull { used, need, limit },
-            CheckErr::DiskFault => WorkErr::DiskFault,
-            CheckErr::Memory => WorkErr::Memory,
+            CheckpointErr::LogFull { used, need, limit } => WorkErr::LogFull { used, need, limit },
+            CheckpointErr::DiskFault => WorkErr::DiskFault,
+            CheckpointErr::Memory => WorkErr::Memory,
         }
     }
 }

@@ -4,8 +4,8 @@ ghost use Rattle.disk_model.specs.declared.machine.Failed.{Failed as ForceFailur
 ghost use Rattle.log_records.specs.declared.rewrite_err.RewriteErr.{RewriteErr as RewriteFailure};
 ghost use Rattle.cache_manager.specs.declared.install.Install.{Install as Installs};
 ghost use Rattle.cache_manager.specs.declared.install_err.InstallErr.{InstallErr as InstallFailure};
-ghost use Rattle.checkpointing.specs.declared.check_err.CheckErr.{CheckErr as CheckFailure};
-ghost use Rattle.store_engine.specs.Calls.{IsBeginning, IsChecking, IsDraining, IsForcing, IsInstalling, IsRefused, IsRefusedBeside, IsTrimming, refused_beside, refused_in, work_of_check, work_of_force, work_of_install, work_of_trim};
+ghost use Rattle.checkpointing.specs.declared.checkpoint_err.CheckpointErr.{CheckpointErr as CheckpointFailure};
+ghost use Rattle.store_engine.specs.Calls.{IsBeginning, IsTakingCheckpoint, IsDraining, IsForcing, IsInstalling, IsRefused, IsRefusedBeside, IsTrimming, refused_beside, refused_in, work_of_checkpoint, work_of_force, work_of_install, work_of_trim};
 ghost use Rattle.store_engine.specs.Engine.{group_size, so_far};
 
 use crate::Engine;
@@ -113,12 +113,12 @@ impl<O: Oper> Engine<O> {
         Ok(cache_manager::drain(&mut self.store, machine, copied)?)
     }
 
-    /// Takes a check of where a redo begins now, and forces it. Where the log has no room for it, what waits is forced, and
-    /// `LogFull` is answered. A check has no number, so `LsnEnd` is not. In a group it answers `InGroup`.
+    /// Takes a checkpoint of where a redo begins now, and forces it. Where the log has no room for it, what waits is forced, and
+    /// `LogFull` is answered. A checkpoint has no LSN, so `LsnEnd` is not. In a group it answers `InGroup`.
     pub fn checkpoint<M: Machine>(&mut self, machine: &mut M) -> Result<(), WorkErr>
         requires unbroken { self.old.broken ≡ false }
         ensures in_group { IfSome (group_size self.old) (λ size. IsRefused size machine.old machine.new self.old self.new result) }
-        ensures alone { self.old.group ≡ None → (answer : Result _ CheckFailure) × (result ≡ work_of_check answer) × IsChecking O.meaning (M.disk machine.old) (M.disk machine.new) self.old self.new answer }
+        ensures alone { self.old.group ≡ None → (answer : Result _ CheckpointFailure) × (result ≡ work_of_checkpoint answer) × IsTakingCheckpoint O.meaning (M.disk machine.old) (M.disk machine.new) self.old self.new answer }
     {
         explain_core::every_run_keeps::<O>();
         standing::image_stands::<O>();
@@ -127,8 +127,8 @@ impl<O: Oper> Engine<O> {
         Ok(checkpointing::checkpoint(&mut self.store, machine)?)
     }
 
-    /// Forces the log and puts another in its place: the commands and identity writes from the least number in the write
-    /// graph on, or none where the graph is empty, and after them a check taken now.
+    /// Forces the log and puts another in its place: the commands and identity writes from the least LSN in the write
+    /// graph on, or none where the graph is empty, and after them a checkpoint taken now.
     ///
     /// The first that applies is answered: `InGroup`; `InBackup`, while the slots are copied; `Exhausted`, where no greater epoch is left; after the force `Damaged`,
     /// where the log that is read breaks its format, at the first place where it does, `LogFull` and `Memory`. A log that is

@@ -13,7 +13,7 @@ use Rattle.formats.specs.Reading.{FailsBy}
 use Rattle.formats.specs.declared.params.Params.{Params}
 use Rattle.formats.specs.declared.read_err.ReadErr.{ReadErr}
 use Rattle.formats.specs.declared.read_err.ReadErr.TheVariants as reads
-use Rattle.log_frames.specs.LogView.{LogView, end_with, used_of}
+use Rattle.log_blocks.specs.LogView.{LogView, end_with, used_of}
 use Rattle.log_records.specs.Loading.{IsLoadFault}
 use Rattle.log_records.specs.Loading.IsLoadFault.{in_blocks, in_record}
 use Rattle.op_codec.specs.AllOps.{all_meaning}

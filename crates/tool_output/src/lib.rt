@@ -4,7 +4,7 @@
 //! The contracts are those of `say_text`, of which no more than a front is said; of `end_with`, `end_damaged` and `end_stopped`,
 //! which say the last line; what the files are where a tool goes on, and where it stops (specs/Found.antt, FoundLaws.antt); and the
 //! laws on faults that were counted (FaultLaws.antt) and on fronts (FrontLaws.antt). It depends on stable_objects and formats, whose
-//! errors a `Stop` is made of, on log_frames, log_records and op_codec for what a fault of a log is, on script_lines for the words of
+//! errors a `Stop` is made of, on log_blocks, log_records and op_codec for what a fault of a log is, on script_lines for the words of
 //! a number, and on oper_core and the machine of disk_model.
 #![tactic(auto)]
 

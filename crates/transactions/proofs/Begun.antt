@@ -10,7 +10,7 @@ use Rattle.formats.specs.declared.params.Params.{Params}
 use Rattle.explain_core.specs.History.{Member, commands_of}
 use Rattle.explain_core.specs.World.{World, Step, run, step, end_of}
 use Rattle.explain_core.specs.World.Step.{Begin, Block_gate}
-use Rattle.running_store.specs.Appended.{next_number}
+use Rattle.running_store.specs.Appended.{next_lsn}
 use Rattle.running_store.specs.Courses.{force_steps, waits}
 use Rattle.store_engine.specs.Calls.{IsBeginning, work_of_force}
 use Rattle.store_engine.specs.declared.work_err.WorkErr.{WorkErr}
@@ -61,7 +61,7 @@ module _ {O : Type 0} (meaning : Bounds → Meaning O) (p : Params) where
       pub has_begun : HasBegun meaning p old new before after commands
       has_begun = record {
         holds = there;
-        next = ap (λ (h : List (Member O)). length h + 1) (history_behind w) ∙ sym (next_number m p old before.parts (ungrouped w) holds.shows.shows);
+        next = ap (λ (h : List (Member O)). length h + 1) (history_behind w) ∙ sym (next_lsn m p old before.parts (ungrouped w) holds.shows.shows);
         forced = ((after_says commands there).none_waits begun.empty).0;
         fewer = says.forced;
         at = after.parts.log.next;

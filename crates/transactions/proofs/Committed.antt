@@ -88,12 +88,12 @@ module _ {O : Type 0} (meaning : Bounds → Meaning O) (p : Params) (old mid : D
     cut_left = ⊎_elim (λ failed. inl failed)
         (λ has. inr (adds.done, record { world = has.world; shows = has.shows; commands_are = has.commands_are }, adds.size ∙ ap (λ (s : Option ℕ). larger s adds.done) begun.size ∙ ap (λ (n : ℕ). Some n) (as_long adds.done ops adds.front))) adds.kept
 
-  module _ (new : Disk) (after : EngineView) (room : HasRoomFor meaning between ops) (numbers : before.parts.log.next + length ops ≤ 2 ^ 62) where
+  module _ (new : Disk) (after : EngineView) (room : HasRoomFor meaning between ops) (lsns : before.parts.log.next + length ops ≤ 2 ^ 62) where
     -- it is cut off by memory or the disk alone
     pub cut_off : (e : ExecErr) → IsNoRefusal (Some e) → AddsFront meaning p mid new between after begun.holds.world commands ops (ending_of (Some e)) → IsCutOff (ending_of (Some e))
     cut_off (Refused refusal) unrefused adds = absurd unrefused
-    cut_off (LogFull used need limit) unrefused adds = absurd (none_stopped meaning p mid between begun.holds.world begun.holds.shows ops room (omega (arith, begun.next, numbers)) new after commands (Full used need limit) adds)
-    cut_off (LsnEnd number) unrefused adds = absurd (none_stopped meaning p mid between begun.holds.world begun.holds.shows ops room (omega (arith, begun.next, numbers)) new after commands (At_end number) adds)
+    cut_off (LogFull used need limit) unrefused adds = absurd (none_stopped meaning p mid between begun.holds.world begun.holds.shows ops room (omega (arith, begun.next, lsns)) new after commands (Full used need limit) adds)
+    cut_off (LsnEnd lsn) unrefused adds = absurd (none_stopped meaning p mid between begun.holds.world begun.holds.shows ops room (omega (arith, begun.next, lsns)) new after commands (At_end lsn) adds)
     cut_off DiskFault unrefused adds = tt
     cut_off (Damaged file place) unrefused adds = tt
     cut_off Memory unrefused adds = tt

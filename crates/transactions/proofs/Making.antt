@@ -80,7 +80,7 @@ module _ {O : Type 0} (meaning : Bounds → Meaning O) (p : Params) (commands : 
     pub no_refusal : (e : ExecErr) → HasRun meaning (disk mid) (disk new) between now op (Err e) → IsNoRefusal (Some e)
     no_refusal (Refused refusal) ran = unrefused refusal ran
     no_refusal (LogFull used need limit) ran = tt
-    no_refusal (LsnEnd number) ran = tt
+    no_refusal (LsnEnd lsn) ran = tt
     no_refusal DiskFault ran = tt
     no_refusal (Damaged file place) ran = tt
     no_refusal Memory ran = tt
@@ -101,7 +101,7 @@ module _ {O : Type 0} (meaning : Bounds → Meaning O) (p : Params) (commands : 
         → AddsFront meaning p (disk old) (disk new) before now holds.world commands ops (ending_of (Some e))
     ends_by stops fails (Refused refusal) ran = absurd (unrefused refusal ran)
     ends_by stops fails (LogFull used need limit) ran = stopped_front stops (LogFull used need limit) (Full used need limit) refl ran
-    ends_by stops fails (LsnEnd number) ran = stopped_front stops (LsnEnd number) (At_end number) refl ran
+    ends_by stops fails (LsnEnd lsn) ran = stopped_front stops (LsnEnd lsn) (At_end lsn) refl ran
     ends_by stops fails DiskFault ran = failed_front fails DiskFault tt ran
     ends_by stops fails (Damaged file place) ran = failed_front fails (Damaged file place) tt ran
     ends_by stops fails Memory ran = failed_front fails Memory tt ran

@@ -88,7 +88,7 @@ module _ {O : Type 0} (meaning : Bounds → Meaning O) (p : Params) (commands op
   pub not_staged : (e : ExecErr) → IsAdmitted m (overlaid made base) op (Err e) → HasStaged meaning p commands ops ops bytes made op (Err e)
   not_staged (Refused refusal) is = (refusal_seen (Some refusal) is, refl, staged)
   not_staged (LogFull used need limit) is = (refl, staged)
-  not_staged (LsnEnd number) is = (refl, staged)
+  not_staged (LsnEnd lsn) is = (refl, staged)
   not_staged DiskFault is = (refl, staged)
   not_staged (Damaged file place) is = (refl, staged)
   not_staged Memory is = (refl, staged)
@@ -104,7 +104,7 @@ fits_reads meaning b has op objects values cap are count short same = record {
 pub unrefused_admitted : {O : Type 0} (m : Meaning O) (s : State) (op : O) (e : ExecErr) → IsNoRefusal (Some e) → IsAdmitted m s op (Err e)
 unrefused_admitted m s op (Refused refusal) unrefused = absurd unrefused
 unrefused_admitted m s op (LogFull used need limit) unrefused = tt
-unrefused_admitted m s op (LsnEnd number) unrefused = tt
+unrefused_admitted m s op (LsnEnd lsn) unrefused = tt
 unrefused_admitted m s op DiskFault unrefused = tt
 unrefused_admitted m s op (Damaged file place) unrefused = tt
 unrefused_admitted m s op Memory unrefused = tt

@@ -15,7 +15,7 @@ abbrev pub IsNoRefusal : Option ExecErr → Type 0
 IsNoRefusal None = ⊤
 IsNoRefusal (Some (Refused refusal)) = ⊥
 IsNoRefusal (Some (LogFull used need limit)) = ⊤
-IsNoRefusal (Some (LsnEnd number)) = ⊤
+IsNoRefusal (Some (LsnEnd lsn)) = ⊤
 IsNoRefusal (Some DiskFault) = ⊤
 IsNoRefusal (Some (Damaged file place)) = ⊤
 IsNoRefusal (Some Memory) = ⊤

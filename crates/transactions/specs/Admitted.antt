@@ -15,7 +15,7 @@ abbrev pub IsAdmitted : {O : Type 0} → Meaning O → State → O → Result (L
 IsAdmitted m s op (Ok made) = (refusal_of m s op ≡ None) × (made ≡ m.effect op (read_values m s op))
 IsAdmitted m s op (Err (Refused refusal)) = refusal_of m s op ≡ Some refusal
 IsAdmitted m s op (Err (LogFull used need limit)) = ⊤
-IsAdmitted m s op (Err (LsnEnd number)) = ⊤
+IsAdmitted m s op (Err (LsnEnd lsn)) = ⊤
 IsAdmitted m s op (Err DiskFault) = ⊤
 IsAdmitted m s op (Err (Damaged file place)) = ⊤
 IsAdmitted m s op (Err Memory) = ⊤
@@ -26,7 +26,7 @@ abbrev pub HasStaged : {O : Type 0} → (Bounds → Meaning O) → Params → Li
 HasStaged meaning p commands before ops bytes made op (Ok value) = (refusal_after meaning p (commands ++ before) op ≡ None) × (ops ≡ before ++ op ∷ []) × IsStaged meaning p commands ops bytes made
 HasStaged meaning p commands before ops bytes made op (Err (Refused refusal)) = (refusal_after meaning p (commands ++ before) op ≡ Some refusal) × (ops ≡ before) × IsStaged meaning p commands ops bytes made
 HasStaged meaning p commands before ops bytes made op (Err (LogFull used need limit)) = (ops ≡ before) × IsStaged meaning p commands ops bytes made
-HasStaged meaning p commands before ops bytes made op (Err (LsnEnd number)) = (ops ≡ before) × IsStaged meaning p commands ops bytes made
+HasStaged meaning p commands before ops bytes made op (Err (LsnEnd lsn)) = (ops ≡ before) × IsStaged meaning p commands ops bytes made
 HasStaged meaning p commands before ops bytes made op (Err DiskFault) = (ops ≡ before) × IsStaged meaning p commands ops bytes made
 HasStaged meaning p commands before ops bytes made op (Err (Damaged file place)) = (ops ≡ before) × IsStaged meaning p commands ops bytes made
 HasStaged meaning p commands before ops bytes made op (Err Memory) = (ops ≡ before) × IsStaged meaning p commands ops bytes made

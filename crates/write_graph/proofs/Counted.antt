@@ -9,7 +9,7 @@ use Rattle.install_order.specs.declared.entry.Entry.{Entry}
 use Rattle.graph_nodes.specs.Arcs.{node_at, held_at}
 use Rattle.graph_nodes.specs.Named.{Graph}
 use Rattle.graph_nodes.specs.Removed.{IsRemoved}
-use Rattle.write_graph.specs.Graph.{numbers}
+use Rattle.write_graph.specs.Graph.{lsns}
 use Rattle.write_graph.specs.Cells.{chosen_entries, held_entries}
 use Rattle.write_graph.specs.Naming.{AreClimbing, IsSlotOf}
 use Rattle.write_graph.proofs.Numbers.{chosen-here, chosen-off, chosen-same, chosen-filter}
@@ -94,7 +94,7 @@ left-count entries old new slot xs is once among held =
     let all = ap length (chosen-same (without (held_at old.held) xs) (held_at new.held) entries (λ i lt. ap (λ (b : Bool). held_at old.held i && not b) (same i) ∙ flip (held_at old.held i) (not (in_node old m i)) ∙ sym (held-after old m new is i))) in
     omega (arith, count, all)
 
--- after a removal the numbers climb as before
+-- after a removal the LSNs climb as before
 pub climbing-left : (old new : Graph) (m : ℕ) (ns : List ℕ) → IsRemoved old m new → AreClimbing old.held ns → AreClimbing new.held ns
 climbing-left old new m ns is climbs = record {
   never_fall = climbs.never_fall;
@@ -103,12 +103,12 @@ climbing-left old new m ns is climbs = record {
 
 -- what is left of the entries is what is outside the node
 pub left-entries : (entries : List Entry) (old new : Graph) (n : ℕ) (node : ℕ → Bool) (s : IsSlotOf entries old n node) → IsRemoved old (node_at old.node s.slot) new →
-    held_entries new.held entries ≡ filter (λ e. not (node e.number)) (held_entries old.held entries)
+    held_entries new.held entries ≡ filter (λ e. not (node e.lsn)) (held_entries old.held entries)
 left-entries entries old new n node s is =
     let m = node_at old.node s.slot in
     chosen-filter (held_at new.held) (held_at old.held) node entries (λ i lt. elim (cases_Bool (held_at old.held i)) [
-      | inr off ↦ held-after old m new is i ∙ ap (λ (b : Bool). not (in_node old m i) && b) off ∙ and-false (not (in_node old m i)) ∙ sym (ap (λ (b : Bool). b && not (node (slice_index (numbers entries) i))) off)
+      | inr off ↦ held-after old m new is i ∙ ap (λ (b : Bool). not (in_node old m i) && b) off ∙ and-false (not (in_node old m i)) ∙ sym (ap (λ (b : Bool). b && not (node (slice_index (lsns entries) i))) off)
       | inl held ↦
-          let same : in_node old m i ≡ node (slice_index (numbers entries) i) = same-test (in_node old m i) (node (slice_index (numbers entries) i)) (λ t. (s.members i held).1 (in-node old m i t)) (λ t. node-in old m i ((s.members i held).0 t)) in
+          let same : in_node old m i ≡ node (slice_index (lsns entries) i) = same-test (in_node old m i) (node (slice_index (lsns entries) i)) (λ t. (s.members i held).1 (in-node old m i t)) (λ t. node-in old m i ((s.members i held).0 t)) in
           held-after old m new is i ∙ flip (not (in_node old m i)) (held_at old.held i) ∙ ap (λ (b : Bool). held_at old.held i && not b) same
     ])

@@ -21,7 +21,7 @@ use Rattle.install_order.specs.More.{IsAdded, NoWriter}
 use Rattle.graph_nodes.specs.Arcs.{arc_at, node_at, held_at}
 use Rattle.graph_nodes.specs.Named.{Graph as Slots}
 use Rattle.graph_nodes.specs.Removed.{IsRemoved}
-use Rattle.write_graph.specs.Graph.{numbers, IsLeast, Lists}
+use Rattle.write_graph.specs.Graph.{lsns, IsLeast, Lists}
 use Rattle.write_graph.specs.Cells.{writes_of, slot_access, held_entries, write_cell, WriteLeads}
 use Rattle.write_graph.specs.Rows.{Rows}
 use Rattle.write_graph.specs.Linked.{AreLinked}
@@ -29,7 +29,7 @@ use Rattle.write_graph.specs.Listing.{IsWrittenBy}
 use Rattle.write_graph.specs.Objects.{IsWriter, IsWritten}
 use Rattle.write_graph.specs.Firsts.{IsFirstWriter, AreFirsts, IsNextWriter, noted, IsPassed, ArePassed, IsOutside}
 use Rattle.write_graph.specs.Naming.{AreClimbing}
-use Rattle.write_graph.proofs.Held.{length-numbers}
+use Rattle.write_graph.proofs.Held.{length-lsns}
 use Rattle.write_graph.proofs.Loops.{among-none, among-taken, none-some, some-is}
 use Rattle.write_graph.proofs.Led.{some-value, write-slot}
 use Rattle.write_graph.proofs.Adding.{write-cell-is, not-both, added, writes-new}
@@ -287,25 +287,25 @@ keys-listed es sorted once moved order =
           ((λ t. e ∙ t), (λ s. sym e ∙ s));
     }
 
-module _ (entries : List Entry) (held : List Bool) (rising : AreClimbing held (numbers entries)) (size : length held ≡ length entries) where
+module _ (entries : List Entry) (held : List Bool) (rising : AreClimbing held (lsns entries)) (size : length held ≡ length entries) where
   abbrev a : Access
   a = slot_access entries held
 
   abbrev view : List Entry
   view = held_entries held entries
 
-  named : (i x : ℕ) → IsTrue (held_at held i) → (accesses view).writes (slice_index (numbers entries) i) x ≡ a.writes i x
+  named : (i x : ℕ) → IsTrue (held_at held i) → (accesses view).writes (slice_index (lsns entries) i) x ≡ a.writes i x
   named i x lt = (renamed entries held size rising.above_held).writes i x lt
 
   below : (i x : ℕ) → IsTrue (a.writes i x) → IsTrue (held_at held i)
   below i x w = (renamed entries held size rising.above_held).writes_in i x w
 
-  from-number : (n x : ℕ) → IsTrue ((accesses view).writes n x) → (i : ℕ) × IsTrue (held_at held i) × (slice_index (numbers entries) i ≡ n)
-  from-number n x w = (renamed entries held size rising.above_held).writes_from n x w
+  from-lsn : (n x : ℕ) → IsTrue ((accesses view).writes n x) → (i : ℕ) × IsTrue (held_at held i) × (slice_index (lsns entries) i ≡ n)
+  from-lsn n x w = (renamed entries held size rising.above_held).writes_from n x w
 
-  writer : (n x : ℕ) → IsTrue ((accesses view).writes n x) → (i : ℕ) × IsTrue (a.writes i x) × (slice_index (numbers entries) i ≡ n)
+  writer : (n x : ℕ) → IsTrue ((accesses view).writes n x) → (i : ℕ) × IsTrue (a.writes i x) × (slice_index (lsns entries) i ≡ n)
   writer n x w =
-      let i = from-number n x w in
+      let i = from-lsn n x w in
       (i.0, sym (named i.0 x i.1) ∙ subst (λ (k : ℕ). IsTrue ((accesses view).writes k x)) (sym i.2) w, i.2)
 
   -- the slot of a first writer is one
@@ -320,15 +320,15 @@ module _ (entries : List Entry) (held : List Bool) (rising : AreClimbing held (n
     (λ s.
         let v = some-value (firsts x) s in
         let first = subst (λ (o : Option ℕ). MatchOption o (NoWriter a x) (λ n. IsFirstWriter a x n)) v.1 (are x) in
-        (slice_index (numbers entries) v.0, named v.0 x (below v.0 x first.0) ∙ first.0)),
+        (slice_index (lsns entries) v.0, named v.0 x (below v.0 x first.0) ∙ first.0)),
     (λ w. some-or (firsts x) (λ e.
         let none = subst (λ (o : Option ℕ). MatchOption o (NoWriter a x) (λ n. IsFirstWriter a x n)) e (are x) in
         let i = writer w.0 x w.1 in
         both_ways _ (none i.0) i.1)),
   )
 
-  -- the number of the first writer is the least
-  pub first-is : (x i : ℕ) (firsts : ℕ → Option ℕ) → AreFirsts a firsts → firsts x ≡ Some i → IsLeast (IsWriter (accesses view) x) (slice_index (numbers entries) i)
+  -- the LSN of the first writer is the least
+  pub first-is : (x i : ℕ) (firsts : ℕ → Option ℕ) → AreFirsts a firsts → firsts x ≡ Some i → IsLeast (IsWriter (accesses view) x) (slice_index (lsns entries) i)
   first-is x i firsts are at =
       let first = subst (λ (o : Option ℕ). MatchOption o (NoWriter a x) (λ n. IsFirstWriter a x n)) at (are x) in (
         named i x (below i x first.0) ∙ first.0,
@@ -336,7 +336,7 @@ module _ (entries : List Entry) (held : List Bool) (rising : AreClimbing held (n
             let j = writer k x w in
             elim (cases_lt j.0 i) [
               | inl lt ↦ absurd (both_ways _ (first.1 j.0 lt) j.1)
-              | inr ge ↦ omega (arith, rising.never_fall i j.0 ge (omega (arith, held-below entries held j.0 size (below j.0 x j.1), length-numbers entries)), j.2)
+              | inr ge ↦ omega (arith, rising.never_fall i j.0 ge (omega (arith, held-below entries held j.0 size (below j.0 x j.1), length-lsns entries)), j.2)
             ],
       )
 

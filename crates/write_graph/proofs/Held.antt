@@ -1,4 +1,4 @@
--- The numbers of a list, and those of the entries.
+-- The LSNs of a list, and those of the entries.
 use Rattle.std.proofs.Common.{◌≡◌, ◌∙◌, ap, sym, ℕ, zero, suc, ◌<◌, Bool, List, [], ◌∷◌, ◌++◌, length, get_or, refl, arith, inl, inr}
 use Rattle.std.specs.Prelude.{IsTrue, ◌&&◌, ◌==◌, ◌↔◌, slice_index}
 use Rattle.std.specs.List.{list_any, filter}
@@ -12,7 +12,7 @@ use Rattle.install_order.specs.Order.{Edge, Reaches}
 use Rattle.install_order.specs.Order.Edge.{Read_write, Write_write, Lost_version}
 use Rattle.install_order.specs.Order.Reaches.{Here, Then}
 use Rattle.install_order.specs.Entries.{accesses}
-use Rattle.write_graph.specs.Graph.{numbers}
+use Rattle.write_graph.specs.Graph.{lsns}
 
 -- a number of a list stands at some place
 pub among-at : (x : ℕ) (xs : List ℕ) → IsTrue (is_among x xs) → (k : ℕ) × (k < length xs) × (slice_index xs k ≡ x)
@@ -28,38 +28,38 @@ at-among [] k lt = absurd (omega arith)
 at-among (y ∷ ys) zero lt = or_left (y == y) (is_among y ys) (eq-eqb y y refl)
 at-among (y ∷ ys) (suc k) lt = or_right (slice_index ys k == y) (is_among (slice_index ys k) ys) (at-among ys k (omega arith))
 
--- the number at a place is that of the entry there
-pub number-at : (entries : List Entry) (i : ℕ) (d : Entry) → i < length entries → slice_index (numbers entries) i ≡ (get_or entries i d).number
-number-at [] i d lt = absurd (omega arith)
-number-at (e ∷ entries) zero d lt = refl
-number-at (e ∷ entries) (suc i) d lt = number-at entries i d (omega arith)
+-- the LSN at a place is that of the entry there
+pub lsn-at : (entries : List Entry) (i : ℕ) (d : Entry) → i < length entries → slice_index (lsns entries) i ≡ (get_or entries i d).lsn
+lsn-at [] i d lt = absurd (omega arith)
+lsn-at (e ∷ entries) zero d lt = refl
+lsn-at (e ∷ entries) (suc i) d lt = lsn-at entries i d (omega arith)
 
-pub length-numbers : (entries : List Entry) → length (numbers entries) ≡ length entries
-length-numbers [] = refl
-length-numbers (e ∷ entries) = ap suc (length-numbers entries)
+pub length-lsns : (entries : List Entry) → length (lsns entries) ≡ length entries
+length-lsns [] = refl
+length-lsns (e ∷ entries) = ap suc (length-lsns entries)
 
--- the number of an entry that passes a test is a number of the entries
-pub held-any : (t : Entry → Bool) (entries : List Entry) (n : ℕ) → IsTrue (list_any (λ e. (e.number == n) && t e) entries) → IsTrue (is_among n (numbers entries))
+-- the LSN of an entry that passes a test is a number of the entries
+pub held-any : (t : Entry → Bool) (entries : List Entry) (n : ℕ) → IsTrue (list_any (λ e. (e.lsn == n) && t e) entries) → IsTrue (is_among n (lsns entries))
 held-any t [] n e = absurd (both_ways _ refl e)
-held-any t (f ∷ entries) n e = elim (or_cases ((f.number == n) && t f) _ e) [
-  | inl here ↦ or_left (n == f.number) _ (eq-eqb n f.number (sym (eqb-true f.number n (and_parts (f.number == n) (t f) here).0)))
-  | inr more ↦ or_right (n == f.number) _ (held-any t entries n more)
+held-any t (f ∷ entries) n e = elim (or_cases ((f.lsn == n) && t f) _ e) [
+  | inl here ↦ or_left (n == f.lsn) _ (eq-eqb n f.lsn (sym (eqb-true f.lsn n (and_parts (f.lsn == n) (t f) here).0)))
+  | inr more ↦ or_right (n == f.lsn) _ (held-any t entries n more)
 ]
 
-pub held-write : (entries : List Entry) (n x : ℕ) → IsTrue ((accesses entries).writes n x) → IsTrue (is_among n (numbers entries))
+pub held-write : (entries : List Entry) (n x : ℕ) → IsTrue ((accesses entries).writes n x) → IsTrue (is_among n (lsns entries))
 held-write entries n x w = held-any (λ e. is_among x e.writes) entries n w
 
-pub held-read : (entries : List Entry) (n x : ℕ) → IsTrue ((accesses entries).reads n x) → IsTrue (is_among n (numbers entries))
+pub held-read : (entries : List Entry) (n x : ℕ) → IsTrue ((accesses entries).reads n x) → IsTrue (is_among n (lsns entries))
 held-read entries n x r = held-any (λ e. is_among x e.reads) entries n r
 
--- both ends of an edge are numbers of entries
-pub edge-held : (entries : List Entry) (o p : ℕ) → Edge (accesses entries) o p → IsTrue (is_among o (numbers entries)) × IsTrue (is_among p (numbers entries))
+-- both ends of an edge are LSNs of entries
+pub edge-held : (entries : List Entry) (o p : ℕ) → Edge (accesses entries) o p → IsTrue (is_among o (lsns entries)) × IsTrue (is_among p (lsns entries))
 edge-held entries o p (Read_write x lt r w) = (held-read entries o x r, held-write entries p x w)
 edge-held entries o p (Write_write x lt v w) = (held-write entries o x v, held-write entries p x w)
 edge-held entries o p (Lost_version x later lt w none r le wl) = (held-read entries o x r, held-write entries p x w)
 
--- what a walk comes to is the number of an entry, where it begins at one
-pub reached-held : (entries : List Entry) (o p : ℕ) → Reaches (accesses entries) o p → IsTrue (is_among o (numbers entries)) → IsTrue (is_among p (numbers entries))
+-- what a walk comes to is the LSN of an entry, where it begins at one
+pub reached-held : (entries : List Entry) (o p : ℕ) → Reaches (accesses entries) o p → IsTrue (is_among o (lsns entries)) → IsTrue (is_among p (lsns entries))
 reached-held entries o p Here held = held
 reached-held entries o p (Then m q walk edge) held = (edge-held entries m q edge).1
 
@@ -71,14 +71,14 @@ among-filter t xs k =
       (λ u. e ∙ and_from (is_among k xs) (t k) u.0 u.1),
     )
 
--- the numbers, with one entry more
-pub numbers-push : (entries : List Entry) (e : Entry) → numbers (entries ++ e ∷ []) ≡ numbers entries ++ e.number ∷ []
-numbers-push entries e = map-append (λ (f : Entry). f.number) entries (e ∷ [])
+-- the LSNs, with one entry more
+pub lsns-push : (entries : List Entry) (e : Entry) → lsns (entries ++ e ∷ []) ≡ lsns entries ++ e.lsn ∷ []
+lsns-push entries e = map-append (λ (f : Entry). f.lsn) entries (e ∷ [])
 
--- the numbers of the entries that a test on numbers keeps
-pub numbers-filter : (t : ℕ → Bool) (entries : List Entry) → numbers (filter (λ e. t e.number) entries) ≡ filter t (numbers entries)
-numbers-filter t [] = refl
-numbers-filter t (e ∷ entries) = elim (cases_Bool (t e.number)) [
-  | inl out ↦ rw out (ap (λ (ns : List ℕ). e.number ∷ ns) (numbers-filter t entries))
-  | inr off ↦ rw off (numbers-filter t entries)
+-- the LSNs of the entries that a test on LSNs keeps
+pub lsns-filter : (t : ℕ → Bool) (entries : List Entry) → lsns (filter (λ e. t e.lsn) entries) ≡ filter t (lsns entries)
+lsns-filter t [] = refl
+lsns-filter t (e ∷ entries) = elim (cases_Bool (t e.lsn)) [
+  | inl out ↦ rw out (ap (λ (ns : List ℕ). e.lsn ∷ ns) (lsns-filter t entries))
+  | inr off ↦ rw off (lsns-filter t entries)
 ]

@@ -1,4 +1,4 @@
--- Lists that are sorted and have each number once, and the slots of a node.
+-- Lists that are sorted and have each LSN once, and the slots of a node.
 use Rattle.std.proofs.Common.{◌≡◌, ◌∙◌, ap, sym, subst, ℕ, zero, suc, ◌+◌, ◌<◌, ◌⊎◌, Bool, List, [], ◌∷◌, ◌++◌, take, length, Option, None, Some, refl, arith, inl, inr}
 use Rattle.std.specs.Prelude.{IsTrue, ◌==◌, ◌&&◌, ◌↔◌, nat_eq, slice_get, slice_index, MatchOption, if◌then◌else◌}
 use Rattle.std.specs.List.{list_any, filter, Contains, dedup}
@@ -18,17 +18,17 @@ use Rattle.install_order.specs.NodeLaws.{walk-on}
 use Rattle.install_order.specs.More.{NoWriter}
 use Rattle.graph_nodes.specs.Arcs.{node_at, held_at}
 use Rattle.graph_nodes.specs.Named.{Graph}
-use Rattle.write_graph.specs.Graph.{numbers, IsNodeNamed, Lists, IsSingleIdentity}
+use Rattle.write_graph.specs.Graph.{lsns, IsNodeNamed, Lists, IsSingleIdentity}
 use Rattle.write_graph.specs.Cells.{writes_of, slot_access, held_entries}
 use Rattle.write_graph.specs.Rows.{Rows, last_held}
 use Rattle.write_graph.specs.Linked.{AreLinked}
 use Rattle.write_graph.specs.Naming.{AreClimbing, IsSlotOf}
-use Rattle.write_graph.specs.Listing.{AreSlotsOf, IsNumberOf, IsWrittenBy, is_with}
+use Rattle.write_graph.specs.Listing.{AreSlotsOf, IsLsnOf, IsWrittenBy, is_with}
 use Rattle.write_graph.proofs.Held.{among-at, at-among, reached-held, among-filter}
 use Rattle.write_graph.proofs.Loops.{among-none, among-taken, among-before, among-next, some-is, none-some}
 use Rattle.write_graph.proofs.FirstWriters.{only-one}
 use Rattle.write_graph.proofs.One.{last-one}
-use Rattle.write_graph.proofs.Numbers.{chosen-slot, any-slot, test_of, number-same}
+use Rattle.write_graph.proofs.Numbers.{chosen-slot, any-slot, test_of, lsn-same}
 use Rattle.write_graph.proofs.Asked.{node-held}
 
 among-contains : (xs : List ℕ) (x : ℕ) → IsTrue (is_among x xs) → Contains xs x
@@ -82,16 +82,16 @@ last-among k d xs t = elim (or_cases (is_among k xs) (is_among k (d ∷ [])) (sy
 ]
 
 -- one slot more
-pub numbers-on : (entries : List Entry) (slots found : List ℕ) (i slot n : ℕ) → slice_get slots i ≡ Some slot → n ≡ slice_index (numbers entries) slot → ((k : ℕ) → IsTrue (is_among k found) ↔ IsNumberOf entries (take i slots) k) →
-    (k : ℕ) → IsTrue (is_among k (found ++ n ∷ [])) ↔ IsNumberOf entries (take (i + 1) slots) k
-numbers-on entries slots found i slot n at is was k = (
+pub lsns-on : (entries : List Entry) (slots found : List ℕ) (i slot n : ℕ) → slice_get slots i ≡ Some slot → n ≡ slice_index (lsns entries) slot → ((k : ℕ) → IsTrue (is_among k found) ↔ IsLsnOf entries (take i slots) k) →
+    (k : ℕ) → IsTrue (is_among k (found ++ n ∷ [])) ↔ IsLsnOf entries (take (i + 1) slots) k
+lsns-on entries slots found i slot n at is was k = (
   (λ t. elim (last-among k n found t) [
     | inl yet ↦ let w = (was k).0 yet in (w.0, among-before w.0 i slots w.1, w.2)
     | inr e ↦ (slot, among-next slot i slots at, sym is ∙ sym e)
   ]),
   (λ w. list_any-append (λ y. k == y) found (n ∷ []) ∙ (elim (among-taken w.0 slot i slots at w.1) [
     | inl yet ↦ or_left (is_among k found) (is_among k (n ∷ [])) ((was k).1 (w.0, yet, w.2))
-    | inr e ↦ or_right (is_among k found) (is_among k (n ∷ [])) (or_left (k == n) (is_among k []) (eq-eqb k n (sym w.2 ∙ ap (slice_index (numbers entries)) e ∙ sym is)))
+    | inr e ↦ or_right (is_among k found) (is_among k (n ∷ [])) (or_left (k == n) (is_among k []) (eq-eqb k n (sym w.2 ∙ ap (slice_index (lsns entries)) e ∙ sym is)))
   ])),
 )
 
@@ -108,12 +108,12 @@ written-on entries slots objects more i slot at is was x = (
   ])),
 )
 
-module _ (entries : List Entry) (g : Graph) (rows : Rows) (linked : AreLinked entries g rows) (rising : AreClimbing g.held (numbers entries)) (n : ℕ) (node : ℕ → Bool) (named : IsNodeNamed (held_entries g.held entries) n node) (s : IsSlotOf entries g n node) where
+module _ (entries : List Entry) (g : Graph) (rows : Rows) (linked : AreLinked entries g rows) (rising : AreClimbing g.held (lsns entries)) (n : ℕ) (node : ℕ → Bool) (named : IsNodeNamed (held_entries g.held entries) n node) (s : IsSlotOf entries g n node) where
   abbrev view : List Entry
   view = held_entries g.held entries
 
   -- each number of the node is that of one of its slots
-  pub member-slot : (k : ℕ) → IsTrue (node k) → (i : ℕ) × IsTrue (held_at g.held i) × (slice_index (numbers entries) i ≡ k) × (node_at g.node i ≡ node_at g.node s.slot)
+  pub member-slot : (k : ℕ) → IsTrue (node k) → (i : ℕ) × IsTrue (held_at g.held i) × (slice_index (lsns entries) i ≡ k) × (node_at g.node i ≡ node_at g.node s.slot)
   member-slot k there =
       let one = named.is_node.0 in
       let u = named.is_node.2 n named.is_name.0 in
@@ -122,14 +122,14 @@ module _ (entries : List Entry) (g : Graph) (rows : Rows) (linked : AreLinked en
       let i = chosen-slot (held_at g.held) entries k held in
       (i.0, i.2, i.3, (s.members i.0 i.2).0 (subst (λ (j : ℕ). IsTrue (node j)) (sym i.3) there))
 
-  pub slot-member : (i : ℕ) → node_at g.node i ≡ node_at g.node s.slot → IsTrue (node (slice_index (numbers entries) i))
+  pub slot-member : (i : ℕ) → node_at g.node i ≡ node_at g.node s.slot → IsTrue (node (slice_index (lsns entries) i))
   slot-member i e = let h = node-held entries g rows i s.slot linked e s.name.0 in (s.members i h.1).1 e
 
   pub slots-below : (slots : List ℕ) → ((i : ℕ) → IsTrue (is_among i slots) ↔ (node_at g.node i ≡ node_at g.node s.slot)) → (i : ℕ) → IsTrue (is_among i slots) → i < length entries
   slots-below slots among i there = (node-held entries g rows i s.slot linked ((among i).0 there) s.name.0).0
 
-  pub numbers-node : (slots : List ℕ) → ((i : ℕ) → IsTrue (is_among i slots) ↔ (node_at g.node i ≡ node_at g.node s.slot)) → (k : ℕ) → IsNumberOf entries slots k ↔ IsTrue (node k)
-  numbers-node slots among k = (
+  pub lsns-node : (slots : List ℕ) → ((i : ℕ) → IsTrue (is_among i slots) ↔ (node_at g.node i ≡ node_at g.node s.slot)) → (k : ℕ) → IsLsnOf entries slots k ↔ IsTrue (node k)
+  lsns-node slots among k = (
     (λ w. subst (λ (j : ℕ). IsTrue (node j)) w.2 (slot-member w.0 ((among w.0).0 w.1))),
     (λ there. let i = member-slot k there in (i.0, (among i.0).1 i.3, i.2)),
   )
@@ -141,15 +141,15 @@ module _ (entries : List Entry) (g : Graph) (rows : Rows) (linked : AreLinked en
   last-at x None q i l = absurd (both_ways _ (last-match x None q i) l.0)
   last-at x (Some w) q i l = q ∙ ap (λ (k : ℕ). Some k) (last-one (slot_access entries g.held) x w i (last-match x (Some w) q) l)
 
-  with-last : (last : (x i : ℕ) → IsTrue (held_at g.held i) → IsLastWriter (accesses view) x (slice_index (numbers entries) i) ↔ IsLastWriter (slot_access entries g.held) x i) (x : ℕ) (o : Option ℕ) → last_held g.held rows x ≡ o → IsTrue (is_with g s.slot o) → flush_set_of (accesses view) node x
+  with-last : (last : (x i : ℕ) → IsTrue (held_at g.held i) → IsLastWriter (accesses view) x (slice_index (lsns entries) i) ↔ IsLastWriter (slot_access entries g.held) x i) (x : ℕ) (o : Option ℕ) → last_held g.held rows x ≡ o → IsTrue (is_with g s.slot o) → flush_set_of (accesses view) node x
   with-last last x None q t = absurd (both_ways _ refl t)
   with-last last x (Some w) q t =
       let e = eqb-true (node_at g.node w) (node_at g.node s.slot) t in
       let h = node-held entries g rows w s.slot linked e s.name.0 in
-      (slice_index (numbers entries) w, slot-member w e, (last x w h.1).1 (last-match x (Some w) q))
+      (slice_index (lsns entries) w, slot-member w e, (last x w h.1).1 (last-match x (Some w) q))
 
   -- the flushed objects
-  pub flushed : (last : (x i : ℕ) → IsTrue (held_at g.held i) → IsLastWriter (accesses view) x (slice_index (numbers entries) i) ↔ IsLastWriter (slot_access entries g.held) x i) (slots : List ℕ) → ((i : ℕ) → IsTrue (is_among i slots) ↔ (node_at g.node i ≡ node_at g.node s.slot)) →
+  pub flushed : (last : (x i : ℕ) → IsTrue (held_at g.held i) → IsLastWriter (accesses view) x (slice_index (lsns entries) i) ↔ IsLastWriter (slot_access entries g.held) x i) (slots : List ℕ) → ((i : ℕ) → IsTrue (is_among i slots) ↔ (node_at g.node i ≡ node_at g.node s.slot)) →
       (x : ℕ) → (IsWrittenBy entries slots x × IsTrue (is_with g s.slot (last_held g.held rows x))) ↔ flush_set_of (accesses view) node x
   flushed last slots among x = (
     (λ w. with-last last x (last_held g.held rows x) refl w.1),
@@ -165,21 +165,21 @@ module _ (entries : List Entry) (g : Graph) (rows : Rows) (linked : AreLinked en
   -- a node of one entry, which is an identity write
   pub single : (identity : Bool) → identity ≡ test_of (λ e. e.identity) entries s.slot → ((i : ℕ) → node_at g.node i ≡ node_at g.node s.slot → i ≡ s.slot) → IsTrue identity ↔ IsSingleIdentity view n node
   single identity is alone =
-      let at : list_any (λ e. (e.number == n) && e.identity) view ≡ (held_at g.held s.slot && test_of (λ e. e.identity) entries s.slot) =
-      ap (λ (k : ℕ). list_any (λ e. (e.number == k) && e.identity) view) (sym s.number) ∙ any-slot (λ e. e.identity) (held_at g.held) entries s.slot rising.above_held s.below s.name.0 in (
+      let at : list_any (λ e. (e.lsn == n) && e.identity) view ≡ (held_at g.held s.slot && test_of (λ e. e.identity) entries s.slot) =
+      ap (λ (k : ℕ). list_any (λ e. (e.lsn == k) && e.identity) view) (sym s.lsn) ∙ any-slot (λ e. e.identity) (held_at g.held) entries s.slot rising.above_held s.below s.name.0 in (
         (λ t. (
           at ∙ and_from (held_at g.held s.slot) (test_of (λ e. e.identity) entries s.slot) s.name.0 (sym is ∙ t),
-          (λ k there. let i = member-slot k there in sym i.2 ∙ ap (slice_index (numbers entries)) (alone i.0 i.3) ∙ s.number),
+          (λ k there. let i = member-slot k there in sym i.2 ∙ ap (slice_index (lsns entries)) (alone i.0 i.3) ∙ s.lsn),
         )),
         (λ one. is ∙ (and_parts (held_at g.held s.slot) (test_of (λ e. e.identity) entries s.slot) (sym at ∙ one.0)).1),
       )
 
-  -- where the node has one number alone, it has one slot alone
+  -- where the node has one LSN alone, it has one slot alone
   pub alone-slot : ((k : ℕ) → IsTrue (node k) → k ≡ n) → (i : ℕ) → node_at g.node i ≡ node_at g.node s.slot → i ≡ s.slot
   alone-slot one i e =
       let h = node-held entries g rows i s.slot linked e s.name.0 in
-      let same = one (slice_index (numbers entries) i) (slot-member i e) ∙ sym s.number in
-      number-same (held_at g.held) entries rising.above_held i s.slot h.1 s.name.0 h.0 s.below same
+      let same = one (slice_index (lsns entries) i) (slot-member i e) ∙ sym s.lsn in
+      lsn-same (held_at g.held) entries rising.above_held i s.slot h.1 s.name.0 h.0 s.below same
 
 -- the one slot of a node is all of its slots
 pub single-slots : (entries : List Entry) (g : Graph) (n : ℕ) (slots : List ℕ) (node : ℕ → Bool) (s : IsSlotOf entries g n node) (slot : ℕ) → s.slot ≡ slot → slots ≡ slot ∷ [] → ((i : ℕ) → node_at g.node i ≡ node_at g.node slot → i ≡ slot) → AreSlotsOf entries g n slots node

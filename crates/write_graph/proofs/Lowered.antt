@@ -1,4 +1,4 @@
--- Entries whose numbers are lowered where they are above one.
+-- Entries whose LSNs are lowered where they are above one.
 use Rattle.std.proofs.Common.{◌≡◌, ◌∙◌, ap, sym, subst, ℕ, zero, suc, ◌+◌, ◌*◌, ◌/◌, ◌%◌, ◌-◌, ◌<◌, ◌≤◌, ◌⊎◌, min, Bool, true, false, List, [], ◌∷◌, ◌++◌, map, set, length, get_or, Option, Some, All, refl, arith, inl, inr}
 use Rattle.std.specs.Prelude.{IsTrue, ◌&&◌, slice_get, slice_index, MatchOption}
 use Rattle.std.proofs.lemmas.Bool.{cases_Bool, cases_eq, cases_lt}
@@ -10,7 +10,7 @@ use Rattle.install_order.specs.Arcs.{Arc}
 use Rattle.install_order.specs.More.{NoWriter, NoWriterFrom}
 use Rattle.graph_nodes.specs.Arcs.{arc_at, held_at, IsArc}
 use Rattle.graph_nodes.specs.Named.{Graph}
-use Rattle.write_graph.specs.Graph.{numbers}
+use Rattle.write_graph.specs.Graph.{lsns}
 use Rattle.write_graph.specs.Cells.{reads_of, writes_of, slot_access, chosen_entries, held_entries, ReadLeads, WriteLeads}
 use Rattle.write_graph.specs.Rows.{Rows, last_cell_of, last_held, waiting_of}
 use Rattle.write_graph.specs.Linked.{AreLinked, AreRows}
@@ -18,19 +18,19 @@ use Rattle.write_graph.specs.Firsts.{AreFirsts}
 use Rattle.write_graph.specs.Lowered.{lowered}
 use Rattle.write_graph.specs.Places.{place_in}
 use Rattle.write_graph.specs.Naming.{AreClimbing}
-use Rattle.write_graph.proofs.Held.{among-at, number-at, length-numbers, numbers-push}
+use Rattle.write_graph.proofs.Held.{among-at, lsn-at, length-lsns, lsns-push}
 use Rattle.write_graph.proofs.Numbers.{chosen-here, chosen-off, slot-chosen}
 use Rattle.write_graph.proofs.Place.{index-left, index-last, read-left}
 
-low-stays : (n : ℕ) (e : Entry) → e.number ≤ n → lowered n e ≡ e
+low-stays : (n : ℕ) (e : Entry) → e.lsn ≤ n → lowered n e ≡ e
 low-stays n e le =
-    let same : min e.number n ≡ e.number = omega (arith, le) in
-    λ i. record { number = same i; reads = e.reads; writes = e.writes; identity = e.identity }
+    let same : min e.lsn n ≡ e.lsn = omega (arith, le) in
+    λ i. record { lsn = same i; reads = e.reads; writes = e.writes; identity = e.identity }
 
-high-falls : (n : ℕ) (e : Entry) → n ≤ e.number → lowered n e ≡ record { number = n; reads = e.reads; writes = e.writes; identity = e.identity }
+high-falls : (n : ℕ) (e : Entry) → n ≤ e.lsn → lowered n e ≡ record { lsn = n; reads = e.reads; writes = e.writes; identity = e.identity }
 high-falls n e le =
-    let same : min e.number n ≡ n = omega (arith, le) in
-    λ i. record { number = same i; reads = e.reads; writes = e.writes; identity = e.identity }
+    let same : min e.lsn n ≡ n = omega (arith, le) in
+    λ i. record { lsn = same i; reads = e.reads; writes = e.writes; identity = e.identity }
 
 -- the entries before the slot are lowered, and the others as they were
 pub record AreLowering (n slot : ℕ) (old new : List Entry) : Type 0 where
@@ -38,19 +38,19 @@ pub record AreLowering (n slot : ℕ) (old new : List Entry) : Type 0 where
   pub done : (i : ℕ) (d : Entry) → i < slot → i < length old → get_or new i d ≡ lowered n (get_or old i d)
   pub left : (i : ℕ) (d : Entry) → slot ≤ i → i < length old → get_or new i d ≡ get_or old i d
 
-pub lowering-none : (n from : ℕ) (old : List Entry) → ((i : ℕ) → i < from → slice_index (numbers old) i ≤ n) → AreLowering n from old old
+pub lowering-none : (n from : ℕ) (old : List Entry) → ((i : ℕ) → i < from → slice_index (lsns old) i ≤ n) → AreLowering n from old old
 lowering-none n from old low = record {
   size = refl;
-  done = λ i d lt below. sym (low-stays n (get_or old i d) (omega (arith, low i lt, number-at old i d below)));
+  done = λ i d lt below. sym (low-stays n (get_or old i d) (omega (arith, low i lt, lsn-at old i d below)));
   left = λ i d le below. refl;
 }
 
-pub lowering-on : (n slot : ℕ) (old new : List Entry) (e : Entry) → AreLowering n slot old new → slot < length old → n < slice_index (numbers old) slot → e ≡ get_or new slot e →
-    AreLowering n (slot + 1) old (set new slot record { number = n; reads = e.reads; writes = e.writes; identity = e.identity })
+pub lowering-on : (n slot : ℕ) (old new : List Entry) (e : Entry) → AreLowering n slot old new → slot < length old → n < slice_index (lsns old) slot → e ≡ get_or new slot e →
+    AreLowering n (slot + 1) old (set new slot record { lsn = n; reads = e.reads; writes = e.writes; identity = e.identity })
 lowering-on n slot old new e was low high at =
-    let f : Entry = record { number = n; reads = e.reads; writes = e.writes; identity = e.identity } in
+    let f : Entry = record { lsn = n; reads = e.reads; writes = e.writes; identity = e.identity } in
     let is : e ≡ get_or old slot e = at ∙ was.left slot e (omega arith) low in
-    let fall : f ≡ lowered n e = sym (high-falls n e (omega (arith, high, number-at old slot e low, ap (λ (g : Entry). g.number) is))) in
+    let fall : f ≡ lowered n e = sym (high-falls n e (omega (arith, high, lsn-at old slot e low, ap (λ (g : Entry). g.lsn) is))) in
     record {
       size = length-set new slot f ∙ was.size;
       done = λ i d lt below. elim (cases_eq i slot) [
@@ -65,7 +65,7 @@ lowering-on n slot old new e was low high at =
 
 pub lowering-all : (n slot : ℕ) (old new : List Entry) → AreLowering n slot old new → length old ≤ slot → new ≡ map (lowered n) old
 lowering-all n slot old new is end =
-    let d : Entry = record { number = zero; reads = []; writes = []; identity = false } in
+    let d : Entry = record { lsn = zero; reads = []; writes = []; identity = false } in
     ext_get_or d new (map (lowered n) old) (is.size ∙ sym (length-map old (lowered n))) (λ i lt.
     let below : i < length old = omega (arith, lt, is.size) in
     is.done i d (omega (arith, below, end)) below ∙ sym (get_or-map (lowered n) old i d d below))
@@ -132,8 +132,8 @@ module _ (n : ℕ) (entries : List Entry) (g : Graph) (rows : Rows) (linked : Ar
 pub firsts-lowered : (n : ℕ) (entries : List Entry) (held : List Bool) (firsts : ℕ → Option ℕ) → AreFirsts (slot_access entries held) firsts → AreFirsts (slot_access (map (lowered n) entries) held) firsts
 firsts-lowered n entries held firsts are = carried n entries (λ r w. AreFirsts (access_by held r w) firsts) are
 
--- where the chosen have no greater numbers, they are as they were
-chosen-lowered : (t : ℕ → Bool) (n : ℕ) (entries : List Entry) → ((i : ℕ) → IsTrue (t i) → i < length entries → slice_index (numbers entries) i ≤ n) → chosen_entries t (map (lowered n) entries) ≡ chosen_entries t entries
+-- where the chosen have no greater LSNs, they are as they were
+chosen-lowered : (t : ℕ → Bool) (n : ℕ) (entries : List Entry) → ((i : ℕ) → IsTrue (t i) → i < length entries → slice_index (lsns entries) i ≤ n) → chosen_entries t (map (lowered n) entries) ≡ chosen_entries t entries
 chosen-lowered t n [] low = refl
 chosen-lowered t n (e ∷ entries) low =
     let r = chosen-lowered (λ i. t (suc i)) n entries (λ i there lt. low (suc i) there (omega (arith, lt))) in
@@ -144,33 +144,33 @@ chosen-lowered t n (e ∷ entries) low =
       | inr off ↦ chosen-off t (lowered n e) (map (lowered n) entries) off ∙ r ∙ sym (chosen-off t e entries off)
     ]
 
--- a held slot's number is below what is above all numbers of the held entries
-held-low : (held : List Bool) (entries : List Entry) (n : ℕ) → All (λ k. k < n) (numbers (held_entries held entries)) → (i : ℕ) → IsTrue (held_at held i) → i < length entries → slice_index (numbers entries) i < n
+-- a held slot's LSN is below what is above all LSNs of the held entries
+held-low : (held : List Bool) (entries : List Entry) (n : ℕ) → All (λ k. k < n) (lsns (held_entries held entries)) → (i : ℕ) → IsTrue (held_at held i) → i < length entries → slice_index (lsns entries) i < n
 held-low held entries n above i there lt =
-    let j = among-at (slice_index (numbers entries) i) (numbers (held_entries held entries)) (slot-chosen (held_at held) entries i lt there) in
+    let j = among-at (slice_index (lsns entries) i) (lsns (held_entries held entries)) (slot-chosen (held_at held) entries i lt there) in
     omega (arith, above j.0 zero j.1, j.2)
 
-pub held-lowered : (held : List Bool) (entries : List Entry) (n : ℕ) → All (λ k. k < n) (numbers (held_entries held entries)) → held_entries held (map (lowered n) entries) ≡ held_entries held entries
+pub held-lowered : (held : List Bool) (entries : List Entry) (n : ℕ) → All (λ k. k < n) (lsns (held_entries held entries)) → held_entries held (map (lowered n) entries) ≡ held_entries held entries
 held-lowered held entries n above = chosen-lowered (held_at held) n entries (λ i there lt. omega (arith, held-low held entries n above i there lt))
 
-number-lowered : (n : ℕ) (entries : List Entry) (i : ℕ) → i < length entries → slice_index (numbers (map (lowered n) entries)) i ≡ min (slice_index (numbers entries) i) n
-number-lowered n [] i lt = absurd (omega (arith, lt))
-number-lowered n (e ∷ entries) zero lt = refl
-number-lowered n (e ∷ entries) (suc i) lt = number-lowered n entries i (omega (arith, lt))
+lsn-lowered : (n : ℕ) (entries : List Entry) (i : ℕ) → i < length entries → slice_index (lsns (map (lowered n) entries)) i ≡ min (slice_index (lsns entries) i) n
+lsn-lowered n [] i lt = absurd (omega (arith, lt))
+lsn-lowered n (e ∷ entries) zero lt = refl
+lsn-lowered n (e ∷ entries) (suc i) lt = lsn-lowered n entries i (omega (arith, lt))
 
--- an entry comes last whose number is above those of the held entries
-module _ (held more : List Bool) (entries : List Entry) (e : Entry) (size : length held ≡ length entries) (is : more ≡ held ++ true ∷ []) (climbs : AreClimbing held (numbers entries)) (above : All (λ k. k < e.number) (numbers (held_entries held entries))) where
+-- an entry comes last whose LSN is above those of the held entries
+module _ (held more : List Bool) (entries : List Entry) (e : Entry) (size : length held ≡ length entries) (is : more ≡ held ++ true ∷ []) (climbs : AreClimbing held (lsns entries)) (above : All (λ k. k < e.lsn) (lsns (held_entries held entries))) where
   abbrev n : ℕ
-  n = e.number
+  n = e.lsn
 
   abbrev ms : List ℕ
-  ms = numbers (map (lowered n) entries)
+  ms = lsns (map (lowered n) entries)
 
   count : length ms ≡ length entries
-  count = length-numbers (map (lowered n) entries) ∙ length-map entries (lowered n)
+  count = length-lsns (map (lowered n) entries) ∙ length-map entries (lowered n)
 
-  earlier : (i : ℕ) → i < length entries → slice_index (ms ++ n ∷ []) i ≡ min (slice_index (numbers entries) i) n
-  earlier i lt = index-left ms n i (omega (arith, lt, count)) ∙ number-lowered n entries i lt
+  earlier : (i : ℕ) → i < length entries → slice_index (ms ++ n ∷ []) i ≡ min (slice_index (lsns entries) i) n
+  earlier i lt = index-left ms n i (omega (arith, lt, count)) ∙ lsn-lowered n entries i lt
 
   end : (i : ℕ) → i ≡ length entries → slice_index (ms ++ n ∷ []) i ≡ n
   end i q = ap (slice_index (ms ++ n ∷ [])) (q ∙ sym count) ∙ index-last ms n
@@ -178,7 +178,7 @@ module _ (held more : List Bool) (entries : List Entry) (e : Entry) (size : leng
   no-fall : (i j : ℕ) → i ≤ j → j < length (ms ++ n ∷ []) → slice_index (ms ++ n ∷ []) i ≤ slice_index (ms ++ n ∷ []) j
   no-fall i j le lt =
       let len = length_push ms n in
-      let long = length-numbers entries in
+      let long = length-lsns entries in
       elim (cases_lt j (length entries)) [
         | inl low ↦ omega (arith, earlier i (omega (arith, le, low)), earlier j low, climbs.never_fall i j le (omega (arith, low, long)))
         | inr high ↦ elim (cases_lt i (length entries)) [
@@ -190,7 +190,7 @@ module _ (held more : List Bool) (entries : List Entry) (e : Entry) (size : leng
   after-held : (i j : ℕ) → IsTrue (held_at more i) → i < j → j < length (ms ++ n ∷ []) → slice_index (ms ++ n ∷ []) i < slice_index (ms ++ n ∷ []) j
   after-held i j there lt below =
       let len = length_push ms n in
-      let long = length-numbers entries in
+      let long = length-lsns entries in
       let low : i < length entries = omega (arith, lt, below, len, count) in
       let was : IsTrue (held_at held i) = sym (ap (λ (hs : List Bool). held_at hs i) is ∙ read-left held (true ∷ []) i false (omega (arith, low, size))) ∙ there in
       let small = held-low held entries n above i was low in
@@ -199,5 +199,5 @@ module _ (held more : List Bool) (entries : List Entry) (e : Entry) (size : leng
         | inr high ↦ omega (arith, earlier i low, small, end j (omega (arith, high, below, len, count)))
       ]
 
-  pub climbing-more : AreClimbing more (numbers (map (lowered n) entries ++ e ∷ []))
-  climbing-more = subst (λ (ns : List ℕ). AreClimbing more ns) (sym (numbers-push (map (lowered n) entries) e)) record { never_fall = no-fall; above_held = after-held }
+  pub climbing-more : AreClimbing more (lsns (map (lowered n) entries ++ e ∷ []))
+  climbing-more = subst (λ (ns : List ℕ). AreClimbing more ns) (sym (lsns-push (map (lowered n) entries) e)) record { never_fall = no-fall; above_held = after-held }

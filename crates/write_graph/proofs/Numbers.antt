@@ -1,4 +1,4 @@
--- The entries that are held under the numbers of their slots.
+-- The entries that are held under the LSNs of their slots.
 use Rattle.std.proofs.Common.{◌≡◌, ◌∙◌, ap, sym, subst, ℕ, zero, suc, ◌<◌, ◌≤◌, Bool, true, false, cond, not, List, [], ◌∷◌, ◌++◌, length, get_or, refl, arith, inl, inr}
 use Rattle.std.specs.Prelude.{IsTrue, IsFalse, ◌==◌, ◌&&◌, ◌||◌, slice_index}
 use Rattle.std.specs.List.{list_any, filter}
@@ -8,12 +8,12 @@ use Rattle.install_order.specs.declared.entry.Entry.{Entry}
 use Rattle.install_order.specs.Entries.{accesses}
 use Rattle.install_order.specs.Renamed.{IsRenamed}
 use Rattle.graph_nodes.specs.Arcs.{held_at}
-use Rattle.write_graph.specs.Graph.{numbers}
+use Rattle.write_graph.specs.Graph.{lsns}
 use Rattle.write_graph.specs.Cells.{reads_of, writes_of, slot_access, chosen_entries, held_entries}
-use Rattle.write_graph.proofs.Held.{held-read, held-write, length-numbers}
+use Rattle.write_graph.proofs.Held.{held-read, held-write, length-lsns}
 use Rattle.write_graph.proofs.Place.{read-left, read-past}
 
--- numbers after a slot that passes are greater than its own
+-- LSNs after a slot that passes are greater than its own
 abbrev pub Rises : (ℕ → Bool) → List ℕ → Type 0
 Rises t xs = (i j : ℕ) → IsTrue (t i) → i < j → j < length xs → slice_index xs i < slice_index xs j
 
@@ -26,33 +26,33 @@ chosen-here t e entries yes_0 = cond-true (t zero) (e ∷ chosen_entries (λ i. 
 pub chosen-off : (t : ℕ → Bool) (e : Entry) (entries : List Entry) → IsFalse (t zero) → chosen_entries t (e ∷ entries) ≡ chosen_entries (λ i. t (suc i)) entries
 chosen-off t e entries off = cond-false (t zero) (e ∷ chosen_entries (λ i. t (suc i)) entries) (chosen_entries (λ i. t (suc i)) entries) off
 
--- the number of a chosen entry is that of its slot
-pub chosen-slot : (t : ℕ → Bool) (entries : List Entry) (n : ℕ) → IsTrue (is_among n (numbers (chosen_entries t entries))) → (i : ℕ) × (i < length entries) × IsTrue (t i) × (slice_index (numbers entries) i ≡ n)
+-- the LSN of a chosen entry is that of its slot
+pub chosen-slot : (t : ℕ → Bool) (entries : List Entry) (n : ℕ) → IsTrue (is_among n (lsns (chosen_entries t entries))) → (i : ℕ) × (i < length entries) × IsTrue (t i) × (slice_index (lsns entries) i ≡ n)
 chosen-slot t [] n there = absurd (both_ways _ refl there)
 chosen-slot t (e ∷ entries) n there = elim (cases_Bool (t zero)) [
-  | inl yes_0 ↦ elim (or_cases (n == e.number) (is_among n (numbers (chosen_entries (λ i. t (suc i)) entries))) (subst (λ (es : List Entry). IsTrue (is_among n (numbers es))) (chosen-here t e entries yes_0) there)) [
-    | inl q ↦ (zero, omega arith, yes_0, sym (eqb-true n e.number q))
+  | inl yes_0 ↦ elim (or_cases (n == e.lsn) (is_among n (lsns (chosen_entries (λ i. t (suc i)) entries))) (subst (λ (es : List Entry). IsTrue (is_among n (lsns es))) (chosen-here t e entries yes_0) there)) [
+    | inl q ↦ (zero, omega arith, yes_0, sym (eqb-true n e.lsn q))
     | inr more ↦ let r = chosen-slot (λ i. t (suc i)) entries n more in (suc r.0, omega (arith, r.1), r.2, r.3)
   ]
   | inr off ↦
-      let r = chosen-slot (λ i. t (suc i)) entries n (subst (λ (es : List Entry). IsTrue (is_among n (numbers es))) (chosen-off t e entries off) there) in
+      let r = chosen-slot (λ i. t (suc i)) entries n (subst (λ (es : List Entry). IsTrue (is_among n (lsns es))) (chosen-off t e entries off) there) in
       (suc r.0, omega (arith, r.1), r.2, r.3)
 ]
 
-pub slot-chosen : (t : ℕ → Bool) (entries : List Entry) (i : ℕ) → i < length entries → IsTrue (t i) → IsTrue (is_among (slice_index (numbers entries) i) (numbers (chosen_entries t entries)))
+pub slot-chosen : (t : ℕ → Bool) (entries : List Entry) (i : ℕ) → i < length entries → IsTrue (t i) → IsTrue (is_among (slice_index (lsns entries) i) (lsns (chosen_entries t entries)))
 slot-chosen t [] i lt yes_i = absurd (omega (arith, lt))
-slot-chosen t (e ∷ entries) zero lt yes_i = subst (λ (es : List Entry). IsTrue (is_among e.number (numbers es))) (sym (chosen-here t e entries yes_i)) (or_left (e.number == e.number) _ (eq-eqb e.number e.number refl))
+slot-chosen t (e ∷ entries) zero lt yes_i = subst (λ (es : List Entry). IsTrue (is_among e.lsn (lsns es))) (sym (chosen-here t e entries yes_i)) (or_left (e.lsn == e.lsn) _ (eq-eqb e.lsn e.lsn refl))
 slot-chosen t (e ∷ entries) (suc i) lt yes_i =
-    let n = slice_index (numbers entries) i in
+    let n = slice_index (lsns entries) i in
     let r = slot-chosen (λ i. t (suc i)) entries i (omega (arith, lt)) yes_i in
     elim (cases_Bool (t zero)) [
-      | inl yes_0 ↦ subst (λ (es : List Entry). IsTrue (is_among n (numbers es))) (sym (chosen-here t e entries yes_0)) (or_right (n == e.number) _ r)
-      | inr off ↦ subst (λ (es : List Entry). IsTrue (is_among n (numbers es))) (sym (chosen-off t e entries off)) r
+      | inl yes_0 ↦ subst (λ (es : List Entry). IsTrue (is_among n (lsns es))) (sym (chosen-here t e entries yes_0)) (or_right (n == e.lsn) _ r)
+      | inr off ↦ subst (λ (es : List Entry). IsTrue (is_among n (lsns es))) (sym (chosen-off t e entries off)) r
     ]
 
--- a test on the entry of a number, by its slot
+-- a test on the entry of an LSN, by its slot
 abbrev any_at : (Entry → Bool) → List Entry → ℕ → Bool
-any_at p entries n = list_any (λ e. (e.number == n) && p e) entries
+any_at p entries n = list_any (λ e. (e.lsn == n) && p e) entries
 
 abbrev pub test_of : (Entry → Bool) → List Entry → ℕ → Bool
 test_of p [] i = false
@@ -64,11 +64,11 @@ test-at p [] i d lt = absurd (omega (arith, lt))
 test-at p (e ∷ entries) zero d lt = refl
 test-at p (e ∷ entries) (suc i) d lt = test-at p entries i d (omega (arith, lt))
 
-any-none : (p : Entry → Bool) (t : ℕ → Bool) (entries : List Entry) (n : ℕ) → ((j : ℕ) → j < length entries → n < slice_index (numbers entries) j) → IsFalse (any_at p (chosen_entries t entries) n)
+any-none : (p : Entry → Bool) (t : ℕ → Bool) (entries : List Entry) (n : ℕ) → ((j : ℕ) → j < length entries → n < slice_index (lsns entries) j) → IsFalse (any_at p (chosen_entries t entries) n)
 any-none p t [] n above = refl
 any-none p t (e ∷ entries) n above =
     let rest = any-none p (λ i. t (suc i)) entries n (λ j lt. above (suc j) (omega (arith, lt))) in
-    let off : IsFalse (e.number == n) = false_from_ne_true _ (λ q. omega (arith, above zero (omega arith), eqb-true e.number n q)) in
+    let off : IsFalse (e.lsn == n) = false_from_ne_true _ (λ q. omega (arith, above zero (omega arith), eqb-true e.lsn n q)) in
     elim (cases_Bool (t zero)) [
       | inl yes_0 ↦ ap (λ (es : List Entry). any_at p es n) (chosen-here t e entries yes_0) ∙ ap (λ (b : Bool). (b && p e) || any_at p (chosen_entries (λ i. t (suc i)) entries) n) off ∙ rest
       | inr none ↦ ap (λ (es : List Entry). any_at p es n) (chosen-off t e entries none) ∙ rest
@@ -78,21 +78,21 @@ or-false : (b : Bool) → (b || false) ≡ b
 or-false true = refl
 or-false false = refl
 
-pub any-slot : (p : Entry → Bool) (t : ℕ → Bool) (entries : List Entry) (i : ℕ) → Rises t (numbers entries) → i < length entries → IsTrue (t i) → any_at p (chosen_entries t entries) (slice_index (numbers entries) i) ≡ (t i && test_of p entries i)
+pub any-slot : (p : Entry → Bool) (t : ℕ → Bool) (entries : List Entry) (i : ℕ) → Rises t (lsns entries) → i < length entries → IsTrue (t i) → any_at p (chosen_entries t entries) (slice_index (lsns entries) i) ≡ (t i && test_of p entries i)
 any-slot p t [] i rises lt there = absurd (omega (arith, lt))
 any-slot p t (e ∷ entries) zero rises lt there =
-    let n = e.number in
-    let rest = any-none p (λ i. t (suc i)) entries n (λ j below. rises zero (suc j) there (omega arith) (omega (arith, below, length-numbers entries))) in
+    let n = e.lsn in
+    let rest = any-none p (λ i. t (suc i)) entries n (λ j below. rises zero (suc j) there (omega arith) (omega (arith, below, length-lsns entries))) in
     ap (λ (es : List Entry). any_at p es n) (chosen-here t e entries there)
     ∙ ap (λ (b : Bool). (b && p e) || any_at p (chosen_entries (λ i. t (suc i)) entries) n) (eq-eqb n n refl)
     ∙ ap (λ (b : Bool). p e || b) rest ∙ or-false (p e) ∙ sym (ap (λ (b : Bool). b && p e) there)
 any-slot p t (e ∷ entries) (suc i) rises lt there =
-    let n = slice_index (numbers entries) i in
-    let r = any-slot p (λ i. t (suc i)) entries i (tail-rises t e.number (numbers entries) rises) (omega (arith, lt)) there in
+    let n = slice_index (lsns entries) i in
+    let r = any-slot p (λ i. t (suc i)) entries i (tail-rises t e.lsn (lsns entries) rises) (omega (arith, lt)) there in
     elim (cases_Bool (t zero)) [
       | inl yes_0 ↦
-          let low : e.number < n = rises zero (suc i) yes_0 (omega arith) (omega (arith, lt, length-numbers entries)) in
-          let off : IsFalse (e.number == n) = false_from_ne_true _ (λ q. omega (arith, low, eqb-true e.number n q)) in
+          let low : e.lsn < n = rises zero (suc i) yes_0 (omega arith) (omega (arith, lt, length-lsns entries)) in
+          let off : IsFalse (e.lsn == n) = false_from_ne_true _ (λ q. omega (arith, low, eqb-true e.lsn n q)) in
           ap (λ (es : List Entry). any_at p es n) (chosen-here t e entries yes_0) ∙ ap (λ (b : Bool). (b && p e) || any_at p (chosen_entries (λ i. t (suc i)) entries) n) off ∙ r
       | inr none ↦ ap (λ (es : List Entry). any_at p es n) (chosen-off t e entries none) ∙ r
     ]
@@ -113,11 +113,11 @@ held-below entries held i size t = elim (cases_lt i (length entries)) [
   | inr ge ↦ absurd (both_ways _ (read-past held i false (omega (arith, ge, size))) t)
 ]
 
--- the slots that are held stand for the numbers of their entries
-pub renamed : (entries : List Entry) (held : List Bool) → length held ≡ length entries → Rises (held_at held) (numbers entries) → IsRenamed (slot_access entries held) (accesses (held_entries held entries)) (held_at held) (length entries) (slice_index (numbers entries))
+-- the slots that are held stand for the LSNs of their entries
+pub renamed : (entries : List Entry) (held : List Bool) → length held ≡ length entries → Rises (held_at held) (lsns entries) → IsRenamed (slot_access entries held) (accesses (held_entries held entries)) (held_at held) (length entries) (slice_index (lsns entries))
 renamed entries held size rises = record {
   below = λ i t. held-below entries held i size t;
-  rising = λ i j t lt u. rises i j t lt (omega (arith, held-below entries held j size u, length-numbers entries));
+  rising = λ i j t lt u. rises i j t lt (omega (arith, held-below entries held j size u, length-lsns entries));
   reads = λ i x t. any-slot (λ e. is_among x e.reads) (held_at held) entries i rises (held-below entries held i size t) t ∙ ap (λ (b : Bool). held_at held i && b) (reads-test entries x i);
   writes = λ i x t. any-slot (λ e. is_among x e.writes) (held_at held) entries i rises (held-below entries held i size t) t ∙ ap (λ (b : Bool). held_at held i && b) (writes-test entries x i);
   reads_in = λ i x r. (and_parts (held_at held i) (is_among x (reads_of entries i)) r).0;
@@ -126,13 +126,13 @@ renamed entries held size rises = record {
   writes_from = λ n x w. let s = chosen-slot (held_at held) entries n (held-write (held_entries held entries) n x w) in (s.0, s.2, s.3);
 }
 
--- two slots that pass with one number are one
-pub number-same : (t : ℕ → Bool) (entries : List Entry) → Rises t (numbers entries) → (i j : ℕ) → IsTrue (t i) → IsTrue (t j) → i < length entries → j < length entries → slice_index (numbers entries) i ≡ slice_index (numbers entries) j → i ≡ j
-number-same t entries rises i j there_i there_j low_i low_j e = elim (cases_lt i j) [
-  | inl lt ↦ absurd (omega (arith, rises i j there_i lt (omega (arith, low_j, length-numbers entries)), e))
+-- two slots that pass with one LSN are one
+pub lsn-same : (t : ℕ → Bool) (entries : List Entry) → Rises t (lsns entries) → (i j : ℕ) → IsTrue (t i) → IsTrue (t j) → i < length entries → j < length entries → slice_index (lsns entries) i ≡ slice_index (lsns entries) j → i ≡ j
+lsn-same t entries rises i j there_i there_j low_i low_j e = elim (cases_lt i j) [
+  | inl lt ↦ absurd (omega (arith, rises i j there_i lt (omega (arith, low_j, length-lsns entries)), e))
   | inr ge ↦ elim (cases_eq i j) [
     | inl q ↦ q
-    | inr ne ↦ absurd (omega (arith, rises j i there_j (omega (arith, ge, ne)) (omega (arith, low_i, length-numbers entries)), e))
+    | inr ne ↦ absurd (omega (arith, rises j i there_j (omega (arith, ge, ne)) (omega (arith, low_i, length-lsns entries)), e))
   ]
 ]
 
@@ -154,12 +154,12 @@ chosen-same s t (e ∷ entries) agree =
     ap (λ (b : Bool). cond b (e ∷ chosen_entries (λ i. s (suc i)) entries) (chosen_entries (λ i. s (suc i)) entries)) (agree zero (omega arith))
     ∙ ap (λ (es : List Entry). cond (t zero) (e ∷ es) es) r
 
--- those of the chosen that pass a test on their numbers
-pub chosen-filter : (s t : ℕ → Bool) (node : ℕ → Bool) (entries : List Entry) → ((i : ℕ) → i < length entries → s i ≡ (t i && not (node (slice_index (numbers entries) i)))) →
-    chosen_entries s entries ≡ filter (λ e. not (node e.number)) (chosen_entries t entries)
+-- those of the chosen that pass a test on their LSNs
+pub chosen-filter : (s t : ℕ → Bool) (node : ℕ → Bool) (entries : List Entry) → ((i : ℕ) → i < length entries → s i ≡ (t i && not (node (slice_index (lsns entries) i)))) →
+    chosen_entries s entries ≡ filter (λ e. not (node e.lsn)) (chosen_entries t entries)
 chosen-filter s t node [] agree = refl
 chosen-filter s t node (e ∷ entries) agree =
-    let p : Entry → Bool = λ f. not (node f.number) in
+    let p : Entry → Bool = λ f. not (node f.lsn) in
     let r = chosen-filter (λ i. s (suc i)) (λ i. t (suc i)) node entries (λ i lt. agree (suc i) (omega (arith, lt))) in
     let here = agree zero (omega arith) in
     elim (cases_Bool (t zero)) [

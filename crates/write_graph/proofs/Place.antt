@@ -1,4 +1,4 @@
--- Where a number stands in a list, and what stands in a table that is longer by one.
+-- Where an LSN stands in a list, and what stands in a table that is longer by one.
 use Rattle.std.proofs.Common.{◌≡◌, ◌∙◌, ap, sym, ℕ, zero, suc, ◌+◌, ◌<◌, ◌≤◌, List, [], ◌∷◌, ◌++◌, length, Some, refl, arith, inl, inr}
 use Rattle.std.specs.Prelude.{IsTrue, IsFalse, ◌==◌, nat_eq, slice_get, slice_index, slice_index_or}
 use Rattle.std.specs.List.{position_or_len}

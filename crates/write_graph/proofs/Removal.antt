@@ -12,10 +12,10 @@ use Rattle.install_order.specs.Order.Edge.{Read_write, Write_write, Lost_version
 use Rattle.install_order.specs.Order.Reaches.{Here, Then}
 use Rattle.install_order.specs.Entries.{accesses, reads_at, writes_at}
 use Rattle.install_order.specs.NodeLaws.{node-unique, walk-on, walk-in}
-use Rattle.write_graph.specs.Graph.{numbers, IsNodeNamed}
-use Rattle.write_graph.proofs.Held.{among-filter, numbers-filter}
+use Rattle.write_graph.specs.Graph.{lsns, IsNodeNamed}
+use Rattle.write_graph.proofs.Held.{among-filter, lsns-filter}
 
--- the numbers outside the node
+-- the LSNs outside the node
 abbrev pub outside : (ℕ → Bool) → ℕ → Bool
 outside node n = not (node n)
 
@@ -26,11 +26,11 @@ no-write node a n x off out = false_from_ne_true _ (λ w. both_ways _ off (and_f
 no-write-within : (node : ℕ → Bool) (a : Access) (n x : ℕ) → IsFalse (a.writes n x) → IsFalse (outside node n && a.writes n x)
 no-write-within node a n x off = false_from_ne_true _ (λ w. both_ways _ off (and_parts (outside node n) _ w).1)
 
--- each number is in the node or not
+-- each LSN is in the node or not
 in-or-out : (node : ℕ → Bool) (n : ℕ) → IsTrue (node n) ⊎ IsFalse (node n)
 in-or-out node n = cases_Bool (node n)
 
--- an edge between numbers outside stays
+-- an edge between LSNs outside stays
 stays : (a : Access) (node : ℕ → Bool) → NoEdgeInto a node → (o p : ℕ) → IsFalse (node o) → IsFalse (node p) → Edge a o p → Edge (within (outside node) a) o p
 stays a node none o p out out_p (Read_write x lt r w) = Read_write x lt (and_from _ _ (not_from_false _ out) r) (and_from _ _ (not_from_false _ out_p) w)
 stays a node none o p out out_p (Write_write x lt v w) = Write_write x lt (and_from _ _ (not_from_false _ out) v) (and_from _ _ (not_from_false _ out_p) w)
@@ -107,7 +107,7 @@ node-stays a node other k none out there is =
 
 -- what is left of a list whose entries in the node are taken out
 abbrev pub left : (ℕ → Bool) → List Entry → List Entry
-left node entries = filter (λ e. not (node e.number)) entries
+left node entries = filter (λ e. not (node e.lsn)) entries
 
 access-eq : (a b : Access) → a.reads ≡ b.reads → a.writes ≡ b.writes → a ≡ b
 access-eq a b r w =
@@ -118,23 +118,23 @@ and-false : (b : Bool) → (b && false) ≡ false
 and-false true = refl
 and-false false = refl
 
--- what an entry of a number does is left where the number is outside
-any-left : (node : ℕ → Bool) (t : Entry → Bool) (entries : List Entry) (n : ℕ) → list_any (λ e. (e.number == n) && t e) (left node entries) ≡ (outside node n && list_any (λ e. (e.number == n) && t e) entries)
+-- what an entry of an LSN does is left where the LSN is outside
+any-left : (node : ℕ → Bool) (t : Entry → Bool) (entries : List Entry) (n : ℕ) → list_any (λ e. (e.lsn == n) && t e) (left node entries) ≡ (outside node n && list_any (λ e. (e.lsn == n) && t e) entries)
 any-left node t [] n = sym (and-false (outside node n))
 any-left node t (e ∷ entries) n =
-    let p : Entry → Bool = λ f. (f.number == n) && t f in
+    let p : Entry → Bool = λ f. (f.lsn == n) && t f in
     let rest = any-left node t entries n in
-    elim (cases_Bool (outside node e.number)) [
-      | inl out ↦ rw out (elim (cases_Bool ((e.number == n) && t e)) [
+    elim (cases_Bool (outside node e.lsn)) [
+      | inl out ↦ rw out (elim (cases_Bool ((e.lsn == n) && t e)) [
         | inl here ↦
-            let same : e.number ≡ n = eqb-true e.number n (and_parts (e.number == n) (t e) here).0 in
+            let same : e.lsn ≡ n = eqb-true e.lsn n (and_parts (e.lsn == n) (t e) here).0 in
             let out_n : IsTrue (outside node n) = subst (λ (k : ℕ). IsTrue (outside node k)) same out in
             or_left (p e) _ here ∙ sym (and_from (outside node n) (p e || list_any p entries) out_n (or_left (p e) _ here))
         | inr off ↦ rw off rest
       ])
-      | inr off ↦ rw off (elim (cases_Bool ((e.number == n) && t e)) [
+      | inr off ↦ rw off (elim (cases_Bool ((e.lsn == n) && t e)) [
         | inl here ↦
-            let same : e.number ≡ n = eqb-true e.number n (and_parts (e.number == n) (t e) here).0 in
+            let same : e.lsn ≡ n = eqb-true e.lsn n (and_parts (e.lsn == n) (t e) here).0 in
             let off_n : IsFalse (outside node n) = subst (λ (k : ℕ). IsFalse (outside node k)) same off in
             rest ∙ ap (λ (b : Bool). b && list_any p entries) off_n ∙ sym (ap (λ (b : Bool). b && (p e || list_any p entries)) off_n)
         | inr no_e ↦ rw no_e rest
@@ -150,8 +150,8 @@ reads-left node entries = fun_ext (λ n. fun_ext (λ x. any-left node (λ e. is_
 pub accesses-left : (node : ℕ → Bool) (entries : List Entry) → accesses (left node entries) ≡ within (outside node) (accesses entries)
 accesses-left node entries = access-eq (accesses (left node entries)) (within (outside node) (accesses entries)) (reads-left node entries) (writes-left node entries)
 
-pub held-left : (node : ℕ → Bool) (entries : List Entry) (k : ℕ) → IsTrue (is_among k (numbers (left node entries))) ↔ (IsTrue (is_among k (numbers entries)) × IsTrue (outside node k))
-held-left node entries k = subst (λ (ns : List ℕ). IsTrue (is_among k ns) ↔ (IsTrue (is_among k (numbers entries)) × IsTrue (outside node k))) (sym (numbers-filter (outside node) entries)) (among-filter (outside node) (numbers entries) k)
+pub held-left : (node : ℕ → Bool) (entries : List Entry) (k : ℕ) → IsTrue (is_among k (lsns (left node entries))) ↔ (IsTrue (is_among k (lsns entries)) × IsTrue (outside node k))
+held-left node entries k = subst (λ (ns : List ℕ). IsTrue (is_among k ns) ↔ (IsTrue (is_among k (lsns entries)) × IsTrue (outside node k))) (sym (lsns-filter (outside node) entries)) (among-filter (outside node) (lsns entries) k)
 
 -- the nodes that are left are the others
 pub nodes-left : (entries : List Entry) (n : ℕ) (node : ℕ → Bool) → IsNodeNamed entries n node → NoEdgeInto (accesses entries) node → (k : ℕ) (other : ℕ → Bool) →
@@ -214,16 +214,16 @@ flush-sets-left entries n node named none k other x is =
 pub entries-edges-left : (entries : List Entry) (node : ℕ → Bool) → NoEdgeInto (accesses entries) node → (o p : ℕ) → Edge (accesses (left node entries)) o p ↔ (IsFalse (node o) × Edge (accesses entries) o p)
 entries-edges-left entries node none o p = subst (λ (b : Access). Edge b o p ↔ (IsFalse (node o) × Edge (accesses entries) o p)) (sym (accesses-left node entries)) (edges-left (accesses entries) node none o p)
 
--- where a number is in the node, there are fewer
-pub left-fewer : (node : ℕ → Bool) (entries : List Entry) (n : ℕ) → IsTrue (node n) → IsTrue (is_among n (numbers entries)) → length (left node entries) < length entries
+-- where an LSN is in the node, there are fewer
+pub left-fewer : (node : ℕ → Bool) (entries : List Entry) (n : ℕ) → IsTrue (node n) → IsTrue (is_among n (lsns entries)) → length (left node entries) < length entries
 left-fewer node [] n in_node held = absurd (both_ways _ refl held)
-left-fewer node (e ∷ entries) n in_node held = elim (or_cases (n == e.number) (is_among n (numbers entries)) held) [
+left-fewer node (e ∷ entries) n in_node held = elim (or_cases (n == e.lsn) (is_among n (lsns entries)) held) [
   | inl same ↦
-      let there : IsTrue (node e.number) = subst (λ (k : ℕ). IsTrue (node k)) (eqb-true n e.number same) in_node in
-      let le = length-filter (λ (f : Entry). not (node f.number)) entries in
-      let few = count_by-le-length (λ (f : Entry). not (node f.number)) entries in
+      let there : IsTrue (node e.lsn) = subst (λ (k : ℕ). IsTrue (node k)) (eqb-true n e.lsn same) in_node in
+      let le = length-filter (λ (f : Entry). not (node f.lsn)) entries in
+      let few = count_by-le-length (λ (f : Entry). not (node f.lsn)) entries in
       rw there (omega (arith, le, few))
   | inr more ↦
       let lt = left-fewer node entries n in_node more in
-      elim (cases_Bool (node e.number)) [ inl there ↦ rw there (omega (arith, lt)) | inr out ↦ rw out (omega (arith, lt)) ]
+      elim (cases_Bool (node e.lsn)) [ inl there ↦ rw there (omega (arith, lt)) | inr out ↦ rw out (omega (arith, lt)) ]
 ]

@@ -4,7 +4,7 @@ use Rattle.std.specs.Prelude.{IsTrue, IsFalse, slice_index}
 use Rattle.std.proofs.lemmas.Bool.{cases_Bool}
 use Rattle.std.proofs.lemmas.List.Elements.{All-nil, All-cons}
 use Rattle.install_order.specs.declared.entry.Entry.{Entry}
-use Rattle.write_graph.specs.Graph.{numbers}
+use Rattle.write_graph.specs.Graph.{lsns}
 use Rattle.write_graph.specs.Cells.{chosen_entries}
 use Rattle.write_graph.proofs.Numbers.{chosen-here, chosen-off}
 
@@ -30,14 +30,14 @@ chosen-past t (e ∷ entries) (suc i) lt out =
       | inr off ↦ chosen-off t e (take (suc i) entries) off ∙ rest ∙ sym (chosen-off t e (take i entries) off)
     ]
 
--- what was chosen before a slot has numbers below m, if the slots that pass have
-pub chosen-below : (t : ℕ → Bool) (entries : List Entry) (i m : ℕ) → ((j : ℕ) → IsTrue (t j) → j < i → j < length entries → slice_index (numbers entries) j < m) → All (λ n. n < m) (numbers (chosen_entries t (take i entries)))
+-- what was chosen before a slot has LSNs below m, if the slots that pass have
+pub chosen-below : (t : ℕ → Bool) (entries : List Entry) (i m : ℕ) → ((j : ℕ) → IsTrue (t j) → j < i → j < length entries → slice_index (lsns entries) j < m) → All (λ n. n < m) (lsns (chosen_entries t (take i entries)))
 chosen-below t [] zero m low = All-nil (λ n. n < m)
 chosen-below t [] (suc i) m low = All-nil (λ n. n < m)
 chosen-below t (e ∷ entries) zero m low = All-nil (λ n. n < m)
 chosen-below t (e ∷ entries) (suc i) m low =
     let rest = chosen-below (λ k. t (suc k)) entries i m (λ j there lt below. low (suc j) there (omega (arith, lt)) (omega (arith, below))) in
     elim (cases_Bool (t zero)) [
-      | inl here ↦ subst (λ (es : List Entry). All (λ n. n < m) (numbers es)) (sym (chosen-here t e (take i entries) here)) (All-cons (λ n. n < m) e.number (numbers (chosen_entries (λ k. t (suc k)) (take i entries))) (low zero here (omega arith) (omega arith)) rest)
-      | inr off ↦ subst (λ (es : List Entry). All (λ n. n < m) (numbers es)) (sym (chosen-off t e (take i entries) off)) rest
+      | inl here ↦ subst (λ (es : List Entry). All (λ n. n < m) (lsns es)) (sym (chosen-here t e (take i entries) here)) (All-cons (λ n. n < m) e.lsn (lsns (chosen_entries (λ k. t (suc k)) (take i entries))) (low zero here (omega arith) (omega arith)) rest)
+      | inr off ↦ subst (λ (es : List Entry). All (λ n. n < m) (lsns es)) (sym (chosen-off t e (take i entries) off)) rest
     ]

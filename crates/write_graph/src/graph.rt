@@ -4,12 +4,12 @@ ghost use Rattle.std.specs.List.Sorted.{IsStrictlyIncreasing};
 ghost use Rattle.install_order.specs.Order.{Edge, flush_set_of};
 ghost use Rattle.install_order.specs.Entries.{accesses};
 ghost use Rattle.write_graph.specs.Objects.{IsWriter, IsWritten};
-ghost use Rattle.write_graph.specs.Graph.{numbers, IsNodeNamed, NamesNode, NamesMinimal, IsLeast, Lists, IsCount, IsSingleIdentity};
+ghost use Rattle.write_graph.specs.Graph.{lsns, IsNodeNamed, NamesNode, NamesMinimal, IsLeast, Lists, IsCount, IsSingleIdentity};
 
 use crate::firsts::{note_writes, pass_over, written};
 use crate::laws::slots_name_nodes;
 use crate::links::Links;
-use crate::listing::{numbers_of, slots_of, written_by};
+use crate::listing::{lsns_of, slots_of, written_by};
 use crate::lowering::lower_last;
 use crate::places::{slot_from, slot_of};
 use crate::renewing::add_held;
@@ -27,14 +27,14 @@ const SPARE: usize = 16;
 /// How many objects an entry writes at most.
 const WRITES: usize = 4;
 
-/// A node's name: the least number of an entry in it.
+/// A node's name: the least LSN of an entry in it.
 pub type NodeNo = u64;
 
-/// The logged operations that are not installed, which contracts see as the list of their entries, whose numbers rise.
+/// The logged operations that are not installed, which contracts see as the list of their entries, whose LSNs rise.
 #[derive(Drop)]
 pub struct WriteGraph {
     alloc: Global,
-    /// By slot, the entries, also those that were taken out: of these, the numbers may be lowered.
+    /// By slot, the entries, also those that were taken out: of these, the LSNs may be lowered.
     entries: Vec<Entry>,
     links: Links,
     /// By object that a held entry writes, the slot of the first that does.
@@ -49,7 +49,7 @@ impl Model for WriteGraph {
     ghost use Rattle.std.specs.Prelude.{◌≡◌, ◌-◌, ◌/◌, ◌≤◌, nat_eq, min, length};
     ghost use Rattle.std.specs.Vec.{vec_capacity};
     ghost use Rattle.indexmap.specs.IndexMap.{get, spare};
-    ghost use Rattle.write_graph.specs.Graph.{Graph, numbers};
+    ghost use Rattle.write_graph.specs.Graph.{Graph, lsns};
     ghost use Rattle.write_graph.specs.Cells.{slot_access, held_entries};
     ghost use Rattle.write_graph.specs.Linked.{AreLinked, links_room};
     ghost use Rattle.write_graph.specs.Firsts.{AreFirsts};
@@ -62,7 +62,7 @@ impl Model for WriteGraph {
       room = min (min (links_room g.links.graph g.links.rows) (spare g.firsts / 4)) (min (vec_capacity g.entries) (vec_capacity g.members) - length g.entries.items);
     } };
 
-    ghost invariant = { λ g. AreClimbing g.links.graph.held (numbers g.entries.items) × AreLinked g.entries.items g.links.graph g.links.rows ×
+    ghost invariant = { λ g. AreClimbing g.links.graph.held (lsns g.entries.items) × AreLinked g.entries.items g.links.graph g.links.rows ×
         (g.held ≡ length (held_entries g.links.graph.held g.entries.items)) × (length g.entries.items ≤ vec_capacity g.members) ×
         AreFirsts (slot_access g.entries.items g.links.graph.held) (get nat_eq g.firsts) };
 }
@@ -127,13 +127,13 @@ impl WriteGraph {
         self.links.make_room(self.entries.as_slice())
     }
 
-    /// Adds an entry, whose number is above all others.
+    /// Adds an entry, whose LSN is above all others.
     pub fn add(&mut self, entry: Entry)
-        requires above { All (λ n. n < entry.number) (numbers self.old.entries) }
+        requires above { All (λ n. n < entry.lsn) (lsns self.old.entries) }
         requires room { 0 < self.old.room }
         ensures { self.new.entries ≡ self.old.entries ++ entry ∷ [] }
     {
-        lower_last(entry.number, &mut self.entries);
+        lower_last(entry.lsn, &mut self.entries);
         self.links.add(&entry, self.entries.as_slice());
         let slot = self.entries.len() as u32;
         note_writes(slot, entry.writes.as_slice(), &mut self.firsts);
@@ -149,7 +149,7 @@ impl WriteGraph {
         self.minimal_from(0)
     }
 
-    /// The minimal node with the least name at or above the number. None exactly where there is none such.
+    /// The minimal node with the least name at or above the LSN. None exactly where there is none such.
     pub fn minimal_from(&self, n: NodeNo) -> Option<NodeNo>
         ensures some { IfSome result (IsLeast (λ k. (n ≤ k) × NamesMinimal self.now.entries k)) }
         ensures none { IfNone result ((k : ℕ) → n ≤ k → NamesMinimal self.now.entries k → ⊥) }
@@ -157,10 +157,10 @@ impl WriteGraph {
         slots_name_nodes();
         let from = slot_from(n, self.entries.as_slice());
         let slot = self.links.graph.minimal_from(from)?;
-        Some(self.entries[slot as usize].number)
+        Some(self.entries[slot as usize].lsn)
     }
 
-    /// The numbers of the node's entries, rising.
+    /// The LSNs of the node's entries, rising.
     pub fn ops(&self, n: NodeNo) -> Result<Vec<u64>, Memory>
         requires { NamesNode self.now.entries n }
         ensures { IfOk result (λ found. (node : ℕ → Bool) → IsNodeNamed self.now.entries n node →
@@ -168,7 +168,7 @@ impl WriteGraph {
     {
         let entries = self.entries.as_slice();
         let slots = slots_of(self.alloc, n, entries, &self.links.graph)?;
-        numbers_of(self.alloc, slots.as_slice(), entries)
+        lsns_of(self.alloc, slots.as_slice(), entries)
     }
 
     /// The objects whose last writer is in the node, rising.
@@ -205,7 +205,7 @@ impl WriteGraph {
     pub fn remove_minimal(&mut self, n: NodeNo)
         requires { NamesMinimal self.old.entries n }
         ensures entries { (node : ℕ → Bool) → IsNodeNamed self.old.entries n node →
-            self.new.entries ≡ filter (λ e. not (node e.number)) self.old.entries }
+            self.new.entries ≡ filter (λ e. not (node e.lsn)) self.old.entries }
         ensures nodes { (k : ℕ) (other : ℕ → Bool) →
             IsNodeNamed self.new.entries k other ↔ (IsNodeNamed self.old.entries k other × ¬ (k ≡ n)) }
         ensures flush_sets { (k : ℕ) (other : ℕ → Bool) (x : ℕ) → IsNodeNamed self.new.entries k other →
@@ -231,10 +231,10 @@ impl WriteGraph {
         self.links.remove(slot, entries);
     }
 
-    /// The objects that entries write, rising, each with the least number of an entry that writes it.
+    /// The objects that entries write, rising, each with the least LSN of an entry that writes it.
     pub fn redo_starts(&self) -> Result<Vec<(u32, u64)>, Memory>
         ensures objects { IfOk result (λ starts. Lists (IsWritten (accesses self.now.entries)) (map (λ s. s.0) starts.items)) }
-        ensures numbers { IfOk result (λ starts. All (λ s. IsLeast (IsWriter (accesses self.now.entries) s.0) s.1) starts.items) }
+        ensures lsns { IfOk result (λ starts. All (λ s. IsLeast (IsWriter (accesses self.now.entries) s.0) s.1) starts.items) }
     {
         let objects = written(self.alloc, &self.firsts)?;
         let mut starts = Vec::new(self.alloc);
@@ -242,7 +242,7 @@ impl WriteGraph {
             let Some(slot) = self.firsts.get(x) else {
                 unreachable!()
             };
-            starts.push((*x, self.entries[*slot as usize].number))?;
+            starts.push((*x, self.entries[*slot as usize].lsn))?;
         }
         Ok(starts)
     }
@@ -255,10 +255,10 @@ impl WriteGraph {
         self.links.graph.node_count() as u64
     }
 
-    /// How many entries there are, whose numbers rise.
+    /// How many entries there are, whose LSNs rise.
     pub fn len(&self) -> u64
         ensures count { result ≡ length self.now.entries }
-        ensures rising { IsStrictlyIncreasing (numbers self.now.entries) }
+        ensures rising { IsStrictlyIncreasing (lsns self.now.entries) }
     {
         self.held as u64
     }

@@ -2,7 +2,7 @@ ghost use Rattle.std.specs.Prelude.{◌≡◌, ℕ, ◌≤◌, ◌^◌, ◌++◌
 ghost use Rattle.write_graph.specs.Graph.{IsNodeNamed, NamesNode, Lists};
 ghost use Rattle.write_graph.specs.Cells.{held_entries};
 ghost use Rattle.write_graph.specs.Naming.{AreSlots};
-ghost use Rattle.write_graph.specs.Listing.{IsNumberOf, IsWrittenBy, AreBelow, AreSlotsOf};
+ghost use Rattle.write_graph.specs.Listing.{IsLsnOf, IsWrittenBy, AreBelow, AreSlotsOf};
 
 use crate::laws::slots_name_nodes;
 use crate::places::slot_of;
@@ -11,7 +11,7 @@ use install_order::Entry;
 use oper_core::Memory;
 use std::alloc::Global;
 
-/// The slots of the node that is named by the number.
+/// The slots of the node that is named by the LSN.
 pub(crate) fn slots_of(
     alloc: Global,
     n: u64,
@@ -36,18 +36,14 @@ pub(crate) fn slots_of(
     Ok(slots)
 }
 
-/// The numbers of the slots' entries, rising.
-pub(crate) fn numbers_of(
-    alloc: Global,
-    slots: &[u32],
-    entries: &[Entry],
-) -> Result<Vec<u64>, Memory>
+/// The LSNs of the slots' entries, rising.
+pub(crate) fn lsns_of(alloc: Global, slots: &[u32], entries: &[Entry]) -> Result<Vec<u64>, Memory>
     requires below { AreBelow slots.now entries.now }
-    ensures { IfOk result (λ found. Lists (IsNumberOf entries.now slots.now) found.items) }
+    ensures { IfOk result (λ found. Lists (IsLsnOf entries.now slots.now) found.items) }
 {
     let mut found = Vec::new(alloc);
     for slot in slots {
-        found.push(entries[*slot as usize].number)?;
+        found.push(entries[*slot as usize].lsn)?;
     }
     found.sort()?;
     found.dedup();
@@ -72,13 +68,13 @@ pub(crate) fn written_by(
     Ok(objects)
 }
 
-/// Adds the number at the end, if it is to be kept.
-pub(crate) fn push_if(x: u32, is_kept: bool, numbers: &mut Vec<u32>) -> Result<(), Memory>
-    ensures { OnOk result (numbers.new.items ≡ numbers.old.items ++ (if is_kept then x ∷ [] else [])) }
+/// Adds the LSN at the end, if it is to be kept.
+pub(crate) fn push_if(x: u32, is_kept: bool, objects: &mut Vec<u32>) -> Result<(), Memory>
+    ensures { OnOk result (objects.new.items ≡ objects.old.items ++ (if is_kept then x ∷ [] else [])) }
 {
     if !is_kept {
         return Ok(());
     }
-    numbers.push(x)?;
+    objects.push(x)?;
     Ok(())
 }

@@ -1,16 +1,16 @@
 ghost use Rattle.std.specs.Prelude.{ℕ, ◌<◌, ◌≤◌, ◌^◌, IsTrue, length, slice_index};
-ghost use Rattle.write_graph.specs.Graph.{numbers};
-ghost use Rattle.write_graph.specs.Places.{NeverFall, IsSlotOfNumber};
+ghost use Rattle.write_graph.specs.Graph.{lsns};
+ghost use Rattle.write_graph.specs.Places.{NeverFall, IsSlotOfLsn};
 
 use install_order::Entry;
 
-/// The first slot whose entry has the number or a greater one.
+/// The first slot whose entry has the LSN or a greater one.
 pub(crate) fn slot_from(n: u64, entries: &[Entry]) -> u32
-    requires rising { NeverFall (numbers entries.now) }
+    requires rising { NeverFall (lsns entries.now) }
     requires small { length entries.now ≤ 2 ^ 28 }
     ensures below { result ≤ length entries.now }
-    ensures before { (i : ℕ) → i < result → slice_index (numbers entries.now) i < n }
-    ensures after { (i : ℕ) → result ≤ i → i < length entries.now → n ≤ slice_index (numbers entries.now) i }
+    ensures before { (i : ℕ) → i < result → slice_index (lsns entries.now) i < n }
+    ensures after { (i : ℕ) → result ≤ i → i < length entries.now → n ≤ slice_index (lsns entries.now) i }
 {
     match n.checked_sub(1) {
         None => 0,
@@ -18,13 +18,13 @@ pub(crate) fn slot_from(n: u64, entries: &[Entry]) -> u32
     }
 }
 
-/// The first slot whose entry has a greater number.
+/// The first slot whose entry has a greater LSN.
 pub(crate) fn slot_after(n: u64, entries: &[Entry]) -> u32
-    requires rising { NeverFall (numbers entries.now) }
+    requires rising { NeverFall (lsns entries.now) }
     requires small { length entries.now ≤ 2 ^ 28 }
     ensures below { result ≤ length entries.now }
-    ensures before { (i : ℕ) → i < result → slice_index (numbers entries.now) i ≤ n }
-    ensures after { (i : ℕ) → result ≤ i → i < length entries.now → n < slice_index (numbers entries.now) i }
+    ensures before { (i : ℕ) → i < result → slice_index (lsns entries.now) i ≤ n }
+    ensures after { (i : ℕ) → result ≤ i → i < length entries.now → n < slice_index (lsns entries.now) i }
 {
     if none_is_after(n, entries) {
         return entries.len() as u32;
@@ -33,57 +33,57 @@ pub(crate) fn slot_after(n: u64, entries: &[Entry]) -> u32
     if is_last_up_to(n, slot, entries) {
         return slot as u32 + 1;
     }
-    entries.partition_point(|e| e.number <= n) as u32
+    entries.partition_point(|e| e.lsn <= n) as u32
 }
 
-/// The slot that would have the number, if each number were one above that before it.
+/// The slot that would have the LSN, if each LSN were one above that before it.
 fn slot_without_gaps(n: u64, entries: &[Entry]) -> usize {
     match entries.first() {
         None => 0,
-        Some(first) => n.saturating_sub(first.number) as usize,
+        Some(first) => n.saturating_sub(first.lsn) as usize,
     }
 }
 
-/// Whether the slot is the last one whose entry has no greater number. Where numbers have few gaps, as those of a log, it spares a
+/// Whether the slot is the last one whose entry has no greater LSN. Where LSNs have few gaps, as those of a log, it spares a
 /// search, which would look at entries in many places.
 fn is_last_up_to(n: u64, slot: usize, entries: &[Entry]) -> bool
-    requires rising { NeverFall (numbers entries.now) }
+    requires rising { NeverFall (lsns entries.now) }
     ensures below { IsTrue result → slot < length entries.now }
-    ensures before { IsTrue result → (i : ℕ) → i ≤ slot → slice_index (numbers entries.now) i ≤ n }
-    ensures after { IsTrue result → (i : ℕ) → slot < i → i < length entries.now → n < slice_index (numbers entries.now) i }
+    ensures before { IsTrue result → (i : ℕ) → i ≤ slot → slice_index (lsns entries.now) i ≤ n }
+    ensures after { IsTrue result → (i : ℕ) → slot < i → i < length entries.now → n < slice_index (lsns entries.now) i }
 {
     let next = slot.saturating_add(1);
     if next >= entries.len() {
         return false;
     }
-    is_between(entries[slot].number, n, entries[next].number)
+    is_between(entries[slot].lsn, n, entries[next].lsn)
 }
 
-/// Whether the number is at or above one, and below another.
+/// Whether the LSN is at or above one, and below another.
 fn is_between(low: u64, n: u64, high: u64) -> bool
     ensures { IsTrue result → (low ≤ n) × (n < high) }
 {
     low <= n && n < high
 }
 
-/// Whether no entry has a greater number, which the last one tells. So it is where entries are added, and a search would
+/// Whether no entry has a greater LSN, which the last one tells. So it is where entries are added, and a search would
 /// look at entries in many places.
 fn none_is_after(n: u64, entries: &[Entry]) -> bool
-    requires rising { NeverFall (numbers entries.now) }
-    ensures { IsTrue result → (i : ℕ) → i < length entries.now → slice_index (numbers entries.now) i ≤ n }
+    requires rising { NeverFall (lsns entries.now) }
+    ensures { IsTrue result → (i : ℕ) → i < length entries.now → slice_index (lsns entries.now) i ≤ n }
 {
     let count = entries.len();
     if count == 0 {
         return true;
     }
-    entries[count - 1].number <= n
+    entries[count - 1].lsn <= n
 }
 
-/// The last slot whose entry has the number.
+/// The last slot whose entry has the LSN.
 pub(crate) fn slot_of(n: u64, entries: &[Entry]) -> u32
-    requires rising { NeverFall (numbers entries.now) }
+    requires rising { NeverFall (lsns entries.now) }
     requires small { length entries.now ≤ 2 ^ 28 }
-    ensures { IsSlotOfNumber (numbers entries.now) n result }
+    ensures { IsSlotOfLsn (lsns entries.now) n result }
 {
     slot_after(n, entries).saturating_sub(1)
 }

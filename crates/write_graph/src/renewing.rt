@@ -1,5 +1,5 @@
 ghost use Rattle.std.specs.Prelude.{◌≡◌, ◌<◌, ◌≤◌, ◌^◌, ◌++◌, ◌∷◌, [], All, OnOk, length};
-ghost use Rattle.write_graph.specs.Graph.{numbers};
+ghost use Rattle.write_graph.specs.Graph.{lsns};
 ghost use Rattle.write_graph.specs.Cells.{held_entries};
 ghost use Rattle.write_graph.specs.Naming.{AreClimbing};
 
@@ -14,7 +14,7 @@ pub(crate) fn add_held(
     slots: &SlotGraph,
     graph: &mut WriteGraph,
 ) -> Result<(), Memory>
-    requires climbing { AreClimbing slots.now.held (numbers entries.now) }
+    requires climbing { AreClimbing slots.now.held (lsns entries.now) }
     requires count { length slots.now.node ≡ length entries.now }
     requires small { length entries.now ≤ 2 ^ 28 }
     requires none { graph.old.entries ≡ [] }
@@ -30,11 +30,11 @@ pub(crate) fn add_held(
 
 /// Adds a copy of the entry.
 fn add_copy(entry: &Entry, graph: &mut WriteGraph) -> Result<(), Memory>
-    requires above { All (λ n. n < entry.now.number) (numbers graph.old.entries) }
+    requires above { All (λ n. n < entry.now.lsn) (lsns graph.old.entries) }
     ensures { OnOk result (graph.new.entries ≡ graph.old.entries ++ entry.now ∷ []) }
 {
     let copy = Entry {
-        number: entry.number,
+        lsn: entry.lsn,
         reads: copied(entry.reads.as_slice()),
         writes: copied(entry.writes.as_slice()),
         identity: entry.identity,

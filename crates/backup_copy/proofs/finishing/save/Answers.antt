@@ -13,7 +13,7 @@ use Rattle.backup_copy.specs.Target.{IsBackup, open_files}
 use Rattle.backup_copy.proofs.Copied.{copied_beside}
 use Rattle.backup_copy.proofs.CopiedLog.{copy_cause, copy_failed, copy_left, copy_long, copy_within, refused_told}
 use Rattle.backup_copy.proofs.Ends.{error_from}
-use Rattle.log_frames.specs.Creating.{IsNewLog}
+use Rattle.log_blocks.specs.Creating.{IsNewLog}
 use Rattle.backup_copy.proofs.Passed.{read_so}
 use Rattle.backup_copy.proofs.Saved.{StandsBy, opened_stands, part_beside, saved, saving, settled_beside, shut_after, shut_meanwhile, standing_backup}
 use Rattle.backup_copy.proofs.finishing.save.Given.{Over}
@@ -76,7 +76,7 @@ module _ (g : Over) (c : After-open g) where
       let part = is.target told in
       let keeps = law.keeps p c.args.machine.now c.args.engine.now w is.shows in
       let copied = c.in_ok-copy_log.ensures.copied is.shows.shows.told told part.log is.shows.shows.log.stable is.shows.shows.log.pending keeps in
-      opened_stands g.O.Oper.meaning p old c.args.engine.now w t mid.reads is.done is.cells (λ w copied cells sound is. copy.stands (bounds_of p) w copied cells sound is) (λ w copied cells sound is. copy.with_check (bounds_of p) w copied cells sound is)
+      opened_stands g.O.Oper.meaning p old c.args.engine.now w t mid.reads is.done is.cells (λ w copied cells sound is. copy.stands (bounds_of p) w copied cells sound is) (λ w copied cells sound is. copy.with_checkpoint (bounds_of p) w copied cells sound is)
       is.shows is.copied all part ((c.copy_log.ensures.runs.reads told).others Objects (λ e. cc)) (law.holds p c.args.machine.now c.args.engine.now w mid.reads is.shows copied)
 
   moments : t.tells_moments → (p : Params) (w : World g.row.O.Denot) (is : Copies g.O.Oper.meaning p old c.args.engine.now w t) → is.done ≡ p.objects

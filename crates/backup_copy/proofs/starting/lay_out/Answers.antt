@@ -1,6 +1,6 @@
 use Rattle.disk_model.specs.Disk.{Same, In, Torn}
 use Rattle.disk_model.specs.declared.machine.FileNo.TheVariants.{Objects}
-use Rattle.log_frames.specs.Creating.{LogsAlone}
+use Rattle.log_blocks.specs.Creating.{LogsAlone}
 use Rattle.stable_objects.specs.Making.{KeepsGate}
 use Rattle.backup_copy.proofs.LaidOut.{begun_copy, behind_start, closing, laying_out, logging, none_still, quiet_run, quiet_twice}
 use Rattle.backup_copy.proofs.starting.lay_out.Goals as goal

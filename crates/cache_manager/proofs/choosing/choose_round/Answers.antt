@@ -1,5 +1,5 @@
 use Rattle.std.proofs.Common.{◌<◌, ◌^◌, ap, arith, length}
-use Rattle.write_graph.specs.Graph.{numbers}
+use Rattle.write_graph.specs.Graph.{lsns}
 use Rattle.running_store.specs.Among.{all_among}
 use Rattle.running_store.specs.Parts.{volatile}
 use Rattle.cache_manager.proofs.DueNodes.{chosen_full, chosen_next, chosen_over, chosen_start}
@@ -22,10 +22,10 @@ loop-name-preserved c =
     record { few = next.1; chosen = next.0 }
 
 pub overflow_add-from : goal.overflow_add-from
-overflow_add-from c = omega (arith, all_among (λ n. n < 2 ^ 62) (numbers c.args.graph.now.entries) c.in-Some.name c.requires.low c.in-Some.ensures.some.0.1.1.held)
+overflow_add-from c = omega (arith, all_among (λ n. n < 2 ^ 62) (lsns c.args.graph.now.entries) c.in-Some.name c.requires.low c.in-Some.ensures.some.0.1.1.held)
 
 pub loop-name-smaller : goal.loop-name-smaller
-loop-name-smaller c = omega (arith, all_among (λ n. n < 2 ^ 62) (numbers c.args.graph.now.entries) c.in-Some.name c.requires.low c.in-Some.ensures.some.0.1.1.held, c.in-Some.ensures.some.0.0)
+loop-name-smaller c = omega (arith, all_among (λ n. n < 2 ^ 62) (lsns c.args.graph.now.entries) c.in-Some.name c.requires.low c.in-Some.ensures.some.0.1.1.held, c.in-Some.ensures.some.0.0)
 
 pub returns : goal.returns
 returns c =

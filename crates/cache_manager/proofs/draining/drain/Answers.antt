@@ -1,7 +1,7 @@
 use Rattle.std.proofs.Common.{◌≡◌, ◌∙◌, sym, subst, ap, ℕ, List, [], refl, arith, Option, None, Some}
 use Rattle.std.specs.List.Sorted.{IsStrictlyIncreasing}
 use Rattle.install_order.specs.declared.entry.Entry.{Entry}
-use Rattle.write_graph.specs.Graph.{numbers}
+use Rattle.write_graph.specs.Graph.{lsns}
 use Rattle.oper_core.specs.Meaning.{IsSmall}
 use Rattle.oper_core.specs.declared.bounds.Bounds.{Bounds}
 use Rattle.explain_core.specs.World.{run}
@@ -39,7 +39,7 @@ loop-n-init g c =
     let it = c.args.store.now in
     let used = (c.params-params.ensures.in_use c.requires.unbroken).store in
     let same = c.graph.ensures in
-    let few = few_entries it.parts.log.next it.parts.volatile.entries (subst (λ (es : List Entry). IsStrictlyIncreasing (numbers es)) same c.len-held.ensures.rising) used.above in
+    let few = few_entries it.parts.log.next it.parts.volatile.entries (subst (λ (es : List Entry). IsStrictlyIncreasing (lsns es)) same c.len-held.ensures.rising) used.above in
     record {
       call = logging_none g.O.Oper.meaning d d it it (StopsAt log_limit) Done refl (call_none g.O.Oper.meaning d it Never (g.met.M.Machine.lawful c.args.machine.now) c.requires.unbroken);
       bounded = omega arith;

@@ -6,7 +6,7 @@ use Rattle.std.proofs.lemmas.List.Kept.{IsStrictlyIncreasing-filter}
 use Rattle.oper_core.specs.State.{is_among}
 use Rattle.disk_model.specs.declared.machine.FileNo.TheVariants.{Objects}
 use Rattle.identity_writes.specs.Plan.{IsKeptBeside, but_kept}
-use Rattle.log_frames.specs.LogView.{used_of}
+use Rattle.log_blocks.specs.LogView.{used_of}
 use Rattle.dirty_cache.specs.Contents.{is_dirty}
 use Rattle.running_store.specs.CallLaws.{IsLogging, call_short, logging_none}
 use Rattle.running_store.specs.Calls.{Never, call_none}

@@ -4,7 +4,7 @@ use Rattle.std.proofs.lemmas.List.Elements.{All-weaker}
 use Rattle.disk_model.specs.declared.machine.FileNo.TheVariants.{Objects}
 use Rattle.formats.specs.declared.params.Params.{Params}
 use Rattle.install_order.specs.declared.entry.Entry.{Entry}
-use Rattle.write_graph.specs.Graph.{numbers}
+use Rattle.write_graph.specs.Graph.{lsns}
 use Rattle.explain_core.specs.Turns.{has_thin, thin_steps}
 use Rattle.explain_core.specs.World.{IsAllStable, World}
 use Rattle.standing.specs.Moments.{TakesSome}
@@ -34,7 +34,7 @@ pub least_thin-requires : goal.least_thin-requires
 least_thin-requires g c =
     let it = c.args.store.now in
     let used = (c.params-params.ensures.in_use c.requires.unbroken).store in
-    record { low = subst (λ (es : List Entry). All (λ n. n < 2 ^ 62) (numbers es)) (sym c.graph.ensures) (All-weaker (λ n. n < it.parts.log.next) (λ n. n < 2 ^ 62) (λ n lt. omega (arith, lt, used.low)) (numbers it.parts.volatile.entries) used.above) }
+    record { low = subst (λ (es : List Entry). All (λ n. n < 2 ^ 62) (lsns es)) (sym c.graph.ensures) (All-weaker (λ n. n < it.parts.log.next) (λ n. n < 2 ^ 62) (λ n lt. omega (arith, lt, used.low)) (lsns it.parts.volatile.entries) used.above) }
 
 pub returns-in_err-thin-clause-call : goal.returns-in_err-thin-clause-call
 returns-in_err-thin-clause-call g c =

@@ -4,7 +4,7 @@ use Rattle.std.specs.List.{filter}
 use Rattle.std.specs.List.Sorted.{IsStrictlyIncreasing}
 use Rattle.log_records.specs.RecordLog.{RecordLogView}
 use Rattle.install_order.specs.declared.entry.Entry.{Entry}
-use Rattle.write_graph.specs.Graph.{IsNodeNamed, NamesMinimal, numbers}
+use Rattle.write_graph.specs.Graph.{IsNodeNamed, NamesMinimal, lsns}
 use Rattle.dirty_cache.specs.Contents.{is_dirty}
 use Rattle.running_store.specs.CallLaws.{failed_force, unbroken_after}
 use Rattle.running_store.specs.Calls.{IsCall, Never, call_twice}
@@ -114,7 +114,7 @@ returns-clause-ops g c =
     )
 
 pub returns-clause-rising : goal.returns-clause-rising
-returns-clause-rising g c = subst (λ (es : List Entry). IsStrictlyIncreasing (numbers es)) c.graph-2.ensures c.len.ensures.rising
+returns-clause-rising g c = subst (λ (es : List Entry). IsStrictlyIncreasing (lsns es)) c.graph-2.ensures c.len.ensures.rising
 
 pub returns-clause-logs : goal.returns-clause-logs
 returns-clause-logs g c =
@@ -122,6 +122,6 @@ returns-clause-logs g c =
     let least = c.requires.least.0 in
     let same = c.in_ok-force.ensures.forced.1 in
     logs_removal before c.finish.new.self.parts least.0 least.2
-    ((c.in_ok-finish.ensures.entries least.0 (subst (λ (s : StoreView). IsNodeNamed s.parts.volatile.entries c.args.n least.0) (sym same) least.1)).0 ∙ ap (λ (s : StoreView). filter (λ e. not (least.0 e.number)) s.parts.volatile.entries) same)
+    ((c.in_ok-finish.ensures.entries least.0 (subst (λ (s : StoreView). IsNodeNamed s.parts.volatile.entries c.args.n least.0) (sym same) least.1)).0 ∙ ap (λ (s : StoreView). filter (λ e. not (least.0 e.lsn)) s.parts.volatile.entries) same)
     (ap (λ (l : RecordLogView). l.next) (c.finish.ensures.beside.objects.log ∙ c.in_ok-force.ensures.forced.0))
     (subst (λ (s : StoreView). DirtiesNone s.parts.volatile.objects c.finish.new.self.parts.volatile.objects) same c.in_ok-finish.ensures.dirty)

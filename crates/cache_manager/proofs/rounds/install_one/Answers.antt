@@ -10,7 +10,7 @@ use Rattle.formats.specs.Limits.{log_limit}
 use Rattle.formats.specs.declared.params.Params.{Params}
 use Rattle.log_records.specs.RecordLog.{RecordLogView}
 use Rattle.install_order.specs.declared.entry.Entry.{Entry}
-use Rattle.write_graph.specs.Graph.{IsLeast, NamesMinimal, numbers}
+use Rattle.write_graph.specs.Graph.{IsLeast, NamesMinimal, lsns}
 use Rattle.explain_core.specs.World.{World, run}
 use Rattle.running_store.specs.CallLaws.{IsLogging, call_short, logging_none, logging_twice, unbroken_after}
 use Rattle.running_store.specs.Calls.{IsCall, Never, call_none}
@@ -141,7 +141,7 @@ loop-name-preserved g c =
       logs = logs_twice before.parts here.parts after.parts so_far.logs
           (logs_round c.last_blind_write_is_alone.ensures here.parts after.parts c.in-Some.name c.args.copied it.least.0.0 it.least.0.1 c.as_slice-due.result.now (it.work it.least.0.0 it.least.0.1) (more g at.After-log_others it) used.above
           (λ x is. sym (done.logged.2.dirty x) ∙ is) done.objects);
-      none = λ e. absurd (both_ways _ (ap (λ (es : List Entry). is_among c.in-Some.name (numbers es)) (so_far.none e)) it.least.0.1.held);
+      none = λ e. absurd (both_ways _ (ap (λ (es : List Entry). is_among c.in-Some.name (lsns es)) (so_far.none e)) it.least.0.1.held);
       rest = rest_next disk meaning c.args.machine.now now before.parts here.parts install one install later after.parts done.call.quiet done.takes
           (rest_same disk meaning c.args.machine.now now before.parts here.parts install install (both meaning one install) (goes g at.After-log_others it) so_far.rest);
       flushed = λ p w shows.
@@ -271,7 +271,7 @@ returns-then-may_finish-clause-told g c = λ p w shows.
     let so_many = counted g at.After-next in
     let u = c.loop-name.invariant.flushed p w shows in
     told_done g.O.Oper.meaning c.args.copied (old g at.After-finish_next) (later g at.After-finish_next) c.args.store.now.parts c.finish_next.new.store.parts (finished_takes g at.After-finish_next it Done c.in_ok-ops.ensures.takes)
-    (subst (λ (es : List Entry). IsStrictlyIncreasing (numbers es)) c.graph.ensures c.len-held.ensures.rising) c.in_ok-ops.ensures.rising c.in_ok-ops.ops c.first_of.result (c.next.result - c.next-first.result) so_many.0 so_many.1 p w shows
+    (subst (λ (es : List Entry). IsStrictlyIncreasing (lsns es)) c.graph.ensures c.len-held.ensures.rising) c.in_ok-ops.ensures.rising c.in_ok-ops.ops c.first_of.result (c.next.result - c.next-first.result) so_many.0 so_many.1 p w shows
     (u.2 ∙ (last g at.After-finish_next it p u.0 u.1).1 ∙ sym c.first_of.ensures)
 
 pub returns-then-may_finish-clause-tells : goal.returns-then-may_finish-clause-tells
@@ -279,9 +279,9 @@ returns-then-may_finish-clause-tells g c =
     let at = goal.at.returns-then-may_finish-clause-tells g c in
     let so_many = counted g at.After-next in
     record {
-      clean = (λ e. cc, λ none. absurd (both_ways _ (ap (λ (es : List Entry). is_among c.in-Some.name (numbers es)) (c.loop-name.invariant.none none)) (next g at.After-graph-in-Some-2).least.0.1.held));
+      clean = (λ e. cc, λ none. absurd (both_ways _ (ap (λ (es : List Entry). is_among c.in-Some.name (lsns es)) (c.loop-name.invariant.none none)) (next g at.After-graph-in-Some-2).least.0.1.held));
       some = λ no. c.in_ok-ops.ensures.ops.0;
-      numbered = so_many.0;
+      with_lsn = so_many.0;
       entries = so_many.1;
     }
 

@@ -4,7 +4,7 @@ use Rattle.std.proofs.lemmas.List.Elements.{All-weaker}
 use Rattle.oper_core.specs.Meaning.{IsSmall}
 use Rattle.oper_core.specs.declared.bounds.Bounds.{Bounds}
 use Rattle.install_order.specs.declared.entry.Entry.{Entry}
-use Rattle.write_graph.specs.Graph.{numbers}
+use Rattle.write_graph.specs.Graph.{lsns}
 use Rattle.dirty_cache.specs.Contents.{is_dirty}
 use Rattle.log_records.specs.RecordLog.{RecordLogView}
 use Rattle.running_store.specs.CallLaws.{call_short, unbroken_after}
@@ -48,7 +48,7 @@ pub choose_round-requires : goal.choose_round-requires
 choose_round-requires g c =
     let it = c.args.store.now in
     let used = (c.params-params.ensures.in_use c.requires.unbroken).store in
-    record { low = subst (λ (es : List Entry). All (λ n. n < 2 ^ 62) (numbers es)) (sym c.graph.ensures) (All-weaker (λ n. n < it.parts.log.next) (λ n. n < 2 ^ 62) (λ n lt. omega (arith, lt, used.low)) (numbers it.parts.volatile.entries) used.above) }
+    record { low = subst (λ (es : List Entry). All (λ n. n < 2 ^ 62) (lsns es)) (sym c.graph.ensures) (All-weaker (λ n. n < it.parts.log.next) (λ n. n < 2 ^ 62) (λ n lt. omega (arith, lt, used.low)) (lsns it.parts.volatile.entries) used.above) }
 
 pub flush_round-requires-clause-dirty : goal.flush_round-requires-clause-dirty
 flush_round-requires-clause-dirty g c =

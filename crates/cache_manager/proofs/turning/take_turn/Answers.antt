@@ -3,7 +3,7 @@ use Rattle.std.proofs.lemmas.Bool.{both_ways}
 use Rattle.oper_core.specs.State.{is_among}
 use Rattle.formats.specs.Limits.{log_limit}
 use Rattle.install_order.specs.declared.entry.Entry.{Entry}
-use Rattle.write_graph.specs.Graph.{IsLeast, NamesMinimal, numbers}
+use Rattle.write_graph.specs.Graph.{IsLeast, NamesMinimal, lsns}
 use Rattle.running_store.specs.CallLaws.{IsLogging, call_short, logging_none}
 use Rattle.running_store.specs.Calls.{Never, call_none}
 use Rattle.running_store.specs.Courses.{Course, course}
@@ -39,8 +39,8 @@ least_here es it n same least = subst (λ (l : List Entry). IsLeast (NamesMinima
 some_installed : (before after : Parts) (n : ℕ) (install : Install) → IsLeast (NamesMinimal before.volatile.entries) n → TellsParts before after install
     → (before.log.next ≤ after.log.next) × (length after.volatile.entries + 1 + before.log.next ≤ length before.volatile.entries + after.log.next)
 some_installed before after n install least tells =
-    let some = tells.some (λ clean. both_ways _ (ap (λ (es : List Entry). is_among n (numbers es)) (tells.clean.0 clean)) least.0.1.held) in
-    (omega (arith, tells.numbered), omega (arith, some, tells.numbered, tells.entries))
+    let some = tells.some (λ clean. both_ways _ (ap (λ (es : List Entry). is_among n (lsns es)) (tells.clean.0 clean)) least.0.1.held) in
+    (omega (arith, tells.with_lsn), omega (arith, some, tells.with_lsn, tells.entries))
 
 pub is_due-requires : goal.is_due-requires
 is_due-requires g c = (subst (λ (es : List Entry). IsLeast (NamesMinimal es) c.in-Some.name) (c.graph.ensures ∙ sym c.graph-2.ensures) c.in-Some.ensures.some).0

@@ -1,7 +1,7 @@
 use Rattle.std.proofs.Common.{◌≡◌, ◌∙◌, sym, subst, ap, ◌<◌, arith, ⊎_elim}
 use Rattle.std.specs.Prelude.{IfErr}
 use Rattle.disk_model.specs.Disk.{Disk, Rises}
-use Rattle.formats.specs.Limits.{log_limit, numbers_end}
+use Rattle.formats.specs.Limits.{log_limit, lsn_end}
 use Rattle.log_records.specs.Loading.{IsTailFault}
 use Rattle.log_records.specs.RecordLog.{RecordLogView}
 use Rattle.log_records.specs.Rewriting.{IsNewLength}
@@ -24,22 +24,22 @@ use Rattle.checkpointing.proofs.trimming.trim.Given.{Over}
 use Rattle.checkpointing.proofs.trimming.trim.Goals.{After-force, After-least_start-base, After-rewrite, In_err-rewrite}
 use Rattle.checkpointing.proofs.trimming.trim.Goals as goal
 
-pub returns-then-epoch-ge-NUMBERS_END-clause-call : goal.returns-then-epoch-ge-NUMBERS_END-clause-call
-returns-then-epoch-ge-NUMBERS_END-clause-call g c =
+pub returns-then-epoch-ge-LSN_END-clause-call : goal.returns-then-epoch-ge-LSN_END-clause-call
+returns-then-epoch-ge-LSN_END-clause-call g c =
     let d = g.M.Machine.disk c.args.machine.now in
     let it = c.args.store.now in
     let same : c.epoch-epoch.result ≡ it.parts.log.log.header.epoch = c.epoch-epoch.ensures.value ∙ ap (λ (l : RecordLogView). l.log.header.epoch) c.log.ensures in
     call_ends g.O.Oper.meaning d d it it Never (StopsAt log_limit) Done (Stopped (Worn c.epoch-epoch.result)) (λ failed. failed) (λ failed. failed)
-    (same, omega (arith, c.if-epoch-ge-NUMBERS_END.true, c.epoch-epoch.ensures.last)) (call_none g.O.Oper.meaning d it Never (g.met.M.Machine.lawful c.args.machine.now) c.requires.unbroken)
+    (same, omega (arith, c.if-epoch-ge-LSN_END.true, c.epoch-epoch.ensures.last)) (call_none g.O.Oper.meaning d it Never (g.met.M.Machine.lawful c.args.machine.now) c.requires.unbroken)
 
-pub returns-then-epoch-ge-NUMBERS_END-clause-takes : goal.returns-then-epoch-ge-NUMBERS_END-clause-takes
-returns-then-epoch-ge-NUMBERS_END-clause-takes g c =
+pub returns-then-epoch-ge-LSN_END-clause-takes : goal.returns-then-epoch-ge-LSN_END-clause-takes
+returns-then-epoch-ge-LSN_END-clause-takes g c =
     let it = c.args.store.now.parts in
     let same : c.epoch-epoch.result ≡ it.log.log.header.epoch = c.epoch-epoch.ensures.value ∙ ap (λ (l : RecordLogView). l.log.header.epoch) c.log.ensures in
-    trim_worn g.O.Oper.meaning (g.M.Machine.disk c.args.machine.now) it it.log.log.header.epoch c.epoch-epoch.result same (omega (arith, c.if-epoch-ge-NUMBERS_END.true, same)) (g.met.M.Machine.lawful c.args.machine.now)
+    trim_worn g.O.Oper.meaning (g.M.Machine.disk c.args.machine.now) it it.log.log.header.epoch c.epoch-epoch.result same (omega (arith, c.if-epoch-ge-LSN_END.true, same)) (g.met.M.Machine.lawful c.args.machine.now)
 
-pub returns-then-epoch-ge-NUMBERS_END-clause-counts : goal.returns-then-epoch-ge-NUMBERS_END-clause-counts
-returns-then-epoch-ge-NUMBERS_END-clause-counts g c = counts_none c.args.store.now
+pub returns-then-epoch-ge-LSN_END-clause-counts : goal.returns-then-epoch-ge-LSN_END-clause-counts
+returns-then-epoch-ge-LSN_END-clause-counts g c = counts_none c.args.store.now
 
 -- all that waits is forced, or the disk fails
 module _ (g : Over) (c : After-force g) where
@@ -49,8 +49,8 @@ module _ (g : Over) (c : After-force g) where
   abbrev mid : Disk
   mid = g.M.Machine.disk c.force.new.machine
 
-  early : c.args.store.now.parts.log.log.header.epoch < numbers_end
-  early = omega (arith, c.if-epoch-ge-NUMBERS_END.false, c.epoch-epoch.ensures.value, ap (λ (l : RecordLogView). l.log.header.epoch) c.log.ensures)
+  early : c.args.store.now.parts.log.log.header.epoch < lsn_end
+  early = omega (arith, c.if-epoch-ge-LSN_END.false, c.epoch-epoch.ensures.value, ap (λ (l : RecordLogView). l.log.header.epoch) c.log.ensures)
 
   counts : KeepsCounts c.args.store.now.parts c.force.new.self.parts
   counts = counts_forced c.args.store.now c.force.new.self c.force.result c.force.ensures.forced
@@ -72,11 +72,11 @@ returns-in_err-force-clause-takes g c =
 pub returns-in_err-force-clause-counts : goal.returns-in_err-force-clause-counts
 returns-in_err-force-clause-counts g c = counts g (goal.at.returns-in_err-force-clause-counts g c).After-force
 
-pub check_now-requires : goal.check_now-requires
-check_now-requires g c =
+pub checkpoint_now-requires : goal.checkpoint_now-requires
+checkpoint_now-requires g c =
     record { unbroken = unbroken_after g.O.Oper.meaning (g.M.Machine.disk c.args.machine.now) (g.M.Machine.disk c.force.new.machine) c.args.store.now c.force.new.self 0 Never c.in_ok-force.ensures.call }
 
--- there is no memory for the check
+-- there is no memory for the checkpoint
 pub returns-in_err-table-clause-call : goal.returns-in_err-table-clause-call
 returns-in_err-table-clause-call g c =
     let at = (goal.at.returns-in_err-table-clause-call g c).After-force in
@@ -107,7 +107,7 @@ rewrite-requires-clause-unbroken g c = unbroken_after g.O.Oper.meaning (g.M.Mach
 
 pub rewrite-requires-clause-epoch : goal.rewrite-requires-clause-epoch
 rewrite-requires-clause-epoch g c =
-    omega (arith, c.if-epoch-ge-NUMBERS_END.false, c.epoch-epoch.ensures.value, ap (λ (l : RecordLogView). l.log.header.epoch) c.log.ensures, ap (λ (l : RecordLogView). l.log.header.epoch) c.in_ok-force.ensures.forced.0)
+    omega (arith, c.if-epoch-ge-LSN_END.false, c.epoch-epoch.ensures.value, ap (λ (l : RecordLogView). l.log.header.epoch) c.log.ensures, ap (λ (l : RecordLogView). l.log.header.epoch) c.in_ok-force.ensures.forced.0)
 
 pub rewrite-requires-clause-rewritable : goal.rewrite-requires-clause-rewritable
 rewrite-requires-clause-rewritable g c =

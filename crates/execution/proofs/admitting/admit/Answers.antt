@@ -85,7 +85,7 @@ module _ (g : Over) (c : In_ok-copies g) where
   fits : FitsReads (meaning_in g.O.Oper.meaning p) c.args.op.now values
   fits = values_fit g.O.Oper.meaning g.met.O.Oper.bounded g.met.O.Oper.lawful p c.params-params.ensures.range c.args.op.now grammar c.as_slice.result.now values reads_are c.in_ok-copies.ensures.count c.in_ok-copies.ensures.short
 
-  -- the values are those of what it reads, whichever numbers say what that is
+  -- the values are those of what it reads, whichever LSNs say what that is
   own_values : (k : Params) → values ≡ inputs_in cache ((meaning_in g.O.Oper.meaning k).reads c.args.op.now) c.in_ok-copies.copies
   own_values k = ap (λ (l : List ℕ). inputs_in cache l c.in_ok-copies.copies) (c.as_slice.ensures.value ∙ c.reads.ensures (bounds_of k))
 

@@ -175,10 +175,10 @@ append_command-requires-clause-ready g c =
     subst (λ (vs : List (List ℕ)). IsReady g.O.Oper.meaning (store_params c.require_place.new.store) c.args.op vs) (same_values g at.In_ok-require_place)
     (subst (λ (q : Params). IsReady g.O.Oper.meaning q c.args.op (values g at.In_ok-copies)) (sym (ap (λ (s : SlotsView). s.params) it.read.fetched.slots)) c.in_ok-copies.ensures.ready)
 
-pub append_command-requires-clause-number : goal.append_command-requires-clause-number
-append_command-requires-clause-number g c =
+pub append_command-requires-clause-lsn : goal.append_command-requires-clause-lsn
+append_command-requires-clause-lsn g c =
     let has = c.in_ok-require_place.ensures.has in
-    let low = has.0.number in
+    let low = has.0.lsn in
     omega (arith, low, ap (λ (s : StoreView). next_of s) has.2)
 
 pub append_command-requires-clause-place : goal.append_command-requires-clause-place

@@ -36,23 +36,23 @@ returns-in-Err-clause-call g c =
     let old = g.M.Machine.disk c.args.machine.now in
     let new = g.M.Machine.disk c.admit.new.machine in
     subst (λ (e : RecordErr). IsCall g.O.Oper.meaning old new c.args.store.now c.admit.new.store 0 (StopsWithin log_limit) (ending_of_record_error e)) (sym c.record_error.ensures)
-    (differs_call g.O.Oper.meaning c.args.op c.next-number.result old new c.args.store.now c.admit.new.store c.in-Err.e c.in-Err.ensures.cause c.in-Err.ensures.call)
+    (differs_call g.O.Oper.meaning c.args.op c.next-lsn.result old new c.args.store.now c.admit.new.store c.in-Err.e c.in-Err.ensures.cause c.in-Err.ensures.call)
 
 pub returns-in-Err-clause-takes : goal.returns-in-Err-clause-takes
 returns-in-Err-clause-takes g c =
     let old = g.M.Machine.disk c.args.machine.now in
     let new = g.M.Machine.disk c.admit.new.machine in
     subst (λ (e : RecordErr). Takes g.O.Oper.meaning old new c.args.store.now.parts c.admit.new.store.parts (λ m w used. member_course m (Command c.args.op) w used) (ending_of_record_error e)) (sym c.record_error.ensures)
-    (differs_takes g.O.Oper.meaning c.args.op c.next-number.result old new c.args.store.now c.admit.new.store _ c.in-Err.ensures.call g.met.O.Oper.bounded g.met.O.Oper.lawful c.in-Err.e c.in-Err.ensures.cause c.in-Err.ensures.shown
+    (differs_takes g.O.Oper.meaning c.args.op c.next-lsn.result old new c.args.store.now c.admit.new.store _ c.in-Err.ensures.call g.met.O.Oper.bounded g.met.O.Oper.lawful c.in-Err.e c.in-Err.ensures.cause c.in-Err.ensures.shown
     (g.met.M.Machine.lawful c.admit.new.machine))
 
 pub returns-in-Err-clause-in_world : goal.returns-in-Err-clause-in_world
 returns-in-Err-clause-in_world g c p w shows =
     let old = g.M.Machine.disk c.args.machine.now in
     let new = g.M.Machine.disk c.admit.new.machine in
-    let next : c.next-number.result ≡ next_of c.args.store.now = search rules in
+    let next : c.next-lsn.result ≡ next_of c.args.store.now = search rules in
     subst (λ (e : RecordErr). HasMemberCause (meaning_in g.O.Oper.meaning p) w (log_length c.args.store.now) (Command c.args.op) (Err e)) (sym c.record_error.ensures)
-    (differs_cause g.O.Oper.meaning c.args.op c.next-number.result old new c.args.store.now c.admit.new.store _ c.in-Err.ensures.call g.met.O.Oper.bounded g.met.O.Oper.lawful c.in-Err.e c.in-Err.ensures.cause c.in-Err.ensures.shown next p w shows)
+    (differs_cause g.O.Oper.meaning c.args.op c.next-lsn.result old new c.args.store.now c.admit.new.store _ c.in-Err.ensures.call g.met.O.Oper.bounded g.met.O.Oper.lawful c.in-Err.e c.in-Err.ensures.cause c.in-Err.ensures.shown next p w shows)
 
 pub returns-in-Err-clause-quiet : goal.returns-in-Err-clause-quiet
 returns-in-Err-clause-quiet g c = λ room. c.in-Err.ensures.call.read.stays
@@ -65,9 +65,9 @@ returns-in-Err-clause-cause g c =
     let old = g.M.Machine.disk c.args.machine.now in
     let new = g.M.Machine.disk c.admit.new.machine in
     let store : StoreView = c.args.store.now in
-    let next : c.next-number.result ≡ next_of c.args.store.now = search rules in
+    let next : c.next-lsn.result ≡ next_of c.args.store.now = search rules in
     subst (λ (e : RecordErr). IsFollowFailure (meaning_in g.O.Oper.meaning (store_params store)) (Logged (next_of store) c.args.op) (next_of store) old new store.parts.volatile.objects e) (sym c.record_error.ensures)
-    (differs_failure g.O.Oper.meaning c.args.op c.next-number.result old new store c.admit.new.store c.in-Err.e next c.in-Err.ensures.cause)
+    (differs_failure g.O.Oper.meaning c.args.op c.next-lsn.result old new store c.admit.new.store c.in-Err.e next c.in-Err.ensures.cause)
 
 pub require_room-requires-clause-unbroken : goal.require_room-requires-clause-unbroken
 require_room-requires-clause-unbroken g c = fetch_unbroken (g.M.Machine.disk c.args.machine.now) (g.M.Machine.disk c.admit.new.machine) c.args.store.now c.admit.new.store c.in-Ok.ensures.call
@@ -205,10 +205,10 @@ append_command-requires-clause-ready g c =
     subst (λ (vs : List (List ℕ)). IsReady g.O.Oper.meaning (store_params c.require_room.new.store) c.args.op vs) (same_values g at)
     (subst (λ (q : Params). IsReady g.O.Oper.meaning q c.args.op (values g in_goal.In-Ok)) (sym (params g at)) c.in-Ok.ensures.ready)
 
-pub append_command-requires-clause-number : goal.append_command-requires-clause-number
-append_command-requires-clause-number g c =
-    let at = (goal.at.append_command-requires-clause-number g c).In_ok-require_room in
-    omega (arith, next_is g at, c.requires.number)
+pub append_command-requires-clause-lsn : goal.append_command-requires-clause-lsn
+append_command-requires-clause-lsn g c =
+    let at = (goal.at.append_command-requires-clause-lsn g c).In_ok-require_room in
+    omega (arith, next_is g at, c.requires.lsn)
 
 pub append_command-requires-clause-place : goal.append_command-requires-clause-place
 append_command-requires-clause-place g c =

@@ -265,10 +265,10 @@ pub append_identity-requires-clause-cached : goal.append_identity-requires-claus
 append_identity-requires-clause-cached g c =
     subst (λ (l : Laid). IsSome (held l.cache c.args.object)) (sym (same_objects g (goal.at.append_identity-requires-clause-cached g c).In_ok-require_room)) c.in_ok-fetch.ensures.cached
 
-pub append_identity-requires-clause-number : goal.append_identity-requires-clause-number
-append_identity-requires-clause-number g c =
-    let there = (goal.at.append_identity-requires-clause-number g c).In_ok-require_room in
-    omega (arith, next_same g there, c.requires.number)
+pub append_identity-requires-clause-lsn : goal.append_identity-requires-clause-lsn
+append_identity-requires-clause-lsn g c =
+    let there = (goal.at.append_identity-requires-clause-lsn g c).In_ok-require_room in
+    omega (arith, next_same g there, c.requires.lsn)
 
 pub append_identity-requires-clause-place : goal.append_identity-requires-clause-place
 append_identity-requires-clause-place g c = λ other had.

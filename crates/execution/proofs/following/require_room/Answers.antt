@@ -1,7 +1,7 @@
 use Rattle.std.proofs.Common.{rules, ◌≡◌, ◌+◌, ◌<◌, ◌≤◌, ap, arith, length, refl, ℕ}
 use Rattle.std.specs.Prelude.{◌^◌, if◌then◌else◌, nat_lt}
 use Rattle.formats.specs.Limits.{block_limit, log_limit}
-use Rattle.log_frames.specs.LogView.{used_of, growth_of}
+use Rattle.log_blocks.specs.LogView.{used_of, growth_of}
 use Rattle.log_records.specs.RecordLog.{RecordLogView}
 use Rattle.running_store.specs.Parts.{Parts}
 use Rattle.running_store.specs.Taking.{Takes}

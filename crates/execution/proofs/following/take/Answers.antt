@@ -1,6 +1,6 @@
 use Rattle.std.proofs.Common.{◌≡◌, ◌∙◌, ap, sym, subst, ℕ, List, Some}
 use Rattle.std.specs.Prelude.{Err, Ok, true}
-use Rattle.formats.specs.Records.{number_of}
+use Rattle.formats.specs.Records.{lsn_of}
 use Rattle.formats.specs.declared.record.Record.{Record}
 use Rattle.formats.specs.declared.record.Record.TheVariants.{Identity as Logged_identity}
 use Rattle.explain_core.specs.History.Member.{Command, Identity}
@@ -14,12 +14,12 @@ use Rattle.execution.proofs.following.take.Given.{Over}
 use Rattle.execution.proofs.following.take.Goals.{In-Command, In-Identity}
 use Rattle.execution.proofs.following.take.Goals as goal
 
--- the record has the next number
-next_number : {O : Type 0} (r : Record O) (number next : ℕ) → number_of r ≡ Some number → number_of r ≡ Some next → number ≡ next
-next_number r number next own due = let same : Some number ≡ Some next = sym own ∙ due in cc same
+-- the record has the next LSN
+next_lsn : {O : Type 0} (r : Record O) (lsn next : ℕ) → lsn_of r ≡ Some lsn → lsn_of r ≡ Some next → lsn ≡ next
+next_lsn r lsn next own due = let same : Some lsn ≡ Some next = sym own ∙ due in cc same
 
 command_next : (g : Over) (c : In-Command g) → c.in-Command.field-0 ≡ next_of c.args.store.now
-command_next g c = next_number c.args.logged c.in-Command.field-0 (next_of c.args.store.now) (ap (λ (r : Record g.row.O.Denot). number_of r) c.in-Command.is) c.requires.due
+command_next g c = next_lsn c.args.logged c.in-Command.field-0 (next_of c.args.store.now) (ap (λ (r : Record g.row.O.Denot). lsn_of r) c.in-Command.is) c.requires.due
 
 pub returns-in_err-follow_command-in-Command-clause-takes : goal.returns-in_err-follow_command-in-Command-clause-takes
 returns-in_err-follow_command-in-Command-clause-takes g c =
@@ -64,7 +64,7 @@ returns-in-Command-clause-in_world g c p w shows =
     (record_taken g.O.Oper.meaning old new before.parts c.in-Command.field-0 next (Command c.in-Command.op) p w shows (c.in_ok-follow_command-in-Command.ensures.in_world p w shows))
 
 identity_next : (g : Over) (c : In-Identity g) → c.in-Identity.field-0 ≡ next_of c.args.store.now
-identity_next g c = next_number c.args.logged c.in-Identity.field-0 (next_of c.args.store.now) (ap (λ (r : Record g.row.O.Denot). number_of r) c.in-Identity.is) c.requires.due
+identity_next g c = next_lsn c.args.logged c.in-Identity.field-0 (next_of c.args.store.now) (ap (λ (r : Record g.row.O.Denot). lsn_of r) c.in-Identity.is) c.requires.due
 
 pub returns-in_err-follow_identity-in-Identity-clause-takes : goal.returns-in_err-follow_identity-in-Identity-clause-takes
 returns-in_err-follow_identity-in-Identity-clause-takes g c =

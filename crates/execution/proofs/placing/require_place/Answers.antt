@@ -77,23 +77,23 @@ pub returns-in_err-force_outside-2-clause-lacks : goal.returns-in_err-force_outs
 returns-in_err-force_outside-2-clause-lacks g c =
     let store : StoreView = c.args.store.now in
     let limit = (store_params store).limit in
-    let last : 2 ^ 62 ≤ store.parts.log.next = omega (arith, c.if-number-ge-NUMBERS_END.true, c.next-number.ensures, ap (λ (l : RecordLogView). l.next) c.log-2.ensures) in
+    let last : 2 ^ 62 ≤ store.parts.log.next = omega (arith, c.if-lsn-ge-LSN_END.true, c.next-lsn.ensures, ap (λ (l : RecordLogView). l.next) c.log-2.ensures) in
     at_err (λ r. IfErr r (LacksPlace c.args.grouped limit store.parts.log c.args.length)) c.from_residual-in_err-force_outside-2.result DiskFault c.from_residual-in_err-force_outside-2.ensures.1
     (c.in_err-force_outside-2.ensures.forced.0, inr last)
 
 pub returns-in_err-force_outside-2-clause-left : goal.returns-in_err-force_outside-2-clause-left
 returns-in_err-force_outside-2-clause-left g c =
     let before : StoreView = c.args.store.now in
-    let after : StoreView = c.force_outside-then-number-ge-NUMBERS_END.new.store in
+    let after : StoreView = c.force_outside-then-lsn-ge-LSN_END.new.store in
     at_err (λ r. IfErr r (λ e. LogWithout c.args.grouped before.parts.log after.parts.log e × (after.parts.volatile ≡ before.parts.volatile))) c.from_residual-in_err-force_outside-2.result DiskFault c.from_residual-in_err-force_outside-2.ensures.1
     (failed_left before after c.in_err-force_outside-2.ensures.forced.1)
 
 pub returns-in_err-force_outside-2-clause-call : goal.returns-in_err-force_outside-2-clause-call
 returns-in_err-force_outside-2-clause-call g c =
     let old = g.M.Machine.disk c.args.machine.now in
-    let new = g.M.Machine.disk c.force_outside-then-number-ge-NUMBERS_END.new.machine in
+    let new = g.M.Machine.disk c.force_outside-then-lsn-ge-LSN_END.new.machine in
     let before : StoreView = c.args.store.now in
-    let after : StoreView = c.force_outside-then-number-ge-NUMBERS_END.new.store in
+    let after : StoreView = c.force_outside-then-lsn-ge-LSN_END.new.store in
     let stops = StopsCommand c.args.grouped (store_params before).limit in
     at_err (λ r. IsCall g.O.Oper.meaning old new before after 0 stops (ending_of_exec r)) c.from_residual-in_err-force_outside-2.result DiskFault c.from_residual-in_err-force_outside-2.ensures.1
     (call_as g.O.Oper.meaning old new before after 0 0 Never stops Ending.Failed refl (λ stop is. cc) c.in_err-force_outside-2.ensures.call)
@@ -101,32 +101,32 @@ returns-in_err-force_outside-2-clause-call g c =
 pub returns-in_err-force_outside-2-clause-takes : goal.returns-in_err-force_outside-2-clause-takes
 returns-in_err-force_outside-2-clause-takes g c =
     let old = g.M.Machine.disk c.args.machine.now in
-    let new = g.M.Machine.disk c.force_outside-then-number-ge-NUMBERS_END.new.machine in
+    let new = g.M.Machine.disk c.force_outside-then-lsn-ge-LSN_END.new.machine in
     let before : StoreView = c.args.store.now in
-    let after : StoreView = c.force_outside-then-number-ge-NUMBERS_END.new.store in
+    let after : StoreView = c.force_outside-then-lsn-ge-LSN_END.new.store in
     at_err (λ r. IfErr r (λ e. Takes g.O.Oper.meaning old new before.parts after.parts (λ m w used. course (unplaced_steps m c.args.grouped w) used (stop_of_exec e)) (ending_of_exec r))) c.from_residual-in_err-force_outside-2.result DiskFault c.from_residual-in_err-force_outside-2.ensures.1
     c.in_err-force_outside-2.ensures.takes
 
-pub returns-then-number-ge-NUMBERS_END-clause-lacks : goal.returns-then-number-ge-NUMBERS_END-clause-lacks
-returns-then-number-ge-NUMBERS_END-clause-lacks g c = search rules
+pub returns-then-lsn-ge-LSN_END-clause-lacks : goal.returns-then-lsn-ge-LSN_END-clause-lacks
+returns-then-lsn-ge-LSN_END-clause-lacks g c = search rules
 
-pub returns-then-number-ge-NUMBERS_END-clause-left : goal.returns-then-number-ge-NUMBERS_END-clause-left
-returns-then-number-ge-NUMBERS_END-clause-left g c = let is = c.in_ok-force_outside-2.ensures.forced in (is.0, ap (λ (s : StoreView). s.parts.volatile) is.1)
+pub returns-then-lsn-ge-LSN_END-clause-left : goal.returns-then-lsn-ge-LSN_END-clause-left
+returns-then-lsn-ge-LSN_END-clause-left g c = let is = c.in_ok-force_outside-2.ensures.forced in (is.0, ap (λ (s : StoreView). s.parts.volatile) is.1)
 
-pub returns-then-number-ge-NUMBERS_END-clause-call : goal.returns-then-number-ge-NUMBERS_END-clause-call
-returns-then-number-ge-NUMBERS_END-clause-call g c =
+pub returns-then-lsn-ge-LSN_END-clause-call : goal.returns-then-lsn-ge-LSN_END-clause-call
+returns-then-lsn-ge-LSN_END-clause-call g c =
     let before : StoreView = c.args.store.now in
-    let after : StoreView = c.force_outside-then-number-ge-NUMBERS_END.new.store in
+    let after : StoreView = c.force_outside-then-lsn-ge-LSN_END.new.store in
     let limit = (store_params before).limit in
-    let lacks = returns-then-number-ge-NUMBERS_END-clause-lacks g c in
+    let lacks = returns-then-lsn-ge-LSN_END-clause-lacks g c in
     let used = c.params-limit.ensures.in_use c.requires.unbroken in
-    call_stopped g.O.Oper.meaning (g.M.Machine.disk c.args.machine.now) (g.M.Machine.disk c.force_outside-then-number-ge-NUMBERS_END.new.machine) before after 0 (StopsCommand c.args.grouped limit) (At_end c.next-number.result)
-    (end_stops limit before.parts.log after.parts.log c.args.length c.args.grouped c.next-number.result used.store.low lacks.1 lacks.2 c.in_ok-force_outside-2.ensures.forced.0) c.in_ok-force_outside-2.ensures.call
+    call_stopped g.O.Oper.meaning (g.M.Machine.disk c.args.machine.now) (g.M.Machine.disk c.force_outside-then-lsn-ge-LSN_END.new.machine) before after 0 (StopsCommand c.args.grouped limit) (At_end c.next-lsn.result)
+    (end_stops limit before.parts.log after.parts.log c.args.length c.args.grouped c.next-lsn.result used.store.low lacks.1 lacks.2 c.in_ok-force_outside-2.ensures.forced.0) c.in_ok-force_outside-2.ensures.call
 
-pub returns-then-number-ge-NUMBERS_END-clause-takes : goal.returns-then-number-ge-NUMBERS_END-clause-takes
-returns-then-number-ge-NUMBERS_END-clause-takes g c =
-    takes_stop g.O.Oper.meaning (g.M.Machine.disk c.args.machine.now) (g.M.Machine.disk c.force_outside-then-number-ge-NUMBERS_END.new.machine) c.args.store.now.parts c.force_outside-then-number-ge-NUMBERS_END.new.store.parts
-    (λ m w. unplaced_steps m c.args.grouped w) (At_end c.next-number.result) c.in_ok-force_outside-2.ensures.takes
+pub returns-then-lsn-ge-LSN_END-clause-takes : goal.returns-then-lsn-ge-LSN_END-clause-takes
+returns-then-lsn-ge-LSN_END-clause-takes g c =
+    takes_stop g.O.Oper.meaning (g.M.Machine.disk c.args.machine.now) (g.M.Machine.disk c.force_outside-then-lsn-ge-LSN_END.new.machine) c.args.store.now.parts c.force_outside-then-lsn-ge-LSN_END.new.store.parts
+    (λ m w. unplaced_steps m c.args.grouped w) (At_end c.next-lsn.result) c.in_ok-force_outside-2.ensures.takes
 
 pub returns-clause-has : goal.returns-clause-has
 returns-clause-has g c = search rules

@@ -7,5 +7,5 @@ pub returns : goal.returns
 returns g c = record {
   explained = λ b w copied cells s is. copy-explained (g.O.Oper.meaning b) w copied cells s is;
   stands = λ b w copied cells s is. copy-stands (g.O.Oper.meaning b) w copied cells s is [] tt;
-  with_check = λ b w copied cells s is. copy-stands (g.O.Oper.meaning b) w copied cells s is (plan_of [] w.base ∷ []) (copy-fits (g.O.Oper.meaning b) w copied cells s is, tt);
+  with_checkpoint = λ b w copied cells s is. copy-stands (g.O.Oper.meaning b) w copied cells s is (plan_of [] w.base ∷ []) (copy-fits (g.O.Oper.meaning b) w copied cells s is, tt);
 }

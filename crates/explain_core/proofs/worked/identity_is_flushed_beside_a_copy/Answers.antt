@@ -51,7 +51,7 @@ both-copied =
     let m = byte_meaning two in
     let w = after_steps swap_removed in
     let s = steps-sound swap_removed removed-allowed in
-    let c = copied-more m w 1 (with_next w 0 (λ x. record { id = 0; value = [] })) s (copied-more m w 0 (λ x. record { id = 0; value = [] }) s (copied-none m w (λ x. record { id = 0; value = [] }))) in
+    let c = copied-more m w 1 (with_next w 0 (λ x. record { lsn = 0; value = [] })) s (copied-more m w 0 (λ x. record { lsn = 0; value = [] }) s (copied-none m w (λ x. record { lsn = 0; value = [] }))) in
     subst (λ (v : World ByteOp). IsCopied m v 2 both_copied) (sym (run-append m (new_world ByteOp) swap_removed (Slot_gate identity_node 1 ∷ []) ∙ one-run w)) (copied-step m w (Slot_gate identity_node 1) 2 both_copied s identity-may identity-rule c)
 
 pub returns : goal.returns

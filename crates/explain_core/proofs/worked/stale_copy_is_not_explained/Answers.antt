@@ -20,7 +20,7 @@ shown i first third (suc (suc (suc zero))) out w = absurd (both_ways _ out third
 shown i first third (suc (suc (suc (suc zero)))) out w = absurd (both_ways _ refl w)
 shown i first third (suc (suc (suc (suc (suc n))))) out w = absurd (both_ways _ refl w)
 
--- 1 bears the number of the identity write, so the swap is installed, and with it the first put
+-- 1 bears the LSN of the identity write, so the swap is installed, and with it the first put
 unexplained : (installed : ℕ → Bool) → Explains (accesses_of (byte_meaning two) (after_steps copied_flushed).history) (value_at (byte_meaning two) (after_steps copied_flushed).history) installed (backup_of 2 stale_copied (after_steps copied_flushed).slots) → ⊥
 unfolding step run
 unexplained i e = elim (e.origin 1) [

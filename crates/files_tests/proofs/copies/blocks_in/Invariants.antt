@@ -1,4 +1,4 @@
-use Rattle.log_frames.specs.Payloads.{ahead}
+use Rattle.log_blocks.specs.Payloads.{ahead}
 use Rattle.files_tests.proofs.copies.blocks_in.Given as goal
 
 abbrev pub decreases-loop-all : goal.decreases-loop-all

@@ -1,5 +1,5 @@
 use Rattle.std.proofs.Common.{◌≤◌, ℕ, List, [], ◌∷◌, length, arith}
-use Rattle.log_frames.specs.LogView.{end_with}
+use Rattle.log_blocks.specs.LogView.{end_with}
 use Rattle.files_tests.proofs.records.add.Goals as goal
 
 -- what waits is a part of the log's length

@@ -5,4 +5,4 @@ use Rattle.graph_view.specs.Dot.{edges_from}
 use Rattle.graph_view.proofs.dot.push_edges.Given as goal
 
 abbrev pub invariant-loop-from : goal.invariant-loop-from
-invariant-loop-from l = string_bytes l.text ≡ string_bytes l.fn.text ++ flat_map (λ e. edges_from l.entries e.number) (take l.from-index l.entries)
+invariant-loop-from l = string_bytes l.text ≡ string_bytes l.fn.text ++ flat_map (λ e. edges_from l.entries e.lsn) (take l.from-index l.entries)

@@ -6,7 +6,7 @@ use Rattle.oper_core.specs.Meaning.{IsSmall}
 use Rattle.oper_core.specs.declared.bounds.Bounds.{Bounds}
 use Rattle.formats.specs.Records.{records_of}
 use Rattle.formats.specs.declared.record.Record.{Record}
-use Rattle.log_frames.specs.LogView.{LogView}
+use Rattle.log_blocks.specs.LogView.{LogView}
 use Rattle.log_records.specs.CodecLaws.{encodable-from_grammar, has_codes}
 use Rattle.log_records.specs.RecordReader.{IsReading, HasFound}
 use Rattle.log_records.proofs.Blocks.{IsGathered, Takes, gathered_all, gathered_none, gathered_whole, gathering_more, gathering_on}
@@ -25,8 +25,8 @@ loop-record-init g c =
       gathered = λ log given is. subst (λ (l : List ℕ). IsGathered m first log c.args.records.now c.args.from given l) (sym c.requires.empty) (gathered_none m first log c.args.records.now c.args.from given is);
     }
 
-pub push_numbered-requires : goal.push_numbered-requires
-push_numbered-requires g c =
+pub push_from_lsn-requires : goal.push_from_lsn-requires
+push_from_lsn-requires g c =
     let b = c.loop-record.records.bounds in
     let small = subst IsSmall (sym c.loop-record.invariant.bounds) c.requires.small in
     let codes = has_codes (g.O.Oper.meaning b) b small (g.met.O.Oper.bounded b) (g.met.O.Oper.lawful b small) in
@@ -35,20 +35,20 @@ push_numbered-requires g c =
 
 pub loop-record-preserved : goal.loop-record-preserved
 loop-record-preserved g c =
-    gathering_on g.O.Oper.meaning (g.M.Machine.disk c.args.m.now) (g.M.Machine.disk c.loop-record.m) (g.M.Machine.disk c.next.new.m) c.args.from c.args.records.now c.loop-record.records c.next.new.self c.loop-record.into.items c.push_numbered.new.into.items c.in_ok-record.field-0 c.in-Some.record
-    c.in-Some.is c.loop-record.invariant c.next.ensures.kept (c.in_ok-push_numbered.ensures c.args.records.now.bounds) c.in_ok-record.ensures.read c.in_ok-record.ensures.takes c.next.ensures.bounds (rw c.in-Some.is at c.in_ok-record.ensures.less)
+    gathering_on g.O.Oper.meaning (g.M.Machine.disk c.args.m.now) (g.M.Machine.disk c.loop-record.m) (g.M.Machine.disk c.next.new.m) c.args.from c.args.records.now c.loop-record.records c.next.new.self c.loop-record.into.items c.push_from_lsn.new.into.items c.in_ok-record.field-0 c.in-Some.record
+    c.in-Some.is c.loop-record.invariant c.next.ensures.kept (c.in_ok-push_from_lsn.ensures c.args.records.now.bounds) c.in_ok-record.ensures.read c.in_ok-record.ensures.takes c.next.ensures.bounds (rw c.in-Some.is at c.in_ok-record.ensures.less)
     (λ whole. both_ways _ c.if-is_whole.false (c.is_whole.ensures.1 (whole.0, omega (arith, whole.1, ap length c.deref.ensures.value))))
 
 pub loop-record-preserved-else-is_whole : goal.loop-record-preserved-else-is_whole
 loop-record-preserved-else-is_whole g c =
-    gathering_on g.O.Oper.meaning (g.M.Machine.disk c.args.m.now) (g.M.Machine.disk c.loop-record.m) (g.M.Machine.disk c.next.new.m) c.args.from c.args.records.now c.loop-record.records c.next.new.self c.loop-record.into.items c.push_numbered.new.into.items c.in_ok-record.field-0 c.in-Some.record
-    c.in-Some.is c.loop-record.invariant c.next.ensures.kept (c.in_ok-push_numbered.ensures c.args.records.now.bounds) c.in_ok-record.ensures.read c.in_ok-record.ensures.takes c.next.ensures.bounds (rw c.in-Some.is at c.in_ok-record.ensures.less)
+    gathering_on g.O.Oper.meaning (g.M.Machine.disk c.args.m.now) (g.M.Machine.disk c.loop-record.m) (g.M.Machine.disk c.next.new.m) c.args.from c.args.records.now c.loop-record.records c.next.new.self c.loop-record.into.items c.push_from_lsn.new.into.items c.in_ok-record.field-0 c.in-Some.record
+    c.in-Some.is c.loop-record.invariant c.next.ensures.kept (c.in_ok-push_from_lsn.ensures c.args.records.now.bounds) c.in_ok-record.ensures.read c.in_ok-record.ensures.takes c.next.ensures.bounds (rw c.in-Some.is at c.in_ok-record.ensures.less)
     (λ whole. both_ways _ c.if-is_whole.false (c.is_whole.ensures.1 (whole.0, omega (arith, whole.1, ap length c.deref.ensures.value))))
 
 pub loop-record-preserved-else-is_whole-2 : goal.loop-record-preserved-else-is_whole-2
 loop-record-preserved-else-is_whole-2 g c =
-    gathering_on g.O.Oper.meaning (g.M.Machine.disk c.args.m.now) (g.M.Machine.disk c.loop-record.m) (g.M.Machine.disk c.next.new.m) c.args.from c.args.records.now c.loop-record.records c.next.new.self c.loop-record.into.items c.push_numbered.new.into.items c.in_ok-record.field-0 c.in-Some.record
-    c.in-Some.is c.loop-record.invariant c.next.ensures.kept (c.in_ok-push_numbered.ensures c.args.records.now.bounds) c.in_ok-record.ensures.read c.in_ok-record.ensures.takes c.next.ensures.bounds (rw c.in-Some.is at c.in_ok-record.ensures.less)
+    gathering_on g.O.Oper.meaning (g.M.Machine.disk c.args.m.now) (g.M.Machine.disk c.loop-record.m) (g.M.Machine.disk c.next.new.m) c.args.from c.args.records.now c.loop-record.records c.next.new.self c.loop-record.into.items c.push_from_lsn.new.into.items c.in_ok-record.field-0 c.in-Some.record
+    c.in-Some.is c.loop-record.invariant c.next.ensures.kept (c.in_ok-push_from_lsn.ensures c.args.records.now.bounds) c.in_ok-record.ensures.read c.in_ok-record.ensures.takes c.next.ensures.bounds (rw c.in-Some.is at c.in_ok-record.ensures.less)
     (λ whole. both_ways _ c.if-is_whole.false (c.is_whole.ensures.1 (whole.0, omega (arith, whole.1, ap length c.deref.ensures.value))))
 
 pub returns-in_err-record-clause-cause : goal.returns-in_err-record-clause-cause
@@ -64,11 +64,11 @@ returns-then-is_whole-clause-given g c log given is =
     let old = c.args.records.now in
     let m = g.O.Oper.meaning old.bounds in
     let new = g.M.Machine.disk c.next.new.m in
-    let into = c.push_numbered.new.into.items in
+    let into = c.push_from_lsn.new.into.items in
     let whole = c.is_whole.ensures.0 c.if-is_whole.true in
     gathered_whole m new log c.next.new.self c.args.from given into
     (gathering_more g.O.Oper.meaning (g.M.Machine.disk c.args.m.now) (g.M.Machine.disk c.loop-record.m) new c.args.from old c.loop-record.records c.next.new.self c.loop-record.into.items into c.in_ok-record.field-0 c.in-Some.record
-    c.in-Some.is c.loop-record.invariant c.next.ensures.kept (c.in_ok-push_numbered.ensures old.bounds) c.in_ok-record.ensures.read c.in_ok-record.ensures.takes log given is)
+    c.in-Some.is c.loop-record.invariant c.next.ensures.kept (c.in_ok-push_from_lsn.ensures old.bounds) c.in_ok-record.ensures.read c.in_ok-record.ensures.takes log given is)
     whole.0 (omega (arith, whole.1, ap length c.deref.ensures.value))
 
 pub returns-clause-given : goal.returns-clause-given

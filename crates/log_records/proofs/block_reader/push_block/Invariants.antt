@@ -1,4 +1,4 @@
-use Rattle.log_frames.specs.Payloads.{ahead}
+use Rattle.log_blocks.specs.Payloads.{ahead}
 use Rattle.log_records.proofs.Blocks.{IsGathering}
 use Rattle.log_records.proofs.block_reader.push_block.Given as goal
 

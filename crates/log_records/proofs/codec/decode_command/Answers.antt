@@ -9,12 +9,12 @@ returns-in-Some-clause-some g c =
     let bytes : List ℕ = c.args.bytes.now in
     let code : List ℕ = (g.O.Oper.meaning c.args.b).code c.in-Some.op in
     let found = rw c.in-Some.is at c.in_ok-op.ensures.some in
-    let number : little_number 8 (drop 1 bytes) ≡ c.read_u64-number.result =
-    sym (c.read_u64-number.ensures ∙ ap (little_number 8) (slice_from 1 bytes)) in (
+    let lsn : little_number 8 (drop 1 bytes) ≡ c.read_u64-lsn.result =
+    sym (c.read_u64-lsn.ensures ∙ ap (little_number 8) (slice_from 1 bytes)) in (
       record {
         rest = found.0.rest;
         split = begins bytes code found.0.rest (λ i. omega (arith, c.type_inv.bytes i)) (omega arith) c.requires
-            (sym (slice_from 9 bytes) ∙ found.0.split) ∙ ap (λ (n : ℕ). (1 ∷ (little_bytes 8 n ++ code)) ++ found.0.rest) number;
+            (sym (slice_from 9 bytes) ∙ found.0.split) ∙ ap (λ (n : ℕ). (1 ∷ (little_bytes 8 n ++ code)) ++ found.0.rest) lsn;
         in_grammar = (omega arith, found.0.in_grammar);
       },
       omega (arith, found.1),

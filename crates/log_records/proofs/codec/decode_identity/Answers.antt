@@ -26,8 +26,8 @@ returns-clause-some g c =
     let n : ℕ = c.read_u32-length.result in
     let bounds = g.met.O.Oper.bounded b in
     let is = c.is_within.ensures.0 c.if-not-is_within.false in
-    identity_read (g.O.Oper.meaning b) bytes c.new.result c.read_u64-number.result c.read_u32-object.result n (λ i. omega (arith, c.type_inv.bytes i)) c.requires (omega (arith, is.2))
-    (c.read_u64-number.ensures ∙ ap (little_number 8) (slice_from 1 bytes)) (c.read_u32-object.ensures ∙ ap (little_number 4) (slice_from 9 bytes))
+    identity_read (g.O.Oper.meaning b) bytes c.new.result c.read_u64-lsn.result c.read_u32-object.result n (λ i. omega (arith, c.type_inv.bytes i)) c.requires (omega (arith, is.2))
+    (c.read_u64-lsn.ensures ∙ ap (little_number 8) (slice_from 1 bytes)) (c.read_u32-object.ensures ∙ ap (little_number 4) (slice_from 9 bytes))
     (c.read_u32-length.ensures ∙ ap (little_number 4) (slice_from 13 bytes))
     (c.new.ensures ∙ c.in_ok-value.ensures.items_if_clones_equal (λ x y same. same) ∙ ap (take n) (slice_from 17 bytes))
     (omega arith) (omega (arith, bounds.objects, is.0)) (omega (arith, bounds.cap, is.1))

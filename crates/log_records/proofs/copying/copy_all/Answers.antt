@@ -5,14 +5,14 @@ use Rattle.disk_model.specs.Moments.{runs_none, stays_twice}
 use Rattle.disk_model.specs.declared.machine.FileNo.{FileNo}
 use Rattle.oper_core.specs.declared.bounds.Bounds.{Bounds}
 use Rattle.formats.specs.Records.{IsRecord}
-use Rattle.log_frames.specs.RewriteLaws.{keeps_none, keeps_twice}
-use Rattle.log_frames.specs.Rewriting.{KeepsClosed}
+use Rattle.log_blocks.specs.RewriteLaws.{keeps_none, keeps_twice}
+use Rattle.log_blocks.specs.Rewriting.{KeepsClosed}
 use Rattle.log_records.specs.CodecLaws.{encodable-from_grammar, has_codes}
 use Rattle.log_records.specs.Copying.{HasLaid}
 use Rattle.log_records.specs.Laying.{codes_of}
 use Rattle.log_records.specs.Loading.{IsTailFault}
 use Rattle.log_records.specs.LogCopy.{CopyFails, copy_from_read}
-use Rattle.log_records.specs.Rewriting.{numbered_from}
+use Rattle.log_records.specs.Rewriting.{from_lsn}
 use Rattle.log_records.specs.declared.copy_err.CopyErr.{CopyErr}
 use Rattle.log_records.proofs.Copies.{laid_nothing, no_room, rises_since}
 use Rattle.log_records.proofs.CopyingAll.{all_stays, copied_more, copy_put_fails, copy_read_fails}
@@ -48,7 +48,7 @@ loop-code-preserved g c =
     copied_more g.O.Oper.meaning c.args.b c.args.log.now (g.M.Machine.disk c.args.m.now) (g.M.Machine.disk c.loop-code.m) (g.M.Machine.disk c.next.new.m) (g.T.Machine.disk c.args.target.now) (g.T.Machine.disk c.loop-code.target) (g.T.Machine.disk c.copy_record.new.m)
     c.loop-code.reader c.next.new.self c.args.out.now c.loop-code.out c.copy_record.new.out c.args.blocks.now c.loop-code.blocks c.copy_record.new.blocks c.in_ok-record.field-0 c.in-Some.record c.base.result c.base.ensures c.in-Some.is c.loop-code.invariant
     c.next.ensures.kept c.next.ensures.bounds c.in_ok-record.ensures.read c.copy_record.ensures.runs c.copy_record.ensures.file
-    (subst (λ (fits : Bool). HasLaid (g.T.Machine.disk c.loop-code.target) (g.T.Machine.disk c.copy_record.new.m) c.loop-code.out c.copy_record.new.out c.loop-code.blocks c.copy_record.new.blocks (codes_of (g.O.Oper.meaning c.args.b) (numbered_from c.base.result (c.in-Some.record ∷ []))) fits)
+    (subst (λ (fits : Bool). HasLaid (g.T.Machine.disk c.loop-code.target) (g.T.Machine.disk c.copy_record.new.m) c.loop-code.out c.copy_record.new.out c.loop-code.blocks c.copy_record.new.blocks (codes_of (g.O.Oper.meaning c.args.b) (from_lsn c.base.result (c.in-Some.record ∷ []))) fits)
     c.if-not-branch.false (c.in_ok-copy_record.ensures.laid c.args.b))
 
 pub loop-code-preserved-else-not-branch-2 : goal.loop-code-preserved-else-not-branch-2
@@ -56,7 +56,7 @@ loop-code-preserved-else-not-branch-2 g c =
     copied_more g.O.Oper.meaning c.args.b c.args.log.now (g.M.Machine.disk c.args.m.now) (g.M.Machine.disk c.loop-code.m) (g.M.Machine.disk c.next.new.m) (g.T.Machine.disk c.args.target.now) (g.T.Machine.disk c.loop-code.target) (g.T.Machine.disk c.copy_record.new.m)
     c.loop-code.reader c.next.new.self c.args.out.now c.loop-code.out c.copy_record.new.out c.args.blocks.now c.loop-code.blocks c.copy_record.new.blocks c.in_ok-record.field-0 c.in-Some.record c.base.result c.base.ensures c.in-Some.is c.loop-code.invariant
     c.next.ensures.kept c.next.ensures.bounds c.in_ok-record.ensures.read c.copy_record.ensures.runs c.copy_record.ensures.file
-    (subst (λ (fits : Bool). HasLaid (g.T.Machine.disk c.loop-code.target) (g.T.Machine.disk c.copy_record.new.m) c.loop-code.out c.copy_record.new.out c.loop-code.blocks c.copy_record.new.blocks (codes_of (g.O.Oper.meaning c.args.b) (numbered_from c.base.result (c.in-Some.record ∷ []))) fits)
+    (subst (λ (fits : Bool). HasLaid (g.T.Machine.disk c.loop-code.target) (g.T.Machine.disk c.copy_record.new.m) c.loop-code.out c.copy_record.new.out c.loop-code.blocks c.copy_record.new.blocks (codes_of (g.O.Oper.meaning c.args.b) (from_lsn c.base.result (c.in-Some.record ∷ []))) fits)
     c.if-not-branch.false (c.in_ok-copy_record.ensures.laid c.args.b))
 
 pub loop-code-preserved-else-not-branch : goal.loop-code-preserved-else-not-branch
@@ -64,7 +64,7 @@ loop-code-preserved-else-not-branch g c =
     copied_more g.O.Oper.meaning c.args.b c.args.log.now (g.M.Machine.disk c.args.m.now) (g.M.Machine.disk c.loop-code.m) (g.M.Machine.disk c.next.new.m) (g.T.Machine.disk c.args.target.now) (g.T.Machine.disk c.loop-code.target) (g.T.Machine.disk c.copy_record.new.m)
     c.loop-code.reader c.next.new.self c.args.out.now c.loop-code.out c.copy_record.new.out c.args.blocks.now c.loop-code.blocks c.copy_record.new.blocks c.in_ok-record.field-0 c.in-Some.record c.base.result c.base.ensures c.in-Some.is c.loop-code.invariant
     c.next.ensures.kept c.next.ensures.bounds c.in_ok-record.ensures.read c.copy_record.ensures.runs c.copy_record.ensures.file
-    (subst (λ (fits : Bool). HasLaid (g.T.Machine.disk c.loop-code.target) (g.T.Machine.disk c.copy_record.new.m) c.loop-code.out c.copy_record.new.out c.loop-code.blocks c.copy_record.new.blocks (codes_of (g.O.Oper.meaning c.args.b) (numbered_from c.base.result (c.in-Some.record ∷ []))) fits)
+    (subst (λ (fits : Bool). HasLaid (g.T.Machine.disk c.loop-code.target) (g.T.Machine.disk c.copy_record.new.m) c.loop-code.out c.copy_record.new.out c.loop-code.blocks c.copy_record.new.blocks (codes_of (g.O.Oper.meaning c.args.b) (from_lsn c.base.result (c.in-Some.record ∷ []))) fits)
     c.if-not-branch.false (c.in_ok-copy_record.ensures.laid c.args.b))
 
 pub returns-in_err-reader-clause-cause : goal.returns-in_err-reader-clause-cause
@@ -125,8 +125,8 @@ returns-then-not-branch-clause-cause g c all last are fits =
     let r = c.in-Some.record in
     let codes = has_codes m b c.requires.small (g.met.O.Oper.bounded b) (g.met.O.Oper.lawful b c.requires.small) in
     let reading = next_found g.O.Oper.meaning b mid read log c.loop-code.reader c.next.new.self inv.records inv.bounds inv.reading c.in_ok-record.field-0 r c.in-Some.is c.in_ok-record.ensures.read in
-    let put = subst (λ (k : ℕ). HasLaid now new c.loop-code.out c.copy_record.new.out c.loop-code.blocks c.copy_record.new.blocks (codes_of m (numbered_from k (r ∷ []))) c.in_ok-copy_record.field-0) c.base.ensures (c.in_ok-copy_record.ensures.laid b) in
-    let none = subst (λ (fits : Bool). HasLaid now new c.loop-code.out c.copy_record.new.out c.loop-code.blocks c.copy_record.new.blocks (codes_of m (numbered_from base (r ∷ []))) fits) c.if-not-branch.true put in
+    let put = subst (λ (k : ℕ). HasLaid now new c.loop-code.out c.copy_record.new.out c.loop-code.blocks c.copy_record.new.blocks (codes_of m (from_lsn k (r ∷ []))) c.in_ok-copy_record.field-0) c.base.ensures (c.in_ok-copy_record.ensures.laid b) in
+    let none = subst (λ (fits : Bool). HasLaid now new c.loop-code.out c.copy_record.new.out c.loop-code.blocks c.copy_record.new.blocks (codes_of m (from_lsn base (r ∷ []))) fits) c.if-not-branch.true put in
     let here = all_stays m (g.M.Machine.disk c.args.m.now) read log all (stays_twice (g.M.Machine.disk c.args.m.now) mid read inv.stays c.next.ensures.kept) are in
     subst (λ (e : CopyErr). CopyFails (Rises (g.M.Machine.disk c.args.m.now).disk_faults read.disk_faults) (Rises first.disk_faults new.disk_faults) (IsTailFault m read log) (λ u n l. ⊥) e) (sym (c.from.ensures ∙ ap copy_from_read c.changed.ensures))
     (no_room m codes first read log c.next.new.self c.args.out.now c.loop-code.out c.args.blocks.now c.loop-code.blocks base all inv.records r last now here reading inv.laid none fits 0)

@@ -1,4 +1,4 @@
-use Rattle.log_frames.specs.Payloads.{ahead}
+use Rattle.log_blocks.specs.Payloads.{ahead}
 use Rattle.log_records.proofs.CopyingAll.{IsCopyingAll}
 use Rattle.log_records.proofs.copying.copy_all.Given as goal
 

@@ -1,8 +1,8 @@
 use Rattle.std.proofs.Common.{◌+◌, ◌<◌, drop, length, subst, refl, arith}
 use Rattle.disk_model.specs.Disk.{Runs, Same, In}
 use Rattle.disk_model.specs.declared.machine.FileNo.{FileNo}
-use Rattle.log_frames.specs.RewriteLaws.{keeps_twice}
-use Rattle.log_frames.specs.Rewriting.{KeepsClosed}
+use Rattle.log_blocks.specs.RewriteLaws.{keeps_twice}
+use Rattle.log_blocks.specs.Rewriting.{KeepsClosed}
 use Rattle.log_records.proofs.Copies.{laid_in_next}
 use Rattle.log_records.proofs.Laid.{drop_one}
 use Rattle.log_records.proofs.copying.put_first.Goals as goal

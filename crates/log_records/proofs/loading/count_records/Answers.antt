@@ -2,9 +2,9 @@ use Rattle.std.proofs.Common.{◌∙◌, ◌++◌, [], ◌∷◌, refl, sym, ap,
 use Rattle.std.specs.Option.{option_or}
 use Rattle.std.proofs.lemmas.Result.{err_from_is_err_and}
 use Rattle.disk_model.specs.Moments.{stays_twice}
-use Rattle.redo_tables.specs.declared.table.Table.{Table}
-use Rattle.formats.specs.Records.{last_check}
-use Rattle.log_records.specs.RecordLaws.{count-append, next_rises, numbers_end}
+use Rattle.dirty_page_table.specs.declared.table.DirtyPageTable.{DirtyPageTable}
+use Rattle.formats.specs.Records.{last_checkpoint}
+use Rattle.log_records.specs.RecordLaws.{count-append, next_rises, lsn_end}
 use Rattle.log_records.proofs.Lasts.{last_push}
 use Rattle.log_records.proofs.Passing.{next_found, next_ended, next_fails}
 use Rattle.log_records.proofs.loading.count_records.Goals as goal
@@ -35,7 +35,7 @@ loop-last-preserved g c =
       records = inv.records ++ r ∷ [];
       reading = next_found g.O.Oper.meaning b mid new log c.loop-last.reader c.next.new.self inv.records inv.bounds inv.reading c.in_ok-record.field-0 r c.in-Some.is c.in_ok-record.ensures.read;
       commands_are = omega (arith, inv.commands_are, c.commands_in-commands.ensures.value, count-append m inv.records (r ∷ []));
-      last_is = c.last_table-last.ensures ∙ ap (λ (o : Option Table). option_or (last_check (r ∷ [])) o) inv.last_is ∙ sym (last_push inv.records r);
+      last_is = c.last_table-last.ensures ∙ ap (λ (o : Option DirtyPageTable). option_or (last_checkpoint (r ∷ [])) o) inv.last_is ∙ sym (last_push inv.records r);
     }
 
 pub overflow_add-commands : goal.overflow_add-commands
@@ -43,7 +43,7 @@ overflow_add-commands g c =
     let inv = c.loop-last.invariant in
     let m = g.O.Oper.meaning c.args.b in
     let base = c.args.log.now.header.base in
-    omega (arith, inv.commands_are, c.commands_in-commands.ensures.few, next_rises m base inv.records, numbers_end m base base inv.records c.requires inv.reading.placed)
+    omega (arith, inv.commands_are, c.commands_in-commands.ensures.few, next_rises m base inv.records, lsn_end m base base inv.records c.requires inv.reading.placed)
 
 pub returns-in_err-record-clause-cause : goal.returns-in_err-record-clause-cause
 returns-in_err-record-clause-cause g c =
@@ -60,7 +60,7 @@ returns-clause-counted g c =
     let ended = next_ended g.O.Oper.meaning c.args.b mid new c.args.log.now c.loop-last.reader c.next.new.self inv.records inv.bounds inv.reading c.in_ok-record.field-0 c.in_default.is c.in_ok-record.ensures.read in (
       inv.records,
       ended.0,
-      record { next = c.next_number.ensures ∙ ended.1; commands = inv.commands_are; last = inv.last_is },
+      record { next = c.next_lsn.ensures ∙ ended.1; commands = inv.commands_are; last = inv.last_is },
     )
 
 pub returns-in_err-record-clause-kept : goal.returns-in_err-record-clause-kept

@@ -3,9 +3,9 @@ use Rattle.std.proofs.lemmas.Result.{err_from_is_err_and}
 use Rattle.disk_model.specs.Moments.{stays_twice}
 use Rattle.formats.specs.Records.{record_code}
 use Rattle.log_records.specs.Measuring.{block_lengths}
-use Rattle.log_records.specs.NumberedLaws.{last_of}
-use Rattle.log_records.specs.RecordLaws.{next_rises, numbers_end}
-use Rattle.log_records.proofs.Numbered.{counts_part}
+use Rattle.log_records.specs.LsnReaderLaws.{last_of}
+use Rattle.log_records.specs.RecordLaws.{next_rises, lsn_end}
+use Rattle.log_records.proofs.FromLsn.{counts_part}
 use Rattle.log_records.proofs.Passing.{next_found, next_ended, next_fails}
 use Rattle.log_records.proofs.measuring.measure.Goals as goal
 
@@ -40,7 +40,7 @@ measure_record-requires-clause-few g c =
     let inv = c.loop-so_far.invariant in
     let m = g.O.Oper.meaning c.args.b in
     let base = c.args.log.now.header.base in
-    omega (arith, inv.measured.before, counts_part m c.args.base inv.records, next_rises m base inv.records, numbers_end m base base inv.records c.requires inv.reading.placed)
+    omega (arith, inv.measured.before, counts_part m c.args.base inv.records, next_rises m base inv.records, lsn_end m base base inv.records c.requires inv.reading.placed)
 
 pub loop-so_far-preserved : goal.loop-so_far-preserved
 loop-so_far-preserved g c =

@@ -4,5 +4,5 @@ use Rattle.log_records.proofs.placing.is_placed.Goals as goal
 pub returns-then-table-next : goal.returns-then-table-next
 returns-then-table-next g c = search rules
 
-pub returns-then-number-next : goal.returns-then-number-next
-returns-then-number-next g c = search rules
+pub returns-then-lsn-next : goal.returns-then-lsn-next
+returns-then-lsn-next g c = search rules

@@ -7,7 +7,7 @@ use Rattle.log_records.specs.CodecLaws.{has_codes, same_record}
 use Rattle.log_records.proofs.record_reader.next_record.Goals as goal
 
 pub returns-in-None-clause-none : goal.returns-in-None-clause-none
-returns-in-None-clause-none g c = λ other starts number. let none = rw c.in-None.is at c.in_ok-found.ensures.none in none other starts
+returns-in-None-clause-none g c = λ other starts lsn. let none = rw c.in-None.is at c.in_ok-found.ensures.none in none other starts
 
 pub returns-else-is_placed-clause-none : goal.returns-else-is_placed-clause-none
 returns-else-is_placed-clause-none g c = λ other starts place.

@@ -3,8 +3,8 @@ use Rattle.disk_model.specs.Disk.{Disk, Stays}
 use Rattle.oper_core.specs.Meaning.{Meaning}
 use Rattle.oper_core.specs.declared.bounds.Bounds.{Bounds}
 use Rattle.formats.specs.declared.record.Record.{Record}
-use Rattle.log_frames.specs.LogView.{LogView}
-use Rattle.log_frames.specs.Payloads.{ahead}
+use Rattle.log_blocks.specs.LogView.{LogView}
+use Rattle.log_blocks.specs.Payloads.{ahead}
 use Rattle.log_records.specs.RecordReader.{RecordReaderView, IsReading}
 use Rattle.log_records.proofs.stable.stable_records.Given as goal
 

@@ -2,7 +2,7 @@ use Rattle.std.specs.Prelude.{⊤}
 use Rattle.disk_model.specs.Moments.{stays_twice, told_agrees}
 use Rattle.formats.specs.FirstFault.{IsFirstLogFault}
 use Rattle.formats.specs.Reading.{FailsBy}
-use Rattle.log_frames.specs.Reading.{fails_on}
+use Rattle.log_blocks.specs.Reading.{fails_on}
 use Rattle.log_records.specs.CodecLaws.{has_codes}
 use Rattle.log_records.specs.Loading.{IsLoadFault}
 use Rattle.log_records.specs.Loading.IsLoadFault.{in_blocks}

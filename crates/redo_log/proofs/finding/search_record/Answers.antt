@@ -1,7 +1,7 @@
 use Rattle.std.proofs.Common.{◌∙◌, ℕ, Bool, List, Option, ap, subst, sym}
 use Rattle.std.specs.Prelude.{IfNone}
 use Rattle.formats.specs.declared.record.Record.{Record}
-use Rattle.log_frames.specs.Payloads.{HasMore, PayloadReaderView}
+use Rattle.log_blocks.specs.Payloads.{HasMore, PayloadReaderView}
 use Rattle.log_records.specs.Codec.{StartsWithRecord}
 use Rattle.op_codec.specs.AllOps.{AllOps, all_meaning}
 use Rattle.redo_log.specs.Unreadable.{StartsWithNone}

@@ -1,6 +1,6 @@
 use Rattle.std.proofs.Common.{◌≡◌, ℕ, List}
 use Rattle.disk_model.specs.Disk.{Files, Disk, Stays}
-use Rattle.log_frames.specs.Payloads.{PayloadReaderView, IsInLog, remaining, ahead}
+use Rattle.log_blocks.specs.Payloads.{PayloadReaderView, IsInLog, remaining, ahead}
 use Rattle.redo_log.proofs.finding.search_record.Given as goal
 
 -- since the search began only bytes came into memory

@@ -1,5 +1,5 @@
 use Rattle.disk_model.specs.Moments.{told_agrees}
-use Rattle.log_frames.specs.Reading.{fails_on}
+use Rattle.log_blocks.specs.Reading.{fails_on}
 use Rattle.log_records.specs.CodecLaws.{has_codes}
 use Rattle.tool_output.specs.FaultLaws.{only_counted}
 use Rattle.redo_log.proofs.RecordLemmas.{all_readable, same_log}

@@ -6,7 +6,7 @@ use Rattle.tool_output.specs.Stops.{stop_from_read}
 use Rattle.redo_log.proofs.BrokenLemmas.{log_broken}
 use Rattle.tool_output.specs.FaultLaws.{read_stops, stops_first, stops_later}
 use Rattle.tool_output.specs.FrontLaws.{all_said, on_any}
-use Rattle.redo_log.proofs.ListLemmas.{log_blocks, log_end_part, log_goes_on, log_head}
+use Rattle.redo_log.proofs.ListLemmas.{blocks_of_log, log_end_part, log_goes_on, log_head}
 use Rattle.tool_output.specs.FoundLaws.{end_used}
 use Rattle.redo_log.proofs.listing.say_log.Goals as goal
 
@@ -58,7 +58,7 @@ returns-in_err-payloads-clause-front g c told payloads holds end none =
 
 pub returns-in_err-say_blocks-clause-front : goal.returns-in_err-say_blocks-clause-front
 returns-in_err-say_blocks-clause-front g c told payloads holds end none =
-    on_any c.from_residual-in_err-say_blocks.result (log_blocks (all_meaning c.args.b) (g.M.Machine.disk c.args.machine.now) (g.M.Machine.disk c.say_header.new.machine) (g.M.Machine.disk c.reader.new.machine) (g.M.Machine.disk c.say_blocks.new.machine).said
+    on_any c.from_residual-in_err-say_blocks.result (blocks_of_log (all_meaning c.args.b) (g.M.Machine.disk c.args.machine.now) (g.M.Machine.disk c.say_header.new.machine) (g.M.Machine.disk c.reader.new.machine) (g.M.Machine.disk c.say_blocks.new.machine).said
     c.args.log.now.active c.args.log.now.header payloads c.in_ok-payloads.payloads told c.say_header.ensures.runs c.reader.ensures.kept (c.in_ok-say_header.ensures.said told) c.in_ok-payloads.ensures.file
     (c.in_ok-payloads.ensures.starts (g.M.Machine.disk c.args.machine.now).reads (still_agrees (says_then c.say_header.ensures.runs (says_nothing c.reader.ensures.kept)) told) payloads holds.log) c.in_err-say_blocks.ensures.front)
 

@@ -1,5 +1,5 @@
 use Rattle.std.proofs.Common.{◌∙◌, arith}
-use Rattle.log_frames.specs.Payloads.{remaining}
+use Rattle.log_blocks.specs.Payloads.{remaining}
 use Rattle.op_codec.specs.AllOps.{all_meaning}
 use Rattle.tool_output.specs.Saying.{says_then}
 use Rattle.redo_log.proofs.BrokenLemmas.{block_broken}

@@ -1,4 +1,4 @@
-use Rattle.log_frames.specs.Payloads.{remaining}
+use Rattle.log_blocks.specs.Payloads.{remaining}
 use Rattle.op_codec.specs.AllOps.{all_meaning}
 use Rattle.redo_log.proofs.ReadLemmas.{IsSayingBlock}
 use Rattle.redo_log.proofs.saying.say_block.Given as goal

@@ -1,6 +1,6 @@
 use Rattle.std.proofs.Common.{Bool, subst}
-use Rattle.log_frames.specs.Forcing.{with_block}
-use Rattle.log_frames.specs.Payloads.{HasNext}
+use Rattle.log_blocks.specs.Forcing.{with_block}
+use Rattle.log_blocks.specs.Payloads.{HasNext}
 use Rattle.op_codec.specs.AllOps.{all_meaning}
 use Rattle.tool_output.specs.Saying.{says_nothing, says_then}
 use Rattle.tool_output.specs.Stops.{stop_from_read}

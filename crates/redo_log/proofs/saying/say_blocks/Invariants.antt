@@ -1,4 +1,4 @@
-use Rattle.log_frames.specs.Payloads.{ahead}
+use Rattle.log_blocks.specs.Payloads.{ahead}
 use Rattle.op_codec.specs.AllOps.{all_meaning}
 use Rattle.redo_log.proofs.ReadLemmas.{IsSayingBlocks}
 use Rattle.redo_log.proofs.saying.say_blocks.Given as goal

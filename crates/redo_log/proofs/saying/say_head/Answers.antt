@@ -2,7 +2,7 @@ use Rattle.std.proofs.Common.{◌++◌, ◌∙◌, List, ℕ, ap, refl}
 use Rattle.std.specs.Prelude.{codes}
 use Rattle.disk_model.specs.Moments.{stays_here}
 use Rattle.formats.specs.Log.{end_of}
-use Rattle.log_frames.specs.Payloads.{remaining}
+use Rattle.log_blocks.specs.Payloads.{remaining}
 use Rattle.redo_log.specs.Lines.{line}
 use Rattle.tool_output.specs.Saying.{says_front, says_nothing}
 use Rattle.tool_output.specs.FaultLaws.{stops_first}

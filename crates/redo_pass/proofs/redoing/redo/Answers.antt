@@ -6,10 +6,10 @@ use Rattle.disk_model.specs.declared.machine.FileNo.TheVariants.{Objects as Obje
 use Rattle.oper_core.specs.declared.bounds.Bounds.{Bounds}
 use Rattle.formats.specs.Objects.{bounds_of}
 use Rattle.formats.specs.Reading.{FailsBy}
-use Rattle.log_frames.specs.Reading.{fails_on}
+use Rattle.log_blocks.specs.Reading.{fails_on}
 use Rattle.log_records.specs.CodecLaws.{has_codes}
 use Rattle.log_records.specs.Loading.{IsTailFault}
-use Rattle.log_records.specs.NumberedReader.{NumberedReaderView, IsReadingNumbered}
+use Rattle.log_records.specs.LsnReader.{LsnReaderView, IsReadingFromLsn}
 use Rattle.standing.specs.Crashed.{crashed-stable}
 use Rattle.standing.specs.OneStable.{small_store}
 use Rattle.running_store.specs.Calls.{IsCall, Never, ending_of_read}
@@ -36,7 +36,7 @@ loop-reader-init g c = (
     so_far = done_still (done_none {meaning = g.O.Oper.meaning} {limit = c.args.limit} {plan = c.args.plan.now} {first = c.args.store.now} (g.met.M.Machine.lawful c.args.machine.now) c.requires.unbroken c.requires.empty) c.log_reader.ensures.kept.stays c.in_ok-reader.ensures.kept.store;
     from = c.in_ok-reader.ensures.reader.from ∙ c.start.ensures;
     bounds = c.in_ok-reader.ensures.reader.bounds;
-    reading = subst (λ (b : Bounds). IsReadingNumbered (g.O.Oper.meaning b) (g.M.Machine.disk c.log_reader.new.machine) c.args.store.now.parts.log c.in_ok-reader.reader []) (sym c.in_ok-reader.ensures.reader.bounds) c.in_ok-reader.ensures.reader.reading;
+    reading = subst (λ (b : Bounds). IsReadingFromLsn (g.O.Oper.meaning b) (g.M.Machine.disk c.log_reader.new.machine) c.args.store.now.parts.log c.in_ok-reader.reader []) (sym c.in_ok-reader.ensures.reader.bounds) c.in_ok-reader.ensures.reader.reading;
   },
 )
 
@@ -202,7 +202,7 @@ returns-clause-redone g c = λ told settled p w to.
     let done = done_still c.loop-reader.invariant.1.so_far c.read_log.ensures.kept.stays c.in_ok-record.ensures.kept.store in
     let found = to.due.found in
     let small = small_store p (old.reads ObjectsFile) found.shows.objects in
-    all_done done (c.params-params.ensures.in_use c.requires.unbroken) told settled p w to (has_codes (meaning (bounds_of p)) (bounds_of p) small (g.met.O.Oper.bounded (bounds_of p)) (g.met.O.Oper.lawful (bounds_of p) small)) (ap (λ (v : NumberedReaderView). v.from) c.read_log.ensures.reader.same ∙ inv.1.from)
+    all_done done (c.params-params.ensures.in_use c.requires.unbroken) told settled p w to (has_codes (meaning (bounds_of p)) (bounds_of p) small (g.met.O.Oper.bounded (bounds_of p)) (g.met.O.Oper.lawful (bounds_of p) small)) (ap (λ (v : LsnReaderView). v.from) c.read_log.ensures.reader.same ∙ inv.1.from)
     (none_given (g.M.Machine.disk c.read_log.new.machine) c.read_log.new.reader c.in_ok-record.field-0 inv c.in_ok-record.ensures.read c.in_default.is) (λ n x live. c.turns_keep.ensures.map (bounds_of p) w limit n x small found.sound (crashed-stable (meaning (bounds_of p)) w found.crashed found.sound) live)
 
 pub returns-clause-steps : goal.returns-clause-steps

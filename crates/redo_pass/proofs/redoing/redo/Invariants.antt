@@ -1,4 +1,4 @@
-use Rattle.log_records.specs.NumberedReader.{left_of}
+use Rattle.log_records.specs.LsnReader.{left_of}
 use Rattle.redo_pass.proofs.Doing.{IsDoing}
 use Rattle.redo_pass.proofs.redoing.redo.Given as goal
 

@@ -50,6 +50,6 @@ returns-in-Identity-clause-shown g c = λ told p w sound shows next.
     let m = g.O.Oper.meaning (bounds_of p) in
     let file = (g.M.Machine.disk c.args.machine.now).reads Objects in
     let after = c.replay_identity.new.store.parts.volatile in
-    let is : c.args.record ≡ Identity c.in-Identity.number c.in-Identity.object c.as_slice.result.now = c.in-Identity.is ∙ ap (λ (v : List ℕ). Identity c.in-Identity.number c.in-Identity.object v) (sym c.as_slice.ensures) in
+    let is : c.args.record ≡ Identity c.in-Identity.lsn c.in-Identity.object c.as_slice.result.now = c.in-Identity.is ∙ ap (λ (v : List ℕ). Identity c.in-Identity.lsn c.in-Identity.object v) (sym c.as_slice.ensures) in
     subst (λ (r : Record g.row.O.Denot). ShowsVolatile m p file after (after_record m w r)) (sym is)
     (c.in_ok-replay_identity-in-Identity.ensures.shown p file w sound shows (subst (λ (r : Record g.row.O.Denot). IsNextRecord w c.args.plan.now.table r) is next))

@@ -13,7 +13,7 @@ use Rattle.formats.specs.declared.read_err.ReadErr.TheVariants.{Memory as OutOfM
 use Rattle.install_order.specs.declared.entry.Entry.{Entry}
 use Rattle.log_records.specs.RecordLog.{RecordLogView}
 use Rattle.stable_objects.specs.SlotsView.{SlotsView}
-use Rattle.write_graph.specs.Graph.{numbers}
+use Rattle.write_graph.specs.Graph.{lsns}
 use Rattle.explain_core.specs.History.Member.{Command}
 use Rattle.running_store.specs.Among.{small_bounds}
 use Rattle.running_store.specs.Entered.{IsEntered}
@@ -24,7 +24,7 @@ use Rattle.redo_pass.specs.Endings.{error_fails}
 use Rattle.redo_pass.specs.Replayed.{is_due}
 use Rattle.redo_pass.proofs.Failing.{read_failed}
 use Rattle.redo_pass.proofs.Leaves.{memory_entered, memory_left, memory_none, replay_error, replay_fetch, replay_memory, replay_then}
-use Rattle.redo_pass.proofs.Replaying.{due_later, none_entered, read_ids, some_entered, nil_if, some_if}
+use Rattle.redo_pass.proofs.Replaying.{due_later, none_entered, read_lsns, some_entered, nil_if, some_if}
 use Rattle.redo_pass.proofs.replay.replay_command.Goals as goal
 
 pub returns-then-is_empty-clause-replayed : goal.returns-then-is_empty-clause-replayed
@@ -41,8 +41,8 @@ returns-then-is_empty-clause-shown g c = λ told p w sound shows next.
     let bounds = (g.met.O.Oper.bounded b).objects in
     let writes = subst (λ (n : ℕ). All (λ x. x < n) (m.writes op)) bounds (lawful.writes_below op grammar) in
     let none = sym c.as_slice-2.ensures.value ∙ nil_if c.as_slice-2.result.now (sym c.is_empty.ensures ∙ c.if-is_empty.true) in
-    none_entered m p ((g.M.Machine.disk c.args.machine.now).reads Objects) it w c.args.plan.now.table c.args.number (Command op) c.due_among-due.result sound shows next bounds writes
-    (λ x. c.due_among-due.ensures x ∙ (λ i. is_due c.args.plan.now.table (c.objects-2.ensures i) c.args.number ((c.as_slice.ensures.value ∙ c.writes-writes.ensures b) i) x)) none
+    none_entered m p ((g.M.Machine.disk c.args.machine.now).reads Objects) it w c.args.plan.now.table c.args.lsn (Command op) c.due_among-due.result sound shows next bounds writes
+    (λ x. c.due_among-due.ensures x ∙ (λ i. is_due c.args.plan.now.table (c.objects-2.ensures i) c.args.lsn ((c.as_slice.ensures.value ∙ c.writes-writes.ensures b) i) x)) none
 
 pub returns-in_err-values-clause-replayed : goal.returns-in_err-values-clause-replayed
 returns-in_err-values-clause-replayed g c =
@@ -106,8 +106,8 @@ enter-requires-clause-values g c =
 pub enter-requires-clause-above : goal.enter-requires-clause-above
 enter-requires-clause-above g c =
     let read = c.in_ok-values.ensures.call in (
-      subst (λ (es : List Entry). All (λ n. n < c.args.number) (numbers es)) (sym read.entries) c.requires.above.0,
-      subst (λ (l : RecordLogView). c.args.number < l.next) (sym read.log) c.requires.above.1,
+      subst (λ (es : List Entry). All (λ n. n < c.args.lsn) (lsns es)) (sym read.entries) c.requires.above.0,
+      subst (λ (l : RecordLogView). c.args.lsn < l.next) (sym read.log) c.requires.above.1,
     )
 
 pub enter-requires-clause-later : goal.enter-requires-clause-later
@@ -115,9 +115,9 @@ enter-requires-clause-later g c =
     let it = c.args.store.now.parts.volatile in
     let after = c.values_of.new.self.parts.volatile.objects in
     let used = (c.params-params.ensures.in_use c.requires.unbroken).store in
-    due_later c.args.plan.now.table it.objects after c.args.number c.writes-writes.result c.as_slice-4.result.now
-    (λ x. ap (is_among x) c.as_slice-4.ensures.value ∙ c.due_among-due.ensures x ∙ (λ i. is_due c.args.plan.now.table (c.objects-2.ensures i) c.args.number (c.as_slice.ensures.value i) x))
-    (λ x. read_ids it.objects.slots.params c.args.store.now.parts.log.next it after x used c.in_ok-values.ensures.call.read.fetched)
+    due_later c.args.plan.now.table it.objects after c.args.lsn c.writes-writes.result c.as_slice-4.result.now
+    (λ x. ap (is_among x) c.as_slice-4.ensures.value ∙ c.due_among-due.ensures x ∙ (λ i. is_due c.args.plan.now.table (c.objects-2.ensures i) c.args.lsn (c.as_slice.ensures.value i) x))
+    (λ x. read_lsns it.objects.slots.params c.args.store.now.parts.log.next it after x used c.in_ok-values.ensures.call.read.fetched)
 
 pub returns-clause-replayed : goal.returns-clause-replayed
 returns-clause-replayed g c =
@@ -136,8 +136,8 @@ returns-clause-shown g c = λ told p w sound shows next.
     let bounds = (g.met.O.Oper.bounded b).objects in
     let writes = subst (λ (n : ℕ). All (λ x. x < n) (m.writes op)) bounds (lawful.writes_below op grammar) in
     let reads = subst (λ (n : ℕ). All (λ x. x < n) (m.reads op)) bounds (lawful.reads_below op grammar) in
-    let e : Entry = record { number = c.args.number; reads = c.reads-reads.result; writes = c.writes-writes.result; identity = false } in
-    let e_is : e ≡ entry_of m c.args.number (Command op) = λ i. record { number = c.args.number; reads = c.reads-reads.ensures b i; writes = c.writes-writes.ensures b i; identity = false } in
+    let e : Entry = record { lsn = c.args.lsn; reads = c.reads-reads.result; writes = c.writes-writes.result; identity = false } in
+    let e_is : e ≡ entry_of m c.args.lsn (Command op) = λ i. record { lsn = c.args.lsn; reads = c.reads-reads.ensures b i; writes = c.writes-writes.ensures b i; identity = false } in
     let fetch = c.in_ok-values.ensures.call.read in
     let read = fetch.cells told shows.laid in
     let values : c.in_ok-values.values ≡ map (values_in it.objects file) (m.reads op) = c.in_ok-values.ensures.values told shows.laid ∙ ap (map (values_in it.objects file)) (c.as_slice-3.ensures.value ∙ c.reads-reads.ensures b) in
@@ -147,6 +147,6 @@ returns-clause-shown g c = λ told p w sound shows next.
     let same : c.as_slice-2.result.now ≡ c.as_slice-4.result.now = c.as_slice-2.ensures.value ∙ sym c.as_slice-4.ensures.value in
     let some : 0 < length c.as_slice-4.result.now = subst (λ (l : List ℕ). 0 < length l) same (some_if c.as_slice-2.result.now (sym c.is_empty.ensures ∙ c.if-is_empty.false)) in
     let is = subst (λ (es : List Entry). IsEntered (volatile c.values_of.new.self.parts.volatile.objects es) c.enter.new.self.parts.volatile c.as_slice-4.result.now e c.in_ok-made.made) c.in_ok-values.ensures.call.entries c.in_ok-enter.ensures.entered in
-    some_entered m p file it w c.args.plan.now.table c.args.number (Command op) c.as_slice-4.result.now sound shows next bounds writes
-    (λ x. ap (is_among x) c.as_slice-4.ensures.value ∙ c.due_among-due.ensures x ∙ (λ i. is_due c.args.plan.now.table (c.objects-2.ensures i) c.args.number ((c.as_slice.ensures.value ∙ c.writes-writes.ensures b) i) x))
+    some_entered m p file it w c.args.plan.now.table c.args.lsn (Command op) c.as_slice-4.result.now sound shows next bounds writes
+    (λ x. ap (is_among x) c.as_slice-4.ensures.value ∙ c.due_among-due.ensures x ∙ (λ i. is_due c.args.plan.now.table (c.objects-2.ensures i) c.args.lsn ((c.as_slice.ensures.value ∙ c.writes-writes.ensures b) i) x))
     c.values_of.new.self.parts.volatile.objects c.enter.new.self.parts.volatile c.in_ok-made.made fetch.fetched read.0 read.1 reads e e_is is made some

@@ -5,7 +5,7 @@ use Rattle.dirty_cache.specs.Contents.{held}
 use Rattle.install_order.specs.declared.entry.Entry.{Entry}
 use Rattle.running_store.specs.Flushed.{AreEarly}
 use Rattle.running_store.specs.StoreView.{StoreView}
-use Rattle.write_graph.specs.Graph.{numbers}
+use Rattle.write_graph.specs.Graph.{lsns}
 use Rattle.redo_tests.proofs.redone.begun.Goals as goal
 
 pub new-requires-2 : goal.new-requires-2
@@ -14,7 +14,7 @@ new-requires-2 c = record {
   store = record {
     params = refl;
     low = c.in_ok-log.ensures.next.1;
-    above = subst (λ (l : List Entry). All (λ n. n < c.in_ok-log.log.next) (numbers l)) (sym c.in_ok-graph.ensures) (All-nil (λ n. n < c.in_ok-log.log.next));
+    above = subst (λ (l : List Entry). All (λ n. n < c.in_ok-log.log.next) (lsns l)) (sym c.in_ok-graph.ensures) (All-nil (λ n. n < c.in_ok-log.log.next));
     dirty = λ x pair is had. let e : None ≡ Some pair = sym (c.in_ok-objects.ensures.empty x) ∙ had in cc;
     clean = λ x pair is had. let e : None ≡ Some pair = sym (c.in_ok-objects.ensures.empty x) ∙ had in cc;
   };

@@ -10,7 +10,7 @@ returns-clause-allowed g c b w limit used small is =
     let sound = c.crash_keeps.ensures b w small is in
     let stable = now_stable m limit used w sound in
     let running = later_running m limit used w sound (c.turns_keep.ensures.sound b (step m w Crash) limit _ small sound stable) (c.a_redo_leaves_nothing.ensures b (step m w Crash) limit (crash_twice m w)) in
-    all_allowed m limit used w sound (c.turns_keep.ensures.allowed b (step m w Crash) limit _ small sound stable) (λ n. c.closing_check_may_be_taken.ensures b _ n small running)
+    all_allowed m limit used w sound (c.turns_keep.ensures.allowed b (step m w Crash) limit _ small sound stable) (λ n. c.closing_checkpoint_may_be_taken.ensures b _ n small running)
 
 pub returns-clause-reopened : goal.returns-clause-reopened
 returns-clause-reopened g c b w limit used small is =
@@ -18,4 +18,4 @@ returns-clause-reopened g c b w limit used small is =
     let sound = c.crash_keeps.ensures b w small is in
     let stable = now_stable m limit used w sound in
     let running = later_running m limit used w sound (c.turns_keep.ensures.sound b (step m w Crash) limit _ small sound stable) (c.a_redo_leaves_nothing.ensures b (step m w Crash) limit (crash_twice m w)) in
-    reopened m limit used w sound (λ n. c.closing_check_may_be_taken.ensures b _ n small running)
+    reopened m limit used w sound (λ n. c.closing_checkpoint_may_be_taken.ensures b _ n small running)

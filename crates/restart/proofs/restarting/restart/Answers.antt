@@ -2,7 +2,7 @@ use Rattle.std.proofs.Common.{◌≡◌, ◌∙◌, ℕ, inl, arith, ap, sym, su
 use Rattle.std.proofs.lemmas.Bool.{false_from_ne_true}
 use Rattle.disk_model.specs.declared.machine.FileNo.TheVariants.{Objects}
 use Rattle.formats.specs.Objects.{bounds_of}
-use Rattle.log_frames.specs.Reading.{none_told}
+use Rattle.log_blocks.specs.Reading.{none_told}
 use Rattle.stable_objects.specs.Reading.{open_from_read}
 use Rattle.stable_objects.specs.declared.open_err.OpenErr.{OpenErr}
 use Rattle.explain_core.specs.World.{step}

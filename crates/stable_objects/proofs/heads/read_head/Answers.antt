@@ -20,4 +20,4 @@ returns-in_err-found-clause-cause g c =
 pub returns-clause-read : goal.returns-clause-read
 returns-clause-read g c files agree =
     let a = c.args in
-    subst (λ (h : Head). IsReadWhole a.cap a.place a.size h c.in_ok-found.found.id c.in_ok-found.found.long) (head_read (files Objects) c.in_ok-head.head a.place (c.in_ok-head.ensures.head files agree)) c.in_ok-found.ensures.read
+    subst (λ (h : Head). IsReadWhole a.cap a.place a.size h c.in_ok-found.found.lsn c.in_ok-found.found.long) (head_read (files Objects) c.in_ok-head.head a.place (c.in_ok-head.ensures.head files agree)) c.in_ok-found.ensures.read

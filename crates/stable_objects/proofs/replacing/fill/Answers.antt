@@ -20,7 +20,7 @@ returns-then-branch-clause-settled g c settled = all_stay_settled _ _ c.is_fille
 
 pub returns-then-branch-clause-filled : goal.returns-then-branch-clause-filled
 returns-then-branch-clause-filled g c told =
-    subst (λ (f : Files). IsFilled c.args.place c.args.id c.args.value.now (f Objects)) (sym (c.is_filled.ensures.kept.reads told)) (c.in_ok-is_filled.ensures.filled told c.if-branch.true)
+    subst (λ (f : Files). IsFilled c.args.place c.args.lsn c.args.value.now (f Objects)) (sym (c.is_filled.ensures.kept.reads told)) (c.in_ok-is_filled.ensures.filled told c.if-branch.true)
 
 pub returns-in_err-write_slot-clause-runs : goal.returns-in_err-write_slot-clause-runs
 returns-in_err-write_slot-clause-runs g c = look_first (Torn (c.args.place + 1) (12 + length c.args.value.now)) (torn_none _ _) _ _ _ c.is_filled.ensures.kept c.write_slot.ensures.runs
@@ -35,7 +35,7 @@ pub returns-clause-filled : goal.returns-clause-filled
 returns-clause-filled g c told =
     let told_first = c.is_filled.ensures.kept.time.files_told.0 told in
     let same = c.sync.ensures.kept.reads (c.write_slot.ensures.runs.time.files_told.0 told_first) in
-    subst (λ (f : Files). IsFilled c.args.place c.args.id c.args.value.now (f Objects)) (sym same) (c.in_ok-write_slot.ensures.filled told_first)
+    subst (λ (f : Files). IsFilled c.args.place c.args.lsn c.args.value.now (f Objects)) (sym same) (c.in_ok-write_slot.ensures.filled told_first)
 
 pub returns-clause-settled : goal.returns-clause-settled
 returns-clause-settled g c settled =

@@ -7,8 +7,8 @@ use Rattle.stable_objects.proofs.Outside.{filled_by}
 use Rattle.stable_objects.proofs.Put.{head_run, fill_run}
 use Rattle.stable_objects.proofs.replacing.write_slot.Goals as goal
 
-head_long : (head : List ℕ) (id n : ℕ) → head ≡ little_bytes 8 id ++ little_bytes 4 n → length head ≡ 12
-head_long head id n is = omega (arith, ap length is, length-append (little_bytes 8 id) (little_bytes 4 n), length-little_bytes 8 id, length-little_bytes 4 n)
+head_long : (head : List ℕ) (lsn n : ℕ) → head ≡ little_bytes 8 lsn ++ little_bytes 4 n → length head ≡ 12
+head_long head lsn n is = omega (arith, ap length is, length-append (little_bytes 8 lsn) (little_bytes 4 n), length-little_bytes 8 lsn, length-little_bytes 4 n)
 
 pub returns-in_err-write_at-clause-runs : goal.returns-in_err-write_at-clause-runs
 returns-in_err-write_at-clause-runs g c = head_run _ _ c.args.place c.head_of.result c.args.value.now (head_long _ _ _ c.head_of.ensures) c.write_at.ensures.runs
@@ -26,5 +26,5 @@ returns-clause-filled g c told =
     let new = g.M.Machine.disk c.write_at-2.new.self in
     let told_mid = c.write_at.ensures.runs.time.files_told.0 told in
     let first = subst (λ (b : List ℕ). HoldsAt (c.args.place + 1) b (old.reads Objects) (mid.reads Objects)) c.head_of.ensures (c.in_ok-write_at.ensures.written told).changed in
-    filled_by c.args.place c.args.id c.args.value.now (old.reads Objects) (mid.reads Objects) (new.reads Objects)
-    (omega (arith, c.ranges.id.fits)) (omega (arith, c.requires.short)) first (c.in_ok-write_at-2.ensures.written told_mid).changed
+    filled_by c.args.place c.args.lsn c.args.value.now (old.reads Objects) (mid.reads Objects) (new.reads Objects)
+    (omega (arith, c.ranges.lsn.fits)) (omega (arith, c.requires.short)) first (c.in_ok-write_at-2.ensures.written told_mid).changed

@@ -1,4 +1,4 @@
-use Rattle.log_frames.specs.Payloads.{ahead}
+use Rattle.log_blocks.specs.Payloads.{ahead}
 use Rattle.standby_words.proofs.ShippingLemmas.{IsShipping}
 use Rattle.standby_words.proofs.shipping.say_frames.Given as goal
 

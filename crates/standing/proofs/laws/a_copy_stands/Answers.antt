@@ -15,7 +15,7 @@ returns g c = λ p files w copied cells tables sound has which holds.
       installed = installed_in_copy m w copied cells;
       stable = elim which [
         | inl none ↦ subst (λ (l : List Starts). IsStableOf m (copy_of w copied cells l) (take w.forced w.history) (installed_in_copy m w copied cells)) (sym none) (c.copy_stands.ensures.stands (bounds_of p) w copied cells sound has)
-        | inr one ↦ subst (λ (l : List Starts). IsStableOf m (copy_of w copied cells l) (take w.forced w.history) (installed_in_copy m w copied cells)) (sym one) (c.copy_stands.ensures.with_check (bounds_of p) w copied cells sound has)
+        | inr one ↦ subst (λ (l : List Starts). IsStableOf m (copy_of w copied cells l) (take w.forced w.history) (installed_in_copy m w copied cells)) (sym one) (c.copy_stands.ensures.with_checkpoint (bounds_of p) w copied cells sound has)
       ];
       commands_are = refl;
     }

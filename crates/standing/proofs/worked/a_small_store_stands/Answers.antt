@@ -1,7 +1,7 @@
 use Rattle.std.proofs.Common.{refl}
 use Rattle.explain_core.specs.World.{step, run}
 use Rattle.formats.specs.Objects.{bounds_of, form_in}
-use Rattle.standing.specs.Worked.{small, small_steps, after_steps, right_check, files_with}
+use Rattle.standing.specs.Worked.{small, small_steps, after_steps, right_checkpoint, files_with}
 use Rattle.standing.proofs.WorkedStore.{small_bounds, AllSound, small-allowed, small_shown}
 use Rattle.standing.proofs.worked.a_small_store_stands.Goals as goal
 
@@ -15,5 +15,5 @@ returns c =
       sound = sound small_steps may;
       cells = (refl, refl);
       shows = small_shown;
-      stands = c.image_stands.ensures small (files_with right_check) (after_steps small_steps) (sound small_steps may) small_shown;
+      stands = c.image_stands.ensures small (files_with right_checkpoint) (after_steps small_steps) (sound small_steps may) small_shown;
     }

@@ -11,7 +11,7 @@ pub returns-then-not-has_room-clause-images : goal.returns-then-not-has_room-cla
 returns-then-not-has_room-clause-images g c = λ told p commands holds accepted. c.in_default.ensures.images told p commands holds
 
 pub returns-then-not-has_room-clause-left : goal.returns-then-not-has_room-clause-left
-returns-then-not-has_room-clause-left g c = λ p commands holds accepted bytes numbers.
+returns-then-not-has_room-clause-left g c = λ p commands holds accepted bytes lsns.
     let disk = g.M.Machine.disk in
     let begun = c.in_default.ensures.begun p commands holds in
     full_left g.O.Oper.meaning p (disk c.args.machine.now) (disk c.begin.new.machine) c.args.engine.now c.begin.new.engine commands c.args.ops.now.items begun c.close.new.engine c.close.ensures.kept
@@ -20,13 +20,13 @@ returns-then-not-has_room-clause-left g c = λ p commands holds accepted bytes n
     (c.has_room.ensures.seen (room_of g.O.Oper.meaning p (disk c.args.machine.now) (disk c.begin.new.machine) c.args.engine.now c.begin.new.engine commands c.args.ops.now.items begun c.args.bytes bytes c.begin.ensures.params room)))
 
 pub returns-in-Err-run_all-clause-left : goal.returns-in-Err-run_all-clause-left
-returns-in-Err-run_all-clause-left g c = λ p commands holds accepted bytes numbers.
+returns-in-Err-run_all-clause-left g c = λ p commands holds accepted bytes lsns.
     let disk = g.M.Machine.disk in
     let begun = c.in_default.ensures.begun p commands holds in
     let adds = c.in-Err-run_all.ensures.adds p commands begun.holds accepted in
     let room = room_for g.O.Oper.meaning p (disk c.args.machine.now) (disk c.begin.new.machine) c.args.engine.now c.begin.new.engine commands c.args.ops.now.items begun c.args.bytes bytes c.begin.ensures.params
     (c.has_room.ensures.roomy (is_true c.has_room.result c.if-not-has_room.false)) in (
-      cut_off g.O.Oper.meaning p (disk c.args.machine.now) (disk c.begin.new.machine) c.args.engine.now c.begin.new.engine commands c.args.ops.now.items begun (disk c.run_all.new.machine) c.run_all.new.engine room numbers
+      cut_off g.O.Oper.meaning p (disk c.args.machine.now) (disk c.begin.new.machine) c.args.engine.now c.begin.new.engine commands c.args.ops.now.items begun (disk c.run_all.new.machine) c.run_all.new.engine room lsns
           c.in-Err-run_all.e (c.in-Err-run_all.ensures.unrefused p commands begun.holds accepted) adds,
       cut_left g.O.Oper.meaning p (disk c.args.machine.now) (disk c.begin.new.machine) c.args.engine.now c.begin.new.engine commands c.args.ops.now.items begun (disk c.run_all.new.machine) c.run_all.new.engine (ending_of (Some c.in-Err-run_all.e)) adds,
     )
@@ -39,7 +39,7 @@ returns-in-Err-run_all-clause-images g c = λ told p commands holds accepted.
     (c.in-Err-run_all.ensures.adds p commands begun.holds accepted) told c.begin.ensures.time (c.in_default.ensures.images told p commands holds)
 
 pub returns-clause-left : goal.returns-clause-left
-returns-clause-left g c = λ p commands holds accepted bytes numbers.
+returns-clause-left g c = λ p commands holds accepted bytes lsns.
     let disk = g.M.Machine.disk in
     let begun = c.in_default.ensures.begun p commands holds in
     all_left g.O.Oper.meaning p (disk c.args.machine.now) (disk c.begin.new.machine) c.args.engine.now c.begin.new.engine commands c.args.ops.now.items begun (disk c.run_all.new.machine) c.run_all.new.engine c.close-2.new.engine

@@ -4,7 +4,7 @@ use Rattle.write_graph.proofs.laws.slots_name_nodes.Goals as goal
 pub returns-clause-slots : goal.returns-clause-slots
 returns-clause-slots c = λ entries g n node are is. slot-is record {
   tells = c.representatives_tell_nodes.ensures;
-  numbers = c.nodes_stand_for_nodes.ensures.numbers;
+  lsns = c.nodes_stand_for_nodes.ensures.lsns;
   places = c.nodes_stand_for_nodes.ensures.places;
   name = c.nodes_stand_for_nodes.ensures.name;
   free = c.nodes_stand_for_nodes.ensures.free;
@@ -14,7 +14,7 @@ returns-clause-slots c = λ entries g n node are is. slot-is record {
 pub returns-clause-names : goal.returns-clause-names
 returns-clause-names c = λ entries g i are is. name-is record {
   tells = c.representatives_tell_nodes.ensures;
-  numbers = c.nodes_stand_for_nodes.ensures.numbers;
+  lsns = c.nodes_stand_for_nodes.ensures.lsns;
   places = c.nodes_stand_for_nodes.ensures.places;
   name = c.nodes_stand_for_nodes.ensures.name;
   free = c.nodes_stand_for_nodes.ensures.free;

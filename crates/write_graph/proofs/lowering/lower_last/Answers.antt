@@ -1,18 +1,18 @@
 use Rattle.std.proofs.Common.{subst, ℕ, List, ◌<◌, ◌≤◌, length, arith}
 use Rattle.std.specs.Prelude.{slice_index}
 use Rattle.install_order.specs.declared.entry.Entry.{Entry}
-use Rattle.write_graph.specs.Graph.{numbers}
+use Rattle.write_graph.specs.Graph.{lsns}
 use Rattle.write_graph.proofs.Lowered.{lowering-none, lowering-on, lowering-all}
 use Rattle.write_graph.proofs.lowering.lower_last.Goals as goal
 
 pub loop-slot-init : goal.loop-slot-init
-loop-slot-init c = lowering-none c.args.n c.slot_after-from.result c.args.entries.now.items (subst (λ (es : List Entry). (i : ℕ) → i < c.slot_after-from.result → slice_index (numbers es) i ≤ c.args.n) c.as_slice.ensures.value c.slot_after-from.ensures.before)
+loop-slot-init c = lowering-none c.args.n c.slot_after-from.result c.args.entries.now.items (subst (λ (es : List Entry). (i : ℕ) → i < c.slot_after-from.result → slice_index (lsns es) i ≤ c.args.n) c.as_slice.ensures.value c.slot_after-from.ensures.before)
 
 pub loop-slot-preserved : goal.loop-slot-preserved
 loop-slot-preserved c =
     let old = c.args.entries.now.items in
     let low : c.loop-slot.slot < length old = omega (arith, c.loop-slot-test.true, c.len-slot-end.ensures, c.args.entries.now.ok.0) in
-    let after = subst (λ (es : List Entry). (i : ℕ) → c.slot_after-from.result ≤ i → i < length es → c.args.n < slice_index (numbers es) i) c.as_slice.ensures.value c.slot_after-from.ensures.after in
+    let after = subst (λ (es : List Entry). (i : ℕ) → c.slot_after-from.result ≤ i → i < length es → c.args.n < slice_index (lsns es) i) c.as_slice.ensures.value c.slot_after-from.ensures.after in
     lowering-on c.args.n c.loop-slot.slot old c.loop-slot.entries.items c.index_mut.result.now c.loop-slot.invariant low (after c.loop-slot.slot c.loop-slot.auto.slot low) c.index_mut.ensures.value
 
 pub returns-clause-lowered : goal.returns-clause-lowered

@@ -6,8 +6,8 @@ use Rattle.install_order.specs.declared.entry.Entry.{Entry}
 use Rattle.write_graph.proofs.Begins.{parted-after, after-before, after-after}
 use Rattle.write_graph.proofs.places.slot_after.Goals as goal
 
-point : (c : goal.After-partition_point) → IsPartitionPoint (λ (e : Entry). nat_le e.number c.args.n ≡ true) (λ (e : Entry). nat_le e.number c.args.n ≡ false) c.args.entries.now c.partition_point.result
-point c = IsPartitionPoint-from_clause (λ (e : Entry). nat_le e.number c.args.n) c.args.entries.now c.partition_point.result c.partition_point.ensures.partitioned (parted-after c.args.entries.now c.args.n c.requires.rising) (λ a r f' k. search rules)
+point : (c : goal.After-partition_point) → IsPartitionPoint (λ (e : Entry). nat_le e.lsn c.args.n ≡ true) (λ (e : Entry). nat_le e.lsn c.args.n ≡ false) c.args.entries.now c.partition_point.result
+point c = IsPartitionPoint-from_clause (λ (e : Entry). nat_le e.lsn c.args.n) c.args.entries.now c.partition_point.result c.partition_point.ensures.partitioned (parted-after c.args.entries.now c.args.n c.requires.rising) (λ a r f' k. search rules)
 
 pub returns-then-none_is_after-clause-before : goal.returns-then-none_is_after-clause-before
 returns-then-none_is_after-clause-before c i lt = c.none_is_after.ensures c.if-none_is_after.true i lt

@@ -2,9 +2,9 @@ use Rattle.std.proofs.Common.{◌≡◌, ◌∙◌, ap, sym, subst, ℕ, suc, �
 use Rattle.std.specs.Prelude.{slice_index}
 use Rattle.install_order.specs.declared.entry.Entry.{Entry}
 use Rattle.graph_nodes.specs.Arcs.{held_at}
-use Rattle.write_graph.specs.Graph.{Graph, numbers}
+use Rattle.write_graph.specs.Graph.{Graph, lsns}
 use Rattle.write_graph.specs.Cells.{held_entries}
-use Rattle.write_graph.proofs.Held.{number-at, length-numbers}
+use Rattle.write_graph.proofs.Held.{lsn-at, length-lsns}
 use Rattle.write_graph.proofs.Renewed.{chosen-next, chosen-past, chosen-below}
 use Rattle.write_graph.proofs.renewing.add_held.Goals.{then-is_held+in_ok-add_copy, else-is_held}
 use Rattle.write_graph.proofs.renewing.add_held.Goals as goal
@@ -15,9 +15,9 @@ add_copy-requires c =
     let slot = c.loop-slot.slot in
     let e = c.index-entries-slot.result in
     let lt : slot < length entries = omega (arith, c.loop-slot-test.true) in
-    let at : slice_index (numbers entries) slot ≡ e.number = number-at entries slot e lt ∙ ap (λ (f : Entry). f.number) (sym c.index-entries-slot.is) in
-    let below = chosen-below (held_at c.args.slots.now.held) entries slot e.number (λ j there low end. omega (arith, at, c.requires.climbing.above_held j slot there low (omega (arith, lt, length-numbers entries)))) in
-    record { above = subst (λ (es : List Entry). All (λ n. n < e.number) (numbers es)) (sym c.loop-slot.invariant) below }
+    let at : slice_index (lsns entries) slot ≡ e.lsn = lsn-at entries slot e lt ∙ ap (λ (f : Entry). f.lsn) (sym c.index-entries-slot.is) in
+    let below = chosen-below (held_at c.args.slots.now.held) entries slot e.lsn (λ j there low end. omega (arith, at, c.requires.climbing.above_held j slot there low (omega (arith, lt, length-lsns entries)))) in
+    record { above = subst (λ (es : List Entry). All (λ n. n < e.lsn) (lsns es)) (sym c.loop-slot.invariant) below }
 
 pub loop-slot-preserved : goal.loop-slot-preserved
 loop-slot-preserved c =

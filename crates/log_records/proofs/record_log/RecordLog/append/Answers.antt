@@ -1,7 +1,7 @@
 use Rattle.std.proofs.Common.{◌∙◌, ◌+◌, ◌++◌, ℕ, List, ap, refl, subst, sym, arith}
 use Rattle.formats.specs.Log.{Header}
 use Rattle.formats.specs.Records.{record_code, IsPlaced}
-use Rattle.log_frames.specs.LogView.{LogView}
+use Rattle.log_blocks.specs.LogView.{LogView}
 use Rattle.log_records.specs.RecordLog.{RecordLogView, IsCounted}
 use Rattle.log_records.proofs.Appended.{pushed, appended, next_within}
 use Rattle.log_records.proofs.record_log.RecordLog.append.Goals as goal

@@ -4,8 +4,8 @@ use Rattle.std.specs.Option.{option_to_list}
 use Rattle.std.proofs.lemmas.Result.{err_from_is_err_and}
 use Rattle.disk_model.specs.Disk.{In, Rises, Runs, Same}
 use Rattle.disk_model.specs.declared.machine.FileNo.{FileNo}
-use Rattle.log_frames.specs.RewriteLaws.{keeps_twice}
-use Rattle.log_frames.specs.Rewriting.{KeepsClosed}
+use Rattle.log_blocks.specs.RewriteLaws.{keeps_twice}
+use Rattle.log_blocks.specs.Rewriting.{KeepsClosed}
 use Rattle.log_records.specs.CodecLaws.{has_codes}
 use Rattle.log_records.specs.Copying.{HasCopied, HasFilled}
 use Rattle.log_records.specs.Laying.{codes_of}

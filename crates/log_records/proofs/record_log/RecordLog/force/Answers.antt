@@ -1,5 +1,5 @@
 use Rattle.std.proofs.Common.{refl, ap}
-use Rattle.log_frames.specs.LogView.{LogView}
+use Rattle.log_blocks.specs.LogView.{LogView}
 use Rattle.log_records.specs.RecordLaws.{force_moments, force_acknowledged}
 use Rattle.log_records.proofs.record_log.RecordLog.force.Goals as goal
 

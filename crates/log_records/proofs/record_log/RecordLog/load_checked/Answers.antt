@@ -2,13 +2,13 @@ use Rattle.std.proofs.Common.{◌∙◌, ◌+◌, ◌-◌, ◌^◌, ℕ, List, r
 use Rattle.std.proofs.lemmas.Result.{err_from_is_err_and}
 use Rattle.disk_model.specs.Moments.{agreed_before, told_agrees, stays_twice}
 use Rattle.oper_core.specs.Meaning.{IsSmall}
-use Rattle.formats.specs.Records.{last_check}
+use Rattle.formats.specs.Records.{last_checkpoint}
 use Rattle.formats.specs.declared.record.Record.{Record}
-use Rattle.log_frames.specs.Laws.{no_first_log_fault}
-use Rattle.log_frames.specs.Reading.{fails_on, none_told}
+use Rattle.log_blocks.specs.Laws.{no_first_log_fault}
+use Rattle.log_blocks.specs.Reading.{fails_on, none_told}
 use Rattle.log_records.specs.Loading.{in_blocks}
 use Rattle.log_records.specs.CodecLaws.{has_codes}
-use Rattle.log_records.specs.RecordLaws.{next_rises, numbers_end}
+use Rattle.log_records.specs.RecordLaws.{next_rises, lsn_end}
 use Rattle.log_records.specs.Uniqueness.{log_of}
 use Rattle.log_records.proofs.LoadLemmas.{no_load_fault, record_fails, is_held, is_loaded, rises_before}
 use Rattle.log_records.proofs.record_log.RecordLog.load_checked.Goals as goal
@@ -65,7 +65,7 @@ returns-clause-read g c told =
     let groups = counted.1.read old.reads (told_agrees kept told) read.0 read.1.log in
     let loaded = is_loaded (g.O.Oper.meaning c.args.b) c.args.b old new _ read.0 counted.0 c.in_ok-counted.counted.commands told kept read.1 read.2 read.3 refl groups counted.1.placed counted.2.next counted.2.commands
     (c.saturating_add-accepted.ensures ∙ ap (λ (n : ℕ). min (n + c.in_ok-counted.counted.commands) (2 ^ 64 - 1)) c.commands.ensures) refl in
-    (loaded.0, counted.2.last ∙ ap (λ (l : List (Record g.row.O.Denot)). last_check l) loaded.1)
+    (loaded.0, counted.2.last ∙ ap (λ (l : List (Record g.row.O.Denot)). last_checkpoint l) loaded.1)
 
 pub returns-clause-held : goal.returns-clause-held
 returns-clause-held g c files agree =
@@ -88,7 +88,7 @@ returns-clause-next g c =
     let header = c.in_ok-log.ensures.header in
     let counted = c.in_ok-counted.ensures.counted in (
       omega (arith, header.base_low, counted.2.next, next_rises m base counted.0),
-      omega (arith, counted.2.next, numbers_end m base base counted.0 header.base_high counted.1.placed),
+      omega (arith, counted.2.next, lsn_end m base base counted.0 header.base_high counted.1.placed),
     )
 
 pub invariant_of-log : goal.invariant_of-log
@@ -102,6 +102,6 @@ invariant_of-log g c =
       small = record { objects = omega arith; cap = omega arith };
       in_range = header;
       base = omega (arith, counted.2.next, rises);
-      last = omega (arith, counted.2.next, numbers_end m base base counted.0 header.base_high counted.1.placed);
+      last = omega (arith, counted.2.next, lsn_end m base base counted.0 header.base_high counted.1.placed);
       count = omega (arith, c.saturating_add-accepted.ensures, c.commands.ensures, counted.2.commands, counted.2.next, rises, header.commands);
     }

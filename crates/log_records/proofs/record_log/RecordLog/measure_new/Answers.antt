@@ -4,17 +4,17 @@ use Rattle.disk_model.specs.Disk.{Rises}
 use Rattle.disk_model.specs.Moments.{told_agrees}
 use Rattle.formats.specs.Log.{IsHeader}
 use Rattle.formats.specs.Reading.{FailsBy}
-use Rattle.formats.specs.declared.record.Record.TheVariants.{Check}
-use Rattle.log_frames.specs.Reading.{none_told}
+use Rattle.formats.specs.declared.record.Record.TheVariants.{Checkpoint}
+use Rattle.log_blocks.specs.Reading.{none_told}
 use Rattle.log_records.specs.CodecLaws.{has_codes}
 use Rattle.log_records.specs.Loading.{IsTailFault}
 use Rattle.log_records.specs.Measured.{IsMeasured}
 use Rattle.log_records.specs.RecordLog.{RecordLogView, Keeps}
 use Rattle.log_records.specs.RecordReader.{AreAll}
-use Rattle.log_records.specs.Rewriting.{numbered_from, rewritten_records}
+use Rattle.log_records.specs.Rewriting.{from_lsn, rewritten_records}
 use Rattle.log_records.proofs.Laid.{room_bound}
 use Rattle.log_records.proofs.LoadLemmas.{no_tail_fault}
-use Rattle.log_records.proofs.Measures.{check_long, lengths_found}
+use Rattle.log_records.proofs.Measures.{checkpoint_long, lengths_found}
 use Rattle.log_records.proofs.Rewrites.{new_commands, new_short}
 use Rattle.log_records.proofs.record_log.RecordLog.measure_new.Goals as goal
 
@@ -39,17 +39,17 @@ returns-in_err-it-clause-cause g c =
     let p = err_from_is_err_and c.from_residual.result c.from_residual.ensures.1 in
     rw (p.1, p.2) (subst (λ (v : RecordLogView). FailsBy (Rises old.disk_faults new.disk_faults) (IsTailFault (g.O.Oper.meaning v.bounds) new v.log) c.in_err-it.field-0.0) c.self.view_is c.in_err-it.ensures.cause)
 
-pub check_length-requires : goal.check_length-requires
-check_length-requires g c =
+pub checkpoint_length-requires : goal.checkpoint_length-requires
+checkpoint_length-requires g c =
     let m = g.O.Oper.meaning c.args.self.now.bounds in
     let table = c.args.table.now in
-    omega (arith, check_long m (Check table) table table.starts refl refl, c.requires.short)
+    omega (arith, checkpoint_long m (Checkpoint table) table table.starts refl refl, c.requires.short)
 
 pub count_record-requires-clause-short : goal.count_record-requires-clause-short
 count_record-requires-clause-short g c =
     let m = g.O.Oper.meaning c.args.self.now.bounds in
     let table = c.args.table.now in
-    omega (arith, check_long m (Check table) table table.starts refl refl, c.requires.short, c.check_length.ensures)
+    omega (arith, checkpoint_long m (Checkpoint table) table table.starts refl refl, c.requires.short, c.checkpoint_length.ensures)
 
 pub count_record-requires-clause-filled : goal.count_record-requires-clause-filled
 count_record-requires-clause-filled g c = c.in_ok-it.ensures.measured.2.short
@@ -80,7 +80,7 @@ returns-clause-planned g c =
       all = all;
       commands = λ i. (c.commands.ensures ∙ ap (λ (v : RecordLogView). v.log.header.commands) c.self.view_is) i + is.before i;
       lengths = c.in_ok-push.ensures.items
-          ∙ lengths_found m c.args.base table measured.0 c.in_ok-it.it c.check_length.result c.count_record.new.filled c.count_record.new.found.items is (c.check_length.ensures ∙ sym (check_long m (Check table) table table.starts refl refl)) c.in_ok-count_record.ensures.counted;
+          ∙ lengths_found m c.args.base table measured.0 c.in_ok-it.it c.checkpoint_length.result c.count_record.new.filled c.count_record.new.found.items is (c.checkpoint_length.ensures ∙ sym (checkpoint_long m (Checkpoint table) table table.starts refl refl)) c.in_ok-count_record.ensures.counted;
       short = new_short m c.args.base table measured.0 all.short c.requires.short;
     }
 
@@ -94,6 +94,6 @@ returns-clause-fits g c =
     let all = subst (λ (v : RecordLogView). AreAll (g.O.Oper.meaning v.bounds) new v.log measured.0) c.self.view_is measured.1 in
     let is = subst (λ (v : RecordLogView). IsMeasured (g.O.Oper.meaning v.bounds) c.args.base measured.0 c.in_ok-it.it) c.self.view_is measured.2 in
     let lengths = c.in_ok-push.ensures.items
-    ∙ lengths_found m c.args.base table measured.0 c.in_ok-it.it c.check_length.result c.count_record.new.filled c.count_record.new.found.items is (c.check_length.ensures ∙ sym (check_long m (Check table) table table.starts refl refl)) c.in_ok-count_record.ensures.counted in
-    room_bound m (rewritten_records c.args.base table measured.0) (omega (arith, length-append (numbered_from c.args.base measured.0) (Check table ∷ []))) (new_short m c.args.base table measured.0 all.short c.requires.short) c.push.new.self.items lengths
+    ∙ lengths_found m c.args.base table measured.0 c.in_ok-it.it c.checkpoint_length.result c.count_record.new.filled c.count_record.new.found.items is (c.checkpoint_length.ensures ∙ sym (checkpoint_long m (Checkpoint table) table table.starts refl refl)) c.in_ok-count_record.ensures.counted in
+    room_bound m (rewritten_records c.args.base table measured.0) (omega (arith, length-append (from_lsn c.args.base measured.0) (Checkpoint table ∷ []))) (new_short m c.args.base table measured.0 all.short c.requires.short) c.push.new.self.items lengths
     (omega (arith, c.if-len-gt-MAX_BLOCKS.false))

@@ -4,7 +4,7 @@ use Rattle.disk_model.specs.Disk.{Rises}
 use Rattle.disk_model.specs.Moments.{told_agrees}
 use Rattle.oper_core.specs.Meaning.{IsSmall}
 use Rattle.formats.specs.InForce.{other_of}
-use Rattle.log_frames.specs.LogView.{used_of}
+use Rattle.log_blocks.specs.LogView.{used_of}
 use Rattle.log_records.specs.CodecLaws.{has_codes}
 use Rattle.log_records.specs.Laying.{room_of}
 use Rattle.log_records.specs.Loading.{IsTailFault}
@@ -28,7 +28,7 @@ returns-in_err-new-clause-cause g c =
     let m = g.O.Oper.meaning now.bounds in
     let p = err_from_is_err_and c.from_residual.result c.from_residual.ensures.1 in
     rw (p.1, p.2) (read_fails (Rises old.disk_faults new.disk_faults) (IsTailFault m new now.log) (IsNewLength m old now c.args.base c.args.table.now) now.log c.in_err-new.field-0.0
-    (omega (arith, c.if-epoch-ge-NUMBERS_END.false, ap (λ (v : RecordLogView). v.log.header.epoch) c.self.view_is)) c.in_err-new.ensures.cause)
+    (omega (arith, c.if-epoch-ge-LSN_END.false, ap (λ (v : RecordLogView). v.log.header.epoch) c.self.view_is)) c.in_err-new.ensures.cause)
 
 pub returns-then-need-gt-MAX_LOG-clause-cause : goal.returns-then-need-gt-MAX_LOG-clause-cause
 returns-then-need-gt-MAX_LOG-clause-cause g c = (
@@ -45,13 +45,13 @@ returns-then-need-gt-MAX_LOG-clause-cause g c = (
       omega (arith, plan.end, c.file_length-need.ensures, ap room_of c.deref.ensures.value),
   refl,
   c.if-need-gt-MAX_LOG.true,
-  omega (arith, c.if-epoch-ge-NUMBERS_END.false, ap (λ (v : RecordLogView). v.log.header.epoch) c.self.view_is),
+  omega (arith, c.if-epoch-ge-LSN_END.false, ap (λ (v : RecordLogView). v.log.header.epoch) c.self.view_is),
 )
 
 pub returns-in_err-out-clause-cause : goal.returns-in_err-out-clause-cause
 returns-in_err-out-clause-cause g c =
     let p = err_from_is_err_and c.from_residual-in_err-out.result c.from_residual-in_err-out.ensures.1 in
-    rw (p.1, p.2) (omega (arith, c.if-epoch-ge-NUMBERS_END.false, ap (λ (v : RecordLogView). v.log.header.epoch) c.self.view_is))
+    rw (p.1, p.2) (omega (arith, c.if-epoch-ge-LSN_END.false, ap (λ (v : RecordLogView). v.log.header.epoch) c.self.view_is))
 
 pub returns-in_err-out-clause-undamaged : goal.returns-in_err-out-clause-undamaged
 returns-in_err-out-clause-undamaged g c told stable keeps =
@@ -65,7 +65,7 @@ pub returns-clause-may : goal.returns-clause-may
 returns-clause-may g c = record {
   may = c.requires;
   planned = c.in_ok-new.ensures.planned;
-  epoch = omega (arith, c.if-epoch-ge-NUMBERS_END.false, ap (λ (v : RecordLogView). v.log.header.epoch) c.self.view_is);
+  epoch = omega (arith, c.if-epoch-ge-LSN_END.false, ap (λ (v : RecordLogView). v.log.header.epoch) c.self.view_is);
   within = omega (arith, c.file_length-need.ensures, c.if-need-gt-MAX_LOG.false, ap room_of c.deref.ensures.value);
   out_is = c.in_ok-out.ensures.made ∙ ap (λ (v : RecordLogView). new_writer v.log) c.self.view_is;
   apart = subst (λ (v : RecordLogView). v.log.active ≢ other_of v.log.active) c.self.view_is c.writer.ensures.apart;

@@ -7,9 +7,9 @@ use Rattle.disk_model.specs.declared.machine.FileNo.TheVariants.{LogB}
 use Rattle.oper_core.specs.Meaning.{IsSmall}
 use Rattle.formats.specs.Log.{IsClosedLog, IsHeader}
 use Rattle.formats.specs.Records.{IsRecordLog, payload_of, records_of}
-use Rattle.log_frames.specs.RewriteLaws.{keeps_twice}
-use Rattle.log_frames.specs.Rewriting.{IsPrepared, KeepsClosed, second_header}
-use Rattle.log_frames.specs.Writing.{HasPutLog, LogWriterView}
+use Rattle.log_blocks.specs.RewriteLaws.{keeps_twice}
+use Rattle.log_blocks.specs.Rewriting.{IsPrepared, KeepsClosed, second_header}
+use Rattle.log_blocks.specs.Writing.{HasPutLog, LogWriterView}
 use Rattle.log_records.specs.CodecLaws.{has_codes}
 use Rattle.log_records.specs.LogCopy.{copied_groups}
 use Rattle.log_records.specs.RecordLog.{RecordLogView}

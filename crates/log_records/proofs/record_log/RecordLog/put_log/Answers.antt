@@ -4,13 +4,13 @@ use Rattle.disk_model.specs.Disk.{In, IsSettledIn, Runs, Same}
 use Rattle.disk_model.specs.declared.machine.FileNo.{FileNo}
 use Rattle.oper_core.specs.Meaning.{IsSmall}
 use Rattle.formats.specs.Records.{IsRecordLog, payload_of, records_of}
-use Rattle.log_frames.specs.Reading.{fails_on}
-use Rattle.log_frames.specs.RewriteLaws.{keeps_twice}
-use Rattle.log_frames.specs.Rewriting.{IsPrepared, KeepsClosed, next_header}
-use Rattle.log_frames.specs.Writing.{HasPutLog}
+use Rattle.log_blocks.specs.Reading.{fails_on}
+use Rattle.log_blocks.specs.RewriteLaws.{keeps_twice}
+use Rattle.log_blocks.specs.Rewriting.{IsPrepared, KeepsClosed, next_header}
+use Rattle.log_blocks.specs.Writing.{HasPutLog}
 use Rattle.log_records.specs.CodecLaws.{has_codes}
 use Rattle.log_records.specs.RecordLog.{RecordLogView}
-use Rattle.log_records.specs.Rewriting.{in_full_blocks, numbered_from}
+use Rattle.log_records.specs.Rewriting.{in_full_blocks, from_lsn}
 use Rattle.log_records.proofs.Copies.{planned_beside, put_log, rises_since, some_with}
 use Rattle.log_records.proofs.record_log.RecordLog.put_log.Goals as goal
 
@@ -22,7 +22,7 @@ copy-requires-clause-apart g c = subst (λ (f : FileNo). c.args.self.now.log.act
 
 pub copy-requires-clause-planned : goal.copy-requires-clause-planned
 copy-requires-clause-planned g c =
-    planned_beside (g.O.Oper.meaning c.args.self.now.bounds) (g.M.Machine.disk c.args.m.now) (g.M.Machine.disk c.begin_log.new.machine) c.args.out.now.file c.args.self.now.log c.args.base (c.args.check.now ∷ []) c.args.new c.requires.apart c.begin_log.ensures.runs c.requires.planned
+    planned_beside (g.O.Oper.meaning c.args.self.now.bounds) (g.M.Machine.disk c.args.m.now) (g.M.Machine.disk c.begin_log.new.machine) c.args.out.now.file c.args.self.now.log c.args.base (c.args.checkpoint.now ∷ []) c.args.new c.requires.apart c.begin_log.ensures.runs c.requires.planned
 
 pub copy-requires-clause-fits : goal.copy-requires-clause-fits
 copy-requires-clause-fits g c = omega (arith, c.in_ok-begin_log.ensures.end, c.requires.fits)
@@ -92,12 +92,12 @@ returns-clause-prepared g c told closed groups holds =
     let told_two = run.time.files_told.0 told in
     let holds_two = subst (λ (f : List ℕ). IsRecordLog m now.log.header groups f) (sym ((run.reads told).others now.log.active c.requires.apart)) holds in
     let begun = subst (λ (v : RecordLogView). HasPutLog one c.begin_log.new.writer (next_header v.log c.args.base c.args.new.commands) []) c.self.view_is (c.in_ok-begin_log.ensures.begun told closed) in
-    let planned = planned_beside m old two file now.log c.args.base (c.args.check.now ∷ []) c.args.new c.requires.apart run c.requires.planned in
+    let planned = planned_beside m old two file now.log c.args.base (c.args.checkpoint.now ∷ []) c.args.new c.requires.apart run c.requires.planned in
     let header = next_header now.log c.args.base c.args.new.commands in
-    let payloads = map (payload_of m) (in_full_blocks m (numbered_from c.args.base (records_of groups) ++ c.args.check.now ∷ [])) in
+    let payloads = map (payload_of m) (in_full_blocks m (from_lsn c.args.base (records_of groups) ++ c.args.checkpoint.now ∷ [])) in
     subst (λ (f : FileNo). IsPrepared header payloads (fin.reads f)) same
     (c.in_ok-finish.ensures.prepared told_two header payloads
-    (put_log m codes two one two now.log c.args.base (c.args.check.now ∷ []) c.args.new c.begin_log.new.writer c.copy.new.out header groups told_one (run.ends.agreeing told_two) holds_two planned (some_with m (numbered_from c.args.base planned.records) c.args.check.now) begun
+    (put_log m codes two one two now.log c.args.base (c.args.checkpoint.now ∷ []) c.args.new c.begin_log.new.writer c.copy.new.out header groups told_one (run.ends.agreeing told_two) holds_two planned (some_with m (from_lsn c.args.base planned.records) c.args.checkpoint.now) begun
     c.in_ok-copy.ensures.copied))
 
 pub returns-clause-settled : goal.returns-clause-settled

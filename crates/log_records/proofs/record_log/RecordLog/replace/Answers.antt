@@ -6,14 +6,14 @@ use Rattle.oper_core.specs.Meaning.{IsSmall}
 use Rattle.formats.specs.InForce.{other_of}
 use Rattle.formats.specs.Log.{IsClosedLog}
 use Rattle.formats.specs.Records.{IsRecordLog, payload_of, records_of}
-use Rattle.formats.specs.declared.record.Record.TheVariants.{Check}
-use Rattle.log_frames.specs.LogView.{LogView}
-use Rattle.log_frames.specs.Reading.{fails_on, none_told}
-use Rattle.log_frames.specs.Rewriting.{IsPrepared, KeepsClosed, next_header}
-use Rattle.log_frames.specs.Writing.{LogWriterView, rewritten_to}
+use Rattle.formats.specs.declared.record.Record.TheVariants.{Checkpoint}
+use Rattle.log_blocks.specs.LogView.{LogView}
+use Rattle.log_blocks.specs.Reading.{fails_on, none_told}
+use Rattle.log_blocks.specs.Rewriting.{IsPrepared, KeepsClosed, next_header}
+use Rattle.log_blocks.specs.Writing.{LogWriterView, rewritten_to}
 use Rattle.log_records.specs.CodecLaws.{has_codes}
 use Rattle.log_records.specs.RecordLog.{IsCounted, RecordLogView}
-use Rattle.log_records.specs.Rewriting.{in_full_blocks, new_payloads, numbered_from}
+use Rattle.log_records.specs.Rewriting.{in_full_blocks, new_payloads, from_lsn}
 use Rattle.log_records.proofs.Copies.{planned_beside, rises_since}
 use Rattle.log_records.proofs.LoadLemmas.{found_stable}
 use Rattle.log_records.proofs.Replaced.{HasClosed, IsClosing, closing_old, closing_run, ending_keeps, ending_partly, ending_run, is_plan, no_fault_beside, refused_writing, writing_old, writing_run, written_settled}
@@ -41,7 +41,7 @@ write_log-requires-clause-planned g c =
     let b = now.bounds in
     let m = g.O.Oper.meaning b in
     let closed = subst (λ (v : RecordLogView). HasClosed old one v.log) c.self.view_is (record { run = c.begin_rewrite.ensures.runs; idle = c.begin_rewrite.ensures.idle }) in
-    planned_beside m old one (other_of now.log.active) now.log c.args.base (Check c.args.table ∷ []) c.args.new c.requires.apart closed.run c.requires.planned
+    planned_beside m old one (other_of now.log.active) now.log c.args.base (Checkpoint c.args.table ∷ []) c.args.new c.requires.apart closed.run c.requires.planned
 
 pub write_log-requires-clause-grammar : goal.write_log-requires-clause-grammar
 write_log-requires-clause-grammar g c =
@@ -242,7 +242,7 @@ returns-in_err-end_rewrite-clause-any_moment g c told stable keeps =
     let plan = is_plan m old now.log c.args.base c.args.table stable c.args.new c.requires.planned (found_stable m codes old old now stable [] c.requires.planned.records keeps (closed.run.begins.agreeing told_files) c.requires.planned.all) in
     let told_one = closed.run.time.files_told.0 told_files in
     let holds = subst (λ (f : List ℕ). IsRecordLog m now.log.header keeps.groups f) (sym ((closed.run.reads told_files).others now.log.active c.requires.apart)) keeps.file in
-    let prepared = subst (λ (f : FileNo). IsPrepared (next_header now.log c.args.base c.args.new.commands) (map (payload_of m) (in_full_blocks m (numbered_from c.args.base (records_of keeps.groups) ++ Check c.args.table ∷ []))) (two.reads f)) file
+    let prepared = subst (λ (f : FileNo). IsPrepared (next_header now.log c.args.base c.args.new.commands) (map (payload_of m) (in_full_blocks m (from_lsn c.args.base (records_of keeps.groups) ++ Checkpoint c.args.table ∷ []))) (two.reads f)) file
     (c.in_ok-end.ensures.prepared told_one (subst (λ (f : FileNo). IsClosedLog (one.reads f)) (sym file) (closing.closed told_files)) keeps.groups holds) in
     ending_partly m old now c.args.base c.args.table stable is c.args.new plan c.requires.epoch one two fin closing run here prepared last told
 
@@ -316,7 +316,7 @@ returns-clause-any_moment g c told stable keeps =
     let plan = is_plan m old now.log c.args.base c.args.table stable c.args.new c.requires.planned (found_stable m codes old old now stable [] c.requires.planned.records keeps (closed.run.begins.agreeing told_files) c.requires.planned.all) in
     let told_one = closed.run.time.files_told.0 told_files in
     let holds = subst (λ (f : List ℕ). IsRecordLog m now.log.header keeps.groups f) (sym ((closed.run.reads told_files).others now.log.active c.requires.apart)) keeps.file in
-    let prepared = subst (λ (f : FileNo). IsPrepared (next_header now.log c.args.base c.args.new.commands) (map (payload_of m) (in_full_blocks m (numbered_from c.args.base (records_of keeps.groups) ++ Check c.args.table ∷ []))) (two.reads f)) file
+    let prepared = subst (λ (f : FileNo). IsPrepared (next_header now.log c.args.base c.args.new.commands) (map (payload_of m) (in_full_blocks m (from_lsn c.args.base (records_of keeps.groups) ++ Checkpoint c.args.table ∷ []))) (two.reads f)) file
     (c.in_ok-end.ensures.prepared told_one (subst (λ (f : FileNo). IsClosedLog (one.reads f)) (sym file) (closing.closed told_files)) keeps.groups holds) in
     ending_partly m old now c.args.base c.args.table stable is c.args.new plan c.requires.epoch one two fin closing run here prepared last told
 
@@ -346,7 +346,7 @@ returns-clause-acknowledged g c told stable keeps =
     let plan = is_plan m old now.log c.args.base c.args.table stable c.args.new c.requires.planned (found_stable m codes old old now stable [] c.requires.planned.records keeps (closed.run.begins.agreeing told_files) c.requires.planned.all) in
     let told_one = closed.run.time.files_told.0 told_files in
     let holds = subst (λ (f : List ℕ). IsRecordLog m now.log.header keeps.groups f) (sym ((closed.run.reads told_files).others now.log.active c.requires.apart)) keeps.file in
-    let prepared = subst (λ (f : FileNo). IsPrepared (next_header now.log c.args.base c.args.new.commands) (map (payload_of m) (in_full_blocks m (numbered_from c.args.base (records_of keeps.groups) ++ Check c.args.table ∷ []))) (two.reads f)) file
+    let prepared = subst (λ (f : FileNo). IsPrepared (next_header now.log c.args.base c.args.new.commands) (map (payload_of m) (in_full_blocks m (from_lsn c.args.base (records_of keeps.groups) ++ Checkpoint c.args.table ∷ []))) (two.reads f)) file
     (c.in_ok-end.ensures.prepared told_one (subst (λ (f : FileNo). IsClosedLog (one.reads f)) (sym file) (closing.closed told_files)) keeps.groups holds) in
     let told_two = run.time.files_told.0 told_one in
     let settled = c.in_ok-end_rewrite.ensures.settled (written_settled one two (other_of now.log.active) (closing.settled keeps.settled) run here) in

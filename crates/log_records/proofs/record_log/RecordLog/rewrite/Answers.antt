@@ -9,7 +9,7 @@ use Rattle.log_records.specs.Rewriting.{IsNewLength, rewrite_from_read}
 use Rattle.log_records.proofs.LoadLemmas.{rises_before}
 use Rattle.log_records.proofs.Replaced.{planned_partly, planned_refused, planned_run}
 use Rattle.log_records.proofs.Rewrites.{none_found, old_partly, old_stays, read_fails, refused_stays}
-use Rattle.log_frames.specs.Reading.{fails_on}
+use Rattle.log_blocks.specs.Reading.{fails_on}
 use Rattle.log_records.proofs.record_log.RecordLog.rewrite.Goals as goal
 
 pub returns-in_err-new-clause-any_moment : goal.returns-in_err-new-clause-any_moment

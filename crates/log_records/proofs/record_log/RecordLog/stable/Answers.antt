@@ -3,10 +3,10 @@ use Rattle.std.proofs.lemmas.Result.{err_from_is_err_and}
 use Rattle.disk_model.specs.Disk.{Rises}
 use Rattle.disk_model.specs.Moments.{told_agrees}
 use Rattle.formats.specs.Reading.{FailsBy}
-use Rattle.log_frames.specs.Reading.{none_told}
+use Rattle.log_blocks.specs.Reading.{none_told}
 use Rattle.log_records.specs.CodecLaws.{has_codes}
 use Rattle.log_records.specs.Loading.{IsTailFault}
-use Rattle.log_records.specs.NumberedLaws.{all_in_grammar}
+use Rattle.log_records.specs.LsnReaderLaws.{all_in_grammar}
 use Rattle.log_records.specs.RecordLog.{RecordLogView, Keeps}
 use Rattle.log_records.specs.RecordReader.{AreAll}
 use Rattle.log_records.proofs.LoadLemmas.{found_stable, no_tail_fault}

@@ -1,7 +1,7 @@
 use Rattle.disk_model.specs.Disk.{In}
 use Rattle.disk_model.specs.Moments.{runs_then_stays}
-use Rattle.log_frames.specs.Reading.{fails_on}
-use Rattle.log_frames.specs.Rewriting.{KeepsClosed}
+use Rattle.log_blocks.specs.Reading.{fails_on}
+use Rattle.log_blocks.specs.Rewriting.{KeepsClosed}
 use Rattle.log_records.proofs.Copies.{fault_still, rises_until}
 use Rattle.log_records.proofs.record_log.RecordLog.write_log.Goals as goal
 

@@ -2,8 +2,8 @@ use Rattle.std.proofs.Common.{◌≡◌, [], sym, ap, subst, arith}
 use Rattle.std.proofs.lemmas.Result.{err_from_is_err_and}
 use Rattle.disk_model.specs.Disk.{Rises}
 use Rattle.formats.specs.Reading.{FailsBy}
-use Rattle.log_frames.specs.Payloads.{IsInLog, remaining}
-use Rattle.log_frames.specs.Reading.{fails_on}
+use Rattle.log_blocks.specs.Payloads.{IsInLog, remaining}
+use Rattle.log_blocks.specs.Reading.{fails_on}
 use Rattle.log_records.specs.Loading.{IsTailFault}
 use Rattle.log_records.specs.RecordReader.{RecordReaderView, IsReading, HasGoneOn}
 use Rattle.log_records.proofs.Blocks.{goes_next}

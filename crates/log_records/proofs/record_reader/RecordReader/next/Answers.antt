@@ -3,7 +3,7 @@ use Rattle.disk_model.specs.Moments.{agreed_before}
 use Rattle.disk_model.specs.declared.machine.FileNo.{FileNo}
 use Rattle.oper_core.specs.declared.bounds.Bounds.{Bounds}
 use Rattle.formats.specs.Records.{record_code}
-use Rattle.log_frames.specs.Payloads.{IsInLog, remaining}
+use Rattle.log_blocks.specs.Payloads.{IsInLog, remaining}
 use Rattle.log_records.specs.BlockReader.{GoesOn}
 use Rattle.log_records.specs.Loading.{IsTailFault}
 use Rattle.log_records.specs.RecordReader.{RecordReaderView, IsReading, HasGoneOn}

@@ -3,7 +3,7 @@ use Rattle.disk_model.specs.declared.machine.FileNo.TheVariants.{Objects}
 use Rattle.dirty_cache.specs.Contents.{held}
 use Rattle.dirty_cache.specs.declared.entry.Entry.{Entry as Pair}
 use Rattle.stable_objects.specs.Replacing.{IsFilled}
-use Rattle.stable_objects.specs.Spares.{KeepsFilledBut, spare_id, spare_place}
+use Rattle.stable_objects.specs.Spares.{KeepsFilledBut, spare_lsn, spare_place}
 use Rattle.running_store.specs.Laid.{AreCached, Laid}
 use Rattle.running_store.proofs.RoundFills.{filled_absent, filled_next}
 use Rattle.running_store.proofs.objects.Objects.fill_spare.Goals as goal
@@ -20,8 +20,8 @@ returns-in_ok-fill_spare-clause-filled g c told done were =
     let old = (g.M.Machine.disk c.args.machine.now).reads Objects in
     let new = (g.M.Machine.disk c.fill_spare.new.machine).reads Objects in
     let there : held c.args.self.now.cache x ≡ Some pair = ap (λ (l : Laid). held l.cache x) (sym c.self.view_is) ∙ sym c.in-Some.ensures.value in
-    let filled : spare_id c.self.inside.slots x ≡ 0 → IsFilled (spare_place c.self.inside.slots x) pair.lsn pair.bytes new = λ closed.
+    let filled : spare_lsn c.self.inside.slots x ≡ 0 → IsFilled (spare_place c.self.inside.slots x) pair.lsn pair.bytes new = λ closed.
     subst (λ (bytes : List ℕ). IsFilled (spare_place c.self.inside.slots x) pair.lsn bytes new) c.as_slice.ensures (c.in_ok-fill_spare.ensures.filled told closed) in
     filled_next c.args.self.now x done old were (subst (λ (l : Laid). AreCached l.slots.params l.cache) c.self.view_is c.self.invariant.cached) new pair.lsn pair.bytes there
-    (subst (λ (l : Laid). spare_id l.slots x ≡ 0 → IsFilled (spare_place l.slots x) pair.lsn pair.bytes new) c.self.view_is filled)
+    (subst (λ (l : Laid). spare_lsn l.slots x ≡ 0 → IsFilled (spare_place l.slots x) pair.lsn pair.bytes new) c.self.view_is filled)
     (subst (λ (l : Laid). KeepsFilledBut l.slots x old new) c.self.view_is (c.fill_spare.ensures.others told))

@@ -123,7 +123,7 @@ returns-in_err-run g c =
 module _ (g : Over) (c : After-append_encoded g) where
   ran : HasRun g.O.Oper.meaning c.self.inside.objects c.run.new.self c.self.inside.log.next c.args.op c.args.copies
   ran = ran_from g.O.Oper.meaning c.self.inside.objects c.make_room.new.self c.run.new.self c.self.inside.log.next c.args.op c.args.copies c.make_room.ensures.slots c.make_room.ensures.entries c.make_room.ensures.fetched.dirty
-      (subst (λ (n : ℕ). HasRun g.O.Oper.meaning c.make_room.new.self c.run.new.self n c.args.op c.args.copies) c.next-number.ensures c.in_ok-run.ensures.done)
+      (subst (λ (n : ℕ). HasRun g.O.Oper.meaning c.make_room.new.self c.run.new.self n c.args.op c.args.copies) c.next-lsn.ensures c.in_ok-run.ensures.done)
 
 pub invariant_of-self-2 : goal.invariant_of-self-2
 invariant_of-self-2 g c = λ fine.
@@ -134,7 +134,7 @@ invariant_of-self-2 g c = λ fine.
     let is = ran g at.After-append_encoded in
     let done : IsAppended (m g here) (before g here) after (Command c.args.op) made = record { log = search rules; slots = c.in_ok-run.ensures.slots ∙ c.make_room.ensures.slots; held = is.entries; dirty = is.dirty; entries = search rules } in
     command_usable (before g here) after c.self.inside.identities (used g here) (m g here) c.args.op made done
-    (λ k d within. omega (arith, below g here k d within, (g.met.O.Oper.bounded (bounds_of c.self.inside.objects.slots.params)).objects)) (omega (arith, ap (λ (s : StoreView). next_of s) c.self.view_is, c.requires.number))
+    (λ k d within. omega (arith, below g here k d within, (g.met.O.Oper.bounded (bounds_of c.self.inside.objects.slots.params)).objects)) (omega (arith, ap (λ (s : StoreView). next_of s) c.self.view_is, c.requires.lsn))
 
 pub returns : goal.returns
 returns g c =
@@ -146,7 +146,7 @@ returns g c =
     subst (λ (s : StoreView). IsCommanded g.O.Oper.meaning s (view_of c.append_encoded.new.self c.run.new.self c.add.new.self.entries c.self.inside.identities c.self.inside.broken) c.args.op
     (inputs_in s.parts.volatile.objects.cache ((g.O.Oper.meaning (bounds_of (store_params s))).reads c.args.op) c.args.copies)) c.self.view_is (record {
       ready = ready g here;
-      number = omega (arith, ap (λ (s : StoreView). next_of s) c.self.view_is, c.requires.number);
+      lsn = omega (arith, ap (λ (s : StoreView). next_of s) c.self.view_is, c.requires.lsn);
       bounds = (used g here).in_use.bounds;
       appended = done;
       laid = λ file laid. c.in_ok-run.ensures.laid file (c.make_room.ensures.laid file laid);

@@ -79,7 +79,7 @@ module _ (g : Over) (c : After-room_for g) where
   place = subst (λ (s : StoreView). (pair : Pair) → held s.parts.volatile.objects.cache c.args.x ≡ Some pair → HasPlace s.parts.log.log (identity_length (length pair.bytes))) (sym c.self.view_is) c.requires.place pair.0 pair.1
 
   low : c.self.inside.log.next < 2 ^ 62
-  low = omega (arith, ap (λ (s : StoreView). next_of s) c.self.view_is, c.requires.number)
+  low = omega (arith, ap (λ (s : StoreView). next_of s) c.self.view_is, c.requires.lsn)
 
 -- the entry is in the graph
 module _ (g : Over) (c : After-add g) (some : IsSome (held c.self.inside.objects.cache c.args.x)) where
@@ -95,16 +95,16 @@ module _ (g : Over) (c : After-add g) (some : IsSome (held c.self.inside.objects
       let value_is = value_had c.self.inside.objects c.room_for.new.self c.args.x c.room_for.ensures.entries some in
       let kept : c.new-3.result ≡ bytes = search rules ∙ value_is c.value-2.result.now c.value-2.ensures.value in
       let logged : c.new-2.result ≡ bytes = search rules ∙ value_is c.value.result.now c.value.ensures.value in
-      let number : c.next-number.result ≡ log.next = search rules in
+      let lsn : c.next-lsn.result ≡ log.next = search rules in
       record {
         log = subst (λ (r : Record g.row.O.Denot). c.append.new.self ≡ record log {
           log = record log.log { pending = log.log.pending ++ record_code (g.O.Oper.meaning log.bounds) r; room = c.append.new.self.log.room };
           next = log.next + 1;
           accepted = log.accepted + counts r;
-        }) (λ i. Logged_identity (number i) c.args.x (logged i)) c.in_ok-append.ensures.ok;
+        }) (λ i. Logged_identity (lsn i) c.args.x (logged i)) c.in_ok-append.ensures.ok;
         slots = c.set.ensures.slots ∙ c.room_for.ensures.slots;
         held = λ y.
-            c.set.ensures.entries y ∙ (λ i. if y == c.args.x then Some (entry_of (number i) (kept i)) else c.room_for.ensures.entries y i) ∙ sym (entries_cons log.next (held c.self.inside.objects.cache) c.args.x [] bytes [] y);
+            c.set.ensures.entries y ∙ (λ i. if y == c.args.x then Some (entry_of (lsn i) (kept i)) else c.room_for.ensures.entries y i) ∙ sym (entries_cons log.next (held c.self.inside.objects.cache) c.args.x [] bytes [] y);
         dirty = λ y. c.set.ensures.dirty y ∙ (λ i. alone (y == c.args.x) i || c.room_for.ensures.fetched.dirty y i);
         entries = search rules;
       }
@@ -131,18 +131,18 @@ append-requires-clause-place g c =
 
 pub append-requires-clause-placed : goal.append-requires-clause-placed
 append-requires-clause-placed g c =
-    let number : c.next-number.result ≡ c.self.inside.log.next = search rules in
-    (number, omega (arith, number, low g (goal.at.append-requires-clause-placed g c).After-room_for))
+    let lsn : c.next-lsn.result ≡ c.self.inside.log.next = search rules in
+    (lsn, omega (arith, lsn, low g (goal.at.append-requires-clause-placed g c).After-room_for))
 
 pub append-requires-clause-grammar : goal.append-requires-clause-grammar
 append-requires-clause-grammar g c =
     let at = (goal.at.append-requires-clause-grammar g c).After-room_for in
-    let number : c.next-number.result ≡ c.self.inside.log.next = search rules in
+    let lsn : c.next-lsn.result ≡ c.self.inside.log.next = search rules in
     let value : c.new-2.result ≡ c.value.result.now = search rules in
     let has = g.met.O.Oper.bounded c.self.inside.log.bounds in
     let bounds = (used g at).in_use.bounds in
     let slots = c.room_for.ensures.slots in (
-      omega (arith, number, low g at),
+      omega (arith, lsn, low g at),
       omega (arith, c.value.ensures.there, has.objects, ap (λ (b : Bounds). b.objects) bounds, ap (λ (s : SlotsView). s.params.objects) slots),
       omega (arith, c.value.ensures.short, has.cap, ap (λ (b : Bounds). b.cap) bounds, ap (λ (s : SlotsView). s.params.cap) slots, ap length value),
     )

@@ -47,7 +47,7 @@ kept g c =
     let old = g.M.Machine.disk c.args.machine.now in
     let new = g.M.Machine.disk c.read-answer.new.machine in
     kept_read old new c.self.inside.objects c.is_cached.new.self c.keep.new.self c.slots.result.now c.args.object c.in_ok-lsn.lsn c.read-answer.new.into.items c.read-answer.result
-    (looked_read old new c.self.inside.objects c.is_cached.new.self is.kept held.slots held.entries held.fetched held.laid) c.slots.ensures (subst (λ (s : StoreView). c.args.object < (store_params s).objects) (sym c.self.view_is) c.requires.below) c.in_ok-lsn.was is.id is.value c.keep.ensures.cells c.keep.ensures.fetched
+    (looked_read old new c.self.inside.objects c.is_cached.new.self is.kept held.slots held.entries held.fetched held.laid) c.slots.ensures (subst (λ (s : StoreView). c.args.object < (store_params s).objects) (sym c.self.view_is) c.requires.below) c.in_ok-lsn.was is.lsn is.value c.keep.ensures.cells c.keep.ensures.fetched
 
 pub returns-then-is_cached-clause-call : goal.returns-then-is_cached-clause-call
 returns-then-is_cached-clause-call g c =

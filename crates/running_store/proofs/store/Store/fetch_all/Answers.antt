@@ -1,6 +1,6 @@
 use Rattle.std.proofs.Common.{◌≡◌, ◌<◌, ◌∙◌, sym, subst, slice_index, All, IsSome}
 use Rattle.std.proofs.lemmas.Result.{err_from_is_err_and}
-use Rattle.stable_objects.specs.SlotsView.{SlotsView, id_in}
+use Rattle.stable_objects.specs.SlotsView.{SlotsView, lsn_in}
 use Rattle.dirty_cache.specs.Contents.{held}
 use Rattle.running_store.specs.Laid.{Laid}
 use Rattle.running_store.proofs.FetchLemmas.{fetch_twice, handed_on, one_fails}
@@ -28,7 +28,7 @@ loop-object-preserved g c =
     record {
       read = fetch_twice (g.M.Machine.disk c.args.machine.now) (g.M.Machine.disk c.loop-object.machine) (g.M.Machine.disk c.fetch.new.machine) c.args.self.now c.loop-object.self c.fetch.new.self _ so_far.read c.in_ok-fetch.ensures.call;
       none = λ all.
-          let none : id_in c.loop-object.self.parts.volatile.objects.slots (slice_index objects i) ≡ 0 = subst (λ (s : SlotsView). id_in s (slice_index objects i) ≡ 0) (sym so_far.read.read.fetched.slots) (all i 0 c.loop-object-test.true) in
+          let none : lsn_in c.loop-object.self.parts.volatile.objects.slots (slice_index objects i) ≡ 0 = subst (λ (s : SlotsView). lsn_in s (slice_index objects i) ≡ 0) (sym so_far.read.read.fetched.slots) (all i 0 c.loop-object-test.true) in
           (c.fetch.ensures.none none).0 ∙ so_far.none all;
     }
 

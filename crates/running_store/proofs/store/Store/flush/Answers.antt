@@ -74,7 +74,7 @@ module _ (g : Over) (c : After-note g) where
 
   leaves : old.tells_moments → IsSettled old → AreOf objects.slots (old.reads Objects) → LeavesOnly old new (IsOldOrNew old objects.slots.params x (cell_of_entry pair))
   leaves =
-      subst (λ (bytes : List ℕ). old.tells_moments → IsSettled old → AreOf objects.slots (old.reads Objects) → LeavesOnly old new (IsOldOrNew old objects.slots.params x (record { id = pair.lsn; value = bytes })))
+      subst (λ (bytes : List ℕ). old.tells_moments → IsSettled old → AreOf objects.slots (old.reads Objects) → LeavesOnly old new (IsOldOrNew old objects.slots.params x (record { lsn = pair.lsn; value = bytes })))
       c.as_slice.ensures c.replace-answer.ensures.any_moment
 
   taken : old.tells_moments → (p : Params) (w : World g.row.O.Denot) (node : ℕ → Bool) → VolatileShows (meaning_in g.O.Oper.meaning p) p old c.args.self.now.parts.volatile w → TakesSome (meaning_in g.O.Oper.meaning p) p old new w (flush_steps (meaning_in g.O.Oper.meaning p) node c.args.work.now)
@@ -98,8 +98,8 @@ module _ (g : Over) (c : After-note g) where
     flushed : IsFlushed objects later x
     flushed = record {
       layout = c.replace-answer.ensures.layout;
-      id = λ other there. renewed.id_is ∙ ap (λ (o : Option Pair). lsn_or o 0) (sym had ∙ there);
-      other_ids = renewed.other_ids;
+      lsn = λ other there. renewed.lsn_is ∙ ap (λ (o : Option Pair). lsn_or o 0) (sym had ∙ there);
+      other_lsns = renewed.other_lsns;
       entry = entry;
       clean = clean;
       others = others;
@@ -107,7 +107,7 @@ module _ (g : Over) (c : After-note g) where
 
     replaced : old.tells_files → AreOf objects.slots (old.reads Objects) → AreOf later.slots (new.reads Objects) × IsReplaced objects.slots.params x (cell_of_entry pair) (old.reads Objects) (new.reads Objects)
     replaced told are =
-        subst (λ (bytes : List ℕ). AreOf later.slots (new.reads Objects) × IsReplaced objects.slots.params x (record { id = pair.lsn; value = bytes }) (old.reads Objects) (new.reads Objects)) c.as_slice.ensures
+        subst (λ (bytes : List ℕ). AreOf later.slots (new.reads Objects) × IsReplaced objects.slots.params x (record { lsn = pair.lsn; value = bytes }) (old.reads Objects) (new.reads Objects)) c.as_slice.ensures
         (done _ (c.replace-answer.ensures.replaced told are))
 
     still_dirty : (y : ℕ) → is_dirty cache y ≡ true → is_dirty c.args.self.now.parts.volatile.objects.cache y ≡ true

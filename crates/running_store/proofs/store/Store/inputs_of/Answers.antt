@@ -4,7 +4,7 @@ use Rattle.std.proofs.lemmas.List.{length-map}
 use Rattle.std.proofs.lemmas.Result.{err_from_is_err_and}
 use Rattle.disk_model.specs.Disk.{Disk}
 use Rattle.disk_model.specs.declared.machine.FileNo.TheVariants.{Objects}
-use Rattle.stable_objects.specs.SlotsView.{SlotsView, id_in}
+use Rattle.stable_objects.specs.SlotsView.{SlotsView, lsn_in}
 use Rattle.running_store.specs.AfterReads.{fetch_as, fetch_unbroken}
 use Rattle.running_store.specs.Fetches.{IsFetch}
 use Rattle.running_store.specs.Laid.{Laid}
@@ -51,8 +51,8 @@ module _ (g : Over) (c : In_ok-fetch_all g) where
   slots : mid.parts.volatile.objects.slots ≡ c.args.self.now.parts.volatile.objects.slots
   slots = c.in_ok-fetch_all.ensures.call.read.fetched.slots
 
-  none_there : All (λ x. id_in c.args.self.now.parts.volatile.objects.slots x ≡ 0) c.args.objects.now → All (λ x. id_in mid.parts.volatile.objects.slots x ≡ 0) c.args.objects.now
-  none_there all = subst (λ (s : SlotsView). All (λ x. id_in s x ≡ 0) c.args.objects.now) (sym slots) all
+  none_there : All (λ x. lsn_in c.args.self.now.parts.volatile.objects.slots x ≡ 0) c.args.objects.now → All (λ x. lsn_in mid.parts.volatile.objects.slots x ≡ 0) c.args.objects.now
+  none_there all = subst (λ (s : SlotsView). All (λ x. lsn_in s x ≡ 0) c.args.objects.now) (sym slots) all
 
 pub values_of-requires-clause-unbroken : goal.values_of-requires-clause-unbroken
 values_of-requires-clause-unbroken g c =

@@ -1,7 +1,7 @@
 use Rattle.std.proofs.Common.{◌+◌, ◌<◌, ◌≤◌, ap, sym, arith, length, [], List}
 use Rattle.std.specs.Prelude.{◌^◌}
 use Rattle.explain_core.specs.World.{Step}
-use Rattle.log_frames.specs.LogView.{used_of}
+use Rattle.log_blocks.specs.LogView.{used_of}
 use Rattle.log_records.specs.RecordLog.{RecordLogView}
 use Rattle.running_store.specs.Buffered.{room_force, room_none}
 use Rattle.running_store.specs.Calls.{ending_of_force}

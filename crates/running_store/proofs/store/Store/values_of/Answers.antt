@@ -4,7 +4,7 @@ use Rattle.std.proofs.lemmas.List.Elements.{All-push}
 use Rattle.std.proofs.lemmas.Result.{err_from_is_err_and}
 use Rattle.disk_model.specs.declared.machine.FileNo.TheVariants.{Objects}
 use Rattle.formats.specs.declared.read_err.ReadErr.TheVariants.{Memory}
-use Rattle.stable_objects.specs.SlotsView.{SlotsView, id_in}
+use Rattle.stable_objects.specs.SlotsView.{SlotsView, lsn_in}
 use Rattle.running_store.specs.Laid.{Laid, values_in}
 use Rattle.running_store.proofs.FetchLemmas.{fetch_twice, handed_on, one_fails, values_next}
 use Rattle.running_store.proofs.store.Store.values_of.Goals as goal
@@ -54,6 +54,6 @@ loop-object-preserved g c =
       values = λ told laid. c.in_ok-push.ensures.ok ∙ values_next (old.reads Objects) before after objects c.loop-object.values c.value.result.now i c.loop-object-test.true below
           (so_far.values told laid) value (read.read.cells told laid).0;
       none = λ all.
-          let none : id_in c.loop-object.self.parts.volatile.objects.slots (slice_index objects i) ≡ 0 = subst (λ (s : SlotsView). id_in s (slice_index objects i) ≡ 0) (sym so_far.read.read.fetched.slots) (all i 0 c.loop-object-test.true) in
+          let none : lsn_in c.loop-object.self.parts.volatile.objects.slots (slice_index objects i) ≡ 0 = subst (λ (s : SlotsView). lsn_in s (slice_index objects i) ≡ 0) (sym so_far.read.read.fetched.slots) (all i 0 c.loop-object-test.true) in
           (c.fetch.ensures.none none).0 ∙ so_far.none all;
     }

@@ -1,6 +1,6 @@
 use Rattle.std.proofs.Common.{◌≡◌, ◌≤◌, All, length, map, take, false, true}
 use Rattle.disk_model.specs.declared.machine.FileNo.TheVariants.{Objects}
-use Rattle.stable_objects.specs.SlotsView.{id_in}
+use Rattle.stable_objects.specs.SlotsView.{lsn_in}
 use Rattle.running_store.specs.Fetches.{IsFetch}
 use Rattle.running_store.specs.Laid.{IsLaidOn, values_in}
 use Rattle.running_store.specs.StoreView.{store_params}
@@ -14,5 +14,5 @@ invariant-loop-object g l =
       count : length l.values ≡ l.object-index;
       short : All (λ v. length v ≤ (store_params l.fn.self).cap) l.values;
       values : old.tells_files → IsLaidOn before (old.reads Objects) → l.values ≡ map (values_in before (old.reads Objects)) (take l.object-index l.objects);
-      none : All (λ x. id_in before.slots x ≡ 0) l.objects → l.machine ≡ l.fn.machine;
+      none : All (λ x. lsn_in before.slots x ≡ 0) l.objects → l.machine ≡ l.fn.machine;
     }

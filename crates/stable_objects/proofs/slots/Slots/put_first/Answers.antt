@@ -7,8 +7,8 @@ use Rattle.stable_objects.specs.Replacing.{IsPut}
 use Rattle.stable_objects.proofs.Put.{gate_run, front_run, pair_run, first_put}
 use Rattle.stable_objects.proofs.slots.Slots.put_first.Goals as goal
 
-head_long : (head : List ℕ) (id n : ℕ) → head ≡ little_bytes 8 id ++ little_bytes 4 n → length head ≡ 12
-head_long head id n is = omega (arith, ap length is, length-append (little_bytes 8 id) (little_bytes 4 n), length-little_bytes 8 id, length-little_bytes 4 n)
+head_long : (head : List ℕ) (lsn n : ℕ) → head ≡ little_bytes 8 lsn ++ little_bytes 4 n → length head ≡ 12
+head_long head lsn n is = omega (arith, ap length is, length-append (little_bytes 8 lsn) (little_bytes 4 n), length-little_bytes 8 lsn, length-little_bytes 4 n)
 
 pub returns-in_err-write_at-clause-runs : goal.returns-in_err-write_at-clause-runs
 returns-in_err-write_at-clause-runs g c =

@@ -16,7 +16,7 @@ returns-in_err-read_value-clause-whole g c files agree are =
     let here : c.gate_place-place.result ≡ place_of slots x (holder_in slots x) =
     c.gate_place-place.ensures ∙ ap (λ (l : Layout). slot_gate l c.holder.result) c.layout.ensures.is ∙ ap (λ (s : ℕ). slot_gate (layout_of slots) s) c.holder.ensures in
     let e = err_from_is_err_and c.from_residual.result c.from_residual.ensures.1 in
-    rw (e.1, e.2) (held_fails slots file x c.gate_place-place.result are c.requires (λ none. c.if-id-eq0.false (c.id-id.ensures ∙ none)) here _ (g.M.Machine.disk c.read_value.new.machine).agrees files c.self.inside.params.cap _ refl agree cap c.in_err-read_value.ensures.cause)
+    rw (e.1, e.2) (held_fails slots file x c.gate_place-place.result are c.requires (λ none. c.if-lsn-eq0.false (c.lsn-lsn.ensures ∙ none)) here _ (g.M.Machine.disk c.read_value.new.machine).agrees files c.self.inside.params.cap _ refl agree cap c.in_err-read_value.ensures.cause)
 
 pub returns-clause-value : goal.returns-clause-value
 returns-clause-value g c files agree are =
@@ -26,7 +26,7 @@ returns-clause-value g c files agree are =
     let cap = ap (λ (v : SlotsView). v.params.cap) c.self.view_is in
     let here : c.gate_place-place.result ≡ place_of slots x (holder_in slots x) =
     c.gate_place-place.ensures ∙ ap (λ (l : Layout). slot_gate l c.holder.result) c.layout.ensures.is ∙ ap (λ (s : ℕ). slot_gate (layout_of slots) s) c.holder.ensures in
-    held_value slots file x c.gate_place-place.result are c.requires (λ none. c.if-id-eq0.false (c.id-id.ensures ∙ none)) here c.read_value.new.into.items (c.in_ok-read_value.ensures.value files agree)
+    held_value slots file x c.gate_place-place.result are c.requires (λ none. c.if-lsn-eq0.false (c.lsn-lsn.ensures ∙ none)) here c.read_value.new.into.items (c.in_ok-read_value.ensures.value files agree)
 
-pub returns-then-id-eq0-clause-value : goal.returns-then-id-eq0-clause-value
-returns-then-id-eq0-clause-value g c files agree are = c.clear.ensures.items ∙ sym (empty_value c.args.self.now (files Objects) c.args.object are c.requires (sym c.id-id.ensures ∙ c.if-id-eq0.true))
+pub returns-then-lsn-eq0-clause-value : goal.returns-then-lsn-eq0-clause-value
+returns-then-lsn-eq0-clause-value g c files agree are = c.clear.ensures.items ∙ sym (empty_value c.args.self.now (files Objects) c.args.object are c.requires (sym c.lsn-lsn.ensures ∙ c.if-lsn-eq0.true))

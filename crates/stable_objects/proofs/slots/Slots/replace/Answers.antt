@@ -30,7 +30,7 @@ returns-in_err-close_slot-clause-runs g c = any_run _ _ _ c.close_slot.ensures.r
 pub returns-in_err-close_slot-clause-any_moment : goal.returns-in_err-close_slot-clause-any_moment
 returns-in_err-close_slot-clause-any_moment g c =
     closing_moments _ _ c.args.object c.spare-slot.result c.gate_place-place.result c.index.result.now c.args.lsn c.args.bytes.now c.self.view_is c.self.invariant
-    c.requires.object c.requires.later c.requires.numbered c.requires.short c.spare-slot.ensures (c.gate_place-place.ensures ∙ ap (λ (l : Layout). slot_gate l c.spare-slot.result) (c.layout.ensures.is ∙ ap layout_of (sym c.self.view_is))) c.index.ensures
+    c.requires.object c.requires.later c.requires.is_lsn c.requires.short c.spare-slot.ensures (c.gate_place-place.ensures ∙ ap (λ (l : Layout). slot_gate l c.spare-slot.result) (c.layout.ensures.is ∙ ap layout_of (sym c.self.view_is))) c.index.ensures
     _ _ c.close_slot.ensures.runs c.close_slot.ensures.idle
 
 pub returns-in_err-put-clause-runs : goal.returns-in_err-put-clause-runs
@@ -39,7 +39,7 @@ returns-in_err-put-clause-runs g c = any_join _ _ _ _ _ c.close_slot.ensures.run
 pub returns-in_err-put-clause-any_moment : goal.returns-in_err-put-clause-any_moment
 returns-in_err-put-clause-any_moment g c =
     putting_moments _ _ c.args.object c.spare-slot.result c.gate_place-place.result c.index.result.now c.args.lsn c.args.bytes.now c.self.view_is c.self.invariant
-    c.requires.object c.requires.later c.requires.numbered c.requires.short c.spare-slot.ensures (c.gate_place-place.ensures ∙ ap (λ (l : Layout). slot_gate l c.spare-slot.result) (c.layout.ensures.is ∙ ap layout_of (sym c.self.view_is))) c.index.ensures
+    c.requires.object c.requires.later c.requires.is_lsn c.requires.short c.spare-slot.ensures (c.gate_place-place.ensures ∙ ap (λ (l : Layout). slot_gate l c.spare-slot.result) (c.layout.ensures.is ∙ ap layout_of (sym c.self.view_is))) c.index.ensures
     _ _ c.close_slot.ensures.runs c.close_slot.ensures.idle _ c.in_ok-close_slot.ensures.closed c.in_ok-close_slot.ensures.settled c.put.ensures.any_moment
 
 pub returns-clause-runs : goal.returns-clause-runs
@@ -48,17 +48,17 @@ returns-clause-runs g c = any_join _ _ _ _ _ c.close_slot.ensures.runs c.put.ens
 pub returns-clause-any_moment : goal.returns-clause-any_moment
 returns-clause-any_moment g c =
     putting_moments _ _ c.args.object c.spare-slot.result c.gate_place-place.result c.index.result.now c.args.lsn c.args.bytes.now c.self.view_is c.self.invariant
-    c.requires.object c.requires.later c.requires.numbered c.requires.short c.spare-slot.ensures (c.gate_place-place.ensures ∙ ap (λ (l : Layout). slot_gate l c.spare-slot.result) (c.layout.ensures.is ∙ ap layout_of (sym c.self.view_is))) c.index.ensures
+    c.requires.object c.requires.later c.requires.is_lsn c.requires.short c.spare-slot.ensures (c.gate_place-place.ensures ∙ ap (λ (l : Layout). slot_gate l c.spare-slot.result) (c.layout.ensures.is ∙ ap layout_of (sym c.self.view_is))) c.index.ensures
     _ _ c.close_slot.ensures.runs c.close_slot.ensures.idle _ c.in_ok-close_slot.ensures.closed c.in_ok-close_slot.ensures.settled c.put.ensures.any_moment
 
 pub returns-clause-replaced : goal.returns-clause-replaced
 returns-clause-replaced g c told of =
     replaced_by _ _ c.args.object c.spare-slot.result c.gate_place-place.result c.index.result.now c.args.lsn c.args.bytes.now c.self.view_is c.self.invariant
-    c.requires.object c.requires.later c.requires.numbered c.requires.short c.spare-slot.ensures (c.gate_place-place.ensures ∙ ap (λ (l : Layout). slot_gate l c.spare-slot.result) (c.layout.ensures.is ∙ ap layout_of (sym c.self.view_is))) c.index.ensures
+    c.requires.object c.requires.later c.requires.is_lsn c.requires.short c.spare-slot.ensures (c.gate_place-place.ensures ∙ ap (λ (l : Layout). slot_gate l c.spare-slot.result) (c.layout.ensures.is ∙ ap layout_of (sym c.self.view_is))) c.index.ensures
     _ _ c.close_slot.ensures.runs c.close_slot.ensures.idle (g.M.Machine.disk c.put.new.machine) told of (c.in_ok-put.ensures.put (c.close_slot.ensures.runs.time.files_told.0 told))
 
 pub returns-clause-renewed : goal.returns-clause-renewed
 returns-clause-renewed g c =
     renewed_by _ _ c.args.object c.spare-slot.result c.gate_place-place.result c.index.result.now c.args.lsn c.args.bytes.now c.self.view_is c.self.invariant
-    c.requires.object c.requires.later c.requires.numbered c.requires.short c.spare-slot.ensures (c.gate_place-place.ensures ∙ ap (λ (l : Layout). slot_gate l c.spare-slot.result) (c.layout.ensures.is ∙ ap layout_of (sym c.self.view_is))) c.index.ensures
+    c.requires.object c.requires.later c.requires.is_lsn c.requires.short c.spare-slot.ensures (c.gate_place-place.ensures ∙ ap (λ (l : Layout). slot_gate l c.spare-slot.result) (c.layout.ensures.is ∙ ap layout_of (sym c.self.view_is))) c.index.ensures
     _ _ c.close_slot.ensures.runs c.close_slot.ensures.idle

@@ -2,7 +2,7 @@ use Rattle.std.proofs.Common.{◌≡◌, sym, subst, [], ◌⊎◌}
 use Rattle.std.specs.Prelude.{IsErrOf}
 use Rattle.store_engine.specs.declared.work_err.WorkErr.TheVariants.{DiskFault, Memory}
 use Rattle.standby_node.specs.Standby.{IsFollowing, StandbyView}
-use Rattle.standby_node.proofs.KeptUp.{checked_following}
+use Rattle.standby_node.proofs.KeptUp.{checkpointed_following}
 use Rattle.standby_node.proofs.standby.Standby.checkpoint.Goals as goal
 
 pub returns-clause-kept : goal.returns-clause-kept
@@ -16,4 +16,4 @@ returns-clause-kept g c p first bytes f =
     let between : parts.frames.kept ≡ [] = subst (λ (s : StandbyView). s.frames.kept ≡ []) (sym c.self.view_is) c.requires.ready.between in
     let call = c.checkpoint.ensures.alone c.self.invariant.0.group in
     subst (λ r. (IsErrOf r DiskFault ⊎ IsErrOf r Memory) ⊎ IsFollowing meaning p first bytes new (record parts { engine = c.checkpoint.new.self })) (sym call.1)
-    (checked_following meaning p first bytes old parts between was new c.checkpoint.new.self call.0 call.2)
+    (checkpointed_following meaning p first bytes old parts between was new c.checkpoint.new.self call.0 call.2)

@@ -14,7 +14,7 @@ use Rattle.store_engine.proofs.engine.Engine.follow.Goals as goal
 pub follow-requires : goal.follow-requires
 follow-requires g c = record {
   unbroken = ap (λ (e : EngineView). e.broken) c.self.view_is ∙ c.requires.unbroken;
-  logged = subst (λ (e : EngineView). IsFollowable (meaning_in g.O.Oper.meaning (params_of e)) c.args.logged) (sym c.self.view_is) (record { numbered = c.requires.numbered; grammar = c.requires.grammar; short = c.requires.short });
+  logged = subst (λ (e : EngineView). IsFollowable (meaning_in g.O.Oper.meaning (params_of e)) c.args.logged) (sym c.self.view_is) (record { with_lsn = c.requires.with_lsn; grammar = c.requires.grammar; short = c.requires.short });
 }
 
 pub invariant_of-self : goal.invariant_of-self

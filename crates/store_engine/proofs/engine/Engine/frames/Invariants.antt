@@ -1,4 +1,4 @@
-use Rattle.log_frames.specs.Payloads.{ahead}
+use Rattle.log_blocks.specs.Payloads.{ahead}
 use Rattle.store_engine.proofs.Shipped.{HasShipped}
 use Rattle.store_engine.proofs.engine.Engine.frames.Given as goal
 

@@ -3,10 +3,10 @@ use Rattle.std.specs.List.Sorted.{IsStrictlyIncreasing}
 use Rattle.formats.specs.Objects.{bounds_of}
 use Rattle.dirty_cache.specs.Contents.{AreDirty}
 use Rattle.install_order.specs.declared.entry.Entry.{Entry}
-use Rattle.log_frames.specs.LogView.{used_of}
+use Rattle.log_blocks.specs.LogView.{used_of}
 use Rattle.log_records.specs.RecordLog.{RecordLogView}
 use Rattle.running_store.specs.Laid.{Laid}
-use Rattle.write_graph.specs.Graph.{IsCount, NamesNode, numbers}
+use Rattle.write_graph.specs.Graph.{IsCount, NamesNode, lsns}
 use Rattle.store_engine.specs.Engine.{EngineView, accepted_in, forced_in, used_in}
 use Rattle.store_engine.specs.Store.{meaning_in}
 use Rattle.store_engine.proofs.Stats.{entries_counted, nodes_counted, small_in}
@@ -49,7 +49,7 @@ returns-clause-shown g c = λ p file w sound shows.
     let m = meaning_in g.O.Oper.meaning p in
     let it = c.args.self.now.parts.volatile in
     let lawful = g.met.O.Oper.lawful (bounds_of p) (small_in m p file it w shows) in
-    let rising = subst (λ (l : List Entry). IsStrictlyIncreasing (numbers l)) (listed g at) c.len.ensures.rising in
+    let rising = subst (λ (l : List Entry). IsStrictlyIncreasing (lsns l)) (listed g at) c.len.ensures.rising in
     record {
       nodes = nodes_counted m lawful p file it w sound shows c.node_count.result (nodes g at);
       dirty = (dirty g at).2 ∙ sym (c.dirty_objects_are_counted.ensures p file it w (dirty g at).0 shows (dirty g at).1);

@@ -4,8 +4,8 @@ use Rattle.store_engine.specs.Engine.{params_of, records_of}
 use Rattle.transactions.proofs.transaction.Transaction.commit.Goals as goal
 
 pub returns-clause-left : goal.returns-clause-left
-returns-clause-left g c = λ p commands holds staged numbers.
-    c.commit.ensures.left p commands holds staged.accepted (staged.bytes_are ∙ ap (λ (q : Params). records_of g.O.Oper.meaning q c.args.self.now.ops.items) (sym holds.shows.shows.store.params)) numbers
+returns-clause-left g c = λ p commands holds staged lsns.
+    c.commit.ensures.left p commands holds staged.accepted (staged.bytes_are ∙ ap (λ (q : Params). records_of g.O.Oper.meaning q c.args.self.now.ops.items) (sym holds.shows.shows.store.params)) lsns
 
 pub returns-clause-images : goal.returns-clause-images
 returns-clause-images g c = λ told p commands holds staged. c.commit.ensures.images told p commands holds staged.accepted

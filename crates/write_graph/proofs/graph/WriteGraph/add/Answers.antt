@@ -3,7 +3,7 @@ use Rattle.std.proofs.lemmas.List.{length_push, length-map}
 use Rattle.indexmap.specs.IndexMap.{get}
 use Rattle.install_order.specs.declared.entry.Entry.{Entry}
 use Rattle.graph_nodes.specs.Arcs.{held_at}
-use Rattle.write_graph.specs.Graph.{Graph, numbers}
+use Rattle.write_graph.specs.Graph.{Graph, lsns}
 use Rattle.write_graph.specs.Cells.{held_entries}
 use Rattle.write_graph.specs.Linked.{AreLinked}
 use Rattle.write_graph.specs.Lowered.{lowered}
@@ -15,7 +15,7 @@ use Rattle.write_graph.proofs.graph.WriteGraph.add.Goals as goal
 pub add-requires-clause-linked : goal.add-requires-clause-linked
 add-requires-clause-linked c =
     let g = c.self.inside in
-    subst (λ (es : List Entry). AreLinked es g.links.graph g.links.rows) (sym (c.as_slice.ensures.value ∙ c.lower_last.ensures.lowered)) (linked-lowered c.args.entry.number g.entries.items g.links.graph g.links.rows c.self.invariant.1)
+    subst (λ (es : List Entry). AreLinked es g.links.graph g.links.rows) (sym (c.as_slice.ensures.value ∙ c.lower_last.ensures.lowered)) (linked-lowered c.args.entry.lsn g.entries.items g.links.graph g.links.rows c.self.invariant.1)
 
 pub note_writes-requires : goal.note_writes-requires
 note_writes-requires c =
@@ -29,7 +29,7 @@ pub push_in_room-requires : goal.push_in_room-requires
 push_in_room-requires c =
     let g = c.self.inside in
     let room = subst (λ (v : Graph). 0 < v.room) (sym c.self.view_is) c.requires.room in
-    omega (arith, room, c.lower_last.ensures.capacity, c.lower_last.new.entries.ok.0, ap length c.lower_last.ensures.lowered, length-map g.entries.items (lowered c.args.entry.number))
+    omega (arith, room, c.lower_last.ensures.capacity, c.lower_last.new.entries.ok.0, ap length c.lower_last.ensures.lowered, length-map g.entries.items (lowered c.args.entry.lsn))
 
 pub invariant_of-self : goal.invariant_of-self
 invariant_of-self c =
@@ -38,11 +38,11 @@ invariant_of-self c =
     let e = c.args.entry in
     let held = g.links.graph.held in
     let more = c.add.new.self.graph.held in
-    let low = map (lowered e.number) entries in
-    let above = subst (λ (v : Graph). All (λ n. n < e.number) (numbers v.entries)) (sym c.self.view_is) c.requires.above in
+    let low = map (lowered e.lsn) entries in
+    let above = subst (λ (v : Graph). All (λ n. n < e.lsn) (lsns v.entries)) (sym c.self.view_is) c.requires.above in
     let room = subst (λ (v : Graph). 0 < v.room) (sym c.self.view_is) c.requires.room in
-    let len = length-map entries (lowered e.number) in
-    let same = held-lowered held entries e.number above in
+    let len = length-map entries (lowered e.lsn) in
+    let same = held-lowered held entries e.lsn above in
     let push = held-push held more low e (c.self.invariant.1.held ∙ sym len) c.add.ensures.held in
     let size = length_push low e in
     let slot : c.len-slot.result ≡ length low = c.len-slot.ensures ∙ c.lower_last.new.entries.ok.0 ∙ ap length c.lower_last.ensures.lowered in
@@ -52,7 +52,7 @@ invariant_of-self c =
       subst (λ (es : List Entry). AreLinked (es ++ e ∷ []) c.add.new.self.graph c.add.new.self.rows) (c.as_slice.ensures.value ∙ c.lower_last.ensures.lowered) c.add.ensures.linked,
       omega (arith, ap length push, ap length same, length_push (held_entries held low) e, c.self.invariant.2),
       omega (arith, room, size, len),
-      firsts-added held more low e c.len-slot.result c.as_slice-2.result.now (get nat_eq g.firsts) (get nat_eq c.note_writes.new.firsts) (c.self.invariant.1.held ∙ sym len) c.add.ensures.held c.as_slice-2.ensures.value slot c.note_writes.ensures (firsts-lowered e.number entries held (get nat_eq g.firsts) c.self.invariant.4),
+      firsts-added held more low e c.len-slot.result c.as_slice-2.result.now (get nat_eq g.firsts) (get nat_eq c.note_writes.new.firsts) (c.self.invariant.1.held ∙ sym len) c.add.ensures.held c.as_slice-2.ensures.value slot c.note_writes.ensures (firsts-lowered e.lsn entries held (get nat_eq g.firsts) c.self.invariant.4),
     )
 
 pub returns : goal.returns
@@ -62,8 +62,8 @@ returns c =
     let e = c.args.entry in
     let held = g.links.graph.held in
     let more = c.add.new.self.graph.held in
-    let low = map (lowered e.number) entries in
-    let above = subst (λ (v : Graph). All (λ n. n < e.number) (numbers v.entries)) (sym c.self.view_is) c.requires.above in
-    let same = held-lowered held entries e.number above in
-    let push = held-push held more low e (c.self.invariant.1.held ∙ sym (length-map entries (lowered e.number))) c.add.ensures.held in
+    let low = map (lowered e.lsn) entries in
+    let above = subst (λ (v : Graph). All (λ n. n < e.lsn) (lsns v.entries)) (sym c.self.view_is) c.requires.above in
+    let same = held-lowered held entries e.lsn above in
+    let push = held-push held more low e (c.self.invariant.1.held ∙ sym (length-map entries (lowered e.lsn))) c.add.ensures.held in
     ap (held_entries more) (c.push_in_room.ensures.items ∙ ap (λ (es : List Entry). es ++ e ∷ []) c.lower_last.ensures.lowered) ∙ push ∙ ap (λ (es : List Entry). es ++ e ∷ []) same ∙ ap (λ (v : Graph). v.entries ++ e ∷ []) c.self.view_is

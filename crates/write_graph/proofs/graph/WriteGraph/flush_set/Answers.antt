@@ -6,14 +6,14 @@ use Rattle.install_order.specs.declared.entry.Entry.{Entry}
 use Rattle.install_order.specs.Order.{flush_set_of}
 use Rattle.install_order.specs.Entries.{accesses}
 use Rattle.graph_nodes.specs.Arcs.{held_at}
-use Rattle.write_graph.specs.Places.{IsSlotOfNumber}
-use Rattle.write_graph.specs.Graph.{Graph, numbers, NamesNode, IsNodeNamed, Lists}
+use Rattle.write_graph.specs.Places.{IsSlotOfLsn}
+use Rattle.write_graph.specs.Graph.{Graph, lsns, NamesNode, IsNodeNamed, Lists}
 use Rattle.write_graph.specs.Cells.{slot_access, held_entries}
 use Rattle.write_graph.specs.Rows.{last_held}
 use Rattle.write_graph.specs.Listing.{IsWrittenBy, AreSlotsOf, is_with}
 use Rattle.write_graph.specs.Naming.{AreSlots}
 use Rattle.write_graph.proofs.Options.{ok-then}
-use Rattle.write_graph.proofs.Numbers.{renamed, number-same}
+use Rattle.write_graph.proofs.Numbers.{renamed, lsn-same}
 use Rattle.write_graph.proofs.Listed.{lists-same, lists-filter, slots-below, flushed}
 use Rattle.write_graph.proofs.Asked.{slots-are, slot-at}
 use Rattle.write_graph.proofs.graph.WriteGraph.flush_set.Goals as goal
@@ -38,7 +38,7 @@ last_written-requires-clause-slot c =
     let g = c.self.inside in
     let entries = g.entries.items in
     let linked = c.self.invariant.1 in
-    let found_at : IsSlotOfNumber (numbers entries) c.args.n c.slot_of-slot.result = subst (λ (es : List Entry). IsSlotOfNumber (numbers es) c.args.n c.slot_of-slot.result) c.as_slice-entries.ensures.value c.slot_of-slot.ensures in
+    let found_at : IsSlotOfLsn (lsns entries) c.args.n c.slot_of-slot.result = subst (λ (es : List Entry). IsSlotOfLsn (lsns es) c.args.n c.slot_of-slot.result) c.as_slice-entries.ensures.value c.slot_of-slot.ensures in
     let are = slots-are entries g.links.graph g.links.rows linked c.self.invariant.0 in
     let is = subst (λ (v : Graph). NamesNode v.entries c.args.n) (sym c.self.view_is) c.requires in
     let s = slot-at c.slots_name_nodes.ensures.slots c.slots_name_nodes.ensures.names entries g.links.graph are c.args.n c.slot_of-slot.result is.0 found_at is.1 in
@@ -53,20 +53,20 @@ returns c =
     let entries = g.entries.items in
     let linked = c.self.invariant.1 in
     let has = subst (λ (es : List Entry). (node : ℕ → Bool) → IsNodeNamed (held_entries g.links.graph.held es) c.args.n node → AreSlotsOf es g.links.graph c.args.n c.in_ok-slots.slots.items node) c.as_slice-entries.ensures.value c.in_ok-slots.ensures in
-    let found_at : IsSlotOfNumber (numbers entries) c.args.n c.slot_of-slot.result = subst (λ (es : List Entry). IsSlotOfNumber (numbers es) c.args.n c.slot_of-slot.result) c.as_slice-entries.ensures.value c.slot_of-slot.ensures in
+    let found_at : IsSlotOfLsn (lsns entries) c.args.n c.slot_of-slot.result = subst (λ (es : List Entry). IsSlotOfLsn (lsns es) c.args.n c.slot_of-slot.result) c.as_slice-entries.ensures.value c.slot_of-slot.ensures in
     let are = slots-are entries g.links.graph g.links.rows linked c.self.invariant.0 in
-    let number : ℕ → ℕ = slice_index (numbers entries) in
+    let lsn : ℕ → ℕ = slice_index (lsns entries) in
     let named_is = renamed entries g.links.graph.held linked.held c.self.invariant.0.above_held in
     ok-then c.last_written.result _ _ (λ found kept node named.
     let here = subst (λ (v : Graph). IsNodeNamed v.entries c.args.n node) (sym c.self.view_is) named in
     let m = has node here in
     let s = slot-at c.slots_name_nodes.ensures.slots c.slots_name_nodes.ensures.names entries g.links.graph are c.args.n c.slot_of-slot.result node found_at here in
-    let at : m.slot.slot ≡ c.slot_of-slot.result = number-same (held_at g.links.graph.held) entries c.self.invariant.0.above_held m.slot.slot s.0.slot m.slot.name.0 s.0.name.0 m.slot.below s.0.below (m.slot.number ∙ sym s.0.number) ∙ s.1 in
+    let at : m.slot.slot ≡ c.slot_of-slot.result = lsn-same (held_at g.links.graph.held) entries c.self.invariant.0.above_held m.slot.slot s.0.slot m.slot.name.0 s.0.name.0 m.slot.below s.0.below (m.slot.lsn ∙ sym s.0.lsn) ∙ s.1 in
     let t : ℕ → ℕ → Bool = λ slot x. is_with g.links.graph slot (last_held g.links.graph.held g.links.rows x) in
     let list = subst (λ (xs : List ℕ). Lists (IsWrittenBy entries xs) c.in_ok-objects.objects.items) c.as_slice.ensures.value (subst (λ (es : List Entry). Lists (IsWrittenBy es c.as_slice.result.now) c.in_ok-objects.objects.items) c.as_slice-entries.ensures.value c.in_ok-objects.ensures) in
     let items : found.items ≡ filter (t m.slot.slot) c.in_ok-objects.objects.items = kept ∙ ap (filter (t c.slot_of-slot.result)) c.as_slice-2.ensures.value ∙ ap (λ (k : ℕ). filter (t k) c.in_ok-objects.objects.items) (sym at) in
     subst (λ (v : Graph). Lists (flush_set_of (accesses v.entries) node) found.items) c.self.view_is (
     subst (λ (xs : List ℕ). Lists (flush_set_of (accesses (held_entries g.links.graph.held entries)) node) xs) (sym items) (
     lists-same (λ x. IsWrittenBy entries c.in_ok-slots.slots.items x × IsTrue (t m.slot.slot x)) (flush_set_of (accesses (held_entries g.links.graph.held entries)) node) (filter (t m.slot.slot) c.in_ok-objects.objects.items)
-    (flushed entries g.links.graph g.links.rows linked c.self.invariant.0 c.args.n node here m.slot (λ x i lt. c.nodes_stand_for_nodes.ensures.last (slot_access entries g.links.graph.held) (accesses (held_entries g.links.graph.held entries)) (held_at g.links.graph.held) (length entries) number x i named_is lt) c.in_ok-slots.slots.items m.among)
+    (flushed entries g.links.graph g.links.rows linked c.self.invariant.0 c.args.n node here m.slot (λ x i lt. c.nodes_stand_for_nodes.ensures.last (slot_access entries g.links.graph.held) (accesses (held_entries g.links.graph.held entries)) (held_at g.links.graph.held) (length entries) lsn x i named_is lt) c.in_ok-slots.slots.items m.among)
     (lists-filter (IsWrittenBy entries c.in_ok-slots.slots.items) (t m.slot.slot) c.in_ok-objects.objects.items list)))) c.last_written.ensures

@@ -1,9 +1,9 @@
 use Rattle.std.proofs.Common.{◌≡◌, ◌∙◌, ap, sym, subst, ℕ, ◌≤◌, List, Option, IfNone}
 use Rattle.std.specs.Prelude.{slice_index}
 use Rattle.install_order.specs.declared.entry.Entry.{Entry}
-use Rattle.write_graph.specs.Graph.{Graph, numbers, NamesMinimal, IsLeast}
+use Rattle.write_graph.specs.Graph.{Graph, lsns, NamesMinimal, IsLeast}
 use Rattle.write_graph.proofs.Naming.{held-below}
-use Rattle.write_graph.proofs.Held.{number-at}
+use Rattle.write_graph.proofs.Held.{lsn-at}
 use Rattle.write_graph.proofs.Asked.{slots-are, BeginsAt, least-is, none-is}
 use Rattle.write_graph.proofs.graph.WriteGraph.minimal_from.Goals as goal
 
@@ -24,5 +24,5 @@ returns-clause-some c =
     let slot = c.in_ok-slot.slot in
     let below = held-below g.entries.items g.links.graph slot c.self.invariant.1.held some.0.1.0.0 in
     let least = least-is c.slots_name_nodes.ensures.slots c.slots_name_nodes.ensures.names g.entries.items g.links.graph are c.args.n c.slot_from-from.result slot begins some in
-    let number : slice_index (numbers g.entries.items) slot ≡ c.index.result.now.number = number-at g.entries.items slot c.index.result.now below ∙ sym (ap (λ (e : Entry). e.number) c.index.ensures) in
-    subst (λ (k : ℕ). IsLeast (λ k. (c.args.n ≤ k) × NamesMinimal c.args.self.now.entries k) k) number (subst (λ (v : Graph). IsLeast (λ k. (c.args.n ≤ k) × NamesMinimal v.entries k) (slice_index (numbers g.entries.items) slot)) c.self.view_is least)
+    let lsn : slice_index (lsns g.entries.items) slot ≡ c.index.result.now.lsn = lsn-at g.entries.items slot c.index.result.now below ∙ sym (ap (λ (e : Entry). e.lsn) c.index.ensures) in
+    subst (λ (k : ℕ). IsLeast (λ k. (c.args.n ≤ k) × NamesMinimal c.args.self.now.entries k) k) lsn (subst (λ (v : Graph). IsLeast (λ k. (c.args.n ≤ k) × NamesMinimal v.entries k) (slice_index (lsns g.entries.items) slot)) c.self.view_is least)

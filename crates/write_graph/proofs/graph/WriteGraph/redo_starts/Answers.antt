@@ -6,10 +6,10 @@ use Rattle.indexmap.specs.IndexMap.{get}
 use Rattle.oper_core.specs.State.{is_among}
 use Rattle.install_order.specs.declared.entry.Entry.{Entry}
 use Rattle.install_order.specs.Entries.{accesses}
-use Rattle.write_graph.specs.Graph.{Graph, numbers, Lists, IsLeast}
+use Rattle.write_graph.specs.Graph.{Graph, lsns, Lists, IsLeast}
 use Rattle.write_graph.specs.Objects.{IsWriter, IsWritten}
 use Rattle.write_graph.specs.Cells.{held_entries}
-use Rattle.write_graph.proofs.Held.{at-among, number-at}
+use Rattle.write_graph.proofs.Held.{at-among, lsn-at}
 use Rattle.write_graph.proofs.Listed.{lists-same}
 use Rattle.write_graph.proofs.FirstWriters.{first-below, written-is, first-is, starts-more}
 use Rattle.write_graph.proofs.graph.WriteGraph.redo_starts.Goals as goal
@@ -38,9 +38,9 @@ loop-x-preserved c =
     let slot = c.in-Some.slot.now in
     let at : get nat_eq g.firsts x ≡ _ = sym c.in-Some.ensures.value in
     let below = first-below entries held c.self.invariant.0 c.self.invariant.1.held x slot (get nat_eq g.firsts) c.self.invariant.4 at in
-    let n = c.index.result.now.number in
-    let number : slice_index (numbers entries) slot ≡ n = number-at entries slot c.index.result.now below ∙ sym (ap (λ (e : Entry). e.number) c.index.ensures) in
-    let least = subst (λ (v : Graph). IsLeast (IsWriter (accesses v.entries) x) n) c.self.view_is (subst (λ (k : ℕ). IsLeast (IsWriter (accesses (held_entries held entries)) x) k) number (first-is entries held c.self.invariant.0 c.self.invariant.1.held x slot (get nat_eq g.firsts) c.self.invariant.4 at)) in
+    let n = c.index.result.now.lsn in
+    let lsn : slice_index (lsns entries) slot ≡ n = lsn-at entries slot c.index.result.now below ∙ sym (ap (λ (e : Entry). e.lsn) c.index.ensures) in
+    let least = subst (λ (v : Graph). IsLeast (IsWriter (accesses v.entries) x) n) c.self.view_is (subst (λ (k : ℕ). IsLeast (IsWriter (accesses (held_entries held entries)) x) k) lsn (first-is entries held c.self.invariant.0 c.self.invariant.1.held x slot (get nat_eq g.firsts) c.self.invariant.4 at)) in
     rw c.in_ok-push.ensures.items (starts-more (accesses c.args.self.now.entries) objects c.loop-x.starts.items c.loop-x.x-index n c.loop-x-test.true c.loop-x.invariant.0 c.loop-x.invariant.1 least)
 
 pub returns-clause-objects : goal.returns-clause-objects

@@ -8,8 +8,8 @@ use Rattle.install_order.specs.Entries.{accesses}
 use Rattle.install_order.specs.NodeLaws.{node-unique}
 use Rattle.graph_nodes.specs.Arcs.{node_at, held_at}
 use Rattle.graph_nodes.specs.Removed.{IsRemoved}
-use Rattle.write_graph.specs.Places.{IsSlotOfNumber}
-use Rattle.write_graph.specs.Graph.{Graph, IsNodeNamed, NamesMinimal, numbers}
+use Rattle.write_graph.specs.Places.{IsSlotOfLsn}
+use Rattle.write_graph.specs.Graph.{Graph, IsNodeNamed, NamesMinimal, lsns}
 use Rattle.write_graph.specs.Cells.{writes_of, held_entries}
 use Rattle.write_graph.specs.Firsts.{ArePassed, IsOutside}
 use Rattle.write_graph.specs.Linked.{AreLinked}
@@ -22,7 +22,7 @@ use Rattle.write_graph.proofs.graph.WriteGraph.remove_minimal.Goals as goal
 pub members-requires-clause-slot : goal.members-requires-clause-slot
 members-requires-clause-slot c =
     let g = c.self.inside in
-    let found_at : IsSlotOfNumber (numbers g.entries.items) c.args.n c.slot_of-slot.result = subst (λ (es : List Entry). IsSlotOfNumber (numbers es) c.args.n c.slot_of-slot.result) c.as_slice-entries.ensures.value c.slot_of-slot.ensures in
+    let found_at : IsSlotOfLsn (lsns g.entries.items) c.args.n c.slot_of-slot.result = subst (λ (es : List Entry). IsSlotOfLsn (lsns es) c.args.n c.slot_of-slot.result) c.as_slice-entries.ensures.value c.slot_of-slot.ensures in
     let is = subst (λ (v : Graph). NamesMinimal v.entries c.args.n) (sym c.self.view_is) c.requires in
     let found = found-minimal c.slots_name_nodes.ensures.slots c.slots_name_nodes.ensures.names g.entries.items g.links.graph g.links.rows c.args.n c.slot_of-slot.result c.self.invariant.1 c.self.invariant.0 found_at is in
     omega (arith, found.slot.below, found.at, c.self.invariant.1.slots)
@@ -30,7 +30,7 @@ members-requires-clause-slot c =
 pub overflow_sub-self : goal.overflow_sub-self
 overflow_sub-self c =
     let g = c.self.inside in
-    let found_at : IsSlotOfNumber (numbers g.entries.items) c.args.n c.slot_of-slot.result = subst (λ (es : List Entry). IsSlotOfNumber (numbers es) c.args.n c.slot_of-slot.result) c.as_slice-entries.ensures.value c.slot_of-slot.ensures in
+    let found_at : IsSlotOfLsn (lsns g.entries.items) c.args.n c.slot_of-slot.result = subst (λ (es : List Entry). IsSlotOfLsn (lsns es) c.args.n c.slot_of-slot.result) c.as_slice-entries.ensures.value c.slot_of-slot.ensures in
     let is = subst (λ (v : Graph). NamesMinimal v.entries c.args.n) (sym c.self.view_is) c.requires in
     let found = found-minimal c.slots_name_nodes.ensures.slots c.slots_name_nodes.ensures.names g.entries.items g.links.graph g.links.rows c.args.n c.slot_of-slot.result c.self.invariant.1 c.self.invariant.0 found_at is in
     let xs = c.members.new.out.items in
@@ -40,7 +40,7 @@ overflow_sub-self c =
 pub node-node-requires : goal.node-node-requires
 node-node-requires c =
     let g = c.self.inside in
-    let found_at : IsSlotOfNumber (numbers g.entries.items) c.args.n c.slot_of-slot.result = subst (λ (es : List Entry). IsSlotOfNumber (numbers es) c.args.n c.slot_of-slot.result) c.as_slice-entries.ensures.value c.slot_of-slot.ensures in
+    let found_at : IsSlotOfLsn (lsns g.entries.items) c.args.n c.slot_of-slot.result = subst (λ (es : List Entry). IsSlotOfLsn (lsns es) c.args.n c.slot_of-slot.result) c.as_slice-entries.ensures.value c.slot_of-slot.ensures in
     let is = subst (λ (v : Graph). NamesMinimal v.entries c.args.n) (sym c.self.view_is) c.requires in
     let found = found-minimal c.slots_name_nodes.ensures.slots c.slots_name_nodes.ensures.names g.entries.items g.links.graph g.links.rows c.args.n c.slot_of-slot.result c.self.invariant.1 c.self.invariant.0 found_at is in
     omega (arith, found.slot.below, found.at, c.self.invariant.1.slots)
@@ -48,7 +48,7 @@ node-node-requires c =
 pub pass_over-requires-clause-below : goal.pass_over-requires-clause-below
 pass_over-requires-clause-below c i there =
     let g = c.self.inside in
-    let found_at : IsSlotOfNumber (numbers g.entries.items) c.args.n c.slot_of-slot.result = subst (λ (es : List Entry). IsSlotOfNumber (numbers es) c.args.n c.slot_of-slot.result) c.as_slice-entries.ensures.value c.slot_of-slot.ensures in
+    let found_at : IsSlotOfLsn (lsns g.entries.items) c.args.n c.slot_of-slot.result = subst (λ (es : List Entry). IsSlotOfLsn (lsns es) c.args.n c.slot_of-slot.result) c.as_slice-entries.ensures.value c.slot_of-slot.ensures in
     let is = subst (λ (v : Graph). NamesMinimal v.entries c.args.n) (sym c.self.view_is) c.requires in
     let found = found-minimal c.slots_name_nodes.ensures.slots c.slots_name_nodes.ensures.names g.entries.items g.links.graph g.links.rows c.args.n c.slot_of-slot.result c.self.invariant.1 c.self.invariant.0 found_at is in
     let among : IsTrue (is_among i c.members.new.out.items) = subst (λ (xs : List ℕ). IsTrue (is_among i xs)) c.as_slice.ensures.value there in
@@ -60,7 +60,7 @@ pass_over-requires-clause-passed c = subst (λ (es : List Entry). ArePassed es c
 pub remove-requires-clause-held : goal.remove-requires-clause-held
 remove-requires-clause-held c =
     let g = c.self.inside in
-    let found_at : IsSlotOfNumber (numbers g.entries.items) c.args.n c.slot_of-slot.result = subst (λ (es : List Entry). IsSlotOfNumber (numbers es) c.args.n c.slot_of-slot.result) c.as_slice-entries.ensures.value c.slot_of-slot.ensures in
+    let found_at : IsSlotOfLsn (lsns g.entries.items) c.args.n c.slot_of-slot.result = subst (λ (es : List Entry). IsSlotOfLsn (lsns es) c.args.n c.slot_of-slot.result) c.as_slice-entries.ensures.value c.slot_of-slot.ensures in
     let is = subst (λ (v : Graph). NamesMinimal v.entries c.args.n) (sym c.self.view_is) c.requires in
     let found = found-minimal c.slots_name_nodes.ensures.slots c.slots_name_nodes.ensures.names g.entries.items g.links.graph g.links.rows c.args.n c.slot_of-slot.result c.self.invariant.1 c.self.invariant.0 found_at is in
     (found.held c.slot_of-slot.result refl).1
@@ -68,7 +68,7 @@ remove-requires-clause-held c =
 pub remove-requires-clause-minimal : goal.remove-requires-clause-minimal
 remove-requires-clause-minimal c =
     let g = c.self.inside in
-    let found_at : IsSlotOfNumber (numbers g.entries.items) c.args.n c.slot_of-slot.result = subst (λ (es : List Entry). IsSlotOfNumber (numbers es) c.args.n c.slot_of-slot.result) c.as_slice-entries.ensures.value c.slot_of-slot.ensures in
+    let found_at : IsSlotOfLsn (lsns g.entries.items) c.args.n c.slot_of-slot.result = subst (λ (es : List Entry). IsSlotOfLsn (lsns es) c.args.n c.slot_of-slot.result) c.as_slice-entries.ensures.value c.slot_of-slot.ensures in
     let is = subst (λ (v : Graph). NamesMinimal v.entries c.args.n) (sym c.self.view_is) c.requires in
     let found = found-minimal c.slots_name_nodes.ensures.slots c.slots_name_nodes.ensures.names g.entries.items g.links.graph g.links.rows c.args.n c.slot_of-slot.result c.self.invariant.1 c.self.invariant.0 found_at is in
     found.minimal
@@ -76,7 +76,7 @@ remove-requires-clause-minimal c =
 pub invariant_of-self : goal.invariant_of-self
 invariant_of-self c =
     let g = c.self.inside in
-    let found_at : IsSlotOfNumber (numbers g.entries.items) c.args.n c.slot_of-slot.result = subst (λ (es : List Entry). IsSlotOfNumber (numbers es) c.args.n c.slot_of-slot.result) c.as_slice-entries.ensures.value c.slot_of-slot.ensures in
+    let found_at : IsSlotOfLsn (lsns g.entries.items) c.args.n c.slot_of-slot.result = subst (λ (es : List Entry). IsSlotOfLsn (lsns es) c.args.n c.slot_of-slot.result) c.as_slice-entries.ensures.value c.slot_of-slot.ensures in
     let is = subst (λ (v : Graph). NamesMinimal v.entries c.args.n) (sym c.self.view_is) c.requires in
     let found = found-minimal c.slots_name_nodes.ensures.slots c.slots_name_nodes.ensures.names g.entries.items g.links.graph g.links.rows c.args.n c.slot_of-slot.result c.self.invariant.1 c.self.invariant.0 found_at is in
     let xs = c.members.new.out.items in
@@ -89,12 +89,12 @@ invariant_of-self c =
     subst (λ (k : ℕ). IsOutside g.links.graph k (get nat_eq c.pass_over.new.firsts x)) node (c.pass_over.ensures.outside x (i, among, subst (λ (es : List Entry). IsTrue (is_among x (writes_of es i))) (sym entries) there)) in
     let firsts = firsts-left g.entries.items g.links.graph c.remove.new.self.graph m c.remove.ensures.removed (get nat_eq c.pass_over.new.firsts) passed outside in
     let count = left-count g.entries.items g.links.graph c.remove.new.self.graph c.slot_of-slot.result xs c.remove.ensures.removed c.members.ensures.distinct c.members.ensures.members found.held in
-    (climbing-left g.links.graph c.remove.new.self.graph (node_at g.links.graph.node c.slot_of-slot.result) (numbers g.entries.items) c.remove.ensures.removed c.self.invariant.0, subst (λ (es : List Entry). AreLinked es c.remove.new.self.graph c.remove.new.self.rows) c.as_slice-entries.ensures.value c.remove.ensures.linked, omega (arith, count, c.len.ensures, c.self.invariant.2), omega (arith, c.members.ensures.capacity, c.self.invariant.3), firsts)
+    (climbing-left g.links.graph c.remove.new.self.graph (node_at g.links.graph.node c.slot_of-slot.result) (lsns g.entries.items) c.remove.ensures.removed c.self.invariant.0, subst (λ (es : List Entry). AreLinked es c.remove.new.self.graph c.remove.new.self.rows) c.as_slice-entries.ensures.value c.remove.ensures.linked, omega (arith, count, c.len.ensures, c.self.invariant.2), omega (arith, c.members.ensures.capacity, c.self.invariant.3), firsts)
 
 pub returns-clause-entries : goal.returns-clause-entries
 returns-clause-entries c node named =
     let g = c.self.inside in
-    let found_at : IsSlotOfNumber (numbers g.entries.items) c.args.n c.slot_of-slot.result = subst (λ (es : List Entry). IsSlotOfNumber (numbers es) c.args.n c.slot_of-slot.result) c.as_slice-entries.ensures.value c.slot_of-slot.ensures in
+    let found_at : IsSlotOfLsn (lsns g.entries.items) c.args.n c.slot_of-slot.result = subst (λ (es : List Entry). IsSlotOfLsn (lsns es) c.args.n c.slot_of-slot.result) c.as_slice-entries.ensures.value c.slot_of-slot.ensures in
     let is = subst (λ (v : Graph). NamesMinimal v.entries c.args.n) (sym c.self.view_is) c.requires in
     let found = found-minimal c.slots_name_nodes.ensures.slots c.slots_name_nodes.ensures.names g.entries.items g.links.graph g.links.rows c.args.n c.slot_of-slot.result c.self.invariant.1 c.self.invariant.0 found_at is in
     let view = held_entries g.links.graph.held g.entries.items in
@@ -108,7 +108,7 @@ returns-clause-entries c node named =
 pub returns-clause-nodes : goal.returns-clause-nodes
 returns-clause-nodes c k other =
     let g = c.self.inside in
-    let found_at : IsSlotOfNumber (numbers g.entries.items) c.args.n c.slot_of-slot.result = subst (λ (es : List Entry). IsSlotOfNumber (numbers es) c.args.n c.slot_of-slot.result) c.as_slice-entries.ensures.value c.slot_of-slot.ensures in
+    let found_at : IsSlotOfLsn (lsns g.entries.items) c.args.n c.slot_of-slot.result = subst (λ (es : List Entry). IsSlotOfLsn (lsns es) c.args.n c.slot_of-slot.result) c.as_slice-entries.ensures.value c.slot_of-slot.ensures in
     let is = subst (λ (v : Graph). NamesMinimal v.entries c.args.n) (sym c.self.view_is) c.requires in
     let found = found-minimal c.slots_name_nodes.ensures.slots c.slots_name_nodes.ensures.names g.entries.items g.links.graph g.links.rows c.args.n c.slot_of-slot.result c.self.invariant.1 c.self.invariant.0 found_at is in
     let view = held_entries g.links.graph.held g.entries.items in
@@ -121,7 +121,7 @@ returns-clause-nodes c k other =
 pub returns-clause-flush_sets : goal.returns-clause-flush_sets
 returns-clause-flush_sets c k other x =
     let g = c.self.inside in
-    let found_at : IsSlotOfNumber (numbers g.entries.items) c.args.n c.slot_of-slot.result = subst (λ (es : List Entry). IsSlotOfNumber (numbers es) c.args.n c.slot_of-slot.result) c.as_slice-entries.ensures.value c.slot_of-slot.ensures in
+    let found_at : IsSlotOfLsn (lsns g.entries.items) c.args.n c.slot_of-slot.result = subst (λ (es : List Entry). IsSlotOfLsn (lsns es) c.args.n c.slot_of-slot.result) c.as_slice-entries.ensures.value c.slot_of-slot.ensures in
     let is = subst (λ (v : Graph). NamesMinimal v.entries c.args.n) (sym c.self.view_is) c.requires in
     let found = found-minimal c.slots_name_nodes.ensures.slots c.slots_name_nodes.ensures.names g.entries.items g.links.graph g.links.rows c.args.n c.slot_of-slot.result c.self.invariant.1 c.self.invariant.0 found_at is in
     let view = held_entries g.links.graph.held g.entries.items in
@@ -134,7 +134,7 @@ returns-clause-flush_sets c k other x =
 pub returns-clause-edges : goal.returns-clause-edges
 returns-clause-edges c node o p named =
     let g = c.self.inside in
-    let found_at : IsSlotOfNumber (numbers g.entries.items) c.args.n c.slot_of-slot.result = subst (λ (es : List Entry). IsSlotOfNumber (numbers es) c.args.n c.slot_of-slot.result) c.as_slice-entries.ensures.value c.slot_of-slot.ensures in
+    let found_at : IsSlotOfLsn (lsns g.entries.items) c.args.n c.slot_of-slot.result = subst (λ (es : List Entry). IsSlotOfLsn (lsns es) c.args.n c.slot_of-slot.result) c.as_slice-entries.ensures.value c.slot_of-slot.ensures in
     let is = subst (λ (v : Graph). NamesMinimal v.entries c.args.n) (sym c.self.view_is) c.requires in
     let found = found-minimal c.slots_name_nodes.ensures.slots c.slots_name_nodes.ensures.names g.entries.items g.links.graph g.links.rows c.args.n c.slot_of-slot.result c.self.invariant.1 c.self.invariant.0 found_at is in
     let view = held_entries g.links.graph.held g.entries.items in
@@ -150,7 +150,7 @@ returns-clause-edges c node o p named =
 pub returns-clause-fewer : goal.returns-clause-fewer
 returns-clause-fewer c =
     let g = c.self.inside in
-    let found_at : IsSlotOfNumber (numbers g.entries.items) c.args.n c.slot_of-slot.result = subst (λ (es : List Entry). IsSlotOfNumber (numbers es) c.args.n c.slot_of-slot.result) c.as_slice-entries.ensures.value c.slot_of-slot.ensures in
+    let found_at : IsSlotOfLsn (lsns g.entries.items) c.args.n c.slot_of-slot.result = subst (λ (es : List Entry). IsSlotOfLsn (lsns es) c.args.n c.slot_of-slot.result) c.as_slice-entries.ensures.value c.slot_of-slot.ensures in
     let is = subst (λ (v : Graph). NamesMinimal v.entries c.args.n) (sym c.self.view_is) c.requires in
     let found = found-minimal c.slots_name_nodes.ensures.slots c.slots_name_nodes.ensures.names g.entries.items g.links.graph g.links.rows c.args.n c.slot_of-slot.result c.self.invariant.1 c.self.invariant.0 found_at is in
     let view = held_entries g.links.graph.held g.entries.items in

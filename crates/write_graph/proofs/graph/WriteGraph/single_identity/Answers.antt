@@ -3,8 +3,8 @@ use Rattle.std.specs.Prelude.{IsTrue, ◌↔◌}
 use Rattle.std.proofs.lemmas.Bool.{both_ways}
 use Rattle.install_order.specs.declared.entry.Entry.{Entry}
 use Rattle.graph_nodes.specs.Arcs.{node_at}
-use Rattle.write_graph.specs.Places.{IsSlotOfNumber}
-use Rattle.write_graph.specs.Graph.{Graph, NamesNode, IsNodeNamed, IsSingleIdentity, numbers}
+use Rattle.write_graph.specs.Places.{IsSlotOfLsn}
+use Rattle.write_graph.specs.Graph.{Graph, NamesNode, IsNodeNamed, IsSingleIdentity, lsns}
 use Rattle.write_graph.proofs.Asked.{slots-are, slot-at}
 use Rattle.write_graph.proofs.Numbers.{test-at, test_of}
 use Rattle.write_graph.proofs.Listed.{single, alone-slot}
@@ -13,7 +13,7 @@ use Rattle.write_graph.proofs.graph.WriteGraph.single_identity.Goals as goal
 pub is_single-requires : goal.is_single-requires
 is_single-requires c =
     let g = c.self.inside in
-    let found_at : IsSlotOfNumber (numbers g.entries.items) c.args.n c.slot_of-slot.result = subst (λ (es : List Entry). IsSlotOfNumber (numbers es) c.args.n c.slot_of-slot.result) c.as_slice.ensures.value c.slot_of-slot.ensures in
+    let found_at : IsSlotOfLsn (lsns g.entries.items) c.args.n c.slot_of-slot.result = subst (λ (es : List Entry). IsSlotOfLsn (lsns es) c.args.n c.slot_of-slot.result) c.as_slice.ensures.value c.slot_of-slot.ensures in
     let are = slots-are g.entries.items g.links.graph g.links.rows c.self.invariant.1 c.self.invariant.0 in
     let is = subst (λ (v : Graph). NamesNode v.entries c.args.n) (sym c.self.view_is) c.requires in
     let s = slot-at c.slots_name_nodes.ensures.slots c.slots_name_nodes.ensures.names g.entries.items g.links.graph are c.args.n c.slot_of-slot.result is.0 found_at is.1 in
@@ -22,7 +22,7 @@ is_single-requires c =
 pub returns-then-not-is_single : goal.returns-then-not-is_single
 returns-then-not-is_single c node named =
     let g = c.self.inside in
-    let found_at : IsSlotOfNumber (numbers g.entries.items) c.args.n c.slot_of-slot.result = subst (λ (es : List Entry). IsSlotOfNumber (numbers es) c.args.n c.slot_of-slot.result) c.as_slice.ensures.value c.slot_of-slot.ensures in
+    let found_at : IsSlotOfLsn (lsns g.entries.items) c.args.n c.slot_of-slot.result = subst (λ (es : List Entry). IsSlotOfLsn (lsns es) c.args.n c.slot_of-slot.result) c.as_slice.ensures.value c.slot_of-slot.ensures in
     let are = slots-are g.entries.items g.links.graph g.links.rows c.self.invariant.1 c.self.invariant.0 in
     let here = subst (λ (v : Graph). IsNodeNamed v.entries c.args.n node) (sym c.self.view_is) named in
     let s = slot-at c.slots_name_nodes.ensures.slots c.slots_name_nodes.ensures.names g.entries.items g.links.graph are c.args.n c.slot_of-slot.result node found_at here in
@@ -34,7 +34,7 @@ returns-then-not-is_single c node named =
 pub index-requires : goal.index-requires
 index-requires c =
     let g = c.self.inside in
-    let found_at : IsSlotOfNumber (numbers g.entries.items) c.args.n c.slot_of-slot.result = subst (λ (es : List Entry). IsSlotOfNumber (numbers es) c.args.n c.slot_of-slot.result) c.as_slice.ensures.value c.slot_of-slot.ensures in
+    let found_at : IsSlotOfLsn (lsns g.entries.items) c.args.n c.slot_of-slot.result = subst (λ (es : List Entry). IsSlotOfLsn (lsns es) c.args.n c.slot_of-slot.result) c.as_slice.ensures.value c.slot_of-slot.ensures in
     let are = slots-are g.entries.items g.links.graph g.links.rows c.self.invariant.1 c.self.invariant.0 in
     let is = subst (λ (v : Graph). NamesNode v.entries c.args.n) (sym c.self.view_is) c.requires in
     let s = slot-at c.slots_name_nodes.ensures.slots c.slots_name_nodes.ensures.names g.entries.items g.links.graph are c.args.n c.slot_of-slot.result is.0 found_at is.1 in
@@ -43,7 +43,7 @@ index-requires c =
 pub returns : goal.returns
 returns c node named =
     let g = c.self.inside in
-    let found_at : IsSlotOfNumber (numbers g.entries.items) c.args.n c.slot_of-slot.result = subst (λ (es : List Entry). IsSlotOfNumber (numbers es) c.args.n c.slot_of-slot.result) c.as_slice.ensures.value c.slot_of-slot.ensures in
+    let found_at : IsSlotOfLsn (lsns g.entries.items) c.args.n c.slot_of-slot.result = subst (λ (es : List Entry). IsSlotOfLsn (lsns es) c.args.n c.slot_of-slot.result) c.as_slice.ensures.value c.slot_of-slot.ensures in
     let are = slots-are g.entries.items g.links.graph g.links.rows c.self.invariant.1 c.self.invariant.0 in
     let here = subst (λ (v : Graph). IsNodeNamed v.entries c.args.n node) (sym c.self.view_is) named in
     let s = slot-at c.slots_name_nodes.ensures.slots c.slots_name_nodes.ensures.names g.entries.items g.links.graph are c.args.n c.slot_of-slot.result node found_at here in
