@@ -1,5 +1,5 @@
 // A store whose log is done again.
-ghost use Rattle.std.specs.Prelude.{◌≡◌, ◌<◌, ◌≤◌, ◌^◌, ℕ, None, [], false, IfOk, OnOk};
+ghost use Rattle.std.specs.Prelude.{◌≡◌, ◌<◌, ◌≤◌, ◌^◌, ℕ, None, [], false, IfNone, IfOk};
 ghost use Rattle.dirty_cache.specs.Contents.{held};
 ghost use Rattle.running_store.specs.Flushed.{AreEarly};
 
@@ -9,9 +9,10 @@ use disk_model::{FileNo, Fuse, MemMachine};
 use formats::ReadErr;
 use log_records::RecordLog;
 use op_codec::AllOps;
-use oper_core::Bounds;
+use oper_core::{Bounds, Memory};
 use redo_pass::redo;
 use running_store::{Objects, Store};
+use stable_objects::OpenErr;
 use std::alloc::Global;
 use std::test::Fail;
 use write_graph::WriteGraph;
@@ -47,31 +48,36 @@ fn loaded(
     RecordLog::load_checked(alloc, machine, b)
 }
 
-// Refuses objects of which a slot is late.
-fn refuse_late(objects: &Objects, next: u64) -> Result<(), ReadErr>
+// The place of a slot that is late, if there is one.
+fn first_late(objects: &Objects, next: u64) -> Option<u64>
     requires { 0 < next }
-    ensures { OnOk result (AreEarly next objects.now) }
+    ensures { IfNone result (AreEarly next objects.now) }
 {
-    match objects.first_late(next) {
-        Some(place) => Err(ReadErr::Damaged {
-            file: FileNo::Objects,
-            place,
-        }),
-        None => Ok(()),
-    }
+    objects.first_late(next)
 }
 
 // The store of a machine's files, and the plan by which its log has to be done again.
-pub fn begun(alloc: Global, machine: &mut MemMachine) -> Result<(Store<AllOps>, Plan), Fail>
+pub fn begun(alloc: Global, machine: &mut MemMachine) -> Result<(Store<AllOps>, Plan), OpenErr>
     ensures unbroken { IfOk result (λ it. it.0.broken ≡ false) }
     ensures empty { IfOk result (λ it. ((x : ℕ) → held it.0.parts.volatile.objects.cache x ≡ None) × (it.0.parts.volatile.entries ≡ [])) }
 {
-    let graph = WriteGraph::new(alloc)?;
     let objects = Objects::load(alloc, machine, 2, 0)?;
     let (log, last) = loaded(alloc, machine, objects.bounds())?;
-    refuse_late(&objects, log.next())?;
+    if let Some(place) = first_late(&objects, log.next()) {
+        drop((objects, log, last));
+        return Err(OpenErr::Damaged {
+            file: FileNo::Objects,
+            place,
+        });
+    }
     let plan = analyse(alloc, log.base(), last);
-    Ok((Store::new(alloc, log, objects, graph), plan))
+    match WriteGraph::new(alloc) {
+        Ok(graph) => Ok((Store::new(alloc, log, objects, graph), plan)),
+        Err(Memory) => {
+            drop((objects, log, plan));
+            Err(OpenErr::Memory)
+        }
+    }
 }
 
 // Does the log again, on a machine that fails after so many calls of the redo.
