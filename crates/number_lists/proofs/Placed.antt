@@ -85,6 +85,20 @@ few-more members place n lt out are =
     ]) in
     omega (arith, all, length-append members (n ∷ []))
 
+-- more places make no difference, where each number reads as before
+pub placed-same : (members place more : List ℕ) → ((i : ℕ) → slice_index more i ≡ slice_index place i) → length place ≤ length more → ArePlaced members place → ArePlaced members more
+placed-same members place more each le are = record {
+  below = λ i lt. omega (arith, are.below i lt, le);
+  at = λ i lt. each (slice_index members i) ∙ are.at i lt;
+  distinct = are.distinct;
+}
+
+-- a number without a place is no member
+pub past-none : (members place : List ℕ) (n : ℕ) → ArePlaced members place → length place ≤ n → false ≡ is_among n members
+past-none members place n are past = sym (false_from_ne_true _ (λ there.
+    let p = among-place n members there in
+    omega (arith, are.below p.0 p.1, p.2, past)))
+
 -- there are no more members than numbers
 pub few-all : (members place : List ℕ) → ArePlaced members place → length members ≤ length place
 few-all members place are = length-le_from_distinct_below members (length place) are.distinct (λ q there. let p = among-place q members there in omega (arith, are.below p.0 p.1, p.2))

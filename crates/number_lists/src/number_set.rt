@@ -1,5 +1,6 @@
-ghost use Rattle.std.specs.Prelude.{◌≡◌, ◌<◌, ◌≤◌, ◌+◌, ◌^◌, ◌++◌, ◌∷◌, [], IsFalse, length, slice_index, nat_eq, OnOk};
+ghost use Rattle.std.specs.Prelude.{◌≡◌, ℕ, ◌<◌, ◌≤◌, ◌+◌, ◌^◌, ◌++◌, ◌∷◌, [], IsFalse, length, slice_index, max, nat_eq, OnOk};
 ghost use Rattle.std.specs.List.{IsDistinct};
+ghost use Rattle.std.specs.Vec.{vec_capacity};
 ghost use Rattle.oper_core.specs.State.{is_among};
 ghost use Rattle.number_lists.specs.Members.{IsWith};
 
@@ -12,20 +13,25 @@ use std::marker::Model;
 #[derive(Drop)]
 pub struct NumberSet {
     members: Vec<u32>,
-    /// Where each member stands; of another number, anything.
+    /// Where each member stands; of another number, anything, or nothing past the greatest that was ever put in.
     place: Vec<u32>,
+    /// Below what the numbers are.
+    end: usize,
+    /// By how much the end may rise without memory.
+    room: usize,
 }
 
 impl Model for NumberSet {
-    ghost use Rattle.std.specs.Prelude.{◌-◌, ◌<◌, ◌≤◌, ◌^◌, min, length};
+    ghost use Rattle.std.specs.Prelude.{◌+◌, ◌<◌, ◌≤◌, ◌^◌, length};
     ghost use Rattle.std.specs.Vec.{vec_capacity};
     ghost use Rattle.number_lists.specs.Members.{Members, ArePlaced};
 
     ghost Value = { Members };
 
-    ghost view = { λ s. record { members = s.members.items; end = length s.place.items; room = min (vec_capacity s.members) (vec_capacity s.place) - length s.place.items } };
+    ghost view = { λ s. record { members = s.members.items; end = s.end; room = s.room } };
 
-    ghost invariant = { λ s. ArePlaced s.members.items s.place.items × (length s.place.items ≤ vec_capacity s.members) × (length s.place.items ≤ 2 ^ 32) };
+    ghost invariant = { λ s. ArePlaced s.members.items s.place.items × (length s.place.items ≤ s.end) × (s.end ≤ 2 ^ 32) ×
+        (s.end + s.room ≤ vec_capacity s.members) × (s.end + s.room ≤ vec_capacity s.place) };
 }
 
 impl NumberSet {
@@ -37,6 +43,8 @@ impl NumberSet {
         NumberSet {
             members: Vec::new(alloc),
             place: Vec::new(alloc),
+            end: 0,
+            room: 0,
         }
     }
 
@@ -65,6 +73,9 @@ impl NumberSet {
         requires { n < self.now.end }
         ensures { result ≡ is_among n self.now.members }
     {
+        if n as usize >= self.place.len() {
+            return false;
+        }
         let at = self.place[n as usize] as usize;
         if at < self.members.len() {
             self.members[at] == n
@@ -90,6 +101,7 @@ impl NumberSet {
         ensures end { self.new.end ≡ self.old.end }
         ensures room { self.old.room ≤ self.new.room }
     {
+        fill(n as usize + 1, &mut self.place);
         self.place[n as usize] = self.members.len() as u32;
         push_in_room(&mut self.members, n);
     }
@@ -112,9 +124,10 @@ impl NumberSet {
         ensures room { OnOk result (0 < self.new.room) }
         ensures kept { self.old.room ≤ self.new.room }
     {
-        self.members
-            .reserve(self.place.len() + 1 - self.members.len())?;
-        self.place.reserve(1)?;
+        let end = self.end + 1;
+        self.members.reserve(end - self.members.len())?;
+        self.place.reserve(end - self.place.len())?;
+        self.room = self.room.max(1);
         Ok(())
     }
 
@@ -126,6 +139,22 @@ impl NumberSet {
         ensures end { self.new.end ≡ self.old.end + 1 }
         ensures room { self.old.room ≤ self.new.room + 1 }
     {
-        push_in_room(&mut self.place, 0);
+        let _members = &self.members;
+        self.end += 1;
+        self.room -= 1;
+    }
+}
+
+/// Adds noughts at the end, until there are so many numbers.
+fn fill(count: usize, numbers: &mut Vec<u32>)
+    requires { count ≤ vec_capacity numbers.old }
+    ensures each { (i : ℕ) → slice_index numbers.new.items i ≡ slice_index numbers.old.items i }
+    ensures enough { count ≤ length numbers.new.items }
+    ensures longer { length numbers.old.items ≤ length numbers.new.items }
+    ensures few { length numbers.new.items ≤ max (length numbers.old.items) count }
+    ensures capacity { vec_capacity numbers.old ≤ vec_capacity numbers.new }
+{
+    for i in numbers.len()..count {
+        push_in_room(numbers, 0);
     }
 }

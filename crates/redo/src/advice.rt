@@ -69,7 +69,7 @@ pub fn advice(status: Status) -> Option<&'static str> {
         ),
         Status::Memory => Some(
             "out of memory. All that was answered `forced` is there. Run again with more, or with a `drain` now and then: a run takes \
-             about 240 bytes for each command that is not installed, beside the values.",
+             about 160 bytes for each command that is not installed, beside the values.",
         ),
         Status::RestartMemory => Some(
             "out of memory to open the store, also with as little as a restart takes: all that was answered `forced` is there, and \

@@ -60,11 +60,11 @@ pub record IsRestart (files : Files) (it : Restart) : Type 0 where
   pub records : HasRecords (all_meaning it.bounds) files it.records
   pub none_late : (x s : ℕ) → IsOpenSlot (files Objects) x s → lsn_at (place_in (files Objects) x s) (files Objects) < it.records.next
 
--- the memory that is told, reckoned from counts: 240 bytes for each record, and for values those of all objects at CAP bytes each, or
+-- the memory that is told, reckoned from counts: 160 bytes for each record, and for values those of all objects at CAP bytes each, or
 -- 64 MiB where that is less. It is no bound: values that wait in nodes of several objects, or were only read, are left out. (The
 -- greatest number that is said is 2^64 - 1.)
 abbrev pub memory : Restart → ℕ
-memory it = min (min ((it.records.next - it.records.start) * 240) (2 ^ 64 - 1) + min (it.bounds.objects * it.bounds.cap) (2 ^ 26)) (2 ^ 64 - 1)
+memory it = min (min ((it.records.next - it.records.start) * 160) (2 ^ 64 - 1) + min (it.bounds.objects * it.bounds.cap) (2 ^ 26)) (2 ^ 64 - 1)
 
 -- the line of it: the number at which the redo begins, how many records it does again, how many bytes of the log it reads, and
 -- the memory that is reckoned for it

@@ -14,7 +14,7 @@ use std::alloc::Global;
 use tool_output::{Status, Stop, end_stopped, end_with, push_spaced};
 
 /// About how many bytes of memory the restart of a record takes.
-const RECORD_MEMORY: u64 = 240;
+const RECORD_MEMORY: u64 = 160;
 
 /// So many bytes of values are reckoned at the most. A restart installs what it can where it has more to write, but values that wait
 /// in nodes of several objects stay in memory whatever they take.

@@ -21,3 +21,4 @@ pub mod Listed
 pub mod FirstWriters
 pub mod Lowered
 pub mod Renewed
+pub mod Tabled

@@ -1,8 +1,8 @@
 -- Entries whose LSNs are lowered where they are above one.
-use Rattle.std.proofs.Common.{◌≡◌, ◌∙◌, ap, sym, subst, ℕ, zero, suc, ◌+◌, ◌*◌, ◌/◌, ◌%◌, ◌-◌, ◌<◌, ◌≤◌, ◌⊎◌, min, Bool, true, false, List, [], ◌∷◌, ◌++◌, map, set, length, get_or, Option, Some, All, refl, arith, inl, inr}
+use Rattle.std.proofs.Common.{◌≡◌, ◌∙◌, ap, sym, subst, ℕ, zero, suc, ◌+◌, ◌*◌, ◌/◌, ◌%◌, ◌-◌, ◌<◌, ◌≤◌, ◌⊎◌, min, Bool, true, false, List, [], ◌∷◌, ◌++◌, map, set, length, Option, Some, All, refl, arith, inl, inr}
 use Rattle.std.specs.Prelude.{IsTrue, ◌&&◌, slice_get, slice_index, MatchOption}
 use Rattle.std.proofs.lemmas.Bool.{cases_Bool, cases_eq, cases_lt}
-use Rattle.std.proofs.lemmas.List.{length_push, length-map, length-set, get_or-map, get_or_default, get_or-set_same, get_or-set_other, ext_get_or}
+use Rattle.std.proofs.lemmas.List.{length_push, length-map, length-set, get_or-map, get_or-set_same, get_or-set_other, ext_get_or}
 use Rattle.oper_core.specs.State.{is_among}
 use Rattle.install_order.specs.declared.entry.Entry.{Entry}
 use Rattle.install_order.specs.Order.{Access, IsLastWriter}
@@ -18,7 +18,7 @@ use Rattle.write_graph.specs.Firsts.{AreFirsts}
 use Rattle.write_graph.specs.Lowered.{lowered}
 use Rattle.write_graph.specs.Places.{place_in}
 use Rattle.write_graph.specs.Naming.{AreClimbing}
-use Rattle.write_graph.proofs.Held.{among-at, lsn-at, length-lsns, lsns-push}
+use Rattle.write_graph.proofs.Held.{among-at, length-lsns, lsns-push}
 use Rattle.write_graph.proofs.Numbers.{chosen-here, chosen-off, slot-chosen}
 use Rattle.write_graph.proofs.Place.{index-left, index-last, read-left}
 
@@ -27,48 +27,36 @@ low-stays n e le =
     let same : min e.lsn n ≡ e.lsn = omega (arith, le) in
     λ i. record { lsn = same i; reads = e.reads; writes = e.writes; identity = e.identity }
 
-high-falls : (n : ℕ) (e : Entry) → n ≤ e.lsn → lowered n e ≡ record { lsn = n; reads = e.reads; writes = e.writes; identity = e.identity }
-high-falls n e le =
-    let same : min e.lsn n ≡ n = omega (arith, le) in
-    λ i. record { lsn = same i; reads = e.reads; writes = e.writes; identity = e.identity }
-
--- the entries before the slot are lowered, and the others as they were
-pub record AreLowering (n slot : ℕ) (old new : List Entry) : Type 0 where
+-- the LSNs before the slot are lowered, and the others as they were
+pub record AreLowering (n slot : ℕ) (old new : List ℕ) : Type 0 where
   pub size : length new ≡ length old
-  pub done : (i : ℕ) (d : Entry) → i < slot → i < length old → get_or new i d ≡ lowered n (get_or old i d)
-  pub left : (i : ℕ) (d : Entry) → slot ≤ i → i < length old → get_or new i d ≡ get_or old i d
+  pub done : (i : ℕ) → i < slot → i < length old → slice_index new i ≡ min (slice_index old i) n
+  pub left : (i : ℕ) → slot ≤ i → slice_index new i ≡ slice_index old i
 
-pub lowering-none : (n from : ℕ) (old : List Entry) → ((i : ℕ) → i < from → slice_index (lsns old) i ≤ n) → AreLowering n from old old
+pub lowering-none : (n from : ℕ) (old : List ℕ) → ((i : ℕ) → i < from → slice_index old i ≤ n) → AreLowering n from old old
 lowering-none n from old low = record {
   size = refl;
-  done = λ i d lt below. sym (low-stays n (get_or old i d) (omega (arith, low i lt, lsn-at old i d below)));
-  left = λ i d le below. refl;
+  done = λ i lt below. omega (arith, low i lt);
+  left = λ i le. refl;
 }
 
-pub lowering-on : (n slot : ℕ) (old new : List Entry) (e : Entry) → AreLowering n slot old new → slot < length old → n < slice_index (lsns old) slot → e ≡ get_or new slot e →
-    AreLowering n (slot + 1) old (set new slot record { lsn = n; reads = e.reads; writes = e.writes; identity = e.identity })
-lowering-on n slot old new e was low high at =
-    let f : Entry = record { lsn = n; reads = e.reads; writes = e.writes; identity = e.identity } in
-    let is : e ≡ get_or old slot e = at ∙ was.left slot e (omega arith) low in
-    let fall : f ≡ lowered n e = sym (high-falls n e (omega (arith, high, lsn-at old slot e low, ap (λ (g : Entry). g.lsn) is))) in
-    record {
-      size = length-set new slot f ∙ was.size;
-      done = λ i d lt below. elim (cases_eq i slot) [
-        | inl q ↦
-            let here : get_or (set new slot f) slot d ≡ f = get_or-set_same new slot f d (omega (arith, low, was.size)) in
-            let same : e ≡ get_or old slot d = is ∙ get_or_default old slot e d low in
-            ap (λ (k : ℕ). get_or (set new slot f) k d) q ∙ here ∙ fall ∙ ap (lowered n) same ∙ sym (ap (λ (k : ℕ). lowered n (get_or old k d)) q)
-        | inr ne ↦ get_or-set_other new slot i f d ne ∙ was.done i d (omega (arith, lt, ne)) below
-      ];
-      left = λ i d le below. get_or-set_other new slot i f d (λ q. omega (arith, le, q)) ∙ was.left i d (omega (arith, le)) below;
-    }
+pub lowering-on : (n slot : ℕ) (old new : List ℕ) → AreLowering n slot old new → slot < length old → n < slice_index old slot → AreLowering n (slot + 1) old (set new slot n)
+lowering-on n slot old new was low high = record {
+  size = length-set new slot n ∙ was.size;
+  done = λ i lt below. elim (cases_eq i slot) [
+    | inl q ↦
+        let here : slice_index (set new slot n) slot ≡ n = get_or-set_same new slot n zero (omega (arith, low, was.size)) in
+        subst (λ (k : ℕ). slice_index (set new slot n) k ≡ min (slice_index old k) n) (sym q) (omega (arith, here, high))
+    | inr ne ↦ get_or-set_other new slot i n zero ne ∙ was.done i (omega (arith, lt, ne)) below
+  ];
+  left = λ i le. get_or-set_other new slot i n zero (λ q. omega (arith, le, q)) ∙ was.left i (omega (arith, le));
+}
 
-pub lowering-all : (n slot : ℕ) (old new : List Entry) → AreLowering n slot old new → length old ≤ slot → new ≡ map (lowered n) old
+pub lowering-all : (n slot : ℕ) (old new : List ℕ) → AreLowering n slot old new → length old ≤ slot → new ≡ map (λ k. min k n) old
 lowering-all n slot old new is end =
-    let d : Entry = record { lsn = zero; reads = []; writes = []; identity = false } in
-    ext_get_or d new (map (lowered n) old) (is.size ∙ sym (length-map old (lowered n))) (λ i lt.
+    ext_get_or zero new (map (λ k. min k n) old) (is.size ∙ sym (length-map old (λ k. min k n))) (λ i lt.
     let below : i < length old = omega (arith, lt, is.size) in
-    is.done i d (omega (arith, below, end)) below ∙ sym (get_or-map (lowered n) old i d d below))
+    is.done i (omega (arith, below, end)) below ∙ sym (get_or-map (λ (k : ℕ). min k n) old i zero zero below))
 
 -- what lowered entries read and write is the same
 reads-same : (n : ℕ) (entries : List Entry) (i : ℕ) → reads_of (map (lowered n) entries) i ≡ reads_of entries i

@@ -9,7 +9,7 @@ use Rattle.install_order.specs.Entries.{accesses}
 use Rattle.install_order.specs.Renamed.{IsRenamed}
 use Rattle.graph_nodes.specs.Arcs.{held_at}
 use Rattle.write_graph.specs.Graph.{lsns}
-use Rattle.write_graph.specs.Cells.{reads_of, writes_of, slot_access, chosen_entries, held_entries}
+use Rattle.write_graph.specs.Cells.{identity_of, reads_of, writes_of, slot_access, chosen_entries, held_entries}
 use Rattle.write_graph.proofs.Held.{held-read, held-write, length-lsns}
 use Rattle.write_graph.proofs.Place.{read-left, read-past}
 
@@ -96,6 +96,11 @@ any-slot p t (e ∷ entries) (suc i) rises lt there =
           ap (λ (es : List Entry). any_at p es n) (chosen-here t e entries yes_0) ∙ ap (λ (b : Bool). (b && p e) || any_at p (chosen_entries (λ i. t (suc i)) entries) n) off ∙ r
       | inr none ↦ ap (λ (es : List Entry). any_at p es n) (chosen-off t e entries none) ∙ r
     ]
+
+pub identity-test : (entries : List Entry) (i : ℕ) → identity_of entries i ≡ test_of (λ e. e.identity) entries i
+identity-test [] i = refl
+identity-test (e ∷ entries) zero = refl
+identity-test (e ∷ entries) (suc i) = identity-test entries i
 
 reads-test : (entries : List Entry) (x i : ℕ) → test_of (λ e. is_among x e.reads) entries i ≡ is_among x (reads_of entries i)
 reads-test [] x i = refl

@@ -1,5 +1,5 @@
 -- Slots for entries, each with eight cells: one for each object that it reads, and from the fifth on those for what it writes.
-use Rattle.std.specs.Prelude.{◌≡◌, ℕ, zero, suc, ◌+◌, ◌*◌, ◌/◌, ◌%◌, ◌-◌, ◌≤◌, ◌⊎◌, Bool, ◌&&◌, if◌then◌else◌, IsTrue, List, [], ◌∷◌, Some, slice_get}
+use Rattle.std.specs.Prelude.{◌≡◌, ℕ, zero, suc, ◌+◌, ◌*◌, ◌/◌, ◌%◌, ◌-◌, ◌≤◌, ◌⊎◌, Bool, false, ◌&&◌, if◌then◌else◌, IsTrue, List, [], ◌∷◌, Some, slice_get}
 use Rattle.oper_core.specs.State.{is_among}
 use Rattle.install_order.specs.declared.entry.Entry.{Entry}
 use Rattle.install_order.specs.Order.{Access}
@@ -18,6 +18,12 @@ abbrev pub writes_of : List Entry → ℕ → List ℕ
 writes_of [] i = []
 writes_of (e ∷ entries) zero = e.writes
 writes_of (e ∷ entries) (suc i) = writes_of entries i
+
+-- whether the entry of a slot is an identity write
+abbrev pub identity_of : List Entry → ℕ → Bool
+identity_of [] i = false
+identity_of (e ∷ entries) zero = e.identity
+identity_of (e ∷ entries) (suc i) = identity_of entries i
 
 -- who reads and who writes, by the slots that are held
 abbrev pub slot_access : List Entry → List Bool → Access

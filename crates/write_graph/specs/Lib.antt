@@ -1,6 +1,7 @@
 pub mod Graph
 pub mod Places
 pub mod Cells
+pub mod Heads
 pub mod Rows
 pub mod Linked
 pub mod Steps

@@ -8,10 +8,10 @@ ghost use Rattle.write_graph.specs.Linked.{AreLinked};
 ghost use Rattle.write_graph.specs.Listing.{AreBelow, IsWrittenBy};
 ghost use Rattle.write_graph.specs.Firsts.{noted, ArePassed, IsOutside};
 
+use crate::entry_table::Entries;
 use crate::links::Links;
 use graph_nodes::SlotGraph;
 use indexmap::IndexMap;
-use install_order::Entry;
 use oper_core::Memory;
 use std::alloc::Global;
 
@@ -44,14 +44,14 @@ pub(crate) fn pass_over(
     slots: &[u32],
     node: u32,
     links: &Links,
-    entries: &[Entry],
+    entries: &Entries,
     firsts: &mut IndexMap<u32, u32>,
 )
-    requires linked { AreLinked entries.now links.now.graph links.now.rows }
-    requires below { AreBelow slots.now entries.now }
-    requires passed { ArePassed entries.now links.now.graph node (get nat_eq firsts.old) }
-    ensures passed { ArePassed entries.now links.now.graph node (get nat_eq firsts.new) }
-    ensures outside { (x : ℕ) → IsWrittenBy entries.now slots.now x → IsOutside links.now.graph node (get nat_eq firsts.new x) }
+    requires linked { AreLinked entries.now.items links.now.graph links.now.rows }
+    requires below { AreBelow slots.now entries.now.items }
+    requires passed { ArePassed entries.now.items links.now.graph node (get nat_eq firsts.old) }
+    ensures passed { ArePassed entries.now.items links.now.graph node (get nat_eq firsts.new) }
+    ensures outside { (x : ℕ) → IsWrittenBy entries.now.items slots.now x → IsOutside links.now.graph node (get nat_eq firsts.new x) }
     ensures room { spare firsts.old ≤ spare firsts.new }
 {
     for slot in slots {
@@ -64,28 +64,27 @@ fn pass_writes(
     slot: u32,
     node: u32,
     links: &Links,
-    entries: &[Entry],
+    entries: &Entries,
     firsts: &mut IndexMap<u32, u32>,
 )
-    requires slot { slot < length entries.now }
-    requires linked { AreLinked entries.now links.now.graph links.now.rows }
-    requires passed { ArePassed entries.now links.now.graph node (get nat_eq firsts.old) }
-    ensures passed { ArePassed entries.now links.now.graph node (get nat_eq firsts.new) }
-    ensures outside { (x : ℕ) → IsTrue (is_among x (writes_of entries.now slot)) → IsOutside links.now.graph node (get nat_eq firsts.new x) }
+    requires slot { slot < length entries.now.items }
+    requires linked { AreLinked entries.now.items links.now.graph links.now.rows }
+    requires passed { ArePassed entries.now.items links.now.graph node (get nat_eq firsts.old) }
+    ensures passed { ArePassed entries.now.items links.now.graph node (get nat_eq firsts.new) }
+    ensures outside { (x : ℕ) → IsTrue (is_among x (writes_of entries.now.items slot)) → IsOutside links.now.graph node (get nat_eq firsts.new x) }
     ensures stays { (x : ℕ) → IsOutside links.now.graph node (get nat_eq firsts.old x) → IsOutside links.now.graph node (get nat_eq firsts.new x) }
     ensures room { spare firsts.old ≤ spare firsts.new }
 {
-    let entry = &entries[slot as usize];
-    for x in entry.writes.as_slice() {
+    for x in entries.writes(slot) {
         pass_write(*x, node, links, entries, firsts);
     }
 }
 
 /// Lets the object have a first writer outside the node: the next writer in the place of each that is of the node.
-fn pass_write(x: u32, node: u32, links: &Links, entries: &[Entry], firsts: &mut IndexMap<u32, u32>)
-    requires linked { AreLinked entries.now links.now.graph links.now.rows }
-    requires passed { ArePassed entries.now links.now.graph node (get nat_eq firsts.old) }
-    ensures passed { ArePassed entries.now links.now.graph node (get nat_eq firsts.new) }
+fn pass_write(x: u32, node: u32, links: &Links, entries: &Entries, firsts: &mut IndexMap<u32, u32>)
+    requires linked { AreLinked entries.now.items links.now.graph links.now.rows }
+    requires passed { ArePassed entries.now.items links.now.graph node (get nat_eq firsts.old) }
+    ensures passed { ArePassed entries.now.items links.now.graph node (get nat_eq firsts.new) }
     ensures here { IsOutside links.now.graph node (get nat_eq firsts.new x) }
     ensures others { (y : ℕ) → (y ≡ x → ⊥) → get nat_eq firsts.new y ≡ get nat_eq firsts.old y }
     ensures room { spare firsts.old ≤ spare firsts.new }

@@ -6,16 +6,14 @@ ghost use Rattle.install_order.specs.Entries.{accesses};
 ghost use Rattle.write_graph.specs.Objects.{IsWriter, IsWritten};
 ghost use Rattle.write_graph.specs.Graph.{lsns, IsNodeNamed, NamesNode, NamesMinimal, IsLeast, Lists, IsCount, IsSingleIdentity};
 
+use crate::entry_table::Entries;
 use crate::firsts::{note_writes, pass_over, written};
 use crate::laws::slots_name_nodes;
 use crate::links::Links;
 use crate::listing::{lsns_of, slots_of, written_by};
-use crate::lowering::lower_last;
-use crate::places::{slot_from, slot_of};
 use crate::renewing::add_held;
 use indexmap::IndexMap;
 use install_order::{Entry, nodes_stand_for_nodes};
-use number_lists::push_in_room;
 use oper_core::Memory;
 use std::alloc::Global;
 use std::marker::Model;
@@ -35,7 +33,7 @@ pub type NodeNo = u64;
 pub struct WriteGraph {
     alloc: Global,
     /// By slot, the entries, also those that were taken out: of these, the LSNs may be lowered.
-    entries: Vec<Entry>,
+    entries: Entries,
     links: Links,
     /// By object that a held entry writes, the slot of the first that does.
     firsts: IndexMap<u32, u32>,
@@ -59,7 +57,7 @@ impl Model for WriteGraph {
 
     ghost view = { λ g. record {
       entries = held_entries g.links.graph.held g.entries.items;
-      room = min (min (links_room g.links.graph g.links.rows) (spare g.firsts / 4)) (min (vec_capacity g.entries) (vec_capacity g.members) - length g.entries.items);
+      room = min (min (links_room g.links.graph g.links.rows) (spare g.firsts / 4)) (min g.entries.room (vec_capacity g.members - length g.entries.items));
     } };
 
     ghost invariant = { λ g. AreClimbing g.links.graph.held (lsns g.entries.items) × AreLinked g.entries.items g.links.graph g.links.rows ×
@@ -74,7 +72,7 @@ impl WriteGraph {
     {
         Ok(WriteGraph {
             alloc,
-            entries: Vec::new(alloc),
+            entries: Entries::new(alloc),
             links: Links::new(alloc),
             firsts: IndexMap::new(alloc),
             held: 0,
@@ -109,7 +107,7 @@ impl WriteGraph {
         requires { graph.old.entries ≡ [] }
         ensures { self.new.entries ≡ self.old.entries }
     {
-        add_held(self.entries.as_slice(), &self.links.graph, graph)?;
+        add_held(&self.entries, &self.links.graph, graph)?;
         mem::swap(self, graph);
         Ok(())
     }
@@ -120,11 +118,11 @@ impl WriteGraph {
         ensures same { self.new.entries ≡ self.old.entries }
     {
         let count = self.entries.len() + 1;
-        self.entries.reserve(1)?;
+        self.entries.make_room()?;
         self.members.clear();
         self.members.reserve(count)?;
         self.firsts.reserve(WRITES)?;
-        self.links.make_room(self.entries.as_slice())
+        self.links.make_room(&self.entries)
     }
 
     /// Adds an entry, whose LSN is above all others.
@@ -133,11 +131,11 @@ impl WriteGraph {
         requires room { 0 < self.old.room }
         ensures { self.new.entries ≡ self.old.entries ++ entry ∷ [] }
     {
-        lower_last(entry.lsn, &mut self.entries);
-        self.links.add(&entry, self.entries.as_slice());
+        self.entries.lower(entry.lsn);
+        self.links.add(&entry, &self.entries);
         let slot = self.entries.len() as u32;
         note_writes(slot, entry.writes.as_slice(), &mut self.firsts);
-        push_in_room(&mut self.entries, entry);
+        self.entries.push(&entry);
         self.held += 1;
     }
 
@@ -155,9 +153,9 @@ impl WriteGraph {
         ensures none { IfNone result ((k : ℕ) → n ≤ k → NamesMinimal self.now.entries k → ⊥) }
     {
         slots_name_nodes();
-        let from = slot_from(n, self.entries.as_slice());
+        let from = self.entries.slot_from(n);
         let slot = self.links.graph.minimal_from(from)?;
-        Some(self.entries[slot as usize].lsn)
+        Some(self.entries.lsn(slot))
     }
 
     /// The LSNs of the node's entries, rising.
@@ -166,9 +164,8 @@ impl WriteGraph {
         ensures { IfOk result (λ found. (node : ℕ → Bool) → IsNodeNamed self.now.entries n node →
             Lists (λ k. IsTrue (node k)) found.items) }
     {
-        let entries = self.entries.as_slice();
-        let slots = slots_of(self.alloc, n, entries, &self.links.graph)?;
-        lsns_of(self.alloc, slots.as_slice(), entries)
+        let slots = slots_of(self.alloc, n, &self.entries, &self.links.graph)?;
+        lsns_of(self.alloc, slots.as_slice(), &self.entries)
     }
 
     /// The objects whose last writer is in the node, rising.
@@ -179,10 +176,9 @@ impl WriteGraph {
     {
         slots_name_nodes();
         nodes_stand_for_nodes();
-        let entries = self.entries.as_slice();
-        let slot = slot_of(n, entries);
-        let slots = slots_of(self.alloc, n, entries, &self.links.graph)?;
-        let objects = written_by(self.alloc, slots.as_slice(), entries)?;
+        let slot = self.entries.slot_of(n);
+        let slots = slots_of(self.alloc, n, &self.entries, &self.links.graph)?;
+        let objects = written_by(self.alloc, slots.as_slice(), &self.entries)?;
         self.links
             .last_written(self.alloc, objects.as_slice(), slot)
     }
@@ -194,11 +190,11 @@ impl WriteGraph {
             IsTrue result ↔ IsSingleIdentity self.now.entries n node }
     {
         slots_name_nodes();
-        let slot = slot_of(n, self.entries.as_slice());
+        let slot = self.entries.slot_of(n);
         if !self.links.graph.is_single(slot) {
             return false;
         }
-        self.entries[slot as usize].identity
+        self.entries.is_identity(slot)
     }
 
     /// Takes out the entries of a minimal node, and leaves every other node as it was.
@@ -216,8 +212,7 @@ impl WriteGraph {
         ensures room { self.old.room ≤ self.new.room }
     {
         slots_name_nodes();
-        let entries = self.entries.as_slice();
-        let slot = slot_of(n, entries);
+        let slot = self.entries.slot_of(n);
         self.links.graph.members(slot, &mut self.members);
         self.held -= self.members.len();
         let node = self.links.graph.node(slot);
@@ -225,10 +220,10 @@ impl WriteGraph {
             self.members.as_slice(),
             node,
             &self.links,
-            entries,
+            &self.entries,
             &mut self.firsts,
         );
-        self.links.remove(slot, entries);
+        self.links.remove(slot, &self.entries);
     }
 
     /// The objects that entries write, rising, each with the least LSN of an entry that writes it.
@@ -242,7 +237,7 @@ impl WriteGraph {
             let Some(slot) = self.firsts.get(x) else {
                 unreachable!()
             };
-            starts.push((*x, self.entries[*slot as usize].lsn))?;
+            starts.push((*x, self.entries.lsn(*slot)))?;
         }
         Ok(starts)
     }

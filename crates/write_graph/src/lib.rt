@@ -7,8 +7,11 @@
 #![tactic(auto)]
 
 mod cells;
+mod entry_table;
 mod firsts;
 mod graph;
+mod head;
+mod head_table;
 mod laws;
 mod linking;
 mod links;

@@ -10,6 +10,7 @@ ghost use Rattle.write_graph.specs.Linked.{AreLinked, links_room};
 ghost use Rattle.write_graph.specs.Firsts.{IsNextWriter};
 
 use crate::cells::own_cell;
+use crate::entry_table::Entries;
 use crate::linking::{answer_all, last_held, lead_writers, wait_all};
 use crate::listing::push_if;
 use crate::rows::Rows;
@@ -41,9 +42,9 @@ impl Links {
     }
 
     /// Takes the memory for one more entry. Nothing else changes, also where it is out of memory.
-    pub(crate) fn make_room(&mut self, entries: &[Entry]) -> Result<(), Memory>
-        requires linked { AreLinked entries.now self.old.graph self.old.rows }
-        ensures linked { AreLinked entries.now self.new.graph self.new.rows }
+    pub(crate) fn make_room(&mut self, entries: &Entries) -> Result<(), Memory>
+        requires linked { AreLinked entries.now.items self.old.graph self.old.rows }
+        ensures linked { AreLinked entries.now.items self.new.graph self.new.rows }
         ensures held { self.new.graph.held ≡ self.old.graph.held }
         ensures room { OnOk result (0 < links_room self.new.graph self.new.rows) }
     {
@@ -56,10 +57,10 @@ impl Links {
     }
 
     /// Adds the slot of an entry that comes after the earlier ones.
-    pub(crate) fn add(&mut self, entry: &Entry, earlier: &[Entry])
-        requires linked { AreLinked earlier.now self.old.graph self.old.rows }
+    pub(crate) fn add(&mut self, entry: &Entry, earlier: &Entries)
+        requires linked { AreLinked earlier.now.items self.old.graph self.old.rows }
         requires room { 0 < links_room self.old.graph self.old.rows }
-        ensures linked { AreLinked (earlier.now ++ entry.now ∷ []) self.new.graph self.new.rows }
+        ensures linked { AreLinked (earlier.now.items ++ entry.now ∷ []) self.new.graph self.new.rows }
         ensures held { self.new.graph.held ≡ self.old.graph.held ++ true ∷ [] }
     {
         arcs_of_one_more();
@@ -74,11 +75,11 @@ impl Links {
     }
 
     /// Removes the node of a slot, into which no arc leads from another.
-    pub(crate) fn remove(&mut self, slot: u32, entries: &[Entry])
-        requires linked { AreLinked entries.now self.old.graph self.old.rows }
+    pub(crate) fn remove(&mut self, slot: u32, entries: &Entries)
+        requires linked { AreLinked entries.now.items self.old.graph self.old.rows }
         requires held { IsTrue (held_at self.old.graph.held slot) }
         requires minimal { IsMinimal self.old.graph.arcs self.old.graph.node (node_at self.old.graph.node slot) }
-        ensures linked { AreLinked entries.now self.new.graph self.new.rows }
+        ensures linked { AreLinked entries.now.items self.new.graph self.new.rows }
         ensures removed { IsRemoved self.old.graph (node_at self.old.graph.node slot) self.new.graph }
         ensures room { links_room self.new.graph self.new.rows ≡ links_room self.old.graph self.old.rows }
     {
@@ -89,14 +90,13 @@ impl Links {
     }
 
     /// The next writer of the object after the slot, which writes it.
-    pub(crate) fn next_writer(&self, x: u32, slot: u32, entries: &[Entry]) -> Option<u32>
-        requires linked { AreLinked entries.now self.now.graph self.now.rows }
-        requires writes { IsTrue ((slot_access entries.now self.now.graph.held).writes slot x) }
-        ensures { IsNextWriter (slot_access entries.now self.now.graph.held) x slot result }
+    pub(crate) fn next_writer(&self, x: u32, slot: u32, entries: &Entries) -> Option<u32>
+        requires linked { AreLinked entries.now.items self.now.graph self.now.rows }
+        requires writes { IsTrue ((slot_access entries.now.items self.now.graph.held).writes slot x) }
+        ensures { IsNextWriter (slot_access entries.now.items self.now.graph.held) x slot result }
     {
         let _slots = self.graph.len();
-        let entry = &entries[slot as usize];
-        self.graph.arc(own_cell(slot, x, entry.writes.as_slice()))
+        self.graph.arc(own_cell(slot, x, entries.writes(slot)))
     }
 
     /// Those of the objects whose last writer is held and of one node with the slot.

@@ -4,10 +4,9 @@ ghost use Rattle.write_graph.specs.Cells.{held_entries};
 ghost use Rattle.write_graph.specs.Naming.{AreSlots};
 ghost use Rattle.write_graph.specs.Listing.{IsLsnOf, IsWrittenBy, AreBelow, AreSlotsOf};
 
+use crate::entry_table::Entries;
 use crate::laws::slots_name_nodes;
-use crate::places::slot_of;
 use graph_nodes::SlotGraph;
-use install_order::Entry;
 use oper_core::Memory;
 use std::alloc::Global;
 
@@ -15,17 +14,17 @@ use std::alloc::Global;
 pub(crate) fn slots_of(
     alloc: Global,
     n: u64,
-    entries: &[Entry],
+    entries: &Entries,
     graph: &SlotGraph,
 ) -> Result<Vec<u32>, Memory>
-    requires slots { AreSlots entries.now graph.now }
-    requires count { length graph.now.node ≡ length entries.now }
-    requires small { length entries.now ≤ 2 ^ 28 }
-    requires name { NamesNode (held_entries graph.now.held entries.now) n }
-    ensures { IfOk result (λ slots. (node : ℕ → Bool) → IsNodeNamed (held_entries graph.now.held entries.now) n node → AreSlotsOf entries.now graph.now n slots.items node) }
+    requires slots { AreSlots entries.now.items graph.now }
+    requires count { length graph.now.node ≡ length entries.now.items }
+    requires small { length entries.now.items ≤ 2 ^ 28 }
+    requires name { NamesNode (held_entries graph.now.held entries.now.items) n }
+    ensures { IfOk result (λ slots. (node : ℕ → Bool) → IsNodeNamed (held_entries graph.now.held entries.now.items) n node → AreSlotsOf entries.now.items graph.now n slots.items node) }
 {
     slots_name_nodes();
-    let slot = slot_of(n, entries);
+    let slot = entries.slot_of(n);
     let mut slots = Vec::new(alloc);
     if graph.is_single(slot) {
         slots.push(slot)?;
@@ -37,13 +36,13 @@ pub(crate) fn slots_of(
 }
 
 /// The LSNs of the slots' entries, rising.
-pub(crate) fn lsns_of(alloc: Global, slots: &[u32], entries: &[Entry]) -> Result<Vec<u64>, Memory>
-    requires below { AreBelow slots.now entries.now }
-    ensures { IfOk result (λ found. Lists (IsLsnOf entries.now slots.now) found.items) }
+pub(crate) fn lsns_of(alloc: Global, slots: &[u32], entries: &Entries) -> Result<Vec<u64>, Memory>
+    requires below { AreBelow slots.now entries.now.items }
+    ensures { IfOk result (λ found. Lists (IsLsnOf entries.now.items slots.now) found.items) }
 {
     let mut found = Vec::new(alloc);
     for slot in slots {
-        found.push(entries[*slot as usize].lsn)?;
+        found.push(entries.lsn(*slot))?;
     }
     found.sort()?;
     found.dedup();
@@ -54,14 +53,14 @@ pub(crate) fn lsns_of(alloc: Global, slots: &[u32], entries: &[Entry]) -> Result
 pub(crate) fn written_by(
     alloc: Global,
     slots: &[u32],
-    entries: &[Entry],
+    entries: &Entries,
 ) -> Result<Vec<u32>, Memory>
-    requires below { AreBelow slots.now entries.now }
-    ensures { IfOk result (λ objects. Lists (IsWrittenBy entries.now slots.now) objects.items) }
+    requires below { AreBelow slots.now entries.now.items }
+    ensures { IfOk result (λ objects. Lists (IsWrittenBy entries.now.items slots.now) objects.items) }
 {
     let mut objects = Vec::new(alloc);
     for slot in slots {
-        objects.extend_from_slice(entries[*slot as usize].writes.as_slice())?;
+        objects.extend_from_slice(entries.writes(*slot))?;
     }
     objects.sort()?;
     objects.dedup();

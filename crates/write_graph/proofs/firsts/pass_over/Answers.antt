@@ -18,7 +18,7 @@ pub loop-slot-preserved : goal.loop-slot-preserved
 loop-slot-preserved c =
     let slots = c.args.slots.now in
     let i = c.loop-slot.slot-index in
-    (c.pass_writes.ensures.passed, outside-slot c.args.entries.now c.args.links.now.graph c.args.node i (slice_index slots i) slots (get nat_eq c.loop-slot.firsts) (get nat_eq c.pass_writes.new.firsts) (get-index slots i (omega (arith, c.loop-slot-test.true))) c.loop-slot.invariant.1 c.pass_writes.ensures.outside c.pass_writes.ensures.stays, omega (arith, c.loop-slot.invariant.2, c.pass_writes.ensures.room))
+    (c.pass_writes.ensures.passed, outside-slot c.args.entries.now.items c.args.links.now.graph c.args.node i (slice_index slots i) slots (get nat_eq c.loop-slot.firsts) (get nat_eq c.pass_writes.new.firsts) (get-index slots i (omega (arith, c.loop-slot-test.true))) c.loop-slot.invariant.1 c.pass_writes.ensures.outside c.pass_writes.ensures.stays, omega (arith, c.loop-slot.invariant.2, c.pass_writes.ensures.room))
 
 pub returns-clause-outside : goal.returns-clause-outside
-returns-clause-outside c x w = c.loop-slot.invariant.1 x (subst (λ (xs : List ℕ). IsWrittenBy c.args.entries.now xs x) (sym (take_all c.loop-slot.slot-index c.args.slots.now c.loop-slot-test.false)) w)
+returns-clause-outside c x w = c.loop-slot.invariant.1 x (subst (λ (xs : List ℕ). IsWrittenBy c.args.entries.now.items xs x) (sym (take_all c.loop-slot.slot-index c.args.slots.now c.loop-slot-test.false)) w)

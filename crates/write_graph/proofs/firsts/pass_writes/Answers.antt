@@ -1,13 +1,11 @@
-use Rattle.std.proofs.Common.{◌≡◌, ◌∙◌, ap, sym, subst, ℕ, List, take, nat_eq, arith}
+use Rattle.std.proofs.Common.{◌≡◌, ◌∙◌, sym, subst, ℕ, List, take, nat_eq, arith}
 use Rattle.std.specs.Prelude.{IsTrue, slice_index}
 use Rattle.std.proofs.lemmas.List.{take_all}
 use Rattle.indexmap.specs.IndexMap.{get}
 use Rattle.oper_core.specs.State.{is_among}
-use Rattle.install_order.specs.declared.entry.Entry.{Entry}
 use Rattle.write_graph.specs.Cells.{writes_of}
 use Rattle.write_graph.specs.Firsts.{IsOutside}
 use Rattle.write_graph.proofs.Loops.{among-none, get-index}
-use Rattle.write_graph.proofs.Parts.{writes-at}
 use Rattle.write_graph.proofs.FirstWriters.{outside-stays, outside-next}
 use Rattle.write_graph.proofs.firsts.pass_writes.Goals as goal
 
@@ -17,7 +15,7 @@ loop-x-init c = (c.requires.passed, (λ x t. absurd (among-none x t)), (λ x was
 pub loop-x-preserved : goal.loop-x-preserved
 loop-x-preserved c =
     let g = c.args.links.now.graph in
-    let items = c.as_slice-x-items.result.now in
+    let items = c.writes-x-items.result.now in
     let i = c.loop-x.x-index in
     let x = slice_index items i in
     let old : ℕ → _ = get nat_eq c.loop-x.firsts in
@@ -27,8 +25,8 @@ loop-x-preserved c =
 
 pub returns-clause-outside : goal.returns-clause-outside
 returns-clause-outside c x there =
-    let entries = c.args.entries.now in
+    let entries = c.args.entries.now.items in
     let slot = c.args.slot in
-    let items = c.as_slice-x-items.result.now in
-    let all : take c.loop-x.x-index items ≡ writes_of entries slot = take_all c.loop-x.x-index items c.loop-x-test.false ∙ c.as_slice-x-items.ensures.value ∙ ap (λ (e : Entry). e.writes) c.index-entries-slot.is ∙ writes-at entries slot c.index-entries-slot.result c.requires.slot in
+    let items = c.writes-x-items.result.now in
+    let all : take c.loop-x.x-index items ≡ writes_of entries slot = take_all c.loop-x.x-index items c.loop-x-test.false ∙ c.writes-x-items.ensures.value in
     c.loop-x.invariant.1 x (subst (λ (xs : List ℕ). IsTrue (is_among x xs)) (sym all) there)

@@ -5,4 +5,4 @@ use Rattle.write_graph.specs.Listing.{IsLsnOf}
 use Rattle.write_graph.proofs.listing.lsns_of.Given as goal
 
 abbrev pub invariant-loop-slot : goal.invariant-loop-slot
-invariant-loop-slot l = (k : ℕ) → IsTrue (is_among k l.found.items) ↔ IsLsnOf l.entries (take l.slot-index l.slots) k
+invariant-loop-slot l = (k : ℕ) → IsTrue (is_among k l.found.items) ↔ IsLsnOf l.entries.items (take l.slot-index l.slots) k

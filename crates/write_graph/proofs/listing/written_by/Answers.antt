@@ -1,4 +1,4 @@
-use Rattle.std.proofs.Common.{◌≡◌, ◌∙◌, sym, subst, ℕ, List, take, arith}
+use Rattle.std.proofs.Common.{◌≡◌, sym, subst, ℕ, List, take, arith}
 use Rattle.std.specs.Prelude.{IsTrue, ◌↔◌, nat_eq, slice_index}
 use Rattle.std.specs.List.{dedup}
 use Rattle.std.proofs.lemmas.List.{take_all}
@@ -7,24 +7,22 @@ use Rattle.oper_core.specs.State.{is_among}
 use Rattle.write_graph.specs.Graph.{Lists}
 use Rattle.write_graph.specs.Listing.{IsWrittenBy}
 use Rattle.write_graph.proofs.Held.{at-among}
-use Rattle.write_graph.proofs.Parts.{writes-at}
 use Rattle.write_graph.proofs.Loops.{get-index}
 use Rattle.write_graph.proofs.Listed.{sorted-lists, written-on}
 use Rattle.write_graph.proofs.listing.written_by.Goals as goal
 
-pub bounds-entries-slot : goal.bounds-entries-slot
-bounds-entries-slot c = c.requires.below (slice_index c.args.slots.now c.loop-slot.slot-index) (at-among c.args.slots.now c.loop-slot.slot-index (omega (arith, c.loop-slot-test.true)))
+pub writes-requires : goal.writes-requires
+writes-requires c = c.requires.below (slice_index c.args.slots.now c.loop-slot.slot-index) (at-among c.args.slots.now c.loop-slot.slot-index (omega (arith, c.loop-slot-test.true)))
 
 pub loop-slot-preserved : goal.loop-slot-preserved
 loop-slot-preserved c =
     let slot = slice_index c.args.slots.now c.loop-slot.slot-index in
-    let below = c.requires.below slot (at-among c.args.slots.now c.loop-slot.slot-index (omega (arith, c.loop-slot-test.true))) in
     rw c.in_ok-extend_from_slice.ensures.items (
-    written-on c.args.entries.now c.args.slots.now c.loop-slot.objects.items c.as_slice.result.now c.loop-slot.slot-index slot (get-index c.args.slots.now c.loop-slot.slot-index (omega (arith, c.loop-slot-test.true))) (c.as_slice.ensures.value ∙ writes-at c.args.entries.now slot c.index-entries-slot.result below) c.loop-slot.invariant)
+    written-on c.args.entries.now.items c.args.slots.now c.loop-slot.objects.items c.writes.result.now c.loop-slot.slot-index slot (get-index c.args.slots.now c.loop-slot.slot-index (omega (arith, c.loop-slot-test.true))) c.writes.ensures.value c.loop-slot.invariant)
 
 pub returns : goal.returns
 returns c =
     let all : take c.loop-slot.slot-index c.args.slots.now ≡ c.args.slots.now = take_all c.loop-slot.slot-index c.args.slots.now c.loop-slot-test.false in
-    let has : (k : ℕ) → IsTrue (is_among k c.loop-slot.objects.items) ↔ IsWrittenBy c.args.entries.now c.args.slots.now k = λ k. subst (λ (xs : List ℕ). IsTrue (is_among k c.loop-slot.objects.items) ↔ IsWrittenBy c.args.entries.now xs k) all (c.loop-slot.invariant k) in
+    let has : (k : ℕ) → IsTrue (is_among k c.loop-slot.objects.items) ↔ IsWrittenBy c.args.entries.now.items c.args.slots.now k = λ k. subst (λ (xs : List ℕ). IsTrue (is_among k c.loop-slot.objects.items) ↔ IsWrittenBy c.args.entries.now.items xs k) all (c.loop-slot.invariant k) in
     let once : c.dedup.new.self.items ≡ dedup nat_eq c.sort.new.self.items = dedup_is nat_eq c.sort.new.self.items c.dedup.new.self.items c.dedup.ensures.filtered in
-    subst (λ (xs : List ℕ). Lists (IsWrittenBy c.args.entries.now c.args.slots.now) xs) (sym once) (sorted-lists (IsWrittenBy c.args.entries.now c.args.slots.now) c.loop-slot.objects.items c.sort.new.self.items has c.in_ok-sort.ensures.permutation c.in_ok-sort.ensures.sorted)
+    subst (λ (xs : List ℕ). Lists (IsWrittenBy c.args.entries.now.items c.args.slots.now) xs) (sym once) (sorted-lists (IsWrittenBy c.args.entries.now.items c.args.slots.now) c.loop-slot.objects.items c.sort.new.self.items has c.in_ok-sort.ensures.permutation c.in_ok-sort.ensures.sorted)

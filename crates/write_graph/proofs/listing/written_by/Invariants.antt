@@ -5,4 +5,4 @@ use Rattle.write_graph.specs.Listing.{IsWrittenBy}
 use Rattle.write_graph.proofs.listing.written_by.Given as goal
 
 abbrev pub invariant-loop-slot : goal.invariant-loop-slot
-invariant-loop-slot l = (x : ℕ) → IsTrue (is_among x l.objects.items) ↔ IsWrittenBy l.entries (take l.slot-index l.slots) x
+invariant-loop-slot l = (x : ℕ) → IsTrue (is_among x l.objects.items) ↔ IsWrittenBy l.entries.items (take l.slot-index l.slots) x

@@ -3,4 +3,4 @@ use Rattle.write_graph.proofs.Begins.{before-last}
 use Rattle.write_graph.proofs.places.none_is_after.Goals as goal
 
 pub returns : goal.returns
-returns c t i lt = before-last c.args.entries.now c.args.n _ c.index-entries-count.result c.requires.rising refl t i lt
+returns c t i lt = before-last c.args.lsns.now c.args.n _ c.requires.rising refl t i lt

@@ -1,15 +1,14 @@
-use Rattle.std.proofs.Common.{◌≡◌, ◌∙◌, ap, sym, subst, ℕ, List, map, is_some, nat_eq, arith}
+use Rattle.std.proofs.Common.{◌≡◌, ◌∙◌, ap, sym, subst, ℕ, List, map, is_some, nat_eq}
 use Rattle.std.specs.Prelude.{IsTrue, slice_index}
 use Rattle.std.proofs.lemmas.Bool.{both_ways}
 use Rattle.std.proofs.lemmas.List.{take_all}
 use Rattle.indexmap.specs.IndexMap.{get}
 use Rattle.oper_core.specs.State.{is_among}
-use Rattle.install_order.specs.declared.entry.Entry.{Entry}
 use Rattle.install_order.specs.Entries.{accesses}
 use Rattle.write_graph.specs.Graph.{Graph, lsns, Lists, IsLeast}
 use Rattle.write_graph.specs.Objects.{IsWriter, IsWritten}
 use Rattle.write_graph.specs.Cells.{held_entries}
-use Rattle.write_graph.proofs.Held.{at-among, lsn-at}
+use Rattle.write_graph.proofs.Held.{at-among}
 use Rattle.write_graph.proofs.Listed.{lists-same}
 use Rattle.write_graph.proofs.FirstWriters.{first-below, written-is, first-is, starts-more}
 use Rattle.write_graph.proofs.graph.WriteGraph.redo_starts.Goals as goal
@@ -21,12 +20,12 @@ unreachable-requires c =
     let there : IsTrue (is_among x c.in_ok-objects.objects.items) = subst (λ (xs : List ℕ). IsTrue (is_among x xs)) c.deref-x-items.ensures.value (at-among objects c.loop-x.x-index c.loop-x-test.true) in
     both_ways _ (ap is_some (sym c.in_default.ensures.value)) ((c.in_ok-objects.ensures.exactly x).0 there)
 
-pub index-requires : goal.index-requires
-index-requires c =
+pub lsn-requires : goal.lsn-requires
+lsn-requires c =
     let g = c.self.inside in
     let x = slice_index c.deref-x-items.result.now c.loop-x.x-index in
     let below = first-below g.entries.items g.links.graph.held c.self.invariant.0 c.self.invariant.1.held x c.in-Some.slot.now (get nat_eq g.firsts) c.self.invariant.4 (sym c.in-Some.ensures.value) in
-    omega (arith, below, g.entries.ok.0)
+    below
 
 pub loop-x-preserved : goal.loop-x-preserved
 loop-x-preserved c =
@@ -38,8 +37,8 @@ loop-x-preserved c =
     let slot = c.in-Some.slot.now in
     let at : get nat_eq g.firsts x ≡ _ = sym c.in-Some.ensures.value in
     let below = first-below entries held c.self.invariant.0 c.self.invariant.1.held x slot (get nat_eq g.firsts) c.self.invariant.4 at in
-    let n = c.index.result.now.lsn in
-    let lsn : slice_index (lsns entries) slot ≡ n = lsn-at entries slot c.index.result.now below ∙ sym (ap (λ (e : Entry). e.lsn) c.index.ensures) in
+    let n = c.lsn.result in
+    let lsn : slice_index (lsns entries) slot ≡ n = sym c.lsn.ensures in
     let least = subst (λ (v : Graph). IsLeast (IsWriter (accesses v.entries) x) n) c.self.view_is (subst (λ (k : ℕ). IsLeast (IsWriter (accesses (held_entries held entries)) x) k) lsn (first-is entries held c.self.invariant.0 c.self.invariant.1.held x slot (get nat_eq g.firsts) c.self.invariant.4 at)) in
     rw c.in_ok-push.ensures.items (starts-more (accesses c.args.self.now.entries) objects c.loop-x.starts.items c.loop-x.x-index n c.loop-x-test.true c.loop-x.invariant.0 c.loop-x.invariant.1 least)
 

@@ -12,7 +12,6 @@ use Rattle.write_graph.specs.Places.{IsSlotOfLsn}
 use Rattle.write_graph.specs.Graph.{Graph, IsNodeNamed, NamesMinimal, lsns}
 use Rattle.write_graph.specs.Cells.{writes_of, held_entries}
 use Rattle.write_graph.specs.Firsts.{ArePassed, IsOutside}
-use Rattle.write_graph.specs.Linked.{AreLinked}
 use Rattle.write_graph.proofs.Removal.{left, nodes-left, flush-sets-left, entries-edges-left, left-fewer}
 use Rattle.write_graph.proofs.Asked.{found-minimal}
 use Rattle.write_graph.proofs.FirstWriters.{passed-none, firsts-left}
@@ -22,7 +21,7 @@ use Rattle.write_graph.proofs.graph.WriteGraph.remove_minimal.Goals as goal
 pub members-requires-clause-slot : goal.members-requires-clause-slot
 members-requires-clause-slot c =
     let g = c.self.inside in
-    let found_at : IsSlotOfLsn (lsns g.entries.items) c.args.n c.slot_of-slot.result = subst (λ (es : List Entry). IsSlotOfLsn (lsns es) c.args.n c.slot_of-slot.result) c.as_slice-entries.ensures.value c.slot_of-slot.ensures in
+    let found_at : IsSlotOfLsn (lsns g.entries.items) c.args.n c.slot_of-slot.result = c.slot_of-slot.ensures in
     let is = subst (λ (v : Graph). NamesMinimal v.entries c.args.n) (sym c.self.view_is) c.requires in
     let found = found-minimal c.slots_name_nodes.ensures.slots c.slots_name_nodes.ensures.names g.entries.items g.links.graph g.links.rows c.args.n c.slot_of-slot.result c.self.invariant.1 c.self.invariant.0 found_at is in
     omega (arith, found.slot.below, found.at, c.self.invariant.1.slots)
@@ -30,7 +29,7 @@ members-requires-clause-slot c =
 pub overflow_sub-self : goal.overflow_sub-self
 overflow_sub-self c =
     let g = c.self.inside in
-    let found_at : IsSlotOfLsn (lsns g.entries.items) c.args.n c.slot_of-slot.result = subst (λ (es : List Entry). IsSlotOfLsn (lsns es) c.args.n c.slot_of-slot.result) c.as_slice-entries.ensures.value c.slot_of-slot.ensures in
+    let found_at : IsSlotOfLsn (lsns g.entries.items) c.args.n c.slot_of-slot.result = c.slot_of-slot.ensures in
     let is = subst (λ (v : Graph). NamesMinimal v.entries c.args.n) (sym c.self.view_is) c.requires in
     let found = found-minimal c.slots_name_nodes.ensures.slots c.slots_name_nodes.ensures.names g.entries.items g.links.graph g.links.rows c.args.n c.slot_of-slot.result c.self.invariant.1 c.self.invariant.0 found_at is in
     let xs = c.members.new.out.items in
@@ -40,7 +39,7 @@ overflow_sub-self c =
 pub node-node-requires : goal.node-node-requires
 node-node-requires c =
     let g = c.self.inside in
-    let found_at : IsSlotOfLsn (lsns g.entries.items) c.args.n c.slot_of-slot.result = subst (λ (es : List Entry). IsSlotOfLsn (lsns es) c.args.n c.slot_of-slot.result) c.as_slice-entries.ensures.value c.slot_of-slot.ensures in
+    let found_at : IsSlotOfLsn (lsns g.entries.items) c.args.n c.slot_of-slot.result = c.slot_of-slot.ensures in
     let is = subst (λ (v : Graph). NamesMinimal v.entries c.args.n) (sym c.self.view_is) c.requires in
     let found = found-minimal c.slots_name_nodes.ensures.slots c.slots_name_nodes.ensures.names g.entries.items g.links.graph g.links.rows c.args.n c.slot_of-slot.result c.self.invariant.1 c.self.invariant.0 found_at is in
     omega (arith, found.slot.below, found.at, c.self.invariant.1.slots)
@@ -48,19 +47,19 @@ node-node-requires c =
 pub pass_over-requires-clause-below : goal.pass_over-requires-clause-below
 pass_over-requires-clause-below c i there =
     let g = c.self.inside in
-    let found_at : IsSlotOfLsn (lsns g.entries.items) c.args.n c.slot_of-slot.result = subst (λ (es : List Entry). IsSlotOfLsn (lsns es) c.args.n c.slot_of-slot.result) c.as_slice-entries.ensures.value c.slot_of-slot.ensures in
+    let found_at : IsSlotOfLsn (lsns g.entries.items) c.args.n c.slot_of-slot.result = c.slot_of-slot.ensures in
     let is = subst (λ (v : Graph). NamesMinimal v.entries c.args.n) (sym c.self.view_is) c.requires in
     let found = found-minimal c.slots_name_nodes.ensures.slots c.slots_name_nodes.ensures.names g.entries.items g.links.graph g.links.rows c.args.n c.slot_of-slot.result c.self.invariant.1 c.self.invariant.0 found_at is in
     let among : IsTrue (is_among i c.members.new.out.items) = subst (λ (xs : List ℕ). IsTrue (is_among i xs)) c.as_slice.ensures.value there in
-    omega (arith, (found.held i ((c.members.ensures.members i).0 among)).0, ap length c.as_slice-entries.ensures.value)
+    (found.held i ((c.members.ensures.members i).0 among)).0
 
 pub pass_over-requires-clause-passed : goal.pass_over-requires-clause-passed
-pass_over-requires-clause-passed c = subst (λ (es : List Entry). ArePassed es c.self.inside.links.graph c.node-node.result (get nat_eq c.self.inside.firsts)) (sym c.as_slice-entries.ensures.value) (passed-none c.self.inside.entries.items c.self.inside.links.graph c.node-node.result (get nat_eq c.self.inside.firsts) c.self.invariant.4)
+pass_over-requires-clause-passed c = passed-none c.self.inside.entries.items c.self.inside.links.graph c.node-node.result (get nat_eq c.self.inside.firsts) c.self.invariant.4
 
 pub remove-requires-clause-held : goal.remove-requires-clause-held
 remove-requires-clause-held c =
     let g = c.self.inside in
-    let found_at : IsSlotOfLsn (lsns g.entries.items) c.args.n c.slot_of-slot.result = subst (λ (es : List Entry). IsSlotOfLsn (lsns es) c.args.n c.slot_of-slot.result) c.as_slice-entries.ensures.value c.slot_of-slot.ensures in
+    let found_at : IsSlotOfLsn (lsns g.entries.items) c.args.n c.slot_of-slot.result = c.slot_of-slot.ensures in
     let is = subst (λ (v : Graph). NamesMinimal v.entries c.args.n) (sym c.self.view_is) c.requires in
     let found = found-minimal c.slots_name_nodes.ensures.slots c.slots_name_nodes.ensures.names g.entries.items g.links.graph g.links.rows c.args.n c.slot_of-slot.result c.self.invariant.1 c.self.invariant.0 found_at is in
     (found.held c.slot_of-slot.result refl).1
@@ -68,7 +67,7 @@ remove-requires-clause-held c =
 pub remove-requires-clause-minimal : goal.remove-requires-clause-minimal
 remove-requires-clause-minimal c =
     let g = c.self.inside in
-    let found_at : IsSlotOfLsn (lsns g.entries.items) c.args.n c.slot_of-slot.result = subst (λ (es : List Entry). IsSlotOfLsn (lsns es) c.args.n c.slot_of-slot.result) c.as_slice-entries.ensures.value c.slot_of-slot.ensures in
+    let found_at : IsSlotOfLsn (lsns g.entries.items) c.args.n c.slot_of-slot.result = c.slot_of-slot.ensures in
     let is = subst (λ (v : Graph). NamesMinimal v.entries c.args.n) (sym c.self.view_is) c.requires in
     let found = found-minimal c.slots_name_nodes.ensures.slots c.slots_name_nodes.ensures.names g.entries.items g.links.graph g.links.rows c.args.n c.slot_of-slot.result c.self.invariant.1 c.self.invariant.0 found_at is in
     found.minimal
@@ -76,25 +75,24 @@ remove-requires-clause-minimal c =
 pub invariant_of-self : goal.invariant_of-self
 invariant_of-self c =
     let g = c.self.inside in
-    let found_at : IsSlotOfLsn (lsns g.entries.items) c.args.n c.slot_of-slot.result = subst (λ (es : List Entry). IsSlotOfLsn (lsns es) c.args.n c.slot_of-slot.result) c.as_slice-entries.ensures.value c.slot_of-slot.ensures in
+    let found_at : IsSlotOfLsn (lsns g.entries.items) c.args.n c.slot_of-slot.result = c.slot_of-slot.ensures in
     let is = subst (λ (v : Graph). NamesMinimal v.entries c.args.n) (sym c.self.view_is) c.requires in
     let found = found-minimal c.slots_name_nodes.ensures.slots c.slots_name_nodes.ensures.names g.entries.items g.links.graph g.links.rows c.args.n c.slot_of-slot.result c.self.invariant.1 c.self.invariant.0 found_at is in
     let xs = c.members.new.out.items in
     let node = c.node-node.ensures.value in
-    let entries = c.as_slice-entries.ensures.value in
     let m = node_at g.links.graph.node c.slot_of-slot.result in
-    let passed : ArePassed g.entries.items g.links.graph m (get nat_eq c.pass_over.new.firsts) = subst (λ (k : ℕ). ArePassed g.entries.items g.links.graph k (get nat_eq c.pass_over.new.firsts)) node (subst (λ (es : List Entry). ArePassed es g.links.graph c.node-node.result (get nat_eq c.pass_over.new.firsts)) entries c.pass_over.ensures.passed) in
+    let passed : ArePassed g.entries.items g.links.graph m (get nat_eq c.pass_over.new.firsts) = subst (λ (k : ℕ). ArePassed g.entries.items g.links.graph k (get nat_eq c.pass_over.new.firsts)) node c.pass_over.ensures.passed in
     let outside : (x i : ℕ) → node_at g.links.graph.node i ≡ m → IsTrue (is_among x (writes_of g.entries.items i)) → IsOutside g.links.graph m (get nat_eq c.pass_over.new.firsts x) = λ x i e there.
     let among : IsTrue (is_among i c.as_slice.result.now) = subst (λ (ys : List ℕ). IsTrue (is_among i ys)) (sym c.as_slice.ensures.value) ((c.members.ensures.members i).1 e) in
-    subst (λ (k : ℕ). IsOutside g.links.graph k (get nat_eq c.pass_over.new.firsts x)) node (c.pass_over.ensures.outside x (i, among, subst (λ (es : List Entry). IsTrue (is_among x (writes_of es i))) (sym entries) there)) in
+    subst (λ (k : ℕ). IsOutside g.links.graph k (get nat_eq c.pass_over.new.firsts x)) node (c.pass_over.ensures.outside x (i, among, there)) in
     let firsts = firsts-left g.entries.items g.links.graph c.remove.new.self.graph m c.remove.ensures.removed (get nat_eq c.pass_over.new.firsts) passed outside in
     let count = left-count g.entries.items g.links.graph c.remove.new.self.graph c.slot_of-slot.result xs c.remove.ensures.removed c.members.ensures.distinct c.members.ensures.members found.held in
-    (climbing-left g.links.graph c.remove.new.self.graph (node_at g.links.graph.node c.slot_of-slot.result) (lsns g.entries.items) c.remove.ensures.removed c.self.invariant.0, subst (λ (es : List Entry). AreLinked es c.remove.new.self.graph c.remove.new.self.rows) c.as_slice-entries.ensures.value c.remove.ensures.linked, omega (arith, count, c.len.ensures, c.self.invariant.2), omega (arith, c.members.ensures.capacity, c.self.invariant.3), firsts)
+    (climbing-left g.links.graph c.remove.new.self.graph (node_at g.links.graph.node c.slot_of-slot.result) (lsns g.entries.items) c.remove.ensures.removed c.self.invariant.0, c.remove.ensures.linked, omega (arith, count, c.len.ensures, c.self.invariant.2), omega (arith, c.members.ensures.capacity, c.self.invariant.3), firsts)
 
 pub returns-clause-entries : goal.returns-clause-entries
 returns-clause-entries c node named =
     let g = c.self.inside in
-    let found_at : IsSlotOfLsn (lsns g.entries.items) c.args.n c.slot_of-slot.result = subst (λ (es : List Entry). IsSlotOfLsn (lsns es) c.args.n c.slot_of-slot.result) c.as_slice-entries.ensures.value c.slot_of-slot.ensures in
+    let found_at : IsSlotOfLsn (lsns g.entries.items) c.args.n c.slot_of-slot.result = c.slot_of-slot.ensures in
     let is = subst (λ (v : Graph). NamesMinimal v.entries c.args.n) (sym c.self.view_is) c.requires in
     let found = found-minimal c.slots_name_nodes.ensures.slots c.slots_name_nodes.ensures.names g.entries.items g.links.graph g.links.rows c.args.n c.slot_of-slot.result c.self.invariant.1 c.self.invariant.0 found_at is in
     let view = held_entries g.links.graph.held g.entries.items in
@@ -108,7 +106,7 @@ returns-clause-entries c node named =
 pub returns-clause-nodes : goal.returns-clause-nodes
 returns-clause-nodes c k other =
     let g = c.self.inside in
-    let found_at : IsSlotOfLsn (lsns g.entries.items) c.args.n c.slot_of-slot.result = subst (λ (es : List Entry). IsSlotOfLsn (lsns es) c.args.n c.slot_of-slot.result) c.as_slice-entries.ensures.value c.slot_of-slot.ensures in
+    let found_at : IsSlotOfLsn (lsns g.entries.items) c.args.n c.slot_of-slot.result = c.slot_of-slot.ensures in
     let is = subst (λ (v : Graph). NamesMinimal v.entries c.args.n) (sym c.self.view_is) c.requires in
     let found = found-minimal c.slots_name_nodes.ensures.slots c.slots_name_nodes.ensures.names g.entries.items g.links.graph g.links.rows c.args.n c.slot_of-slot.result c.self.invariant.1 c.self.invariant.0 found_at is in
     let view = held_entries g.links.graph.held g.entries.items in
@@ -121,7 +119,7 @@ returns-clause-nodes c k other =
 pub returns-clause-flush_sets : goal.returns-clause-flush_sets
 returns-clause-flush_sets c k other x =
     let g = c.self.inside in
-    let found_at : IsSlotOfLsn (lsns g.entries.items) c.args.n c.slot_of-slot.result = subst (λ (es : List Entry). IsSlotOfLsn (lsns es) c.args.n c.slot_of-slot.result) c.as_slice-entries.ensures.value c.slot_of-slot.ensures in
+    let found_at : IsSlotOfLsn (lsns g.entries.items) c.args.n c.slot_of-slot.result = c.slot_of-slot.ensures in
     let is = subst (λ (v : Graph). NamesMinimal v.entries c.args.n) (sym c.self.view_is) c.requires in
     let found = found-minimal c.slots_name_nodes.ensures.slots c.slots_name_nodes.ensures.names g.entries.items g.links.graph g.links.rows c.args.n c.slot_of-slot.result c.self.invariant.1 c.self.invariant.0 found_at is in
     let view = held_entries g.links.graph.held g.entries.items in
@@ -134,7 +132,7 @@ returns-clause-flush_sets c k other x =
 pub returns-clause-edges : goal.returns-clause-edges
 returns-clause-edges c node o p named =
     let g = c.self.inside in
-    let found_at : IsSlotOfLsn (lsns g.entries.items) c.args.n c.slot_of-slot.result = subst (λ (es : List Entry). IsSlotOfLsn (lsns es) c.args.n c.slot_of-slot.result) c.as_slice-entries.ensures.value c.slot_of-slot.ensures in
+    let found_at : IsSlotOfLsn (lsns g.entries.items) c.args.n c.slot_of-slot.result = c.slot_of-slot.ensures in
     let is = subst (λ (v : Graph). NamesMinimal v.entries c.args.n) (sym c.self.view_is) c.requires in
     let found = found-minimal c.slots_name_nodes.ensures.slots c.slots_name_nodes.ensures.names g.entries.items g.links.graph g.links.rows c.args.n c.slot_of-slot.result c.self.invariant.1 c.self.invariant.0 found_at is in
     let view = held_entries g.links.graph.held g.entries.items in
@@ -150,7 +148,7 @@ returns-clause-edges c node o p named =
 pub returns-clause-fewer : goal.returns-clause-fewer
 returns-clause-fewer c =
     let g = c.self.inside in
-    let found_at : IsSlotOfLsn (lsns g.entries.items) c.args.n c.slot_of-slot.result = subst (λ (es : List Entry). IsSlotOfLsn (lsns es) c.args.n c.slot_of-slot.result) c.as_slice-entries.ensures.value c.slot_of-slot.ensures in
+    let found_at : IsSlotOfLsn (lsns g.entries.items) c.args.n c.slot_of-slot.result = c.slot_of-slot.ensures in
     let is = subst (λ (v : Graph). NamesMinimal v.entries c.args.n) (sym c.self.view_is) c.requires in
     let found = found-minimal c.slots_name_nodes.ensures.slots c.slots_name_nodes.ensures.names g.entries.items g.links.graph g.links.rows c.args.n c.slot_of-slot.result c.self.invariant.1 c.self.invariant.0 found_at is in
     let view = held_entries g.links.graph.held g.entries.items in

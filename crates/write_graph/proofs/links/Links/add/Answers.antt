@@ -10,7 +10,7 @@ use Rattle.write_graph.proofs.links.Links.add.Goals as goal
 
 pub wait_all-requires-clause-free : goal.wait_all-requires-clause-free
 wait_all-requires-clause-free c x k t =
-    let below = waits-below c.args.earlier.now c.args.self.now.graph.held c.args.self.now.rows x k c.requires.linked.rows_are (subst (λ (xs : List ℕ). IsTrue (is_among k xs)) (c.add_cells.ensures.waiting x) t) in
+    let below = waits-below c.args.earlier.now.items c.args.self.now.graph.held c.args.self.now.rows x k c.requires.linked.rows_are (subst (λ (xs : List ℕ). IsTrue (is_among k xs)) (c.add_cells.ensures.waiting x) t) in
     omega (arith, below, c.len-slot.ensures.count, c.requires.linked.slots)
 
 pub lead_writers-requires-clause-below : goal.lead_writers-requires-clause-below
@@ -25,7 +25,7 @@ pub answer_all-requires-clause-cells : goal.answer_all-requires-clause-cells
 answer_all-requires-clause-cells c x k t =
     elim (c.wait_all.ensures.only x k t) [
       | inl old ↦
-          let below = waits-below c.args.earlier.now c.args.self.now.graph.held c.args.self.now.rows x k c.requires.linked.rows_are (subst (λ (xs : List ℕ). IsTrue (is_among k xs)) (c.add_cells.ensures.waiting x) old) in
+          let below = waits-below c.args.earlier.now.items c.args.self.now.graph.held c.args.self.now.rows x k c.requires.linked.rows_are (subst (λ (xs : List ℕ). IsTrue (is_among k xs)) (c.add_cells.ensures.waiting x) old) in
           omega (arith, below, c.lead_writers.ensures.grown.slots, ap length c.add_slot.ensures.added.node, length-append c.args.self.now.graph.node (length c.args.self.now.graph.node ∷ []), c.requires.linked.slots)
       | inr new ↦ omega (arith, cell-of-slot c.as_slice.result.now c.len-slot.result x k (omega (arith, ap length c.as_slice.ensures.value, c.as_slice.ensures.few)) new, c.len-slot.ensures.count, c.lead_writers.ensures.grown.slots, ap length c.add_slot.ensures.added.node, length-append c.args.self.now.graph.node (length c.args.self.now.graph.node ∷ []))
     ]
@@ -33,7 +33,7 @@ answer_all-requires-clause-cells c x k t =
 pub returns-clause-linked : goal.returns-clause-linked
 returns-clause-linked c =
     let g = c.args.self.now.graph in
-    let earlier = c.args.earlier.now in
+    let earlier = c.args.earlier.now.items in
     let e = c.args.entry.now in
     let len : c.len-slot.result ≡ length earlier = c.len-slot.ensures.count ∙ c.requires.linked.slots in
     let is = added earlier e g.held c.requires.linked.held in

@@ -8,7 +8,7 @@ use Rattle.write_graph.proofs.links.Links.remove.Goals as goal
 pub returns-clause-linked : goal.returns-clause-linked
 returns-clause-linked c =
     let g = c.args.self.now.graph in
-    let entries = c.args.entries.now in
+    let entries = c.args.entries.now.items in
     let a = slot_access entries g.held in
     let m = node_at g.node c.args.slot in
     let none : NoEdgeInto a (in_node g m) = (c.no_arc_is_no_edge.ensures a (in_node g m)).1 (λ o p out there arc. off-node g m o out (c.requires.minimal o p (c.requires.linked.arcs.all o p arc) (in-node g m p there))) in
