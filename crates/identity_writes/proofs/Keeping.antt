@@ -1,6 +1,6 @@
 -- The object at the first place of the greatest length is the one to keep.
-use Rattle.std.proofs.Common.{◌≡◌, ap, subst, ℕ, ◌+◌, ◌-◌, ◌<◌, ◌≤◌, List, [], ◌∷◌, length, slice_index, get_or, drop, ◌∙◌, sym, refl, arith, inl, inr}
-use Rattle.std.specs.Prelude.{All, ◌↔◌}
+use Rattle.std.proofs.Common.{◌≡◌, ap, ℕ, ◌+◌, ◌-◌, ◌<◌, ◌≤◌, List, length, slice_index, get_or, drop, ◌∙◌, refl, arith, inl, inr}
+use Rattle.std.specs.Prelude.{All}
 use Rattle.std.specs.List.Sorted.{IsStrictlyIncreasing, IsNonDecreasingBy}
 use Rattle.std.proofs.lemmas.Bool.{cases_lt, cases_eq}
 use Rattle.std.proofs.lemmas.List.{get_or-drop, length-drop}
@@ -81,11 +81,3 @@ module _ (objects lengths : List ℕ) (copied first place x : ℕ) (rising : IsS
 -- all are copied where none is left from a place on
 pub all_copied : (objects : List ℕ) (copied first : ℕ) → length objects ≤ first → ((k : ℕ) → k < first → slice_index objects k < copied) → All (λ x. x < copied) objects
 all_copied objects copied first all below = All-from_get_or (λ x. x < copied) objects 0 (λ k low. below k (omega (arith, low, all)))
-
--- no LSN is below 0
-pub none_below_zero : (objects : List ℕ) → All (λ x. x < 0) objects ↔ (objects ≡ [])
-none_below_zero objects = (none objects, λ e. subst (λ (l : List ℕ). All (λ x. x < 0) l) (sym e) (All-from_get_or (λ x. x < 0) [] 0 (λ k low. absurd (omega (arith, low)))))
-  where
-    none : (objects : List ℕ) → All (λ x. x < 0) objects → objects ≡ []
-    none [] all = refl
-    none (x ∷ objects) all = let low = All-get_or (λ x. x < 0) (x ∷ objects) 0 0 (omega arith) all in absurd (omega (arith, low))

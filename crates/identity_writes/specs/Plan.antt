@@ -6,15 +6,6 @@ use Rattle.std.specs.List.{filter}
 abbrev pub without : ℕ → List ℕ → List ℕ
 without x objects = filter (λ y. not (y == x)) objects
 
--- x is one of the objects, no value is longer than that of x, and no object with a value as long has a lesser number;
--- the lengths of the values stand in the order of the objects
-pub record IsKept (objects lengths : List ℕ) (x : ℕ) : Type 0 where
-  pub place : ℕ
-  pub here : slice_get objects place ≡ Some x
-  pub longest : All (λ n. n ≤ slice_index lengths place) lengths
-  pub least : (other : ℕ) → other < length objects → slice_index lengths other ≡ slice_index lengths place
-      → x ≤ slice_index objects other
-
 -- the objects without the one that is kept, if one is
 abbrev pub but_kept : Option ℕ → List ℕ → List ℕ
 but_kept None objects = objects

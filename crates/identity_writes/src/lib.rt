@@ -2,9 +2,9 @@
 //!
 //! Objects that have to be flushed together can't be flushed one after the other, and a write to the disk is whole or
 //! absent for one object alone. So all but one are logged with the values that they have: a record of its own is then
-//! the last to write each of them, and the one that is kept can be flushed alone. There are two contracts: [`plan`] keeps
-//! the object with the longest value, and [`plan_beside`], beside a copy of the slots, one that is not copied yet, or
-//! none; the others are to be logged. The crate depends on oper_core alone.
+//! the last to write each of them, and the one that is kept can be flushed alone. The one contract is [`plan`]: it keeps the
+//! object with the longest value of those that a copy of the slots does not have yet, or none where it has all; the others
+//! are to be logged. The crate depends on oper_core alone.
 #![tactic(auto)]
 
 mod object_list;
@@ -12,5 +12,5 @@ mod thinning;
 mod thinning_plan;
 
 pub use object_list::ObjectList;
-pub use thinning::{plan, plan_beside};
+pub use thinning::plan;
 pub use thinning_plan::Plan;

@@ -1,36 +1,15 @@
-ghost use Rattle.std.specs.Prelude.{◌≡◌, ◌++◌, ◌↔◌, [], length, IfOk, IfSome, IfNone, IsNone, option_to_list};
+ghost use Rattle.std.specs.Prelude.{◌≡◌, ◌≤◌, ◌<◌, ◌++◌, ◌↔◌, [], ℕ, All, length, slice_index, IfOk, IfSome, IfNone, IsNone, option_to_list};
 ghost use Rattle.std.specs.List.Sorted.{IsPermutation, IsStrictlyIncreasing};
-ghost use Rattle.std.specs.Prelude.{◌≤◌, ◌<◌, ℕ, All, slice_index};
-ghost use Rattle.identity_writes.specs.Plan.{IsKept, IsKeptBeside, IsFirstLongest, but_kept, without};
+ghost use Rattle.identity_writes.specs.Plan.{IsKeptBeside, IsFirstLongest, but_kept};
 
 use crate::{ObjectList, Plan};
 use oper_core::Memory;
 use std::alloc::Global;
 
-/// Keeps the object with the longest value, of several such the one with the least number, and logs the others,
-/// rising. `lengths` has the length of each object's value, in the order of the objects.
-pub fn plan(alloc: Global, objects: &[u32], lengths: &[u32]) -> Result<Plan, Memory>
-    requires rising { IsStrictlyIncreasing objects.now }
-    requires beside { length lengths.now ≡ length objects.now }
-    ensures keep { IfOk result (λ plan. IfSome plan.keep (IsKept objects.now lengths.now)) }
-    ensures none { IfOk result (λ plan. IsNone plan.keep ↔ (objects.now ≡ [])) }
-    ensures others { IfOk result (λ plan. IfSome plan.keep (λ x. plan.log ≡ without x objects.now)) }
-    ensures rising { IfOk result (λ plan. IsStrictlyIncreasing plan.log) }
-
-    // What is kept and what is logged are the objects, each once.
-    ensures together { IfOk result (λ plan. IsPermutation objects.now (option_to_list plan.keep ++ plan.log)) }
-{
-    plan_beside(alloc, objects, lengths, 0)
-}
-
-/// The same beside a copy of the slots, which has the objects below a number: one that is not copied yet is kept, and all
-/// others are logged. None is kept exactly where all are copied.
-pub fn plan_beside(
-    alloc: Global,
-    objects: &[u32],
-    lengths: &[u32],
-    copied: u32,
-) -> Result<Plan, Memory>
+/// Of the objects that a copy of the slots does not have yet, those from a number on, keeps the one with the longest value,
+/// of several such the one with the least number, and logs all others, rising. None is kept exactly where all are copied.
+/// `lengths` has the length of each object's value, in the order of the objects. Where nothing is copied, the number is 0.
+pub fn plan(alloc: Global, objects: &[u32], lengths: &[u32], copied: u32) -> Result<Plan, Memory>
     requires rising { IsStrictlyIncreasing objects.now }
     requires beside { length lengths.now ≡ length objects.now }
     ensures keep { IfOk result (λ plan. IfSome plan.keep (IsKeptBeside copied objects.now lengths.now)) }

@@ -1,5 +1,5 @@
 // Which objects of a node are logged by identity writes, and which one is kept.
-use identity_writes::{ObjectList, plan, plan_beside};
+use identity_writes::{ObjectList, plan};
 use std::alloc::Global;
 use std::test::Fail;
 
@@ -27,7 +27,7 @@ fn the_longest_is_kept(rt: HostRuntime) -> Result<(), Fail> {
             [0, 2, 3].as_slice(),
         ),
     ] {
-        let found = plan(rt.alloc(), objects, lengths)?;
+        let found = plan(rt.alloc(), objects, lengths, 0)?;
         assert_eq!(rt; found.keep, keep);
         assert_eq!(rt; found.log.as_slice(), log);
     }
@@ -61,7 +61,7 @@ fn one_that_is_not_copied_is_kept(rt: HostRuntime) -> Result<(), Fail> {
         ),
         ([3].as_slice(), [7].as_slice(), 4, None, [3].as_slice()),
     ] {
-        let found = plan_beside(rt.alloc(), objects, lengths, copied)?;
+        let found = plan(rt.alloc(), objects, lengths, copied)?;
         assert_eq!(rt; found.keep, keep);
         assert_eq!(rt; found.log.as_slice(), log);
     }

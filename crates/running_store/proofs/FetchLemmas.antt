@@ -48,16 +48,16 @@ pub kept_read : {E : Type 0} (old new : Disk) (before looked after : Laid) (slot
     → ((file : List ℕ) → IsLaidOn looked file → cell_of o file ≡ record { lsn = lsn; value = bytes } → KeepsCells file looked after × IsLaidOn after file)
     → (lsn ≡ lsn_in looked.slots o → IsFetched looked after) → HasRead old new before after
 kept_read {E} old new before looked after slots o lsn bytes r read same below was own value cells fetched =
-    let lsn : lsn ≡ lsn_in looked.slots o = subst (λ (k : Result ℕ E). IfOk k (λ lsn. lsn ≡ lsn_in slots o)) was own ∙ ap (λ (s : SlotsView). lsn_in s o) same in
+    let its_own : lsn ≡ lsn_in looked.slots o = subst (λ (k : Result ℕ E). IfOk k (λ lsn. lsn ≡ lsn_in slots o)) was own ∙ ap (λ (s : SlotsView). lsn_in s o) same in
     record {
       stays = read.stays;
-      fetched = fetched-twice before looked after read.fetched (fetched lsn);
+      fetched = fetched-twice before looked after read.fetched (fetched its_own);
       cells = λ told laid.
           let file = old.reads Objects in
           let held = read.cells told laid in
           let here = subst (λ (s : SlotsView). AreOf s file → OnOk r (bytes ≡ (cell_of o file).value)) same (value old.reads (told_agrees read.stays told)) held.1.slots in
           let bytes_are = subst (λ (k : Result ℕ E). OnOk k (bytes ≡ (cell_of o file).value)) was here in
-          let pair = read_pair looked.slots file o lsn bytes held.1.slots (subst (λ (s : SlotsView). o < s.params.objects) (sym read.fetched.slots) below) lsn bytes_are in
+          let pair = read_pair looked.slots file o lsn bytes held.1.slots (subst (λ (s : SlotsView). o < s.params.objects) (sym read.fetched.slots) below) its_own bytes_are in
           let now = cells file held.1 pair in
           (cells_twice file before looked after read.fetched.slots held.0 now.0, now.1);
     }

@@ -65,7 +65,7 @@ module _ (old here : Disk) (before mid : Laid) (objects : List ℕ) (run : Runs 
           below = omega (arith, limits.0, ap (λ (q : Params). q.objects) params_are);
           closed = none;
           later = omega (arith, newer.0, closing.lsns_kept x);
-          with_lsn = newer.1;
+          is_lsn = newer.1;
           short = omega (arith, limits.1, ap (λ (q : Params). q.cap) params_are);
           filled = filled told x pair among there none;
         })

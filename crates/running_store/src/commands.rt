@@ -13,17 +13,17 @@ use install_order::Entry;
 use oper_core::{Memory, Oper, Refusal, Values};
 
 impl<O: Oper> Store<O> {
-    /// The answer of a command's checkpoint on copies of what it reads, or else on what is cached. Nothing changes.
+    /// The answer of a command's check on copies of what it reads, or else on what is cached. Nothing changes.
     pub fn check_command(&mut self, op: &O, copies: &Option<Values>) -> Result<(), Refusal>
         requires unbroken { self.old.broken ≡ false }
         requires grammar { IsInGrammar (meaning_in O.meaning (store_params self.old)) op.now }
         requires fits { FitsReads (meaning_in O.meaning (store_params self.old)) op.now (inputs_in self.old.parts.volatile.objects.cache ((meaning_in O.meaning (store_params self.old)).reads op.now) copies.now) }
-        ensures answer { result_err result ≡ (meaning_in O.meaning (store_params self.old)).checkpoint op.now (inputs_in self.old.parts.volatile.objects.cache ((meaning_in O.meaning (store_params self.old)).reads op.now) copies.now) }
+        ensures answer { result_err result ≡ (meaning_in O.meaning (store_params self.old)).check op.now (inputs_in self.old.parts.volatile.objects.cache ((meaning_in O.meaning (store_params self.old)).reads op.now) copies.now) }
         ensures left { IsLeft self.old self.new }
         ensures log { self.new.parts.log ≡ self.old.parts.log }
         ensures same { (objects : List ℕ) → inputs_in self.new.parts.volatile.objects.cache objects copies.now ≡ inputs_in self.old.parts.volatile.objects.cache objects copies.now }
     {
-        self.objects.checkpoint(op, copies)
+        self.objects.check(op, copies)
     }
 
     /// Adds a command to the log's buffer, to the objects and to the graph, on copies of what it reads, or else on what is cached.
@@ -36,18 +36,18 @@ impl<O: Oper> Store<O> {
         ensures { HasCommanded O.meaning self.old self.new op (inputs_in self.old.parts.volatile.objects.cache ((meaning_in O.meaning (store_params self.old)).reads op) copies) result }
     {
         let _params = self.objects.params();
-        let writes = op.writes();
-        self.objects.make_room(writes.as_slice())?;
         let lsn = self.log.next();
+        let writes = op.writes();
         let entry = Entry {
             lsn,
             reads: op.reads(),
-            writes: op.writes(),
+            writes,
             identity: false,
         };
+        self.objects.make_room(entry.writes.as_slice())?;
         self.graph.make_room(&entry)?;
         let code = self.log.encode_command(&op)?;
-        self.objects.run(lsn, op, copies)?;
+        self.objects.run(lsn, op, copies, entry.writes.as_slice())?;
 
         // Nothing fails from here on.
         self.log.append_encoded(code);

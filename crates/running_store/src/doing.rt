@@ -1,5 +1,5 @@
 // A command is checked and done on what it reads.
-ghost use Rattle.std.specs.Prelude.{◌≡◌, ◌==◌, ◌<◌, ◌≤◌, ◌||◌, ℕ, All, List, None, Some, length, map, IsSome, if◌then◌else◌, IsTrue, OnErr, OnOk};
+ghost use Rattle.std.specs.Prelude.{◌≡◌, ◌==◌, ◌<◌, ◌≤◌, ◌||◌, ℕ, All, List, Some, length, IsSome, if◌then◌else◌, IsTrue, OnErr, OnOk};
 ghost use Rattle.std.specs.Result.{result_err};
 ghost use Rattle.oper_core.specs.Meaning.{FitsReads, IsInGrammar};
 ghost use Rattle.oper_core.specs.State.{is_among};
@@ -81,15 +81,11 @@ impl Objects {
         self.slots.params().cap
     }
 
-    /// The answer of a command's checkpoint on what it reads. Each object has the pair that it had.
-    pub(crate) fn checkpoint<O: Oper>(
-        &mut self,
-        op: &O,
-        copies: &Option<Values>,
-    ) -> Result<(), Refusal>
+    /// The answer of a command's check on what it reads. Each object has the pair that it had.
+    pub(crate) fn check<O: Oper>(&mut self, op: &O, copies: &Option<Values>) -> Result<(), Refusal>
         requires grammar { IsInGrammar (meaning_in O.meaning self.old.slots.params) op.now }
         requires fits { FitsReads (meaning_in O.meaning self.old.slots.params) op.now (inputs_in self.old.cache ((meaning_in O.meaning self.old.slots.params).reads op.now) copies.now) }
-        ensures answer { result_err result ≡ (meaning_in O.meaning self.old.slots.params).checkpoint op.now (inputs_in self.old.cache ((meaning_in O.meaning self.old.slots.params).reads op.now) copies.now) }
+        ensures answer { result_err result ≡ (meaning_in O.meaning self.old.slots.params).check op.now (inputs_in self.old.cache ((meaning_in O.meaning self.old.slots.params).reads op.now) copies.now) }
         ensures slots { self.new.slots ≡ self.old.slots }
         ensures entries { (x : ℕ) → held self.new.cache x ≡ held self.old.cache x }
         ensures fetched { IsFetched self.old self.new }
@@ -101,16 +97,18 @@ impl Objects {
         check_inputs(self.alloc, bounds, &mut self.cache, op, copies)
     }
 
-    /// Does a command on what it reads: the objects that it writes get the values made, under an LSN. Without memory
-    /// each object has the pair that it had.
+    /// Does a command on what it reads: the objects that it writes, `writes`, get the values made, under an LSN. Without
+    /// memory each object has the pair that it had.
     pub(crate) fn run<O: Oper>(
         &mut self,
         lsn: u64,
         op: O,
         copies: Option<Values>,
+        writes: &[u32],
     ) -> Result<(), Memory>
         requires ready { IsReady O.meaning self.old.slots.params op (inputs_in self.old.cache ((meaning_in O.meaning self.old.slots.params).reads op) copies) }
-        requires room { All (HasRoom self.old.cache) ((meaning_in O.meaning self.old.slots.params).writes op) }
+        requires writes { writes.now ≡ (meaning_in O.meaning self.old.slots.params).writes op }
+        requires room { All (HasRoom self.old.cache) writes.now }
         ensures slots { self.new.slots ≡ self.old.slots }
         ensures laid { (file : List ℕ) → IsLaidOn self.old file → IsLaidOn self.new file }
         ensures done { OnOk result (HasRun O.meaning self.old self.new lsn op copies) }
@@ -120,15 +118,8 @@ impl Objects {
         let bounds = self.bounds();
         // Called for its clauses: the LSNs are small.
         let _params = self.params();
-        let writes = op.writes();
         let made = apply_inputs(self.alloc, bounds, &mut self.cache, op, copies)?;
-        put_values(
-            &mut self.cache,
-            &mut self.empties,
-            lsn,
-            writes.as_slice(),
-            made,
-        );
+        put_values(&mut self.cache, &mut self.empties, lsn, writes, made);
         Ok(())
     }
 }

@@ -40,7 +40,7 @@ fn give_back(cache: &mut Cache, objects: &[u32], values: Values)
     }
 }
 
-/// The answer of a command's checkpoint on the cached values, which are lent to it.
+/// The answer of a command's check on the cached values, which are lent to it.
 fn check_lent<O: Oper>(
     alloc: Global,
     bounds: Bounds,
@@ -50,12 +50,12 @@ fn check_lent<O: Oper>(
     requires small { IsSmall bounds }
     requires grammar { IsInGrammar (O.meaning bounds) op.now }
     requires fits { FitsReads (O.meaning bounds) op.now (map (cached_values cache.old) ((O.meaning bounds).reads op.now)) }
-    ensures answer { result_err result ≡ (O.meaning bounds).checkpoint op.now (map (cached_values cache.old) ((O.meaning bounds).reads op.now)) }
+    ensures answer { result_err result ≡ (O.meaning bounds).check op.now (map (cached_values cache.old) ((O.meaning bounds).reads op.now)) }
     ensures same { KeepsOthers [] cache.old cache.new }
 {
     let reads = op.reads();
     let values = lend(alloc, cache, reads.as_slice());
-    let answer = op.checkpoint(bounds, &values);
+    let answer = op.check(bounds, &values);
     give_back(cache, reads.as_slice(), values);
     answer
 }
@@ -82,7 +82,7 @@ fn apply_lent<O: Oper>(
     answer
 }
 
-/// The answer of a command's checkpoint on copies, or else on what the cache has.
+/// The answer of a command's check on copies, or else on what the cache has.
 pub(crate) fn check_inputs<O: Oper>(
     alloc: Global,
     bounds: Bounds,
@@ -93,11 +93,11 @@ pub(crate) fn check_inputs<O: Oper>(
     requires small { IsSmall bounds }
     requires grammar { IsInGrammar (O.meaning bounds) op.now }
     requires fits { FitsReads (O.meaning bounds) op.now (inputs_in cache.old ((O.meaning bounds).reads op.now) copies.now) }
-    ensures answer { result_err result ≡ (O.meaning bounds).checkpoint op.now (inputs_in cache.old ((O.meaning bounds).reads op.now) copies.now) }
+    ensures answer { result_err result ≡ (O.meaning bounds).check op.now (inputs_in cache.old ((O.meaning bounds).reads op.now) copies.now) }
     ensures same { KeepsOthers [] cache.old cache.new }
 {
     match copies {
-        Some(values) => op.checkpoint(bounds, values),
+        Some(values) => op.check(bounds, values),
         None => check_lent(alloc, bounds, cache, op),
     }
 }

@@ -113,7 +113,7 @@ slot_whole : (x s : ℕ) → x < 2 → s < 2 → IsOpenAt (slot_place small_layo
 slot_whole zero zero below two is_open =
     let lsn : lsn_at 32 small_objects ≡ 1 = refl in
     let long : length_at 32 small_objects ≡ 1 = refl in
-    record { some = omega (arith, lsn); with_lsn = omega (arith, lsn); short = omega (arith, long); within = λ some. omega (arith, long) }
+    record { some = omega (arith, lsn); is_lsn = omega (arith, lsn); short = omega (arith, long); within = λ some. omega (arith, long) }
 slot_whole zero (suc zero) below two is_open = absurd (omega (arith, is_open))
 slot_whole (suc zero) zero below two is_open = absurd (omega (arith, is_open))
 slot_whole (suc zero) (suc zero) below two is_open = absurd (omega (arith, is_open))

@@ -11,8 +11,8 @@ pub lend-values-requires-clause-apart : goal.lend-values-requires-clause-apart
 lend-values-requires-clause-apart g c =
     subst (λ (l : List ℕ). IsDistinct nat_eq l) (sym (c.as_slice.ensures.value ∙ c.reads-reads.ensures c.args.bounds)) ((g.met.O.Oper.lawful c.args.bounds c.requires.small).reads_apart c.args.op.now c.requires.grammar)
 
-pub checkpoint-answer-requires : goal.checkpoint-answer-requires
-checkpoint-answer-requires g c =
+pub check-answer-requires : goal.check-answer-requires
+check-answer-requires g c =
     subst (λ (vs : List (List ℕ)). FitsReads (g.O.Oper.meaning c.args.bounds) c.args.op.now vs) (sym (c.lend-values.ensures.values ∙ ap (map (cached_values c.args.cache.now)) (c.as_slice.ensures.value ∙ c.reads-reads.ensures c.args.bounds))) c.requires.fits
 
 pub give_back-requires : goal.give_back-requires
@@ -20,7 +20,7 @@ give_back-requires g c = record { count = ap length c.lend-values.ensures.values
 
 pub returns-clause-answer : goal.returns-clause-answer
 returns-clause-answer g c =
-    c.checkpoint-answer.ensures ∙ ap (λ (vs : List (List ℕ)). (g.O.Oper.meaning c.args.bounds).checkpoint c.args.op.now vs) (c.lend-values.ensures.values ∙ ap (map (cached_values c.args.cache.now)) (c.as_slice.ensures.value ∙ c.reads-reads.ensures c.args.bounds))
+    c.check-answer.ensures ∙ ap (λ (vs : List (List ℕ)). (g.O.Oper.meaning c.args.bounds).check c.args.op.now vs) (c.lend-values.ensures.values ∙ ap (map (cached_values c.args.cache.now)) (c.as_slice.ensures.value ∙ c.reads-reads.ensures c.args.bounds))
 
 pub returns-clause-same : goal.returns-clause-same
 returns-clause-same g c =

@@ -11,7 +11,7 @@ use Rattle.running_store.specs.Ran.{HasRun}
 use Rattle.running_store.proofs.DoneLemmas.{dirty_done, entries_done, kept_done, laid_done, same_fetched, same_held, same_kept, same_laid}
 use Rattle.running_store.proofs.LentLemmas.{on_err}
 use Rattle.running_store.proofs.objects.Objects.run.Given.{Over}
-use Rattle.running_store.proofs.objects.Objects.run.Goals.{After-as_slice}
+use Rattle.running_store.proofs.objects.Objects.run.Goals.{In_ok-made}
 use Rattle.running_store.proofs.objects.Objects.run.Goals as goal
 
 pub apply_inputs-requires-clause-small : goal.apply_inputs-requires-clause-small
@@ -39,7 +39,7 @@ pub returns-in_err-made-clause-fetched : goal.returns-in_err-made-clause-fetched
 returns-in_err-made-clause-fetched g c = rw (← c.self.view_is) (on_err c.from_residual.result (same_fetched c.self.inside.slots c.self.inside.cache c.apply_inputs.new.cache c.in_err-made.ensures.same))
 
 -- the values are made
-module _ (g : Over) (c : After-as_slice g) where
+module _ (g : Over) (c : In_ok-made g) where
   abbrev p : Bounds
   p = bounds_of c.self.inside.slots.params
 
@@ -47,7 +47,7 @@ module _ (g : Over) (c : After-as_slice g) where
   m = g.O.Oper.meaning p
 
   abbrev objects : List ℕ
-  objects = c.as_slice.result.now
+  objects = c.args.writes.now
 
   abbrev values : List (List ℕ)
   values = inputs_in c.self.inside.cache (m.reads c.args.op) c.args.copies
@@ -56,7 +56,7 @@ module _ (g : Over) (c : After-as_slice g) where
   bounds_are = c.bounds-bounds.ensures ∙ ap (λ (l : Laid). bounds_of l.slots.params) (sym c.self.view_is)
 
   objects_are : objects ≡ m.writes c.args.op
-  objects_are = c.as_slice.ensures.value ∙ c.writes-writes.ensures p
+  objects_are = subst (λ (l : Laid). objects ≡ (g.O.Oper.meaning (bounds_of l.slots.params)).writes c.args.op) (sym c.self.view_is) c.requires.writes
 
   laws : IsLawful m
   laws = g.met.O.Oper.lawful p (subst (λ (l : Laid). IsSmall (bounds_of l.slots.params)) (sym c.self.view_is) (small_bounds c.args.self.now.slots.params c.params-params.ensures.range))
@@ -72,7 +72,7 @@ module _ (g : Over) (c : After-as_slice g) where
   made_are = c.in_ok-made.ensures.made ∙ ap (λ (b : Bounds). (g.O.Oper.meaning b).effect c.args.op (inputs_in c.self.inside.cache ((g.O.Oper.meaning b).reads c.args.op) c.args.copies)) bounds_are
 
   keeps : KeepsOthers objects c.self.inside.cache c.apply_inputs.new.cache
-  keeps = subst (λ (l : List ℕ). KeepsOthers l c.self.inside.cache c.apply_inputs.new.cache) (sym (c.as_slice.ensures.value ∙ c.writes-writes.ensures c.bounds-bounds.result)) c.in_ok-made.ensures.kept
+  keeps = subst (λ (l : List ℕ). KeepsOthers l c.self.inside.cache c.apply_inputs.new.cache) (sym (objects_are ∙ ap (λ (b : Bounds). (g.O.Oper.meaning b).writes c.args.op) (sym bounds_are))) c.in_ok-made.ensures.kept
 
   below : All (λ x. x < c.self.inside.slots.params.objects) objects
   below =
@@ -88,38 +88,38 @@ module _ (g : Over) (c : After-as_slice g) where
       λ k d within. omega (arith, there k d within, (g.met.O.Oper.bounded p).cap)
 
   room : All (HasRoom c.self.inside.cache) objects
-  room = subst (λ (l : List ℕ). All (HasRoom c.self.inside.cache) l) (sym objects_are) (subst (λ (l : Laid). All (HasRoom l.cache) ((g.O.Oper.meaning (bounds_of l.slots.params)).writes c.args.op)) (sym c.self.view_is) c.requires.room)
+  room = subst (λ (l : Laid). All (HasRoom l.cache) objects) (sym c.self.view_is) c.requires.room
 
 pub put_values-requires-clause-below : goal.put_values-requires-clause-below
 put_values-requires-clause-below g c =
-    let at = (goal.at.put_values-requires-clause-below g c).After-as_slice in
+    let at = (goal.at.put_values-requires-clause-below g c).In_ok-made in
     λ k d within. omega (arith, below g at k d within, c.self.invariant.empties.count)
 
 pub put_values-requires-clause-room : goal.put_values-requires-clause-room
 put_values-requires-clause-room g c =
-    let at = (goal.at.put_values-requires-clause-room g c).After-as_slice in
+    let at = (goal.at.put_values-requires-clause-room g c).In_ok-made in
     λ k d within. (keeps g at).rooms _ (room g at k d within)
 
 pub put_values-requires-clause-count : goal.put_values-requires-clause-count
-put_values-requires-clause-count g c = count g (goal.at.put_values-requires-clause-count g c).After-as_slice
+put_values-requires-clause-count g c = count g (goal.at.put_values-requires-clause-count g c).In_ok-made
 
 pub invariant_of-self-2 : goal.invariant_of-self-2
 invariant_of-self-2 g c =
-    let at = (goal.at.invariant_of-self-2 g c).After-as_slice in
-    kept_done c.self.inside.slots c.self.inside.cache c.apply_inputs.new.cache c.put_values.new.cache c.args.lsn c.as_slice.result.now c.in_ok-made.made (keeps g at) c.put_values.ensures.entries c.put_values.ensures.dirty c.self.inside.empties.marks
+    let at = (goal.at.invariant_of-self-2 g c).In_ok-made in
+    kept_done c.self.inside.slots c.self.inside.cache c.apply_inputs.new.cache c.put_values.new.cache c.args.lsn c.args.writes.now c.in_ok-made.made (keeps g at) c.put_values.ensures.entries c.put_values.ensures.dirty c.self.inside.empties.marks
     c.put_values.new.empties.marks c.self.invariant (below g at) (short g at) c.put_values.ensures.count c.put_values.ensures.marks
 
 pub returns-clause-laid : goal.returns-clause-laid
 returns-clause-laid g c =
-    let at = (goal.at.returns-clause-laid g c).After-as_slice in
-    rw (← c.self.view_is) (laid_done c.self.inside.slots c.self.inside.cache c.apply_inputs.new.cache c.put_values.new.cache c.args.lsn c.as_slice.result.now c.in_ok-made.made (keeps g at) c.put_values.ensures.entries c.put_values.ensures.dirty)
+    let at = (goal.at.returns-clause-laid g c).In_ok-made in
+    rw (← c.self.view_is) (laid_done c.self.inside.slots c.self.inside.cache c.apply_inputs.new.cache c.put_values.new.cache c.args.lsn c.args.writes.now c.in_ok-made.made (keeps g at) c.put_values.ensures.entries c.put_values.ensures.dirty)
 
 pub returns-clause-done : goal.returns-clause-done
 returns-clause-done g c =
-    let at = (goal.at.returns-clause-done g c).After-as_slice in
+    let at = (goal.at.returns-clause-done g c).In_ok-made in
     let new : Laid = record { slots = c.self.inside.slots; cache = c.put_values.new.cache } in
-    let entries = entries_done c.self.inside.slots c.self.inside.cache c.apply_inputs.new.cache c.put_values.new.cache c.args.lsn c.as_slice.result.now c.in_ok-made.made (keeps g at) c.put_values.ensures.entries c.put_values.ensures.dirty in
-    let dirty = dirty_done c.self.inside.slots c.self.inside.cache c.apply_inputs.new.cache c.put_values.new.cache c.args.lsn c.as_slice.result.now c.in_ok-made.made (keeps g at) c.put_values.ensures.entries c.put_values.ensures.dirty in
+    let entries = entries_done c.self.inside.slots c.self.inside.cache c.apply_inputs.new.cache c.put_values.new.cache c.args.lsn c.args.writes.now c.in_ok-made.made (keeps g at) c.put_values.ensures.entries c.put_values.ensures.dirty in
+    let dirty = dirty_done c.self.inside.slots c.self.inside.cache c.apply_inputs.new.cache c.put_values.new.cache c.args.lsn c.args.writes.now c.in_ok-made.made (keeps g at) c.put_values.ensures.entries c.put_values.ensures.dirty in
     subst (λ (l : Laid). HasRun g.O.Oper.meaning l new c.args.lsn c.args.op c.args.copies) c.self.view_is (record {
       entries = λ x. entries x ∙ (λ i. with_entries (held c.self.inside.cache) c.args.lsn (objects_are g at i) (made_are g at i) x);
       dirty = λ x. dirty x ∙ (λ i. is_among x (objects_are g at i) || is_dirty c.self.inside.cache x);

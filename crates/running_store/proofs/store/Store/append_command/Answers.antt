@@ -1,10 +1,8 @@
-use Rattle.std.proofs.Common.{rules, ◌≡◌, ◌∙◌, ◌<◌, ◌≤◌, ℕ, List, ap, arith, length, refl, subst, sym}
+use Rattle.std.proofs.Common.{rules, ◌≡◌, ◌∙◌, ◌<◌, ℕ, List, ap, arith, refl, subst, sym}
 use Rattle.std.specs.Prelude.{All}
 use Rattle.std.proofs.lemmas.Result.{err_from_is_err_and}
 use Rattle.formats.specs.Objects.{bounds_of}
-use Rattle.formats.specs.declared.params.Params.{Params}
 use Rattle.oper_core.specs.Meaning.{IsLawful, Meaning}
-use Rattle.oper_core.specs.declared.bounds.Bounds.{Bounds}
 use Rattle.install_order.specs.declared.entry.Entry.{Entry}
 use Rattle.log_records.specs.RecordLog.{RecordLogView}
 use Rattle.dirty_cache.specs.Contents.{HasRoom}
@@ -65,9 +63,12 @@ run-requires-clause-ready g c =
     let at = (goal.at.run-requires-clause-ready g c).After-make_room in
     ready_from g.O.Oper.meaning c.self.inside.objects c.make_room.new.self c.args.op c.args.copies c.make_room.ensures.slots c.make_room.ensures.entries (ready g at)
 
+pub run-requires-clause-writes : goal.run-requires-clause-writes
+run-requires-clause-writes g c = c.as_slice-2.ensures.value ∙ c.writes-writes.ensures (bounds_of c.make_room.new.self.slots.params)
+
 pub run-requires-clause-room : goal.run-requires-clause-room
 run-requires-clause-room g c =
-    subst (λ (l : List ℕ). All (HasRoom c.make_room.new.self.cache) l) (c.as_slice.ensures.value ∙ c.writes-writes.ensures (bounds_of c.make_room.new.self.slots.params)) c.in_ok-make_room.ensures.room
+    subst (λ (l : List ℕ). All (HasRoom c.make_room.new.self.cache) l) (c.as_slice.ensures.value ∙ sym c.as_slice-2.ensures.value) c.in_ok-make_room.ensures.room
 
 pub invariant_of-self : goal.invariant_of-self
 invariant_of-self g c = λ fine. usable g (goal.at.invariant_of-self g c).After-make_room c.self.inside.log c.self.inside.graph.entries refl refl
