@@ -1,5 +1,5 @@
--- The steps of installs and drains beside a copy of the slots may be taken while it is made.
-use Rattle.std.proofs.Common.{◌≡◌, sym, subst, ℕ, ◌+◌, ◌<◌, Bool, true, false, List, [], ◌∷◌, ◌++◌, length, refl, inl, inr, Option, None, Some}
+-- The steps of installs, turns and drains beside a copy of the slots may be taken while it is made.
+use Rattle.std.proofs.Common.{◌≡◌, sym, subst, ℕ, ◌+◌, ◌<◌, Bool, true, false, List, [], ◌∷◌, ◌++◌, length, refl, arith, inl, inr, Option, None, Some}
 use Rattle.std.specs.Prelude.{◌==◌, IsTrue, IsFalse, nat_lt, if◌then◌else◌}
 use Rattle.std.specs.List.{AllByRecursion, list_any}
 use Rattle.std.proofs.lemmas.Bool.{both_ways, or_left, or_parts, and_from, eq-eqb, lt-ltb, cases_Bool, not-true, not_from_false}
@@ -18,7 +18,7 @@ use Rattle.running_store.specs.CourseLaws.{behind_both, through_is}
 use Rattle.running_store.specs.Courses.{Course, and_then, waits, force_steps, is_identity_at, is_identity_some, removal_steps}
 use Rattle.cache_manager.specs.EachStep.{each_force, each_identities}
 use Rattle.cache_manager.specs.FreeSteps.{IsFree, free_beside}
-use Rattle.cache_manager.specs.InstallCourses.{identities, is_stale, may_flush, must_log, others, next_node, removals_of, round_limit, round_steps, work, finish_steps, install_course, drain_course}
+use Rattle.cache_manager.specs.InstallCourses.{identities, is_stale, may_flush, must_log, others, next_node, removals_of, round_limit, round_steps, work, finish_steps, install_course, drain_course, turn_course}
 use Rattle.running_store.specs.Running.{IsRunning, KeepsSound}
 use Rattle.cache_manager.proofs.Goes.{Goes}
 use Rattle.cache_manager.proofs.DueWorlds.{passes_due}
@@ -27,7 +27,7 @@ use Rattle.cache_manager.proofs.Lists.{none_passes}
 use Rattle.cache_manager.proofs.Next.{next_is}
 use Rattle.cache_manager.proofs.NextDue.{each_gate}
 use Rattle.cache_manager.proofs.RoundGoes.{MayRound}
-use Rattle.cache_manager.proofs.DrainTurns.{by_drain}
+use Rattle.cache_manager.proofs.DrainTurns.{by_all_turns, by_turn}
 use Rattle.cache_manager.proofs.WorkOf.{AreAlone, all_the_node, listed_is}
 
 module _ {O : Type 0} (m : Meaning O) (copied : ℕ) where
@@ -120,4 +120,8 @@ module _ {O : Type 0} (m : Meaning O) (copied : ℕ) where
 
     pub drain_beside : MayRound m → (w : World O) (used : ℕ) → IsRunning m w → AreBeside m copied w (drain_course m copied w used).steps
     drain_beside rounds_may w used is =
-        by_drain m copied lawful keeps alone rounds_may (λ w c. AreBeside m copied w c.steps) (λ w used. tt) finishing logging beside_then (λ w used is. round_beside (round_limit m) w is) w used is
+        by_all_turns m copied lawful keeps alone rounds_may (round_limit m) (λ w c. AreBeside m copied w c.steps) (λ w used. tt) finishing logging beside_then (λ w used is. round_beside (round_limit m) w is) (omega arith) w used is
+
+    pub turn_beside : MayRound m → (most : ℕ) (w : World O) (used : ℕ) → IsRunning m w → AreBeside m copied w (turn_course m copied most w used).steps
+    turn_beside rounds_may most w used is =
+        by_turn m copied lawful keeps alone rounds_may most (λ w c. AreBeside m copied w c.steps) (λ w used. tt) finishing logging beside_then (λ w used is. round_beside most w is) w used is

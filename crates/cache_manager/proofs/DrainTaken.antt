@@ -1,4 +1,4 @@
--- The turns of a drain, as calls on parts that show a world take them.
+-- The full turns of a drain, as calls on parts that show a world take them.
 use Rattle.std.proofs.Common.{◌≡◌, ◌∙◌, ap, ℕ, ◌+◌, ◌<◌, ◌≤◌, false, List, [], length, arith, inl, inr}
 use Rattle.std.specs.Prelude.{All}
 use Rattle.std.specs.List.Sorted.{IsStrictlyIncreasing}
@@ -19,13 +19,13 @@ use Rattle.explain_core.specs.World.{World, run}
 use Rattle.running_store.specs.Among.{all_among}
 use Rattle.running_store.specs.CourseLaws.{behind_through}
 use Rattle.running_store.specs.Courses.{Course, and_then, course, is_through}
-use Rattle.cache_manager.specs.InstallCourses.{drain_course, removals, turn_course}
+use Rattle.cache_manager.specs.InstallCourses.{drain_course, removals, round_limit, turn_course}
 use Rattle.running_store.specs.Courses.Stop.{Through}
 use Rattle.running_store.specs.Parts.{Parts, Shows, meaning_in}
 use Rattle.running_store.specs.Running.{KeepsSound}
 use Rattle.cache_manager.proofs.Balance.{count_listed}
 use Rattle.cache_manager.proofs.Counts.{count_at_most}
-use Rattle.cache_manager.proofs.DrainTurns.{drain_none, drain_turns}
+use Rattle.cache_manager.proofs.DrainTurns.{all_turns_again, all_turns_none}
 use Rattle.cache_manager.proofs.NamedNext.{no_members}
 use Rattle.cache_manager.proofs.Planned.{rises_apart, rises_from_increasing}
 use Rattle.cache_manager.proofs.Removals.{removals-append}
@@ -42,14 +42,14 @@ module _ {O : Type 0} (meaning : Bounds → Meaning O) (lawful : (b : Bounds) �
   used = used_of here.log.log
 
   abbrev one : Course O
-  one = turn_course m copied v used
+  one = turn_course m copied (round_limit m) v used
 
   small : IsSmall (bounds_of p)
   small = store_small m p (now.reads Objects) here.volatile v shows.store
 
   -- a turn is next
   pub turns : drain_course m copied v used ≡ and_then m v one (λ u used. drain_course m copied u used)
-  turns = drain_turns m copied (lawful (bounds_of p) small) (keep (bounds_of p) small) alone (rounds (bounds_of p) small) v used shows.running
+  turns = all_turns_again m copied (lawful (bounds_of p) small) (keep (bounds_of p) small) alone (rounds (bounds_of p) small) (round_limit m) (omega arith) v used shows.running
 
   -- it removes its nodes
   pub removes : one.stop ≡ Through → removals (drain_course m copied v used).steps ≡ removals one.steps + removals (drain_course m copied (run m v one.steps) one.used).steps
@@ -59,7 +59,7 @@ module _ {O : Type 0} (meaning : Bounds → Meaning O) (lawful : (b : Bounds) �
 
   -- where the graph has no entry nothing is left
   pub drained : here.volatile.entries ≡ [] → drain_course m copied v used ≡ course [] used Through
-  drained none = drain_none m copied (lawful (bounds_of p) small) (keep (bounds_of p) small) alone (rounds (bounds_of p) small) v used (no_members m v here.volatile.entries shows.store.members none)
+  drained none = all_turns_none m copied (lawful (bounds_of p) small) (keep (bounds_of p) small) alone (rounds (bounds_of p) small) (round_limit m) (omega arith) v used (no_members m v here.volatile.entries shows.store.members none)
 
 -- and nothing is dirty
 pub all_clean : {O : Type 0} (m : Meaning O) (p : Params) (now : Disk) (here : Parts) (v : World O) → Shows m p now here v → here.volatile.entries ≡ [] → (x : ℕ) → is_dirty here.volatile.objects.cache x ≡ false

@@ -1,5 +1,5 @@
--- An install and a drain log different objects that could be logged, and where nothing is copied fewer than those.
-use Rattle.std.proofs.Common.{◌≡◌, ℕ, false, List, [], ◌∷◌, refl, arith, inl, inr}
+-- An install and all turns log different objects that could be logged, and where nothing is copied fewer than those.
+use Rattle.std.proofs.Common.{◌≡◌, ◌<◌, ℕ, false, List, [], ◌∷◌, refl, arith, inl, inr}
 use Rattle.std.specs.Prelude.{All, IsTrue, IsFalse, nat_eq, ◌==◌}
 use Rattle.std.specs.List.{AllByRecursion, IsDistinct}
 use Rattle.std.proofs.lemmas.Bool.{or_left, or_right, or_parts, and_parts, eq-eqb}
@@ -9,7 +9,7 @@ use Rattle.oper_core.specs.Meaning.{Meaning, IsLawful}
 use Rattle.explain_core.specs.Turns.{is_dirty_in}
 use Rattle.explain_core.specs.World.{World, Step}
 use Rattle.running_store.specs.Courses.{Course, and_then, cached_length}
-use Rattle.cache_manager.specs.InstallCourses.{identities, work, others, finish_steps, must_log, install_course, drain_course, logged_in, round_limit, round_steps}
+use Rattle.cache_manager.specs.InstallCourses.{identities, work, others, finish_steps, must_log, install_course, all_turns, logged_in, round_steps}
 use Rattle.cache_manager.specs.FewLogged.{AreFewLogged}
 use Rattle.running_store.specs.Running.{IsRunning, KeepsSound}
 use Rattle.cache_manager.proofs.FewLogged.{tally_finish, none_finish, none_round, tally_none_here, tally_round, tally_identities, fewer_others}
@@ -19,7 +19,7 @@ use Rattle.cache_manager.proofs.Lists.{AreApart, some_among as listed_some, but_
 use Rattle.cache_manager.proofs.Plain.{is_plain, plain_below}
 use Rattle.cache_manager.proofs.RoundGoes.{MayRound}
 use Rattle.cache_manager.proofs.Tally.{Tally, IsFewer, tally_then, tally_count, fewer_then}
-use Rattle.cache_manager.proofs.DrainTurns.{by_drain}
+use Rattle.cache_manager.proofs.DrainTurns.{by_all_turns}
 use Rattle.cache_manager.proofs.WorkOf.{AreAlone, listed_apart}
 
 -- what the steps log are few
@@ -80,7 +80,7 @@ module _ {O : Type 0} (m : Meaning O) (copied : ℕ) where
     install_logging w used is =
         are_few w (install_course m copied w used).steps (by_install m copied lawful keeps alone (λ w c. LogsFew m copied w c.steps) (λ w used. few_none w) (λ w used c is there may. few_finish w) few_others few_then w used is)
 
-    pub drain_logging : MayRound m → (w : World O) (used : ℕ) → IsRunning m w → AreFewLogged m copied w (logged_in (drain_course m copied w used).steps)
-    drain_logging rounds_may w used is =
-        are_few w (drain_course m copied w used).steps
-        (by_drain m copied lawful keeps alone rounds_may (λ w c. LogsFew m copied w c.steps) (λ w used. few_none w) (λ w used c is there may. few_finish w) few_others few_then (λ w used is. few_round (round_limit m) w) w used is)
+    pub turns_logging : MayRound m → (most : ℕ) → 0 < most → (w : World O) (used : ℕ) → IsRunning m w → AreFewLogged m copied w (logged_in (all_turns m copied most w used).steps)
+    turns_logging rounds_may most some_in w used is =
+        are_few w (all_turns m copied most w used).steps
+        (by_all_turns m copied lawful keeps alone rounds_may most (λ w c. LogsFew m copied w c.steps) (λ w used. few_none w) (λ w used c is there may. few_finish w) few_others few_then (λ w used is. few_round most w) some_in w used is)

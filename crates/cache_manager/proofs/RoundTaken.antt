@@ -78,6 +78,13 @@ module _ (it : Volatile) (copied : ℕ) where
       let due = ((is.1.work minimal.0 minimal.1).exactly x).0 (or_left (x == x) (is_among x []) (eq-eqb x x refl)) in
       All-cons (λ x. is_dirty it.objects.cache x ≡ true) x objects due.1 (round_dirty most (suc n) names objects is.3)
 
+  -- and they are so many at most
+  pub round_few : (most from : ℕ) (names objects : List ℕ) → IsRoundFrom it copied most from names objects → length names ≤ most
+  round_few most from [] objects is = omega arith
+  round_few most from (n ∷ names) [] is = absurd is
+  round_few zero from (n ∷ names) (x ∷ objects) is = absurd is
+  round_few (suc most) from (n ∷ names) (x ∷ objects) is = let rest = round_few most (suc n) names objects is.3 in omega (arith, rest)
+
   -- where one is due there are some
   pub round_has : (most : ℕ) (names objects : List ℕ) → IsRoundFrom it copied most 0 names objects → 0 < most → (k x : ℕ) → IsDueFor it copied k x → 0 < length names
   round_has most [] [] is some k x due = elim is [ inl full ↦ absurd (omega (arith, full, some)) | inr over ↦ absurd (over k (omega arith) (x, due)) ]

@@ -17,7 +17,7 @@ use Rattle.running_store.specs.Courses.Stop.{Through}
 use Rattle.running_store.specs.Limits.{objects_within}
 use Rattle.running_store.specs.Parts.{Parts, Shows, meaning_in}
 use Rattle.cache_manager.specs.DueNodes.{IsDueFor, NamesDue}
-use Rattle.cache_manager.specs.InstallCourses.{drain_turn, has_members, install_course, is_next_due, may_flush, must_log, next_name, removals, round_course, round_limit, rounds, turn_course, work}
+use Rattle.cache_manager.specs.InstallCourses.{has_members, install_course, is_next_due, may_flush, must_log, next_name, next_turn, removals, round_course, round_limit, rounds, turn_course, work}
 use Rattle.cache_manager.proofs.Besides.{may_shown}
 use Rattle.cache_manager.proofs.DueWorlds.{due_found, due_passes}
 use Rattle.cache_manager.proofs.NamedNext.{no_members}
@@ -34,10 +34,10 @@ limit_is meaning bounded most p q is same =
     is ∙ ap (λ (k : Params). objects_within 64 (2 ^ 20) k) same ∙ ap (λ (c : ℕ). max 64 (2 ^ 20 / c)) (sym (bounded (bounds_of p)).cap)
 
 -- there is nothing to install
-pub turn_none : {O : Type 0} (m : Meaning O) (copied : ℕ) (p : Params) (d : Disk) (it : Parts) (w : World O) → Shows m p d it w → it.volatile.entries ≡ [] → (used : ℕ) → turn_course m copied w used ≡ course [] used Through
-turn_none m copied p d it w shows none used = cond-false (has_members m w) (drain_turn m copied w used) (course [] used Through) (no_members m w it.volatile.entries shows.store.members none)
+pub turn_none : {O : Type 0} (m : Meaning O) (copied most : ℕ) (p : Params) (d : Disk) (it : Parts) (w : World O) → Shows m p d it w → it.volatile.entries ≡ [] → (used : ℕ) → turn_course m copied most w used ≡ course [] used Through
+turn_none m copied most p d it w shows none used = cond-false (has_members m w) (next_turn m copied most w used) (course [] used Through) (no_members m w it.volatile.entries shows.store.members none)
 
-module _ {O : Type 0} (meaning : Bounds → Meaning O) (lawful : (b : Bounds) → IsSmall b → IsLawful (meaning b)) (alone : AreAlone) (copied : ℕ) (d : Disk) (it : Parts) (n : ℕ) (least : IsLeast (NamesMinimal it.volatile.entries) n)
+module _ {O : Type 0} (meaning : Bounds → Meaning O) (lawful : (b : Bounds) → IsSmall b → IsLawful (meaning b)) (alone : AreAlone) (copied most : ℕ) (d : Disk) (it : Parts) (n : ℕ) (least : IsLeast (NamesMinimal it.volatile.entries) n)
     (p : Params) (w : World O) (shows : Shows (meaning_in meaning p) p d it w) where
   abbrev m : Meaning O
   m = meaning_in meaning p
@@ -60,15 +60,15 @@ module _ {O : Type 0} (meaning : Bounds → Meaning O) (lawful : (b : Bounds) �
       omega (arith, low, high)
 
   -- the next node is due
-  pub turn_due : NamesDue it.volatile copied n → (used : ℕ) → turn_course m copied w used ≡ round_course m copied (round_limit m) w used
+  pub turn_due : NamesDue it.volatile copied n → (used : ℕ) → turn_course m copied most w used ≡ round_course m copied most w used
   turn_due due used =
       let items : List ℕ = due.0 ∷ [] in
       let same : items ≡ work m w = work_shown m fine p d it w shows n least items due.1.work in
       let may = may_shown m fine alone p d it w shows n least items due.1.work copied (omega arith) due.1.fresh in
       let long = ap length same in
       let next : IsTrue (is_next_due m copied w) = and_from (not (must_log m copied w)) (nat_lt 0 (length (work m w))) (not_from_false _ may) (lt-ltb 0 (length (work m w)) (omega (arith, long))) in
-      cond-true (has_members m w) (drain_turn m copied w used) (course [] used Through) some
-      ∙ cond-true (is_next_due m copied w) (round_course m copied (round_limit m) w used) (rounds m copied m.objects w used) next
+      cond-true (has_members m w) (next_turn m copied most w used) (course [] used Through) some
+      ∙ cond-true (is_next_due m copied w) (round_course m copied most w used) (rounds m copied m.objects w used) next
 
   -- it is not
   module _ (none : NamesDue it.volatile copied n → ⊥) where
@@ -80,10 +80,10 @@ module _ {O : Type 0} (meaning : Bounds → Meaning O) (lawful : (b : Bounds) �
         let found = due_found m fine alone p (d.reads Objects) it.volatile w shows.store sound copied name (due_passes m fine w sound (may_flush m copied) name one.0 (next_due m fine w sound copied next)) in
         none (object_at m w name, subst (λ (k : ℕ). IsDueFor it.volatile copied k (object_at m w name)) name_is found))
 
-    pub turn_alone : (used : ℕ) → turn_course m copied w used ≡ install_course m copied w used
+    pub turn_alone : (used : ℕ) → turn_course m copied most w used ≡ install_course m copied w used
     turn_alone used =
-        ap (λ (c : Course O). if has_members m w then c else course [] used Through) (cond-false (is_next_due m copied w) (round_course m copied (round_limit m) w used) (rounds m copied m.objects w used) not_next)
+        ap (λ (c : Course O). if has_members m w then c else course [] used Through) (cond-false (is_next_due m copied w) (round_course m copied most w used) (rounds m copied m.objects w used) not_next)
 
     -- it removes one node
-    pub alone_removes : (used : ℕ) → (install_course m copied w used).stop ≡ Through → removals (turn_course m copied w used).steps ≡ 1
+    pub alone_removes : (used : ℕ) → (install_course m copied w used).stop ≡ Through → removals (turn_course m copied most w used).steps ≡ 1
     alone_removes used through = ap (λ (c : Course O). removals c.steps) (turn_alone used) ∙ install_removes_one m copied w used some through

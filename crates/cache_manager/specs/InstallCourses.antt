@@ -117,22 +117,28 @@ module _ {O : Type 0} (m : Meaning O) where
     abbrev pub is_next_due : World O → Bool
     is_next_due w = not (must_log w) && nat_lt 0 (length (work w))
 
-    -- a turn of a drain: a round, where the next node is due, else an install
-    abbrev pub drain_turn : World O → ℕ → Course O
-    drain_turn w used = if is_next_due w then round_course (round_limit m) w used else rounds m.objects w used
+    -- In a turn of at most so many nodes
+    module _ (most : ℕ) where
+      -- a round is taken, where the next node is due, else an install,
+      abbrev pub next_turn : World O → ℕ → Course O
+      next_turn w used = if is_next_due w then round_course most w used else rounds m.objects w used
 
-    -- if something is left
-    abbrev pub turn_course : World O → ℕ → Course O
-    turn_course w used = if has_members w then drain_turn w used else course [] used Through
+      -- if something is left.
+      abbrev pub turn_course : World O → ℕ → Course O
+      turn_course w used = if has_members w then next_turn w used else course [] used Through
 
-    -- turns until nothing is left: so many at most
-    abbrev pub drains : ℕ → World O → ℕ → Course O
-    drains zero w used = course [] used Through
-    drains (suc n) w used = if has_members w then and_then m w (drain_turn w used) (λ v used. drains n v used) else course [] used Through
+      -- turns until nothing is left: so many at most
+      abbrev pub turns : ℕ → World O → ℕ → Course O
+      turns zero w used = course [] used Through
+      turns (suc n) w used = if has_members w then and_then m w (next_turn w used) (λ v used. turns n v used) else course [] used Through
 
-    -- each turn takes a member out, and the identity writes are of different dirty objects
+      -- each turn takes a member out, and the identity writes are of different dirty objects
+      abbrev pub all_turns : World O → ℕ → Course O
+      all_turns w used = turns (count_below (end_of w) w.graph + dirty_in m w) w used
+
+    -- a drain: turns of full rounds
     abbrev pub drain_course : World O → ℕ → Course O
-    drain_course w used = drains (count_below (end_of w) w.graph + dirty_in m w) w used
+    drain_course w used = all_turns (round_limit m) w used
 
 -- the objects that a step logs by an identity write, and that the steps of a list log
 abbrev pub logged_by : {O : Type 0} → Step O → List ℕ

@@ -32,8 +32,8 @@ pub record TellsParts (before after : Parts) (install : Install) : Type 0 where
   pub with_lsn : after.log.next ≡ before.log.next + identities_of install
   pub entries : length after.volatile.entries + ops_of install ≡ length before.volatile.entries + identities_of install
 
--- What a turn of a drain tells on every machine: so many nodes were installed, unless the graph had no entry. Each of them had an
--- entry at least, and each identity write puts one in.
+-- What a turn tells on every machine: so many nodes were installed, unless the graph had no entry. Each of them had an entry at
+-- least, and each identity write puts one in.
 abbrev pub installed : Option ℕ → ℕ
 installed None = 0
 installed (Some n) = n
@@ -41,4 +41,12 @@ installed (Some n) = n
 abbrev pub TellsTurn : Parts → Parts → Option ℕ → Type 0
 TellsTurn before after None = (before.volatile.entries ≡ []) × (after ≡ before)
 TellsTurn before after (Some n) =
-    (0 < n) × (before.log.next ≤ after.log.next) × (length after.volatile.entries + n + before.log.next ≤ length before.volatile.entries + after.log.next)
+    (0 < n) × (before.log.next ≤ after.log.next) × (length after.volatile.entries + n + before.log.next ≤ length before.volatile.entries + after.log.next) × (before.volatile.entries ≡ [] → ⊥)
+
+-- What a turn of at most so many nodes tells by their number n: it is 0 exactly where the graph had no entry, and then all is as it was.
+pub record TellsTend (most : ℕ) (before after : Parts) (n : ℕ) : Type 0 where
+  pub none : (n ≡ 0) ↔ (before.volatile.entries ≡ [])
+  pub still : n ≡ 0 → after ≡ before
+  pub few : n ≤ most
+  pub rising : before.log.next ≤ after.log.next
+  pub left : length after.volatile.entries + n + before.log.next ≤ length before.volatile.entries + after.log.next

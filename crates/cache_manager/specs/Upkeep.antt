@@ -10,7 +10,7 @@ use Rattle.explain_core.specs.Turns.{count_below, dirty_in}
 use Rattle.explain_core.specs.World.{World, Step, run, end_of}
 use Rattle.explain_core.specs.World.Step.{Block_gate}
 use Rattle.running_store.specs.Courses.{Course, course, and_then, waits, buffered, force_steps, room_steps, removal_steps}
-use Rattle.cache_manager.specs.InstallCourses.{identities, next_node, work, must_log, others, finish_steps, rounds, has_members, install_course, removals_of, round_limit, may_flush, round_steps, round_course, is_next_due, drain_turn, drains, drain_course}
+use Rattle.cache_manager.specs.InstallCourses.{identities, next_node, work, must_log, others, finish_steps, rounds, has_members, install_course, removals_of, may_flush, round_steps, round_course, is_next_due, next_turn, turn_course, turns, all_turns, round_limit, drain_course}
 use Rattle.running_store.specs.Courses.Stop.{Through}
 use Rattle.running_store.specs.CourseLaws.{behind_both}
 use Rattle.running_store.specs.Running.{AreUpkeep, IsUpkeep}
@@ -75,14 +75,20 @@ module _ {O : Type 0} (m : Meaning O) where
       let gates = round_gates m (may_flush m copied) most w in
       upkeep_append (force_steps m w) (gates_of gates ++ removals_of gates) (upkeep_force w) (upkeep_append (gates_of gates) (removals_of gates) (upkeep_gates gates) (upkeep_removals gates))
 
-  pub upkeep_turn : (copied : ℕ) (w : World O) (used : ℕ) → AreUpkeep (drain_turn m copied w used).steps
-  upkeep_turn copied w used = upkeep_either (is_next_due m copied w) (round_course m copied (round_limit m) w used) (rounds m copied m.objects w used) (upkeep_round copied (round_limit m) w) (upkeep_rounds copied m.objects w used)
+  upkeep_next : (copied most : ℕ) (w : World O) (used : ℕ) → AreUpkeep (next_turn m copied most w used).steps
+  upkeep_next copied most w used = upkeep_either (is_next_due m copied w) (round_course m copied most w used) (rounds m copied m.objects w used) (upkeep_round copied most w) (upkeep_rounds copied m.objects w used)
 
-  pub upkeep_drains : (copied n : ℕ) (w : World O) (used : ℕ) → AreUpkeep (drains m copied n w used).steps
-  upkeep_drains copied zero w used = tt
-  upkeep_drains copied (suc n) w used =
-      upkeep_either (has_members m w) (and_then m w (drain_turn m copied w used) (λ v used. drains m copied n v used)) (course [] used Through)
-      (upkeep_then w (drain_turn m copied w used) (λ v used. drains m copied n v used) (upkeep_turn copied w used) (λ v used. upkeep_drains copied n v used)) tt
+  pub upkeep_turn : (copied most : ℕ) (w : World O) (used : ℕ) → AreUpkeep (turn_course m copied most w used).steps
+  upkeep_turn copied most w used = upkeep_either (has_members m w) (next_turn m copied most w used) (course [] used Through) (upkeep_next copied most w used) tt
+
+  upkeep_turns : (copied most n : ℕ) (w : World O) (used : ℕ) → AreUpkeep (turns m copied most n w used).steps
+  upkeep_turns copied most zero w used = tt
+  upkeep_turns copied most (suc n) w used =
+      upkeep_either (has_members m w) (and_then m w (next_turn m copied most w used) (λ v used. turns m copied most n v used)) (course [] used Through)
+      (upkeep_then w (next_turn m copied most w used) (λ v used. turns m copied most n v used) (upkeep_next copied most w used) (λ v used. upkeep_turns copied most n v used)) tt
+
+  pub upkeep_all_turns : (copied most : ℕ) (w : World O) (used : ℕ) → AreUpkeep (all_turns m copied most w used).steps
+  upkeep_all_turns copied most w used = upkeep_turns copied most (count_below (end_of w) w.graph + dirty_in m w) w used
 
   pub upkeep_drain : (copied : ℕ) (w : World O) (used : ℕ) → AreUpkeep (drain_course m copied w used).steps
-  upkeep_drain copied w used = upkeep_drains copied (count_below (end_of w) w.graph + dirty_in m w) w used
+  upkeep_drain copied w used = upkeep_all_turns copied (round_limit m) w used

@@ -8,7 +8,7 @@ ghost use Rattle.explain_core.specs.Sound.{IsSound};
 ghost use Rattle.explain_core.specs.Turns.{count_below, dirty_in};
 ghost use Rattle.explain_core.specs.World.{World, run, end_of};
 ghost use Rattle.running_store.specs.Courses.{force_course};
-ghost use Rattle.cache_manager.specs.InstallCourses.{identities, has_members, install_course, drain_course, logged_in, flushed_in, may_flush, removals, round_course};
+ghost use Rattle.cache_manager.specs.InstallCourses.{all_turns, identities, has_members, install_course, drain_course, logged_in, flushed_in, may_flush, removals, round_course, turn_course};
 ghost use Rattle.cache_manager.specs.DueNodes.{IsRoundFrom, gates_at};
 ghost use Rattle.running_store.specs.Courses.Stop.{Through};
 ghost use Rattle.explain_core.specs.Backup.{AreBeside};
@@ -89,11 +89,37 @@ pub fn drain_is_bounded<O: Oper>()
     install_order::last_blind_write_is_alone();
 }
 
-/// The steps of an install and of a drain beside a copy of the slots, which has the objects below a number, may be taken while
+/// A turn may be made, of so many nodes at most, also where it is stopped.
+pub fn turn_may_be_taken<O: Oper>()
+    ensures { (b : Bounds) (copied most : ℕ) (w : World O) (used : ℕ) → IsSmall b → IsRunning (O.meaning b) w →
+        MayBeTaken (O.meaning b) w (turn_course (O.meaning b) copied most w used).steps }
+{
+    explain_core::every_run_keeps::<O>();
+    explain_core::a_round_may_be_taken::<O>();
+    install_order::last_blind_write_is_alone();
+}
+
+/// Turns of one node or more come to an end: so many as the graph has members and there are dirty objects together leave nothing in
+/// the graph and no object dirty, unless one of them is stopped. What they log is bounded as of a drain.
+pub fn turns_are_bounded<O: Oper>()
+    ensures ends { (b : Bounds) (copied most : ℕ) (w : World O) (used : ℕ) → IsSmall b → IsRunning (O.meaning b) w → 0 < most →
+        (all_turns (O.meaning b) copied most w used).stop ≡ Through →
+        IsDrained (run (O.meaning b) w (all_turns (O.meaning b) copied most w used).steps) }
+    ensures logged { (b : Bounds) (copied most : ℕ) (w : World O) (used : ℕ) → IsSmall b → IsRunning (O.meaning b) w → 0 < most →
+        AreFewLogged (O.meaning b) copied w (logged_in (all_turns (O.meaning b) copied most w used).steps) }
+{
+    explain_core::every_run_keeps::<O>();
+    explain_core::a_round_may_be_taken::<O>();
+    install_order::last_blind_write_is_alone();
+}
+
+/// The steps of an install, of a turn and of a drain beside a copy of the slots, which has the objects below a number, may be taken while
 /// it is made: the slot of a copied object is set by a node of one identity write alone.
 pub fn installs_go_beside_a_copy<O: Oper>()
     ensures install { (b : Bounds) (copied : ℕ) (w : World O) (used : ℕ) → IsSmall b → IsRunning (O.meaning b) w →
         AreBeside (O.meaning b) copied w (install_course (O.meaning b) copied w used).steps }
+    ensures turn { (b : Bounds) (copied most : ℕ) (w : World O) (used : ℕ) → IsSmall b → IsRunning (O.meaning b) w →
+        AreBeside (O.meaning b) copied w (turn_course (O.meaning b) copied most w used).steps }
     ensures drain { (b : Bounds) (copied : ℕ) (w : World O) (used : ℕ) → IsSmall b → IsRunning (O.meaning b) w →
         AreBeside (O.meaning b) copied w (drain_course (O.meaning b) copied w used).steps }
 {

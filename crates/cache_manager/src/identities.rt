@@ -16,7 +16,7 @@ ghost use Rattle.cache_manager.specs.Endings.{ending_of};
 use crate::InstallErr;
 use crate::identity::log_identity;
 use disk_model::Machine;
-use identity_writes::plan_beside;
+use identity_writes::plan;
 use oper_core::{Memory, Oper};
 use running_store::{Objects, Store};
 use std::alloc::Global;
@@ -73,6 +73,6 @@ pub(crate) fn log_others<O: Oper, M: Machine>(
 {
     let alloc = store.alloc();
     let lengths = lengths_of(alloc, store.objects(), work)?;
-    let planned = plan_beside(alloc, work, lengths.as_slice(), copied)?;
+    let planned = plan(alloc, work, lengths.as_slice(), copied)?;
     log_all(store, machine, planned.log.as_slice())
 }

@@ -1,4 +1,4 @@
-// A turn of a drain: nodes are installed together, or one is.
+// A turn: nodes are installed together, or one is.
 ghost use Rattle.std.specs.Prelude.{◌≡◌, ◌+◌, ◌<◌, ◌≤◌, ℕ, false, length, IsFalse, IsTrue, IfOk, OnOk};
 ghost use Rattle.formats.specs.declared.params.Params.{Params as Numbers};
 ghost use Rattle.write_graph.specs.Graph.{NamesMinimal};
@@ -22,14 +22,8 @@ use crate::removing::remove_nodes;
 use crate::rounds::install_one;
 use disk_model::Machine;
 use oper_core::{Memory, Oper};
-use running_store::{Objects, Store, objects_within};
+use running_store::{Objects, Store};
 use write_graph::{NodeNo, WriteGraph};
-
-// So many nodes are installed in a round at least, and as many as have objects of at most so many bytes together, however long
-// their values are.
-const LEAST: usize = 64;
-
-const BYTES: usize = 1 << 20;
 
 /// Installs the minimal nodes that have one object to flush, from the least name on and so many at most: all that waits is
 /// forced, the objects are flushed together, and the nodes leave the graph. It answers how many they were.
@@ -46,6 +40,7 @@ pub(crate) fn install_round<O: Oper, M: Machine>(
         IfOk result (λ n. n ≡ length (round_gates (meaning_in O.meaning p) (may_flush (meaning_in O.meaning p) copied) most w)) }
     ensures next { next_of store.new ≡ next_of store.old }
     ensures fewer { IfOk result (λ n. length store.new.parts.volatile.entries + n ≤ length store.old.parts.volatile.entries) }
+    ensures most { IfOk result (λ n. n ≤ most) }
     ensures some { 0 < most → (k : ℕ) → NamesDue store.old.parts.volatile copied k → IfOk result (λ n. 0 < n) }
     ensures logs { OnOk result (LogsDirty store.old.parts store.new.parts) }
 {
@@ -73,19 +68,22 @@ fn is_due(objects: &Objects, graph: &WriteGraph, n: NodeNo, copied: u32) -> Resu
     Ok(true)
 }
 
-/// Where the minimal node of the least name has one object to flush, that and others like it are installed together; else it
-/// is installed alone. It answers how many nodes were installed, if there was one.
+/// Where the minimal node of the least name has one object to flush, that and others like it are installed together, so many at
+/// most; else it is installed alone. It answers how many nodes were installed, if there was one.
 pub(crate) fn take_turn<O: Oper, M: Machine>(
     store: &mut Store<O>,
     machine: &mut M,
     copied: u32,
+    most: usize,
 ) -> Result<Option<u64>, InstallErr>
     requires unbroken { store.old.broken ≡ false }
+    requires some { 0 < most }
     ensures call { IsCall O.meaning (M.disk machine.old) (M.disk machine.new) store.old store.new (logged_since store.old store.new) (StopsAt log_limit) (ending_of result) }
-    ensures takes { Takes O.meaning (M.disk machine.old) (M.disk machine.new) store.old.parts store.new.parts (λ m w used. turn_course m copied w used) (ending_of result) }
+    ensures takes { Takes O.meaning (M.disk machine.old) (M.disk machine.new) store.old.parts store.new.parts (λ m w used. turn_course m copied most w used) (ending_of result) }
     ensures count { (p : Numbers) (w : World O) → Shows (meaning_in O.meaning p) p (M.disk machine.old) store.old.parts w →
-        IfOk result (λ found. installed found ≡ removals (turn_course (meaning_in O.meaning p) copied w (log_length store.old)).steps) }
+        IfOk result (λ found. installed found ≡ removals (turn_course (meaning_in O.meaning p) copied most w (log_length store.old)).steps) }
     ensures tells { IfOk result (TellsTurn store.old.parts store.new.parts) }
+    ensures most { IfOk result (λ found. installed found ≤ most) }
     ensures logs { OnOk result (LogsDirty store.old.parts store.new.parts) }
 {
     explain_core::every_run_keeps::<O>();
@@ -95,7 +93,6 @@ pub(crate) fn take_turn<O: Oper, M: Machine>(
     };
     let due = is_due(store.objects(), store.graph(), name, copied)?;
     if due {
-        let most = objects_within(LEAST, BYTES, store.params());
         let n = install_round(store, machine, copied, most)?;
         return Ok(Some(n));
     }

@@ -17,7 +17,7 @@ use Rattle.explain_core.specs.World.{World, end_of}
 use Rattle.running_store.specs.Calls as of_store
 use Rattle.running_store.specs.Calls.{IsForce, Never, ending_of_force}
 use Rattle.running_store.specs.Courses.{force_course}
-use Rattle.cache_manager.specs.InstallCourses.{drain_course, install_course, removals}
+use Rattle.cache_manager.specs.InstallCourses.{drain_course, install_course, removals, turn_course}
 use Rattle.running_store.specs.Kept.{HasLog, StopsAt}
 use Rattle.running_store.specs.Parts.{Shows}
 use Rattle.running_store.specs.Rewrites.{ending_of_rewrite}
@@ -25,15 +25,15 @@ use Rattle.running_store.specs.Running.{IsRunning}
 use Rattle.running_store.specs.StoreView.{StoreView, log_length, logged_since, next_of}
 use Rattle.running_store.specs.Taking.{Takes}
 use Rattle.cache_manager.specs.Endings.{ending_of}
-use Rattle.cache_manager.specs.Told.{IsInstall, TellsParts}
-use Rattle.cache_manager.specs.Upkeep.{upkeep_drain, upkeep_force, upkeep_install}
+use Rattle.cache_manager.specs.Told.{IsInstall, TellsParts, TellsTend}
+use Rattle.cache_manager.specs.Upkeep.{upkeep_drain, upkeep_force, upkeep_install, upkeep_turn}
 use Rattle.cache_manager.specs.declared.install.Install.{Install}
 use Rattle.cache_manager.specs.declared.install_err.InstallErr.{InstallErr}
 use Rattle.checkpointing.specs.Left.{ending_of_checkpoint}
 use Rattle.checkpointing.specs.Courses.{checkpoint_course, trim_course}
 use Rattle.checkpointing.specs.Left.{DamagedBy, IsTooLong}
 use Rattle.checkpointing.specs.declared.checkpoint_err.CheckpointErr.{CheckpointErr}
-use Rattle.store_engine.specs.Calls.{IsTakingCheckpoint, IsDraining, IsForcing, IsInstalling, IsTrimming}
+use Rattle.store_engine.specs.Calls.{IsTakingCheckpoint, IsDraining, IsForcing, IsInstalling, IsTending, IsTrimming}
 use Rattle.store_engine.specs.Engine.{engine_of, so_far}
 use Rattle.store_engine.specs.Store.{meaning_in}
 use Rattle.store_engine.proofs.Calls.{call_of, keeps_of, takes_of}
@@ -91,6 +91,27 @@ module _ {O : Type 0} (meaning : Bounds → Meaning O) (old new : Disk) (store l
         told = λ p w shows. told p w (alone_shown meaning p old (engine_of store None copied) w shows refl);
         tells = tells;
       }
+
+  -- ---- a turn
+
+  pub tending : (n : ℕ) → n ≡ so_far copied → (most : ℕ) (r : Result ℕ InstallErr) → of_store.IsCall meaning old new store later (logged_since store later) (StopsAt log_limit) (ending_of r)
+      → Takes meaning old new store.parts later.parts (λ m w used. turn_course m n most w used) (ending_of r)
+      → ((p : Params) (w : World O) → Shows (meaning_in meaning p) p old store.parts w → IfOk r (λ count. count ≡ removals (turn_course (meaning_in meaning p) n most w (log_length store)).steps))
+      → IfOk r (TellsTend most store.parts later.parts) → MayTake meaning (λ m w used. turn_course m (so_far copied) most w used)
+      → IsTending meaning old new (engine_of store None copied) (engine_of later None copied) most r
+  tending n is most r call taken counts tells may =
+      let k = so_far copied in
+      let takes = subst (λ (n : ℕ). Takes meaning old new store.parts later.parts (λ m w used. turn_course m n most w used) (ending_of r)) is taken in
+      let count = subst (λ (n : ℕ). (p : Params) (w : World O) → Shows (meaning_in meaning p) p old store.parts w → IfOk r (λ count. count ≡ removals (turn_course (meaning_in meaning p) n most w (log_length store)).steps)) is counts in
+      record {
+        call = call_of meaning old new store later (logged_since store later) (StopsAt log_limit) (ending_of r) call log_limit None copied (λ log stop at. at);
+        takes = takes_of meaning old new store later (logged_since store later) (StopsAt log_limit) (ending_of r) call copied (λ m w used. turn_course m k most w used) takes;
+        commands = keeps_of meaning old new store later (logged_since store later) (StopsAt log_limit) (ending_of r) call copied (λ m w used. turn_course m k most w used) takes keeps stand may (λ m w used. are_plain (turn_course m k most w used).steps (upkeep_turn m k most w used));
+        count = λ p w shows. count p w (alone_shown meaning p old (engine_of store None copied) w shows refl);
+        tells = tells;
+      }
+
+  -- ---- a drain
 
   -- a drain removes few nodes, where the steps that it takes do
   few_removed : (r : Result ℕ InstallErr) (removed bound : ℕ) → IfOk r (λ n. n ≡ removed) → removed ≤ bound → IfOk r (λ n. n ≤ bound)

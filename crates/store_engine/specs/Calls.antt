@@ -15,12 +15,12 @@ use Rattle.explain_core.specs.Turns.{count_below, dirty_in}
 use Rattle.explain_core.specs.World.{World, end_of}
 use Rattle.explain_core.specs.World.Step.{Begin, End}
 use Rattle.running_store.specs.Courses.{Course, course, force_course, force_steps}
-use Rattle.cache_manager.specs.InstallCourses.{install_course, drain_course, removals}
+use Rattle.cache_manager.specs.InstallCourses.{install_course, drain_course, removals, turn_course}
 use Rattle.running_store.specs.Courses.Stop.{Through}
 use Rattle.running_store.specs.Calls.{ending_of_force}
 use Rattle.running_store.specs.Rewrites.{ending_of_rewrite}
 use Rattle.cache_manager.specs.Endings.{ending_of}
-use Rattle.cache_manager.specs.Told.{IsInstall, TellsParts}
+use Rattle.cache_manager.specs.Told.{IsInstall, TellsParts, TellsTend}
 use Rattle.cache_manager.specs.declared.install.Install.{Install}
 use Rattle.cache_manager.specs.declared.install_err.InstallErr.{InstallErr}
 use Rattle.cache_manager.specs.declared.install_err.InstallErr.TheVariants as of_install
@@ -118,6 +118,14 @@ module _ {O : Type 0} (meaning : Bounds → Meaning O) (old new : Disk) (before 
     pub commands : KeepsCommands meaning old new before after (ending_of answer)
     pub told : (p : Params) (w : World O) → ShowsIn meaning p old before w → IfOk answer (IsInstall (meaning_in meaning p) w (install_course (meaning_in meaning p) (so_far before.copied) w (used_in before)).steps)
     pub tells : IfOk answer (TellsParts before.parts after.parts)
+
+  -- a turn of so many nodes at most was taken: several were installed together, or one was, or none was left
+  pub record IsTending (most : ℕ) (answer : Result ℕ InstallErr) : Type 0 where
+    pub call : IsEngineCall meaning log_limit old new before after (logged_since before after) (ending_of answer)
+    pub takes : TakesIn meaning old new before after (λ m w used. turn_course m (so_far before.copied) most w used) (ending_of answer)
+    pub commands : KeepsCommands meaning old new before after (ending_of answer)
+    pub count : (p : Params) (w : World O) → ShowsIn meaning p old before w → IfOk answer (λ n. n ≡ removals (turn_course (meaning_in meaning p) (so_far before.copied) most w (used_in before)).steps)
+    pub tells : IfOk answer (TellsTend most before.parts after.parts)
 
   -- nodes were installed until none was left
   pub record IsDraining (answer : Result ℕ InstallErr) : Type 0 where

@@ -10,7 +10,7 @@ ghost use Rattle.explain_core.specs.Sound.{IsSound};
 ghost use Rattle.explain_core.specs.World.{IsLive, Step, World, run};
 ghost use Rattle.running_store.specs.Courses.{force_course};
 ghost use Rattle.running_store.specs.Running.{IsRunning};
-ghost use Rattle.cache_manager.specs.InstallCourses.{drain_course, install_course};
+ghost use Rattle.cache_manager.specs.InstallCourses.{drain_course, install_course, turn_course};
 ghost use Rattle.checkpointing.specs.Courses.{checkpoint_course};
 ghost use Rattle.execution.specs.Courses.{exec_course};
 ghost use Rattle.store_engine.specs.Beside.{CourseKeepsCopy, MayGoBeside};
@@ -23,7 +23,7 @@ use disk_model::Machine;
 use oper_core::Oper;
 
 /// The steps of each call but a trim may be taken beside a copy of the slots, which has the objects below a number: of a
-/// command, of a force, of an install and of a drain that keep to it, of a checkpoint, and of the beginning and the end of a
+/// command, of a force, of an install, of a turn and of a drain that keep to it, of a checkpoint, and of the beginning and the end of a
 /// group. A fetch takes none.
 pub fn calls_go_beside_a_copy<O: Oper>()
     ensures exec { (b : Bounds) (copied limit : ℕ) (op : O) (w : World O) (used : ℕ) → IsSmall b → IsSound (O.meaning b) w → IsLive w →
@@ -32,6 +32,8 @@ pub fn calls_go_beside_a_copy<O: Oper>()
         MayGoBeside (O.meaning b) copied w (force_course (O.meaning b) w used).steps }
     ensures install { (b : Bounds) (copied : ℕ) (w : World O) (used : ℕ) → IsSmall b → IsRunning (O.meaning b) w →
         MayGoBeside (O.meaning b) copied w (install_course (O.meaning b) copied w used).steps }
+    ensures turn { (b : Bounds) (copied most : ℕ) (w : World O) (used : ℕ) → IsSmall b → IsRunning (O.meaning b) w →
+        MayGoBeside (O.meaning b) copied w (turn_course (O.meaning b) copied most w used).steps }
     ensures drain { (b : Bounds) (copied : ℕ) (w : World O) (used : ℕ) → IsSmall b → IsRunning (O.meaning b) w →
         MayGoBeside (O.meaning b) copied w (drain_course (O.meaning b) copied w used).steps }
     ensures checkpoint { (b : Bounds) (copied : ℕ) (w : World O) (used : ℕ) → IsSmall b → IsRunning (O.meaning b) w →
@@ -44,6 +46,7 @@ pub fn calls_go_beside_a_copy<O: Oper>()
     execution::exec_may_be_taken::<O>();
     cache_manager::force_may_be_taken::<O>();
     cache_manager::install_may_be_taken::<O>();
+    cache_manager::turn_may_be_taken::<O>();
     cache_manager::drain_may_be_taken::<O>();
     cache_manager::installs_go_beside_a_copy::<O>();
     checkpointing::checkpoint_may_be_taken::<O>();

@@ -11,7 +11,7 @@
 //! wherever they end: [`nothing_is_made`] begins a loop over [`Engine::exec`] and [`Engine::fetch`], [`exec_goes_on`] and
 //! [`fetch_goes_on`] keep it going, and [`calls_go_on`] does so for what holds on every machine.
 //!
-//! While the slots are copied for a backup ([`Engine::set_copied`] says how far), installs and drains take the courses
+//! While the slots are copied for a backup ([`Engine::set_copied`] says how far), installs, turns and drains take the courses
 //! beside the copy, and a trim is refused. Every other call takes steps that may be taken beside the copy
 //! ([`calls_go_beside_a_copy`]), and these leave a copy of the first slots of the world that engine and files then show
 //! ([`a_copy_goes_on`]), so no call here knows where the backup goes.

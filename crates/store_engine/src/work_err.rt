@@ -8,7 +8,7 @@ use disk_model::{Failed, FileNo};
 use log_records::RewriteErr;
 use thiserror::Error;
 
-/// Why a begin, a force, an install, a drain, a checkpoint or a trim was not done.
+/// Why a begin, a force, an install, a turn, a drain, a checkpoint or a trim was not done.
 #[derive(Debug, Drop, Error)]
 pub enum WorkErr {
     /// A group of so many commands is open, and nothing was done.

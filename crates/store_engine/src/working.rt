@@ -1,11 +1,11 @@
 // The calls that no group allows.
-ghost use Rattle.std.specs.Prelude.{◌≡◌, ℕ, false, None, IfSome, Result};
+ghost use Rattle.std.specs.Prelude.{◌≡◌, ℕ, false, max, None, IfSome, Result};
 ghost use Rattle.disk_model.specs.declared.machine.Failed.{Failed as ForceFailure};
 ghost use Rattle.log_records.specs.declared.rewrite_err.RewriteErr.{RewriteErr as RewriteFailure};
 ghost use Rattle.cache_manager.specs.declared.install.Install.{Install as Installs};
 ghost use Rattle.cache_manager.specs.declared.install_err.InstallErr.{InstallErr as InstallFailure};
 ghost use Rattle.checkpointing.specs.declared.checkpoint_err.CheckpointErr.{CheckpointErr as CheckpointFailure};
-ghost use Rattle.store_engine.specs.Calls.{IsBeginning, IsTakingCheckpoint, IsDraining, IsForcing, IsInstalling, IsRefused, IsRefusedBeside, IsTrimming, refused_beside, refused_in, work_of_checkpoint, work_of_force, work_of_install, work_of_trim};
+ghost use Rattle.store_engine.specs.Calls.{IsBeginning, IsTakingCheckpoint, IsDraining, IsForcing, IsInstalling, IsRefused, IsRefusedBeside, IsTending, IsTrimming, refused_beside, refused_in, work_of_checkpoint, work_of_force, work_of_install, work_of_trim};
 ghost use Rattle.store_engine.specs.Engine.{group_size, so_far};
 
 use crate::Engine;
@@ -111,6 +111,23 @@ impl<O: Oper> Engine<O> {
         self.alone()?;
         let copied = self.copied_so_far();
         Ok(cache_manager::drain(&mut self.store, machine, copied)?)
+    }
+
+    /// One turn of upkeep: where the minimal node of the least name has one object to flush, that and others like it are
+    /// installed together, so many at most (of 0 it is one) and with four syncs at most for all of them; else it is installed
+    /// alone, as by [`install_one`](Self::install_one). It answers how many nodes were installed: none exactly where none was
+    /// left, and then nothing was done. In a group it answers `InGroup`.
+    pub fn tend<M: Machine>(&mut self, machine: &mut M, most: usize) -> Result<u64, WorkErr>
+        requires unbroken { self.old.broken ≡ false }
+        ensures in_group { IfSome (group_size self.old) (λ size. IsRefused size machine.old machine.new self.old self.new result) }
+        ensures alone { self.old.group ≡ None → (answer : Result ℕ InstallFailure) × (result ≡ work_of_install answer) × IsTending O.meaning (M.disk machine.old) (M.disk machine.new) self.old self.new (max 1 most) answer }
+    {
+        explain_core::every_run_keeps::<O>();
+        standing::image_stands::<O>();
+        cache_manager::turn_may_be_taken::<O>();
+        self.alone()?;
+        let copied = self.copied_so_far();
+        Ok(cache_manager::tend(&mut self.store, machine, copied, most)?)
     }
 
     /// Takes a checkpoint of where a redo begins now, and forces it. Where the log has no room for it, what waits is forced, and

@@ -28,8 +28,8 @@ use Rattle.cache_manager.proofs.identities.log_others.Goals as goal
 pub lengths_of-requires : goal.lengths_of-requires
 lengths_of-requires g c = record { dirty = subst (λ (l : Laid). All (λ x. is_dirty l.cache x ≡ true) c.args.work.now) (sym c.objects.ensures) c.requires.dirty }
 
-pub plan_beside-requires-clause-beside : goal.plan_beside-requires-clause-beside
-plan_beside-requires-clause-beside g c = ap length (c.as_slice.ensures.value ∙ c.in_ok-lengths.ensures []) ∙ length-map c.args.work.now (λ (x : ℕ). length (values_in c.objects.result.now [] x))
+pub plan-requires-clause-beside : goal.plan-requires-clause-beside
+plan-requires-clause-beside g c = ap length (c.as_slice.ensures.value ∙ c.in_ok-lengths.ensures []) ∙ length-map c.args.work.now (λ (x : ℕ). length (values_in c.objects.result.now [] x))
 
 pub log_all-requires-clause-dirty : goal.log_all-requires-clause-dirty
 log_all-requires-clause-dirty g c =

@@ -22,7 +22,7 @@ use Rattle.cache_manager.specs.RoundNodes.{NameMinimal}
 use Rattle.cache_manager.specs.declared.install_err.InstallErr.TheVariants.{DiskFault, Memory}
 use Rattle.cache_manager.proofs.DirtyLogs.{logs_flushed, logs_twice}
 use Rattle.cache_manager.proofs.RoundGoes.{MayRound}
-use Rattle.cache_manager.proofs.RoundTaken.{are_gates, gates_in, how_many, round_dirty, round_has, round_minimal, takes_round, takes_unflushed, takes_unremoved}
+use Rattle.cache_manager.proofs.RoundTaken.{are_gates, gates_in, how_many, round_dirty, round_few, round_has, round_minimal, takes_round, takes_unflushed, takes_unremoved}
 use Rattle.cache_manager.proofs.turning.install_round.Given.{Over}
 use Rattle.cache_manager.proofs.turning.install_round.Goals.{In_ok-round}
 use Rattle.cache_manager.proofs.turning.install_round.Goals as goal
@@ -187,6 +187,12 @@ returns-clause-fewer g c =
     let same = ap (λ (es : List Entry). length es) c.in_ok-flush_round.ensures.entries in
     let long = ap (λ (l : List ℕ). length l) c.as_slice-2.ensures.value in
     omega (arith, c.in_ok-remove_nodes.ensures.fewer all_done, same, long, c.in_ok-round.round.names.ok.0)
+
+pub returns-clause-most : goal.returns-clause-most
+returns-clause-most g c =
+    let at = (goal.at.returns-clause-most g c).In_ok-round in
+    let few = round_few c.args.store.now.parts.volatile c.args.copied c.args.most 0 c.in_ok-round.round.names.items c.in_ok-round.round.objects.items (chosen g at) in
+    omega (arith, few, c.in_ok-round.round.names.ok.0)
 
 pub returns-clause-some : goal.returns-clause-some
 returns-clause-some g c = λ most k due.

@@ -22,7 +22,7 @@ use Rattle.cache_manager.specs.Told.{TellsParts}
 use Rattle.cache_manager.specs.declared.install.Install.{Install}
 use Rattle.cache_manager.proofs.DirtyLogs.{logs_none}
 use Rattle.cache_manager.proofs.Removals.{round_removes}
-use Rattle.cache_manager.proofs.TurnTaken.{alone_removes, limit_is, turn_alone, turn_due, turn_none}
+use Rattle.cache_manager.proofs.TurnTaken.{alone_removes, turn_alone, turn_due, turn_none}
 use Rattle.cache_manager.proofs.turning.take_turn.Goals as goal
 
 -- what is said of the objects and the entries of a store, as its methods answer them
@@ -35,11 +35,15 @@ not_due_here laid es it copied n objects entries none = subst (λ (k : Volatile)
 least_here : (es : List Entry) (it : Parts) (n : ℕ) → es ≡ it.volatile.entries → IsLeast (NamesMinimal es) n → IsLeast (NamesMinimal it.volatile.entries) n
 least_here es it n same least = subst (λ (l : List Entry). IsLeast (NamesMinimal l) n) same least
 
--- there is an entry, so the install is of a node
+-- there is an entry
+some_entry : (before : Parts) (n : ℕ) → IsLeast (NamesMinimal before.volatile.entries) n → before.volatile.entries ≡ [] → ⊥
+some_entry before n least none = both_ways _ (ap (λ (es : List Entry). is_among n (lsns es)) none) least.0.1.held
+
+-- so the install is of a node
 some_installed : (before after : Parts) (n : ℕ) (install : Install) → IsLeast (NamesMinimal before.volatile.entries) n → TellsParts before after install
     → (before.log.next ≤ after.log.next) × (length after.volatile.entries + 1 + before.log.next ≤ length before.volatile.entries + after.log.next)
 some_installed before after n install least tells =
-    let some = tells.some (λ clean. both_ways _ (ap (λ (es : List Entry). is_among n (lsns es)) (tells.clean.0 clean)) least.0.1.held) in
+    let some = tells.some (λ clean. some_entry before n least (tells.clean.0 clean)) in
     (omega (arith, tells.with_lsn), omega (arith, some, tells.with_lsn, tells.entries))
 
 pub is_due-requires : goal.is_due-requires
@@ -58,21 +62,25 @@ returns-in_default-clause-takes g c =
     let d = g.M.Machine.disk c.args.machine.now in
     let it = c.args.store.now.parts in
     let copied = c.args.copied in
+    let most = c.args.most in
     let none = sym c.graph.ensures ∙ c.in_default.ensures.none in
-    takes_same meaning d d it it (λ m w used. course [] used Through) (λ m w used. turn_course m copied w used) Done
-    (λ p w shows. sym (turn_none (meaning_in meaning p) copied p d it w shows none (log_length c.args.store.now))) (takes_none meaning d it (g.met.M.Machine.lawful c.args.machine.now))
+    takes_same meaning d d it it (λ m w used. course [] used Through) (λ m w used. turn_course m copied most w used) Done
+    (λ p w shows. sym (turn_none (meaning_in meaning p) copied most p d it w shows none (log_length c.args.store.now))) (takes_none meaning d it (g.met.M.Machine.lawful c.args.machine.now))
 
 pub returns-in_default-clause-count : goal.returns-in_default-clause-count
 returns-in_default-clause-count g c = λ p w shows.
     let m = meaning_in g.O.Oper.meaning p in
     let none = sym c.graph.ensures ∙ c.in_default.ensures.none in
-    sym (ap (λ (k : Course _). removals k.steps) (turn_none m c.args.copied p (g.M.Machine.disk c.args.machine.now) c.args.store.now.parts w shows none (log_length c.args.store.now)))
+    sym (ap (λ (k : Course _). removals k.steps) (turn_none m c.args.copied c.args.most p (g.M.Machine.disk c.args.machine.now) c.args.store.now.parts w shows none (log_length c.args.store.now)))
 
 pub returns-in_default-clause-tells : goal.returns-in_default-clause-tells
 returns-in_default-clause-tells g c = (sym c.graph.ensures ∙ c.in_default.ensures.none, refl)
 
 pub returns-in_default-clause-logs : goal.returns-in_default-clause-logs
 returns-in_default-clause-logs g c = logs_none c.args.store.now.parts
+
+pub returns-in_default-clause-most : goal.returns-in_default-clause-most
+returns-in_default-clause-most g c = omega arith
 
 -- there is no memory
 pub returns-in_err-due-clause-call : goal.returns-in_err-due-clause-call
@@ -87,8 +95,9 @@ returns-in_err-due-clause-takes g c =
     let d = g.M.Machine.disk c.args.machine.now in
     let it = c.args.store.now.parts in
     let copied = c.args.copied in
-    subst (λ (k : Ending). Takes g.O.Oper.meaning d d it it (λ m w used. turn_course m copied w used) k) (short_ends c.from_residual.result c.from_residual.ensures.1)
-    (takes_nothing g.O.Oper.meaning d it (g.met.M.Machine.lawful c.args.machine.now) (λ m w used. turn_course m copied w used))
+    let most = c.args.most in
+    subst (λ (k : Ending). Takes g.O.Oper.meaning d d it it (λ m w used. turn_course m copied most w used) k) (short_ends c.from_residual.result c.from_residual.ensures.1)
+    (takes_nothing g.O.Oper.meaning d it (g.met.M.Machine.lawful c.args.machine.now) (λ m w used. turn_course m copied most w used))
 
 -- a round
 pub returns-in_err-n-clause-call : goal.returns-in_err-n-clause-call
@@ -108,15 +117,14 @@ returns-in_err-n-clause-takes g c =
     let before = c.args.store.now.parts in
     let after = c.install_round.new.store.parts in
     let copied = c.args.copied in
+    let most = c.args.most in
     let used = log_length c.args.store.now in
-    let most = c.objects_within-most.result in
     let name = c.in-Some.name in
     let least = least_here c.graph.result.now.entries before name c.graph.ensures c.in-Some.ensures.some in
     let due = due_here c.objects.result.now c.graph-2.result.now.entries before.volatile copied name c.objects.ensures c.graph-2.ensures (c.in_ok-due.ensures.due c.if-due.true) in
-    subst (λ (k : Ending). Takes meaning old new before after (λ m w used. turn_course m copied w used) k) (same_ends c.from_residual-in_err-n.result c.in_err-n.field-0.0 c.from_residual-in_err-n.ensures.1)
-    (takes_same meaning old new before after (λ m w used. round_course m copied most w used) (λ m w used. turn_course m copied w used) _
-    (λ p w shows. ap (λ (k : ℕ). round_course (meaning_in meaning p) copied k w used) (limit_is meaning g.met.O.Oper.bounded most p c.params.result c.objects_within-most.ensures (c.params.ensures.value ∙ shows.store.params))
-    ∙ sym (turn_due meaning g.met.O.Oper.lawful c.last_blind_write_is_alone.ensures copied old before name least p w shows due used)) c.in_err-n.ensures.takes)
+    subst (λ (k : Ending). Takes meaning old new before after (λ m w used. turn_course m copied most w used) k) (same_ends c.from_residual-in_err-n.result c.in_err-n.field-0.0 c.from_residual-in_err-n.ensures.1)
+    (takes_same meaning old new before after (λ m w used. round_course m copied most w used) (λ m w used. turn_course m copied most w used) _
+    (λ p w shows. sym (turn_due meaning g.met.O.Oper.lawful c.last_blind_write_is_alone.ensures copied most old before name least p w shows due used)) c.in_err-n.ensures.takes)
 
 pub returns-then-due-clause-call : goal.returns-then-due-clause-call
 returns-then-due-clause-call g c =
@@ -130,14 +138,13 @@ returns-then-due-clause-takes g c =
     let before = c.args.store.now.parts in
     let after = c.install_round.new.store.parts in
     let copied = c.args.copied in
+    let most = c.args.most in
     let used = log_length c.args.store.now in
-    let most = c.objects_within-most.result in
     let name = c.in-Some.name in
     let least = least_here c.graph.result.now.entries before name c.graph.ensures c.in-Some.ensures.some in
     let due = due_here c.objects.result.now c.graph-2.result.now.entries before.volatile copied name c.objects.ensures c.graph-2.ensures (c.in_ok-due.ensures.due c.if-due.true) in
-    takes_same meaning old new before after (λ m w used. round_course m copied most w used) (λ m w used. turn_course m copied w used) Done
-    (λ p w shows. ap (λ (k : ℕ). round_course (meaning_in meaning p) copied k w used) (limit_is meaning g.met.O.Oper.bounded most p c.params.result c.objects_within-most.ensures (c.params.ensures.value ∙ shows.store.params))
-    ∙ sym (turn_due meaning g.met.O.Oper.lawful c.last_blind_write_is_alone.ensures copied old before name least p w shows due used)) c.in_ok-n.ensures.takes
+    takes_same meaning old new before after (λ m w used. round_course m copied most w used) (λ m w used. turn_course m copied most w used) Done
+    (λ p w shows. sym (turn_due meaning g.met.O.Oper.lawful c.last_blind_write_is_alone.ensures copied most old before name least p w shows due used)) c.in_ok-n.ensures.takes
 
 pub returns-then-due-clause-count : goal.returns-then-due-clause-count
 returns-then-due-clause-count g c = λ p w shows.
@@ -146,13 +153,12 @@ returns-then-due-clause-count g c = λ p w shows.
     let old = g.M.Machine.disk c.args.machine.now in
     let before = c.args.store.now.parts in
     let copied = c.args.copied in
+    let most = c.args.most in
     let used = log_length c.args.store.now in
-    let most = c.objects_within-most.result in
     let name = c.in-Some.name in
     let least = least_here c.graph.result.now.entries before name c.graph.ensures c.in-Some.ensures.some in
     let due = due_here c.objects.result.now c.graph-2.result.now.entries before.volatile copied name c.objects.ensures c.graph-2.ensures (c.in_ok-due.ensures.due c.if-due.true) in
-    let same = ap (λ (k : ℕ). round_course m copied k w used) (limit_is meaning g.met.O.Oper.bounded most p c.params.result c.objects_within-most.ensures (c.params.ensures.value ∙ shows.store.params))
-    ∙ sym (turn_due meaning g.met.O.Oper.lawful c.last_blind_write_is_alone.ensures copied old before name least p w shows due used) in
+    let same = sym (turn_due meaning g.met.O.Oper.lawful c.last_blind_write_is_alone.ensures copied most old before name least p w shows due used) in
     c.in_ok-n.ensures.count p w shows ∙ sym (round_removes m copied most w) ∙ ap (λ (k : Course _). removals k.steps) same
 
 pub returns-then-due-clause-tells : goal.returns-then-due-clause-tells
@@ -160,10 +166,14 @@ returns-then-due-clause-tells g c =
     let before = c.args.store.now.parts in
     let due = due_here c.objects.result.now c.graph-2.result.now.entries before.volatile c.args.copied c.in-Some.name c.objects.ensures c.graph-2.ensures (c.in_ok-due.ensures.due c.if-due.true) in
     let next = c.install_round.ensures.next in (
-      c.in_ok-n.ensures.some (omega (arith, c.objects_within-most.ensures)) c.in-Some.name due,
+      c.in_ok-n.ensures.some c.requires.some c.in-Some.name due,
       omega (arith, next),
       omega (arith, next, c.in_ok-n.ensures.fewer),
+      some_entry before c.in-Some.name (least_here c.graph.result.now.entries before c.in-Some.name c.graph.ensures c.in-Some.ensures.some),
     )
+
+pub returns-then-due-clause-most : goal.returns-then-due-clause-most
+returns-then-due-clause-most g c = c.in_ok-n.ensures.most
 
 -- an install
 pub returns-in_err-install_one-clause-call : goal.returns-in_err-install_one-clause-call
@@ -181,12 +191,13 @@ returns-in_err-install_one-clause-takes g c =
     let before = c.args.store.now.parts in
     let after = c.install_one.new.store.parts in
     let copied = c.args.copied in
+    let most = c.args.most in
     let name = c.in-Some.name in
     let least = least_here c.graph.result.now.entries before name c.graph.ensures c.in-Some.ensures.some in
     let none = not_due_here c.objects.result.now c.graph-2.result.now.entries before.volatile copied name c.objects.ensures c.graph-2.ensures (c.in_ok-due.ensures.not_due c.if-due.false) in
-    subst (λ (k : Ending). Takes meaning old new before after (λ m w used. turn_course m copied w used) k) (same_ends c.from_residual-in_err-install_one.result c.in_err-install_one.field-0.0 c.from_residual-in_err-install_one.ensures.1)
-    (takes_same meaning old new before after (λ m w used. install_course m copied w used) (λ m w used. turn_course m copied w used) _
-    (λ p w shows. sym (turn_alone meaning g.met.O.Oper.lawful c.last_blind_write_is_alone.ensures copied old before name least p w shows none (log_length c.args.store.now))) c.in_err-install_one.ensures.takes)
+    subst (λ (k : Ending). Takes meaning old new before after (λ m w used. turn_course m copied most w used) k) (same_ends c.from_residual-in_err-install_one.result c.in_err-install_one.field-0.0 c.from_residual-in_err-install_one.ensures.1)
+    (takes_same meaning old new before after (λ m w used. install_course m copied w used) (λ m w used. turn_course m copied most w used) _
+    (λ p w shows. sym (turn_alone meaning g.met.O.Oper.lawful c.last_blind_write_is_alone.ensures copied most old before name least p w shows none (log_length c.args.store.now))) c.in_err-install_one.ensures.takes)
 
 pub returns-clause-takes : goal.returns-clause-takes
 returns-clause-takes g c =
@@ -196,11 +207,12 @@ returns-clause-takes g c =
     let before = c.args.store.now.parts in
     let after = c.install_one.new.store.parts in
     let copied = c.args.copied in
+    let most = c.args.most in
     let name = c.in-Some.name in
     let least = least_here c.graph.result.now.entries before name c.graph.ensures c.in-Some.ensures.some in
     let none = not_due_here c.objects.result.now c.graph-2.result.now.entries before.volatile copied name c.objects.ensures c.graph-2.ensures (c.in_ok-due.ensures.not_due c.if-due.false) in
-    takes_same meaning old new before after (λ m w used. install_course m copied w used) (λ m w used. turn_course m copied w used) Done
-    (λ p w shows. sym (turn_alone meaning g.met.O.Oper.lawful c.last_blind_write_is_alone.ensures copied old before name least p w shows none (log_length c.args.store.now))) c.in_ok-install_one.ensures.takes
+    takes_same meaning old new before after (λ m w used. install_course m copied w used) (λ m w used. turn_course m copied most w used) Done
+    (λ p w shows. sym (turn_alone meaning g.met.O.Oper.lawful c.last_blind_write_is_alone.ensures copied most old before name least p w shows none (log_length c.args.store.now))) c.in_ok-install_one.ensures.takes
 
 pub returns-clause-count : goal.returns-clause-count
 returns-clause-count g c = λ p w shows.
@@ -208,14 +220,18 @@ returns-clause-count g c = λ p w shows.
     let old = g.M.Machine.disk c.args.machine.now in
     let before = c.args.store.now.parts in
     let copied = c.args.copied in
+    let most = c.args.most in
     let name = c.in-Some.name in
     let least = least_here c.graph.result.now.entries before name c.graph.ensures c.in-Some.ensures.some in
     let none = not_due_here c.objects.result.now c.graph-2.result.now.entries before.volatile copied name c.objects.ensures c.graph-2.ensures (c.in_ok-due.ensures.not_due c.if-due.false) in
-    sym (alone_removes meaning g.met.O.Oper.lawful c.last_blind_write_is_alone.ensures copied old before name least p w shows none (log_length c.args.store.now) (c.in_ok-install_one.ensures.takes.follows p w shows).0)
+    sym (alone_removes meaning g.met.O.Oper.lawful c.last_blind_write_is_alone.ensures copied most old before name least p w shows none (log_length c.args.store.now) (c.in_ok-install_one.ensures.takes.follows p w shows).0)
 
 pub returns-clause-tells : goal.returns-clause-tells
 returns-clause-tells g c =
     let before = c.args.store.now.parts in
     let least = least_here c.graph.result.now.entries before c.in-Some.name c.graph.ensures c.in-Some.ensures.some in
     let told = some_installed before c.install_one.new.store.parts c.in-Some.name _ least c.in_ok-install_one.ensures.tells in
-    (omega arith, told.0, told.1)
+    (omega arith, told.0, told.1, some_entry before c.in-Some.name least)
+
+pub returns-clause-most : goal.returns-clause-most
+returns-clause-most g c = omega (arith, c.requires.some)

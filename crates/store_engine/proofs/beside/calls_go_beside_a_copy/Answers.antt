@@ -20,6 +20,10 @@ pub returns-clause-install : goal.returns-clause-install
 returns-clause-install g c = λ b copied w used small is.
     record { allowed = (c.install_may_be_taken.ensures b copied w used small is).allowed; beside = c.installs_go_beside_a_copy.ensures.install b copied w used small is }
 
+pub returns-clause-turn : goal.returns-clause-turn
+returns-clause-turn g c = λ b copied most w used small is.
+    record { allowed = (c.turn_may_be_taken.ensures b copied most w used small is).allowed; beside = c.installs_go_beside_a_copy.ensures.turn b copied most w used small is }
+
 pub returns-clause-drain : goal.returns-clause-drain
 returns-clause-drain g c = λ b copied w used small is.
     record { allowed = (c.drain_may_be_taken.ensures.taken b copied w used small is).allowed; beside = c.installs_go_beside_a_copy.ensures.drain b copied w used small is }
