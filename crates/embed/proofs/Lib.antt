@@ -1,3 +1,4 @@
 pub mod Exchanged
+pub mod Grouped
 pub mod Passing
 pub mod Saving

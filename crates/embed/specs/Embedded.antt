@@ -1,5 +1,5 @@
 -- What the calls on a store in use say beside what the engine's say.
-use Rattle.std.specs.Prelude.{◌≡◌, ◌≤◌, ℕ, List, Option, None, Some, Result, Ok, Err, length, min, take}
+use Rattle.std.specs.Prelude.{◌≡◌, ◌≤◌, ◌+◌, ◌-◌, ◌^◌, ℕ, List, Option, None, Some, Result, Ok, Err, length, min, take}
 use Rattle.disk_model.specs.Disk.{Disk, Files}
 use Rattle.formats.specs.declared.params.Params.{Params}
 use Rattle.dirty_cache.specs.Contents.{AreDirty}
@@ -8,10 +8,13 @@ use Rattle.op_codec.specs.AllOps.{AllOps, all_meaning}
 use Rattle.explain_core.specs.History.{Member, commands_of}
 use Rattle.explain_core.specs.World.{World}
 use Rattle.running_store.specs.Parts.{Parts}
+use Rattle.stable_objects.specs.Reading.{IsNoDamage}
 use Rattle.stable_objects.specs.declared.open_err.OpenErr.{OpenErr}
-use Rattle.store_engine.specs.Engine.{EngineView, IsStat, ShowsIn, accepted_in, forced_in, used_in}
+use Rattle.store_engine.specs.Engine.{EngineView, IsStat, ShowsIn, accepted_in, forced_in, params_of, used_in}
 use Rattle.store_engine.specs.Store.{Stands, meaning_in}
 use Rattle.store_engine.specs.declared.stat.Stat.{Stat}
+use Rattle.store_engine.specs.declared.work_err.WorkErr.{WorkErr}
+use Rattle.store_engine.specs.declared.work_err.WorkErr.TheVariants.{LogFull}
 use Rattle.backup_copy.specs.Target.{IsBackup}
 use Rattle.embed.specs.declared.store.Store.{Store}
 
@@ -47,6 +50,14 @@ machine_of (Err failure) = failure.1
 abbrev pub opened : {M : Type 0} → Result (Store M) (OpenErr × M) → Result Parts OpenErr
 opened (Ok store) = Ok store.engine.parts
 opened (Err failure) = Err failure.0
+
+-- a store is not there again for want of memory, or with the disk: no file is damaged
+abbrev pub IsUnharmed : {M : Type 0} → OpenErr × M → Type 0
+IsUnharmed failure = IsNoDamage failure.0
+
+-- the log has no room for records of so many bytes and the head of a block
+abbrev pub SaysFull : {T : Type 0} → EngineView → ℕ → Result T WorkErr → Type 0
+SaysFull engine bytes result = result ≡ Err (LogFull (used_in engine) (min (bytes + 5) (2 ^ 64 - 1)) (params_of engine).limit)
 
 -- The files of a backup that was finished stand for the commands of this history, and show just its members, all of them stable: so
 -- the next record has the number that it has in the store.

@@ -51,7 +51,7 @@ impl<M: Machine + Drop> Store<M> {
 }
 
 // Copies the front of bytes, as much as there is room for, and says how many they are.
-fn copy_front(bytes: &[u8], into: &mut [u8]) -> usize
+pub(crate) fn copy_front(bytes: &[u8], into: &mut [u8]) -> usize
     ensures count { result ≡ length bytes.now }
     ensures front { take (min (length bytes.now) (length into.old)) into.new ≡ take (length into.old) bytes.now }
 {

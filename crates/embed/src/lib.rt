@@ -2,17 +2,20 @@
 //!
 //! The one contract is [`Store`]. Each of its calls says of the store and its machine what the engine's call says: what values
 //! the objects have, what a crash may leave at each moment, what is durable. After a fault of the disk each call answers that
-//! again and does nothing. Over [`write_queue::QueueMem`] the store touches no file: the caller takes what was written and
-//! makes it on its files, and [`real_files_keep_what_is_forced`] says what a crash leaves of them meanwhile.
+//! again and does nothing. An open group may be given up, and a transaction is staged beside the store. Over
+//! [`write_queue::QueueMem`] the store touches no file: the caller takes what was written and makes it on its files, and
+//! [`real_files_keep_what_is_forced`] says what a crash leaves of them meanwhile.
 #![tactic(auto)]
 
 mod apps;
 mod backups;
 mod calls;
+mod groups;
 mod hashes;
 mod laws;
 mod opening;
 mod queued;
+mod staging;
 mod store;
 mod trees;
 mod upkeep;

@@ -20,7 +20,7 @@ use store_engine::{Engine, InitErr, OpenErr, Tuning};
 
 // How much of a store is kept in memory: 16 MiB of clean values, and in a redo 64 MiB of dirty ones, but 64 values of each,
 // however long they are.
-const TUNING: Tuning = Tuning {
+pub(crate) const TUNING: Tuning = Tuning {
     clean: 64,
     clean_bytes: 1 << 24,
     redo_dirty: 64,

@@ -31,13 +31,13 @@ pub(crate) fn begin<O: Oper, M: Machine>(
     answer
 }
 
-// Whether records of so many bytes fit below the limit of the log, also where the first of them begins a block.
-pub(crate) fn has_room<O: Oper>(engine: &Engine<O>, bytes: u64) -> bool
+/// Whether records of so many bytes fit below the limit of the log, also where the first of them begins a block.
+pub fn has_room<O: Oper>(engine: &Engine<O>, bytes: u64) -> bool
     ensures roomy { IsTrue result → HasRoomOf engine.now bytes }
     ensures seen { HasRoomOf engine.now bytes → IsTrue result }
 {
     let limit = engine.params().limit as u64;
-    let used = engine.stat().used;
+    let used = engine.used();
     used <= limit && bytes <= limit && bytes + 5 <= limit - used
 }
 

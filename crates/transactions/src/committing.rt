@@ -1,6 +1,6 @@
 // The commands of a transaction are added, all in one group.
 ghost use Rattle.std.specs.Prelude.{◌≡◌, ◌+◌, ◌≤◌, ◌^◌, List, false, None, length, IsErrOf};
-ghost use Rattle.disk_model.specs.Disk.{LeavesOnly};
+ghost use Rattle.disk_model.specs.Disk.{LeavesOnly, Passes};
 ghost use Rattle.formats.specs.declared.params.Params.{Params};
 ghost use Rattle.store_engine.specs.Engine.{Between, Holds, forced_in, params_of, records_of};
 ghost use Rattle.store_engine.specs.Store.{meaning_in, state_of};
@@ -28,6 +28,7 @@ pub(crate) fn commit<O: Oper, M: Machine>(
 ) -> Result<(), CommitErr>
     requires unbroken { engine.old.broken ≡ false }
     requires alone { engine.old.group ≡ None }
+    ensures time { Passes (M.disk machine.old) (M.disk machine.new) }
     ensures left { (p : Params) (commands : List O) → Holds O.meaning p (M.disk machine.old) engine.old commands → AreAccepted (meaning_in O.meaning p) (state_of O.meaning p commands) ops.old.items →
         bytes ≡ records_of O.meaning (params_of engine.old) ops.old.items → engine.old.parts.log.next + length ops.old.items ≤ 2 ^ 62 → IsLeft O.meaning p (M.disk machine.new) engine.old engine.new commands ops.old.items result }
     ensures kept { IsErrOf result CommitErr.LogFull → ops.new ≡ ops.old }

@@ -11,6 +11,7 @@ mod running;
 mod seeing;
 mod transaction;
 
+pub use beginning::has_room;
 pub use commit_err::CommitErr;
 pub use rolling_back::roll_back;
 pub use transaction::Transaction;

@@ -1,6 +1,6 @@
 // Commands are staged.
 ghost use Rattle.std.specs.Prelude.{◌≡◌, ◌+◌, ◌<◌, ◌≤◌, ◌^◌, ◌++◌, ◌∷◌, [], List, None, false, length, IfOk, IfSome, IsErrOf, OnOk};
-ghost use Rattle.disk_model.specs.Disk.{LeavesOnly};
+ghost use Rattle.disk_model.specs.Disk.{LeavesOnly, Passes};
 ghost use Rattle.formats.specs.declared.params.Params.{Params};
 ghost use Rattle.execution.specs.Answers.{ending_of_exec};
 ghost use Rattle.running_store.specs.Calls.{IsFailed};
@@ -57,6 +57,13 @@ impl<O: Oper> Transaction<O> {
         })
     }
 
+    /// So many bytes have the records of the staged commands.
+    pub fn bytes(&self) -> u64
+        ensures { result ≡ self.now.bytes }
+    {
+        self.bytes
+    }
+
     /// Adds the value that an object has after the staged commands to a list of values.
     pub fn value<M: Machine>(
         &self,
@@ -87,6 +94,7 @@ impl<O: Oper> Transaction<O> {
     ) -> Result<(), CommitErr>
         requires unbroken { engine.old.broken ≡ false }
         requires alone { engine.old.group ≡ None }
+        ensures time { Passes (M.disk machine.old) (M.disk machine.new) }
         ensures left { (p : Params) (commands : List O) → Holds O.meaning p (M.disk machine.old) engine.old commands → IsStaged O.meaning p commands self.old.ops.items self.old.bytes self.old.made →
             engine.old.parts.log.next + length self.old.ops.items ≤ 2 ^ 62 → IsLeft O.meaning p (M.disk machine.new) engine.old engine.new commands self.old.ops.items result }
         ensures images { (M.disk machine.old).tells_moments → (p : Params) (commands : List O) → Holds O.meaning p (M.disk machine.old) engine.old commands → IsStaged O.meaning p commands self.old.ops.items self.old.bytes self.old.made →

@@ -1,4 +1,5 @@
 use Rattle.std.specs.Prelude.{Some}
+use Rattle.disk_model.specs.Moments.{passes_twice}
 use Rattle.running_store.specs.Taking.Ending.{Done}
 use Rattle.store_engine.specs.Lists.{ending_of}
 use Rattle.transactions.proofs.Committed.{all_left, cut_left, cut_off, full_left, is_true, moments, not_true, room_for, room_of}
@@ -51,3 +52,19 @@ returns-clause-images g c = λ told p commands holds accepted.
     let begun = c.in_default.ensures.begun p commands holds in
     moments g.O.Oper.meaning p (disk c.args.machine.now) (disk c.begin.new.machine) c.args.engine.now c.begin.new.engine commands c.args.ops.now.items begun (disk c.run_all.new.machine) c.run_all.new.engine Done
     (c.in_default-run_all.ensures.adds p commands begun.holds accepted) told c.begin.ensures.time (c.in_default.ensures.images told p commands holds)
+
+pub returns-in-Err-clause-time : goal.returns-in-Err-clause-time
+returns-in-Err-clause-time g c = c.begin.ensures.time
+
+pub returns-then-not-has_room-clause-time : goal.returns-then-not-has_room-clause-time
+returns-then-not-has_room-clause-time g c = c.begin.ensures.time
+
+pub returns-in-Err-run_all-clause-time : goal.returns-in-Err-run_all-clause-time
+returns-in-Err-run_all-clause-time g c =
+    let disk = g.M.Machine.disk in
+    passes_twice (disk c.args.machine.now) (disk c.begin.new.machine) (disk c.run_all.new.machine) (g.met.M.Machine.lawful c.run_all.new.machine) c.begin.ensures.time c.run_all.ensures.calls.call.time
+
+pub returns-clause-time : goal.returns-clause-time
+returns-clause-time g c =
+    let disk = g.M.Machine.disk in
+    passes_twice (disk c.args.machine.now) (disk c.begin.new.machine) (disk c.run_all.new.machine) (g.met.M.Machine.lawful c.run_all.new.machine) c.begin.ensures.time c.run_all.ensures.calls.call.time

@@ -9,3 +9,6 @@ returns-clause-left g c = λ p commands holds staged lsns.
 
 pub returns-clause-images : goal.returns-clause-images
 returns-clause-images g c = λ told p commands holds staged. c.commit.ensures.images told p commands holds staged.accepted
+
+pub returns-clause-time : goal.returns-clause-time
+returns-clause-time g c = c.commit.ensures.time
