@@ -1,0 +1,4 @@
+pub mod LayoutLemmas
+pub mod Outcomes
+pub mod PartLemmas
+pub mod Appended

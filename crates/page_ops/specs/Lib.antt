@@ -1,0 +1,10 @@
+pub mod Page
+pub mod Reading
+pub mod Layout
+pub mod Seen
+pub mod Effects
+pub mod Formats
+pub mod FormatLaws
+pub mod Operation
+pub mod OperationLaws
+pub mod Worked

@@ -1,0 +1,28 @@
+//! Wide pages of a map as values of objects, and the logged operations on them.
+//!
+//! An operation names a page and places in it, and reads no more of the page than these, so it is a function of all bytes; it
+//! writes one object. The one contract is that of the trait `Oper`, at the meaning that specs/ gives. On the bytes of pages a
+//! put, a set, a delete, a part and an absorb are those on their cells; of the others that is not said yet. No store has these
+//! operations. The crate depends on key_entries for the order of keys and the first refusals, on oper_core, and on byteorder
+//! for the numbers in pages and codes.
+#![tactic(auto)]
+
+mod effects;
+mod laws;
+mod layout;
+mod page;
+mod page_op;
+mod reading;
+mod tags;
+mod text;
+mod worked;
+mod writing;
+
+pub use laws::{a_change_is_on_cells, pages_are_cut_and_joined};
+pub use page::Page;
+pub use page_op::PageOp;
+pub use text::Text;
+pub use worked::{
+    an_inner_page_is_turned, cells_go_in_and_out, changes_have_their_codes,
+    other_bytes_are_refused, pages_are_parted, parts_have_their_codes, the_place_of_a_key_is_found,
+};
