@@ -1,5 +1,5 @@
 # The forms of words, lines and statuses are the same in docs/SCRIPT.md, on the manual page, in `redo run --help`, in the usage line,
-# in the table of the shell, and where the command completes them.
+# in the tables of the program and of the shell, and where the command completes them.
 top=$(dirname "$(readlink -f "$(command -v redo)")")
 script=$top/docs/SCRIPT.md page=$top/docs/redo.1
 
@@ -13,13 +13,12 @@ alike() {
 
 cells Line >lines
 "$top/docs/forms" --check
-redo run --help | sed -n '/^Lines:/,/^$/s/^  //p' | tr ',' '\n' | sed 's/^ *//; /^#/d; /^$/d' >lines.help
+redo run --help | sed -n '/^Lines:/,/^$/s/^  \([a-z].*[^ ]\)   *[^ ].*/\1/p' >lines.help
 alike "lines of the help" SCRIPT lines --help lines.help
 sed -n 's/^    Form("\([a-z][^"]*\)".*/\1/p' "$top/capi/shell/forms.py" >lines.shell
 alike "lines of the shell" SCRIPT lines shell/forms.py lines.shell
-cut -d ' ' -f 1 lines >first
-sed -n '/^words_of_lines=/,/"$/p' "$top/release/start" | sed 's/.*="//; s/"$//' | tr -s ' ' '\n' | sed '/^help$/d; /^exit$/d; /^$/d' >first.start
-alike "lines that are completed" SCRIPT first release/start first.start
+sed -n 's/.*text: "\([^"]*\)".*/\1/p' "$top/crates/script_lines/src/forms.rt" >lines.table
+alike "lines of the program's table" SCRIPT lines forms.rt lines.table
 
 # (`-C` stands before the other words, and `backup` and `shell` are words of the command alone)
 cells Words | sed -n '/ -C /d; s/^redo //p' >words

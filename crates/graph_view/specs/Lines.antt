@@ -7,7 +7,7 @@ use Rattle.op_codec.specs.AllOps.{AllOps, all_meaning}
 use Rattle.script_lines.specs.Grammar.{Request, AsksFor, IsBad, lines_of}
 use Rattle.script_lines.specs.declared.read_error.ReadError.{ReadError}
 use Rattle.script_lines.specs.declared.read_error.ReadError.TheVariants.{ReadFault, TooLong, Memory}
-use Rattle.script_lines.specs.declared.line.Line.TheVariants.{Run, AppRun, ProgramRun, TreeInsert, TreeDelete, TreeGet, TreeRange, HashPut, HashGet, HashDelete, Get, Force, Install, Drain, Checkpoint, Trim, Begin, End, Stat, BackupStart, BackupCopy, BackupFinish, Skip}
+use Rattle.script_lines.specs.declared.line.Line.TheVariants.{Run, Make, Ask, Force, Keep, Group, Save, Stat, Skip}
 use Rattle.graph_view.specs.declared.accesses.Accesses.{Accesses}
 use Rattle.graph_view.specs.declared.asked.Asked.{Asked}
 use Rattle.graph_view.specs.declared.asked.Asked.TheVariants.{Command, Nothing, Several, Bad}
@@ -27,27 +27,13 @@ accesses_of op = record { reads = meaning.reads op; writes = meaning.writes op }
 -- values; all others but the operations make none
 abbrev pub asked_by : Request → Asked
 asked_by (Run op) = Command (accesses_of op)
-asked_by (AppRun app steps) = Several
-asked_by (ProgramRun app program steps) = Several
-asked_by (TreeInsert low high key value) = Several
-asked_by (TreeDelete low high key) = Several
-asked_by (HashPut low high key value) = Several
-asked_by (HashDelete low high key) = Several
-asked_by (TreeGet low high key) = Nothing
-asked_by (TreeRange low high from to) = Nothing
-asked_by (HashGet low high key) = Nothing
-asked_by (Get x) = Nothing
+asked_by (Make making) = Several
+asked_by (Ask question) = Nothing
 asked_by Force = Nothing
-asked_by Install = Nothing
-asked_by Drain = Nothing
-asked_by Checkpoint = Nothing
-asked_by Trim = Nothing
-asked_by Begin = Nothing
-asked_by End = Nothing
+asked_by (Keep upkeep) = Nothing
+asked_by (Group grouping) = Nothing
+asked_by (Save saving) = Nothing
 asked_by Stat = Nothing
-asked_by BackupStart = Nothing
-asked_by (BackupCopy count) = Nothing
-asked_by BackupFinish = Nothing
 asked_by Skip = Nothing
 
 -- what a line is to the write graph

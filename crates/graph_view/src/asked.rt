@@ -46,27 +46,13 @@ impl Asked {
     {
         match line {
             Line::Run(op) => Asked::Command(accesses_of(op)),
-            Line::AppRun { .. }
-            | Line::ProgramRun { .. }
-            | Line::TreeInsert { .. }
-            | Line::TreeDelete { .. }
-            | Line::HashPut { .. }
-            | Line::HashDelete { .. } => Asked::Several,
-            Line::TreeGet { .. }
-            | Line::TreeRange { .. }
-            | Line::HashGet { .. }
-            | Line::Get { .. }
+            Line::Make(_) => Asked::Several,
+            Line::Ask(_)
             | Line::Force
-            | Line::Install
-            | Line::Drain
-            | Line::Checkpoint
-            | Line::Trim
-            | Line::Begin
-            | Line::End
+            | Line::Keep(_)
+            | Line::Group(_)
+            | Line::Save(_)
             | Line::Stat
-            | Line::BackupStart
-            | Line::BackupCopy { .. }
-            | Line::BackupFinish
             | Line::Skip => Asked::Nothing,
         }
     }

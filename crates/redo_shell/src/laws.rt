@@ -1,5 +1,5 @@
 // What any number of calls leave, and a call that is made again.
-ghost use Rattle.std.specs.Prelude.{◌≡◌, ◌↔◌, List};
+ghost use Rattle.std.specs.Prelude.{◌≡◌, ◌↔◌, ℕ, List};
 ghost use Rattle.formats.specs.declared.params.Params.{Params};
 ghost use Rattle.disk_model.specs.Disk.{Passes, IsSettled};
 ghost use Rattle.disk_model.specs.Fuse.{disk_through};
@@ -12,7 +12,7 @@ ghost use Rattle.shell_base.specs.declared.budget.Budget.TheVariants.{Usual, Lea
 ghost use Rattle.shell_base.specs.declared.status.Status.{Status};
 ghost use Rattle.shell_base.specs.declared.status.Status.TheVariants.{RestartMemory};
 ghost use Rattle.shell_base.specs.Store.{Command, Opens, Stands, IsNew};
-ghost use Rattle.redo_shell.specs.Calls.{IsCallFor};
+ghost use Rattle.redo_shell.specs.Calls.{IsCall, IsCallFor, IsLeftByRun, IsRun};
 ghost use Rattle.redo_shell.specs.Twice.{IsCallTwice};
 ghost use Rattle.redo_shell.specs.Sessions.{Ran, Sizing, Follows, Survives, Arises, Sessions};
 ghost use Rattle.redo_shell.specs.Beside.{BackupCalls};
@@ -51,6 +51,14 @@ pub fn a_fuse_is_its_machine<M: Machine>()
     ensures around { (first last : M) (end : Fuse M) (sizes : List Sizing) (runs : List Ran) → end.inner ≡ last → Sessions M.disk first sizes runs last →
         (begin : Fuse M) × (begin.inner ≡ first) × Sessions (disk_through M.disk) begin sizes runs end }
     ensures stands { (p : Params) (commands : List Command) (fuse : Fuse M) → InEachImage (disk_through M.disk fuse) (λ files. Stands p files commands) → InEachImage (M.disk fuse.inner) (λ files. Stands p files commands) }
+{}
+
+/// What `call` of [`top`](crate::top) says of a run, by itself: what it does, and what a crash at any moment of it leaves.
+pub fn a_run_is_a_call<M: Machine, S: Source>()
+    ensures run { (budget : OfRestart) (words : List (List ℕ)) (old new : M) (input rest : S) (status : Status) →
+        IsCall budget words (S.tells input) (S.left input) (S.left rest) (M.disk old) (M.disk new) status → IsRun budget words (S.tells input) (S.left input) (S.left rest) (M.disk old) (M.disk new) status }
+    ensures images { (budget : OfRestart) (words : List (List ℕ)) (old new : M) (input rest : S) (status : Status) →
+        IsCall budget words (S.tells input) (S.left input) (S.left rest) (M.disk old) (M.disk new) status → IsLeftByRun words (S.tells input) (S.left input) (M.disk old) (M.disk new) }
 {}
 
 /// What is saved lasts: a backup that stands for commands in each image, as a call leaves it that has printed `saved`, stands for

@@ -1,21 +1,14 @@
 // The program.
-ghost use Rattle.std.specs.Prelude.{◌≡◌, ◌^◌, List, map, string_bytes};
-ghost use Rattle.disk_model.specs.Disk.{LeavesOnly, Passes, Rises};
-ghost use Rattle.formats.specs.declared.params.Params.{Params};
-ghost use Rattle.restart.specs.Starts.{OrAtStart};
+ghost use Rattle.std.specs.Prelude.{◌≡◌, ◌^◌, map, string_bytes};
+ghost use Rattle.disk_model.specs.Disk.{Passes, Rises};
 ghost use Rattle.script_lines.specs.Grammar.{lines_of};
 ghost use Rattle.script_lines.specs.Reading.{ReadsOn};
-ghost use Rattle.command_words.specs.Words.{Asks, IsAllowed};
-ghost use Rattle.command_words.specs.declared.asked.Asked.{Asked as AskedFor};
-ghost use Rattle.command_words.specs.declared.asked.Asked.TheVariants.{Run};
+ghost use Rattle.command_words.specs.Words.{IsAllowed};
 ghost use Rattle.shell_base.specs.Judging.{CountsFaults};
-ghost use Rattle.shell_base.specs.Store.{Command, Opens};
-ghost use Rattle.script_run.specs.Answers.{Moment};
-ghost use Rattle.script_run.specs.RunCalls.{IsRunCall};
 ghost use Rattle.script_run.specs.Noted.{none_noted};
 ghost use Rattle.script_run.specs.Saving.{IsBesideRun};
-ghost use Rattle.redo_shell.specs.Calls.{IsCallFor, GoesOn};
-ghost use Rattle.redo_shell.specs.Causes.{OrUnread, ComesByCause};
+ghost use Rattle.redo_shell.specs.Calls.{IsCall, IsCallFor, GoesOn};
+ghost use Rattle.redo_shell.specs.Causes.{ComesByCause};
 ghost use Rattle.redo_shell.specs.Exactly.{IsFaultless, ComesExactly};
 ghost use Rattle.redo_shell.specs.Beside.{IsNotedCall, IsNotedFor, IsBackupCall, IsBackupFor};
 ghost use Rattle.redo_shell.specs.Sessions.{AddsNothing};
@@ -82,21 +75,14 @@ pub fn top<M: Machine, T: Machine, S: Source>(
     input: &mut S,
     notes: &mut Notes,
 ) -> Status
-    // A run on files that stand for commands, as they are read: what a crash at any moment of it leaves a crash at the start
-    // could leave, or it stands for these commands and a beginning of those that the script has added, which splits no group;
-    // they all together are no fewer than any number that was printed to be forced.
-    ensures images { (p : Params) (commands : List Command) → Asks (map string_bytes words.now) Run → Opens p (M.disk machine.old) commands → S.tells input.old → (M.disk machine.old).tells_moments →
-        LeavesOnly (M.disk machine.old) (M.disk machine.new) (OrAtStart (M.disk machine.old) (Moment p commands (lines_of (S.left input.old)) (M.disk machine.old).said)) }
-    // What a run does, as `call` has it too.
-    ensures run { Asks (map string_bytes words.now) Run →
-        OrUnread (IsRunCall budget (S.tells input.old) (S.left input.old) (S.left input.new) (M.disk machine.old) (M.disk machine.new) result) (M.disk machine.old) (M.disk machine.new) result }
-    // Any call, by what it was asked. A dump and a shipment say what they find and change nothing but for the restart; an `init`
-    // makes a store where there is none; an upgrade leaves files that stand for the same commands at every moment, and with status
-    // 0 those of the larger store; a standby's files stand at every moment for what some first whole frames of the stream make of
-    // its commands, and with status 0 for what all of it makes; a demo leaves the files alone, and says what the plain map's
-    // answers to the generated script count to.
-    ensures call { (asked : AskedFor) → Asks (map string_bytes words.now) asked →
-        OrUnread (IsCallFor budget asked (S.tells input.old) (S.left input.old) (S.left input.new) (M.disk machine.old) (M.disk machine.new) result) (M.disk machine.old) (M.disk machine.new) result }
+    // Any call, by what it was asked. What a crash at any moment of a run leaves a crash at the start could leave, or it stands for
+    // the commands of the start and a beginning of those that the script has added, which splits no group; they all together are no
+    // fewer than any number that was printed to be forced (`a_run_is_a_call` has that by itself). A dump and a shipment say what
+    // they find and change nothing but for the restart; an `init` makes a store where there is none; an upgrade leaves files that
+    // stand for the same commands at every moment, and with status 0 those of the larger store; a standby's files stand at every
+    // moment for what some first whole frames of the stream make of its commands, and with status 0 for what all of it makes; a
+    // demo leaves the files alone, and says what the plain map's answers to the generated script count to.
+    ensures call { IsCall budget (map string_bytes words.now) (S.tells input.old) (S.left input.old) (S.left input.new) (M.disk machine.old) (M.disk machine.new) result }
     // What the answers of a run say of the backup is true of its files: where a line `saved n` was said, they stand for the n
     // commands that were accepted up to it; before a line that ends a backup they are no store at any moment. No other call does
     // anything with them, nor does a run without such lines.

@@ -7,7 +7,12 @@ use Rattle.app_program.specs.declared.program_op.ProgramOp.TheVariants.{Step, Fe
 use Rattle.op_codec.specs.AllOps.{plain, program}
 use Rattle.op_meaning.specs.declared.plain_op.PlainOp.TheVariants.{Put, Copy, Append, Cut, Sort, Swap, Exec, AppRead, AppWrite}
 use Rattle.script_lines.specs.declared.line.Line.{Line}
-use Rattle.script_lines.specs.declared.line.Line.TheVariants.{Run, ProgramRun, AppRun, TreeInsert, TreeGet, TreeDelete, TreeRange, HashPut, HashGet, HashDelete, Get, Force, Install, Drain, Checkpoint, Trim, Begin, End, Stat, BackupStart, BackupCopy, BackupFinish, Skip}
+use Rattle.script_lines.specs.declared.line.Line.TheVariants.{Run, Make, Ask, Force, Keep, Group, Save, Stat, Skip}
+use Rattle.script_lines.specs.declared.line.Making.TheVariants.{AppRun, ProgramRun, TreeInsert, TreeDelete, HashPut, HashDelete}
+use Rattle.script_lines.specs.declared.line.Question.TheVariants.{Get, TreeGet, TreeRange, HashGet}
+use Rattle.script_lines.specs.declared.line.Upkeep.TheVariants.{Install, Drain, Checkpoint, Trim}
+use Rattle.script_lines.specs.declared.line.Grouping.TheVariants.{Begin, End}
+use Rattle.script_lines.specs.declared.line.Saving.TheVariants.{Start, Copy as CopyOn, Finish}
 
 -- one byte more in front of the first text
 abbrev pub before_first : ℕ → List (List ℕ) → List (List ℕ)
@@ -111,36 +116,36 @@ row word form = record { word = word; form = form }
 -- The lines, one row each: those that are asked of the store,
 abbrev pub store_rows : List Row
 store_rows =
-    row (codes "get") (one (λ x. Get x))
+    row (codes "get") (one (λ x. Ask (Get x)))
     ∷ row (codes "force") (asks Force)
-    ∷ row (codes "install") (asks Install)
-    ∷ row (codes "drain") (asks Drain)
-    ∷ row (codes "checkpoint") (asks Checkpoint)
-    ∷ row (codes "trim") (asks Trim)
-    ∷ row (codes "begin") (asks Begin)
-    ∷ row (codes "end") (asks End)
+    ∷ row (codes "install") (asks (Keep Install))
+    ∷ row (codes "drain") (asks (Keep Drain))
+    ∷ row (codes "checkpoint") (asks (Keep Checkpoint))
+    ∷ row (codes "trim") (asks (Keep Trim))
+    ∷ row (codes "begin") (asks (Group Begin))
+    ∷ row (codes "end") (asks (Group End))
     ∷ row (codes "stat") (asks Stat)
-    ∷ row (codes "bstart") (asks BackupStart)
-    ∷ row (codes "bcopy") (one (λ count. BackupCopy count))
-    ∷ row (codes "bfinish") (asks BackupFinish)
+    ∷ row (codes "bstart") (asks (Save Start))
+    ∷ row (codes "bcopy") (one (λ count. Save (CopyOn count)))
+    ∷ row (codes "bfinish") (asks (Save Finish))
     ∷ []
 
 -- before these those that are asked of a hash file,
 abbrev pub hash_rows : List Row
 hash_rows =
-    row (codes "hset") (range_and_two (λ low high key value. HashPut low high key value))
-    ∷ row (codes "hget") (range_and_key (λ low high key. HashGet low high key))
-    ∷ row (codes "hdel") (range_and_key (λ low high key. HashDelete low high key))
+    row (codes "hset") (range_and_two (λ low high key value. Make (HashPut low high key value)))
+    ∷ row (codes "hget") (range_and_key (λ low high key. Ask (HashGet low high key)))
+    ∷ row (codes "hdel") (range_and_key (λ low high key. Make (HashDelete low high key)))
     ∷ store_rows
 
 -- before these those that are asked of a tree, or for several steps of an application,
 abbrev pub made_rows : List Row
 made_rows =
-    row (codes "arun") (two (λ app steps. AppRun app steps))
-    ∷ row (codes "tinsert") (range_and_two (λ low high key value. TreeInsert low high key value))
-    ∷ row (codes "tget") (range_and_key (λ low high key. TreeGet low high key))
-    ∷ row (codes "tdelete") (range_and_key (λ low high key. TreeDelete low high key))
-    ∷ row (codes "trange") (range_and_two (λ low high from to. TreeRange low high from to))
+    row (codes "arun") (two (λ app steps. Make (AppRun app steps)))
+    ∷ row (codes "tinsert") (range_and_two (λ low high key value. Make (TreeInsert low high key value)))
+    ∷ row (codes "tget") (range_and_key (λ low high key. Ask (TreeGet low high key)))
+    ∷ row (codes "tdelete") (range_and_key (λ low high key. Make (TreeDelete low high key)))
+    ∷ row (codes "trange") (range_and_two (λ low high from to. Ask (TreeRange low high from to)))
     ∷ hash_rows
 
 -- before these those that are asked of an interpreted application,
@@ -149,7 +154,7 @@ program_rows =
     row (codes "pexec") (two (λ app p. Run (program (Step app p))))
     ∷ row (codes "pread") (two (λ app x. Run (program (Feed app x))))
     ∷ row (codes "pwrite") (two (λ app x. Run (program (DrainTo app x))))
-    ∷ row (codes "prun") (three (λ app p steps. ProgramRun app p steps))
+    ∷ row (codes "prun") (three (λ app p steps. Make (ProgramRun app p steps)))
     ∷ made_rows
 
 -- and before all of these those that are one command on plain values or on an application.

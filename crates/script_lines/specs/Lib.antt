@@ -1,5 +1,6 @@
 pub mod Grammar
 pub mod GrammarLaws
+pub mod Forms
 pub mod Replies
 pub mod Reader
 pub mod Reading

@@ -2,8 +2,8 @@ ghost use Rattle.std.specs.Prelude.{◌≡◌, ◌≢◌, ◌≤◌, ◌<◌, �
 ghost use Rattle.disk_model.specs.Disk.{Rises};
 ghost use Rattle.script_lines.specs.Reading.{IsNext, ReadsOn, TakesRun, still_to_give};
 
-use crate::line::MAX_LINE;
 use crate::next::Next;
+use crate::parse::MAX_LINE;
 use crate::read_error::ReadError;
 use disk_model::Source;
 use oper_core::Memory;

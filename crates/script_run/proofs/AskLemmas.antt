@@ -1,9 +1,9 @@
 -- What a question to a tree or a hash file is answered.
-use Rattle.std.proofs.Common.{◌≡◌, ◌≢◌, ◌∙◌, ap, sym, subst, refl, ◌⊎◌, inl, inr, ⊎_elim, ◌≤◌, ◌+◌, ◌++◌, ℕ, zero, suc, Bool, true, false, List, [], ◌∷◌, length, take, drop, arith, Option, Some, None, Result, Ok, Err, IfOk}
+use Rattle.std.proofs.Common.{◌≡◌, ◌∙◌, ap, sym, subst, refl, ◌⊎◌, inl, inr, ⊎_elim, ◌+◌, ◌++◌, ℕ, zero, suc, Bool, true, false, List, [], ◌∷◌, length, take, drop, Option, Some, None, Result, Ok, Err, IfOk}
 use Rattle.std.specs.Prelude.{⊤, if◌then◌else◌}
 use Rattle.std.proofs.Math.Seq.{take-nil}
 use Rattle.std.proofs.lemmas.List.{append-nil}
-use Rattle.disk_model.specs.Disk.{Files, Disk, LeavesOnly}
+use Rattle.disk_model.specs.Disk.{Disk, LeavesOnly}
 use Rattle.disk_model.specs.Moments.{weaker}
 use Rattle.formats.specs.Objects.{bounds_of}
 use Rattle.formats.specs.declared.params.Params.{Params}
@@ -25,23 +25,25 @@ use Rattle.hash_file.specs.Plan as of_hash
 use Rattle.hash_file.specs.declared.refusal.HashRefusal.TheVariants as hash_refusals
 use Rattle.script_lines.specs.declared.denial.Denial.TheVariants.{BadHash}
 use Rattle.script_lines.specs.Grammar.{Request, AsksFor}
-use Rattle.script_lines.specs.declared.line.Line.TheVariants.{TreeGet as tget, TreeRange as trange, HashGet as hget}
-use Rattle.script_lines.specs.Replies.{Reply, value, pairs, forced, refused, bad_tree, denied, pairs_reply}
+use Rattle.script_lines.specs.declared.line.Line.TheVariants.{Ask}
+use Rattle.script_lines.specs.declared.line.Question.TheVariants.{TreeGet as tget, TreeRange as trange, HashGet as hget}
+use Rattle.script_lines.specs.Replies.{Reply, value, pairs, refused, bad_tree, denied, pairs_reply}
 use Rattle.store_engine.specs.Engine.{EngineView, forced_in, used_in}
-use Rattle.store_engine.specs.Engine as of_engine
 use Rattle.shell_base.specs.First.{Stage, stage_of}
-use Rattle.shell_base.specs.Store.{Between, Command, Holds, Kept, Says, meaning_in, state_of}
+use Rattle.shell_base.specs.Store.{Between, Command, Holds, meaning_in, state_of}
 use Rattle.shell_base.specs.declared.stop.Stop.{Stop as Early}
-use Rattle.script_run.specs.Found.{IsAsked, reply_in}
-use Rattle.script_run.specs.Groups.{Regroups, open_in, waiting}
+use Rattle.script_run.specs.Courses.{Works}
+use Rattle.script_run.specs.Found.{IsAsked, IsDone, IsOfEngine, reply_in}
+use Rattle.script_run.specs.Groups.{Regroups, open_in}
 use Rattle.script_run.specs.Made.{AsksTree, found_reply, hash_found, range_reply, tree_answer}
-use Rattle.script_run.specs.Replies.{IsTrueIn, Replies}
-use Rattle.script_run.specs.Run.{IsAnswerFound, Working}
+use Rattle.script_run.specs.Replies.{Replies}
+use Rattle.script_run.specs.Run.{Working}
 use Rattle.script_run.specs.Stages.{GoesBy, IsQuestion}
 use Rattle.script_run.specs.declared.asking.Found.{Found}
+use Rattle.script_run.proofs.DoneLemmas.{read_done}
 use Rattle.script_run.proofs.ListLemmas.{IsOk, not_early}
-use Rattle.script_run.proofs.MomentLemmas.{Works, works_by}
-use Rattle.script_run.proofs.RunLemmas.{asks_values, found_read, run_nothing}
+use Rattle.script_run.proofs.MomentLemmas.{works_by}
+use Rattle.script_run.proofs.RunLemmas.{asks_values, run_nothing}
 
 -- the answer to a question to a tree
 abbrev IsTold : Reply → Type 0
@@ -81,19 +83,19 @@ told_hash true key (hash_find.bad x) = tt
 told_hash true key (hash_find.found x b) = told_bytes (find byte_order key b.pairs.items)
 
 is_told : (p : Params) (s : State) (reply : Reply) (request : Request) → tree_answer p s request ≡ Some reply → IsTold reply
-is_told p s reply (tget lo hi key) is =
+is_told p s reply (Ask (tget lo hi key)) is =
     subst IsTold (let e : found_reply (get_answer (bounds_of p) lo hi s key) ≡ reply = cc is in e) (told_get (is_there (bounds_of p) lo hi) key (walk lo hi s key))
-is_told p s reply (trange lo hi from to) is =
+is_told p s reply (Ask (trange lo hi from to)) is =
     subst IsTold (let e : range_reply (range_answer (bounds_of p) lo hi s from to) ≡ reply = cc is in e)
     (told_range (is_there (bounds_of p) lo hi) (scan lo hi s (record { from = from; to = Some to })))
-is_told p s reply (hget lo hi key) is =
+is_told p s reply (Ask (hget lo hi key)) is =
     subst IsTold (let e : hash_found (of_hash.get_answer (bounds_of p) lo hi s key) ≡ reply = cc is in e) (told_hash (of_hash.is_there (bounds_of p) lo hi) key (find_bucket lo hi s key))
 is_told p s reply request is = cc
 
 is_question : (p : Params) (s : State) (reply : Reply) (request : Request) → tree_answer p s request ≡ Some reply → IsQuestion request
-is_question p s reply (tget lo hi key) is = tt
-is_question p s reply (trange lo hi from to) is = tt
-is_question p s reply (hget lo hi key) is = tt
+is_question p s reply (Ask (tget lo hi key)) is = tt
+is_question p s reply (Ask (trange lo hi from to)) is = tt
+is_question p s reply (Ask (hget lo hi key)) is = tt
 is_question p s reply request is = cc
 
 module _ (p : Params) (commands : List Command) (line : List ℕ) where
@@ -122,21 +124,14 @@ module _ (p : Params) (commands : List Command) (line : List ℕ) where
   told_goes (denied BadHash) told a s = asks_values p s line a.request (is_question p (state_of p commands) (denied BadHash) a.request a.answers) a.asks
   told_goes reply told a s = absurd told
 
-  told_tied : (reply : Reply) → IsTold reply → (f : Files) (ops : List Command) → IsTrueIn p f ops line reply
-  told_tied (value bytes) told f ops = tt
-  told_tied (pairs pair others) told f ops = tt
-  told_tied (refused why) told f ops = tt
-  told_tied bad_tree told f ops = tt
-  told_tied (denied BadHash) told f ops = tt
-  told_tied reply told f ops = absurd told
-
-told_other : (reply : Reply) → IsTold reply → (n : ℕ) → reply ≢ forced n
-told_other (value bytes) told n is = cc is
-told_other (pairs pair others) told n is = cc is
-told_other (refused why) told n is = cc is
-told_other bad_tree told n is = cc is
-told_other (denied BadHash) told n is = cc is
-told_other reply told n is = absurd told
+  -- and says nothing of the engine
+  told_is_of : (reply : Reply) → IsTold reply → (engine : EngineView) → IsOfEngine engine line reply
+  told_is_of (value bytes) told engine = tt
+  told_is_of (pairs pair others) told engine = tt
+  told_is_of (refused why) told engine = tt
+  told_is_of bad_tree told engine = tt
+  told_is_of (denied BadHash) told engine = tt
+  told_is_of reply told engine = absurd told
 
 -- nothing is there to be stopped at
 pub no_first : (n : ℕ) (op : Command) (rest : List Command) → drop n [] ≡ op ∷ rest → ⊥
@@ -154,35 +149,27 @@ module _ {p : Params} {old now : Disk} {before after : EngineView} {commands : L
   done_only Short a short failed = absurd (short refl)
   done_only Failed a short failed = absurd (failed refl)
 
-  read_kept : Adds Done → (of_engine.Holds all_meaning p now after commands → Says p now after commands)
-      → (kept : Kept p before now after commands) × (stage_of after kept.holds.world ≡ stage_of before holds.world)
-  read_kept a says =
-      let here = ⊎_elim (λ failed. absurd failed) (λ reached. reached) a.kept in
-      let same = here.commands_are ∙ ap (λ (l : List Command). commands ++ l) (take-nil a.done) ∙ append-nil commands in (
-        record {
-          holds = record { world = here.world; shows = here.shows; commands_are = same; says = says (record { world = here.world; shows = here.shows; commands_are = same }) };
-          rising = ⊎_elim (λ failed. absurd failed) (λ rises. rises) a.rising;
-          which = ⊎_elim (λ failed. absurd failed)
-              (λ (which : (forced_in after ≡ forced_in before) ⊎ ((before.group ≡ None) × (length commands ≤ forced_in after))).
-              ⊎_elim (λ (as_many : forced_in after ≡ forced_in before). inl as_many) (λ (all : (before.group ≡ None) × (length commands ≤ forced_in after)). inr (all.0, omega (arith, all.1, holds.says.accepted))) which)
-              a.which;
-        },
-        λ i. record { world = (here.ends.1.world_is ∙ run_nothing (meaning_in p) holds.world) i; used = here.ends.1.used_is i; identities = a.identities i; copied = u.calls.call.copied i },
-      )
-
-  -- what was found is answered
-  pub asked_found : (found : Found) → result ≡ Ok found → (of_engine.Holds all_meaning p now after commands → Says p now after commands) → IsAnswerFound p old now before after holds.world commands line (reply_in found)
-  asked_found found is says =
-      let fine = subst IsOk (sym is) tt in
-      let early = not_early u.error result u.ended fine in
-      let kept = read_kept (done_only (ending_of u.error) (u.adds p commands holds) early.0 early.1) says in
+  -- what was found answers the line
+  done_with : (found : Found) → result ≡ Ok found → IsDone p old now before after holds.world commands line (reply_in found)
+  done_with found is =
+      let early = not_early u.error result u.ended (subst IsOk (sym is) tt) in
+      let adds = done_only (ending_of u.error) (u.adds p commands holds) early.0 early.1 in
+      let here = ⊎_elim (λ failed. absurd failed) (λ reached. reached) adds.kept in
       let tells = subst (λ (r : Result Found Early). IfOk r (λ f. tree_answer p (state_of p commands) request ≡ Some (reply_in f))) is (u.tells p commands holds) in
       let reply = reply_in found in
       let told = is_told p (state_of p commands) reply request tells in
       let a : AsksTree p commands line reply = record { request = request; asks = asks; answers = tells } in
-      found_read reply (told_replies p commands line (open_in holds.world) reply told a)
-      (λ f. told_tied p commands line reply told f (waiting (open_in holds.world) (commands ++ []))) (λ group. told_regroups p commands line group reply told) (told_other reply told) (told_goes p commands line reply told a) holds.commands_are
-      (u.calls.call.quiet holds.shows.shows.told) kept.0 kept.1
+      read_done reply (told_replies p commands line (open_in holds.world) reply told a) (λ group. told_regroups p commands line group reply told) (told_goes p commands line reply told a) (told_is_of p commands line reply told after)
+      (u.calls.call.quiet holds.shows.shows.told) here.world here.shows (here.commands_are ∙ ap (λ (l : List Command). commands ++ l) (take-nil adds.done) ∙ append-nil commands)
+      (⊎_elim (λ failed. absurd failed) (λ rises. rises) adds.rising) (⊎_elim (λ failed. absurd failed) (λ which. which) adds.which)
+      (λ i. record { world = (here.ends.1.world_is ∙ run_nothing (meaning_in p) holds.world) i; used = here.ends.1.used_is i; identities = adds.identities i; copied = u.calls.call.copied i })
+
+  pub asked_done : IfOk result (λ found. IsDone p old now before after holds.world commands line (reply_in found))
+  asked_done = by_result result refl
+    where
+      by_result : (r : Result Found Early) → result ≡ r → IfOk r (λ found. IsDone p old now before after holds.world commands line (reply_in found))
+      by_result (Ok found) is = done_with found is
+      by_result (Err stop) is = tt
 
   pub asked_images : old.tells_moments → LeavesOnly old now (Working p old before commands line)
   asked_images told =

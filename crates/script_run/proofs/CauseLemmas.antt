@@ -19,7 +19,11 @@ use Rattle.execution.specs.Courses.{append_course, needed}
 use Rattle.store_engine.specs.Engine.{needed_in, so_far}
 use Rattle.script_lines.specs.declared.answer.StatLine.{StatLine}
 use Rattle.script_lines.specs.Grammar.{Request, AsksFor, IsBad}
-use Rattle.script_lines.specs.declared.line.Line.TheVariants.{Run as run, AppRun as arun, ProgramRun as prun, TreeInsert as tinsert, TreeGet as tget, TreeDelete as tdelete, TreeRange as trange, HashPut as hset, HashGet as hget, HashDelete as hdel, Get as get, Force as force, Install as install, Drain as drain, Checkpoint as checkpoint, Trim as trim, Begin as begin_group, End as end_group, BackupStart as bstart, BackupCopy as bcopy, BackupFinish as bfinish, Stat as asks_stat, Skip as skip}
+use Rattle.script_lines.specs.declared.line.Line.TheVariants.{Run as run, Make, Ask, Force as force, Keep, Group, Save, Stat as asks_stat, Skip as skip}
+use Rattle.script_lines.specs.declared.line.Question.TheVariants.{TreeGet as tget, TreeRange as trange, HashGet as hget, Get as get}
+use Rattle.script_lines.specs.declared.line.Upkeep.TheVariants.{Trim as trim}
+use Rattle.script_lines.specs.declared.line.Grouping.TheVariants.{Begin as begin_group, End as end_group}
+use Rattle.script_lines.specs.declared.line.Saving.TheVariants.{Start as bstart, Copy as bcopy, Finish as bfinish}
 use Rattle.script_lines.specs.Replies.{Reply, ok, ran, value, pairs, forced, bad, refused, bad_tree, tree_full, denied, in_group, no_group, full, end, object_value, command_count, stat, copied, saved, backup_denied, summary, silence}
 use Rattle.script_lines.specs.declared.denial.Denial.{Denial}
 use Rattle.script_lines.specs.declared.denial.Denial.TheVariants.{BadHash}
@@ -29,26 +33,21 @@ use Rattle.shell_base.specs.First.{Stage}
 use Rattle.shell_base.specs.Store.{Command, meaning_in, refusal_after, state_of, record_length}
 use Rattle.script_run.specs.Groups.{open_in, size_of}
 use Rattle.script_run.specs.Made.{Made, AsksMade, AsksBehind, AsksTree, made, made_by, one_made, one_unless, tree_answer}
-use Rattle.script_run.specs.Replies.{AsksCommand, Replies, IsBarred, IsDenied, IsFull, IsGranted, IsLogged, HasLsn, IsOver}
+use Rattle.script_run.specs.Replies.{AsksCommand, Replies, IsBarred, IsDenied, IsFull, IsGranted, IsLogged, IsNumbered, IsOver}
 use Rattle.script_run.specs.Stages.{Ends, GoesBy, IsBackupFull, IsBesideBackup, IsQuestion, StartsBackup, forced_stage, upkeep_course}
 use Rattle.script_run.proofs.MadeLemmas.{command_made, one_course}
 
 -- the classes of requests: for pairs of a tree or a hash file, for a value, for commands, the end of a group, upkeep and the end of a
 -- backup, the beginning of a group or of a backup, and four by themselves
 abbrev pub class : Request → ℕ
-class (tget lo hi key) = 0
-class (trange lo hi from to) = 0
-class (hget lo hi key) = 0
-class (get x) = 1
-class end_group = 3
-class install = 4
-class drain = 4
-class checkpoint = 4
-class trim = 4
-class bfinish = 4
-class begin_group = 5
-class bstart = 5
-class (bcopy count) = 6
+class (Ask (get x)) = 1
+class (Ask question) = 0
+class (Group end_group) = 3
+class (Keep upkeep) = 4
+class (Save bfinish) = 4
+class (Group begin_group) = 5
+class (Save bstart) = 5
+class (Save (bcopy count)) = 6
 class force = 7
 class asks_stat = 8
 class skip = 9
@@ -101,70 +100,54 @@ Allows reply n = (first_of reply ≤ n) × (n ≤ last_of reply)
 
 made_class : (p : Params) (commands : List Command) (it : Made) (request : Request) → made_by p commands request ≡ Some it → class request ≡ 2
 made_class p commands it (run op) is = refl
-made_class p commands it (arun app n) is = refl
-made_class p commands it (prun app code n) is = refl
-made_class p commands it (tinsert lo hi key bytes) is = refl
-made_class p commands it (tdelete lo hi key) is = refl
-made_class p commands it (hset lo hi key bytes) is = refl
-made_class p commands it (hdel lo hi key) is = refl
+made_class p commands it (Make making) is = refl
 made_class p commands it request is = cc
 
 logged_class : (request : Request) → IsLogged request → class request ≡ 4
-logged_class install is = refl
-logged_class drain is = refl
-logged_class checkpoint is = refl
-logged_class trim is = refl
-logged_class bfinish is = refl
+logged_class (Keep upkeep) is = refl
+logged_class (Save bfinish) is = refl
 logged_class request is = absurd is
 
 pub denied_class : (why : BackupDenial) (request : Request) → IsDenied why request → (4 ≤ class request) × (class request ≤ 6)
-denied_class InBackup bstart is = (omega arith, omega arith)
-denied_class InBackup trim is = (omega arith, omega arith)
-denied_class NoBackup (bcopy count) is = (omega arith, omega arith)
-denied_class NoBackup bfinish is = (omega arith, omega arith)
-denied_class AlreadyStore bstart is = (omega arith, omega arith)
-denied_class NotCopied bfinish is = (omega arith, omega arith)
+denied_class InBackup (Save bstart) is = (omega arith, omega arith)
+denied_class InBackup (Keep trim) is = (omega arith, omega arith)
+denied_class NoBackup (Save (bcopy count)) is = (omega arith, omega arith)
+denied_class NoBackup (Save bfinish) is = (omega arith, omega arith)
+denied_class AlreadyStore (Save bstart) is = (omega arith, omega arith)
+denied_class NotCopied (Save bfinish) is = (omega arith, omega arith)
 denied_class why request is = absurd is
 
-numbered_class : (request : Request) → HasLsn request → class request ≡ 4
-numbered_class install is = refl
-numbered_class drain is = refl
-numbered_class trim is = refl
+numbered_class : (request : Request) → IsNumbered request → class request ≡ 4
+numbered_class (Keep upkeep) is = refl
 numbered_class request is = absurd is
 
 granted_class : (group : Option ℕ) (request : Request) → IsGranted group request → (3 ≤ class request) × (class request ≤ 5)
-granted_class group begin_group is = (omega arith, omega arith)
-granted_class group end_group is = (omega arith, omega arith)
-granted_class group bstart is = (omega arith, omega arith)
-granted_class group install is = (omega arith, omega arith)
-granted_class group drain is = (omega arith, omega arith)
-granted_class group checkpoint is = (omega arith, omega arith)
-granted_class group trim is = (omega arith, omega arith)
+granted_class group (Group begin_group) is = (omega arith, omega arith)
+granted_class group (Group end_group) is = (omega arith, omega arith)
+granted_class group (Save bstart) is = (omega arith, omega arith)
+granted_class group (Keep upkeep) is = (omega arith, omega arith)
 granted_class group request is = absurd is.0
 
 barred_class : (request : Request) → IsBarred request → (4 ≤ class request) × (class request ≤ 7)
-barred_class begin_group is = (omega arith, omega arith)
+barred_class (Group begin_group) is = (omega arith, omega arith)
 barred_class force is = (omega arith, omega arith)
-barred_class bstart is = (omega arith, omega arith)
-barred_class (bcopy count) is = (omega arith, omega arith)
-barred_class bfinish is = (omega arith, omega arith)
-barred_class install is = (omega arith, omega arith)
-barred_class drain is = (omega arith, omega arith)
-barred_class checkpoint is = (omega arith, omega arith)
-barred_class trim is = (omega arith, omega arith)
+barred_class (Save bstart) is = (omega arith, omega arith)
+barred_class (Save (bcopy count)) is = (omega arith, omega arith)
+barred_class (Save bfinish) is = (omega arith, omega arith)
+barred_class (Keep upkeep) is = (omega arith, omega arith)
 barred_class request is = absurd is
 
 tree_class : (p : Params) (s : State) (reply : Reply) (request : Request) → tree_answer p s request ≡ Some reply → class request ≡ 0
-tree_class p s reply (tget lo hi key) is = refl
-tree_class p s reply (trange lo hi from to) is = refl
-tree_class p s reply (hget lo hi key) is = refl
+tree_class p s reply (Ask (tget lo hi key)) is = refl
+tree_class p s reply (Ask (trange lo hi from to)) is = refl
+tree_class p s reply (Ask (hget lo hi key)) is = refl
 tree_class p s reply request is = cc
 
 pub question_class : (request : Request) → IsQuestion request → class request ≤ 1
-question_class (get x) is = omega arith
-question_class (tget lo hi key) is = omega arith
-question_class (trange lo hi from to) is = omega arith
-question_class (hget lo hi key) is = omega arith
+question_class (Ask (get x)) is = omega arith
+question_class (Ask (tget lo hi key)) is = omega arith
+question_class (Ask (trange lo hi from to)) is = omega arith
+question_class (Ask (hget lo hi key)) is = omega arith
 question_class request is = absurd is
 
 -- no group is open, and one is
@@ -174,15 +157,12 @@ not_both (Some n) some none = cc none
 
 -- what no group allows is not granted within one
 not_granted : (group : Option ℕ) (request : Request) → IsBarred request → IsGranted group request → IsTrue (is_some group) → ⊥
-not_granted group begin_group barred may some = not_both group some may
-not_granted group install barred may some = not_both group some may.1
-not_granted group drain barred may some = not_both group some may.1
-not_granted group checkpoint barred may some = not_both group some may.1
-not_granted group trim barred may some = not_both group some may.1
+not_granted group (Group begin_group) barred may some = not_both group some may
+not_granted group (Keep upkeep) barred may some = not_both group some may.1
 not_granted group force barred may some = may.0
-not_granted group bstart barred may some = not_both group some may
-not_granted group (bcopy count) barred may some = may.0
-not_granted group bfinish barred may some = may.0
+not_granted group (Save bstart) barred may some = not_both group some may
+not_granted group (Save (bcopy count)) barred may some = may.0
+not_granted group (Save bfinish) barred may some = may.0
 not_granted group request barred may some = barred
 
 -- how a command is answered
@@ -230,7 +210,7 @@ module _ (p : Params) (group : Option ℕ) (commands : List Command) (line : Lis
       is
   asked (ran k) added is other = of_made (ran k) (λ n e. (omega (arith, e), omega (arith, e))) is
   asked (value bytes) added is other = ⊎_elim
-      (λ (g : (object : ℕ) × AsksFor line (get object) × (object < p.objects) × (bytes ≡ state_of p commands object)). (get g.0, g.1, (omega arith, omega arith)))
+      (λ (g : (object : ℕ) × AsksFor line (Ask (get object)) × (object < p.objects) × (bytes ≡ state_of p commands object)). (Ask (get g.0), g.1, (omega arith, omega arith)))
       (λ (t : AsksTree p commands line (value bytes)). of_tree (value bytes) (λ n e. (omega (arith, e), omega (arith, e))) t)
       is.0
   asked (pairs pair others) added is other = of_tree (pairs pair others) (λ n e. (omega (arith, e), omega (arith, e))) is.0
@@ -238,8 +218,8 @@ module _ (p : Params) (group : Option ℕ) (commands : List Command) (line : Lis
   asked bad added is other = absurd (other refl)
   asked (refused why) added is other = ⊎_elim
       (λ (m : AsksMade p commands line (made added (refused why))). of_made (refused why) (λ n e. (omega (arith, e), omega (arith, e))) m)
-      (λ (q : (((object : ℕ) × AsksFor line (get object) × (p.objects ≤ object) × (why ≡ NoObject)) ⊎ AsksTree p commands line (refused why)) × (added ≡ [])). ⊎_elim
-      (λ (g : (object : ℕ) × AsksFor line (get object) × (p.objects ≤ object) × (why ≡ NoObject)). (get g.0, g.1, (omega arith, omega arith)))
+      (λ (q : (((object : ℕ) × AsksFor line (Ask (get object)) × (p.objects ≤ object) × (why ≡ NoObject)) ⊎ AsksTree p commands line (refused why)) × (added ≡ [])). ⊎_elim
+      (λ (g : (object : ℕ) × AsksFor line (Ask (get object)) × (p.objects ≤ object) × (why ≡ NoObject)). (Ask (get g.0), g.1, (omega arith, omega arith)))
       (λ (t : AsksTree p commands line (refused why)). of_tree (refused why) (λ n e. (omega (arith, e), omega (arith, e))) t)
       q.0)
       is
@@ -253,7 +233,7 @@ module _ (p : Params) (group : Option ℕ) (commands : List Command) (line : Lis
       (λ (t : (why ≡ BadHash) × AsksTree p commands line (denied why) × (added ≡ [])). of_tree (denied why) (λ n e. (omega (arith, e), omega (arith, e))) t.1)
       is
   asked in_group added is other = (is.0, is.2, barred_class is.0 is.1)
-  asked no_group added is other = (end_group, is.0, (omega arith, omega arith))
+  asked no_group added is other = (Group end_group, is.0, (omega arith, omega arith))
   asked (full used need limit) added is other = ⊎_elim
       (λ (b : (op : Command) × AsksBehind p commands line added op × (need ≡ needed_in (size_of group (commands ++ added)) (record_length p op)) × (limit ≡ p.limit) × (limit < used + need)).
       of_made (full used need limit) (λ n e. (omega (arith, e), omega (arith, e))) b.1.asks)
@@ -262,11 +242,11 @@ module _ (p : Params) (group : Option ℕ) (commands : List Command) (line : Lis
       is
   asked (end number) added is other = ⊎_elim
       (λ (b : (op : Command) × AsksBehind p commands line added op). of_made (end number) (λ n e. (omega (arith, e), omega (arith, e))) b.1.asks)
-      (λ (u : (request : Request) × HasLsn request × AsksFor line request × (group ≡ None) × (added ≡ [])). of_class (end number) 4 (omega arith, omega arith) u.0 (numbered_class u.0 u.1) u.2)
+      (λ (u : (request : Request) × IsNumbered request × AsksFor line request × (group ≡ None) × (added ≡ [])). of_class (end number) 4 (omega arith, omega arith) u.0 (numbered_class u.0 u.1) u.2)
       is.0
   asked (stat counts) added is other = (asks_stat, is.0, (omega arith, omega arith))
-  asked (copied n) added is other = (bcopy is.0, is.1, (omega arith, omega arith))
-  asked (saved n) added is other = (bfinish, is.0, (omega arith, omega arith))
+  asked (copied n) added is other = (Save (bcopy is.0), is.1, (omega arith, omega arith))
+  asked (saved n) added is other = (Save bfinish, is.0, (omega arith, omega arith))
   asked (backup_denied why) added is other = (is.0, is.2, denied_class why is.0 is.1)
   asked silence added is other = (skip, is.0, (omega arith, omega arith))
   asked (object_value x bytes) added is other = absurd is
@@ -344,8 +324,8 @@ module _ (p : Params) (group : Option ℕ) (commands : List Command) (line : Lis
         ⊎_elim (λ (none : (refusal_after p commands op ≡ None) × (refused other ≡ ok)). absurd (let e = none.1 in cc e))
         (λ (some : (x : Refusal) × (refusal_after p commands op ≡ Some x) × (refused other ≡ refused x)). let mine = some.1 in let same = some.2 in (λ e. cc (e, mine, same), λ here. cc (here, mine, same)))
         (answer_of op (refused other) added asks m))
-        (λ (q : (((object : ℕ) × AsksFor line (get object) × (p.objects ≤ object) × (other ≡ NoObject)) ⊎ AsksTree p commands line (refused other)) × (added ≡ [])). absurd (⊎_elim
-        (λ (g : (object : ℕ) × AsksFor line (get object) × (p.objects ≤ object) × (other ≡ NoObject)). made_clash (get g.0) g.1 (λ e. omega (arith, e)) (command_made p commands line op asks))
+        (λ (q : (((object : ℕ) × AsksFor line (Ask (get object)) × (p.objects ≤ object) × (other ≡ NoObject)) ⊎ AsksTree p commands line (refused other)) × (added ≡ [])). absurd (⊎_elim
+        (λ (g : (object : ℕ) × AsksFor line (Ask (get object)) × (p.objects ≤ object) × (other ≡ NoObject)). made_clash (Ask (get g.0)) g.1 (λ e. omega (arith, e)) (command_made p commands line op asks))
         (λ (t : AsksTree p commands line (refused other)). let mine = command_made p commands line op asks in
         tree_clash mine.request mine.asks (λ e. let same = made_class p commands (one_made p commands op) mine.request mine.makes in omega (arith, e, same)) t)
         q.0))
@@ -378,58 +358,58 @@ module _ (p : Params) (group : Option ℕ) (commands : List Command) (line : Lis
         is
     refused_exactly (end number) added op why is asks = ⊎_elim
         (λ (b : (first : Command) × AsksBehind p commands line added first). let none = nothing_refuses op b.0 added asks b.1 in (λ e. cc, λ some. cc (some, none)))
-        (λ (u : (request : Request) × HasLsn request × AsksFor line request × (group ≡ None) × (added ≡ [])).
+        (λ (u : (request : Request) × IsNumbered request × AsksFor line request × (group ≡ None) × (added ≡ [])).
         absurd (made_clash u.0 u.2 (λ e. let same = numbered_class u.0 u.1 in omega (arith, e, same)) (command_made p commands line op asks)))
         is.0
     refused_exactly reply added op why is asks = absurd (let a = command_class op asks reply added is (λ e. cc) in omega (arith, a.0, a.1))
 
-    same_object : (a b : ℕ) → AsksFor line (get a) → AsksFor line (get b) → a ≡ b
-    same_object a b x y = let same = one (get a) (get b) x y in cc same
+    same_object : (a b : ℕ) → AsksFor line (Ask (get a)) → AsksFor line (Ask (get b)) → a ≡ b
+    same_object a b x y = let same = one (Ask (get a)) (Ask (get b)) x y in cc same
 
-    none_there : (why : Refusal) (added : List Command) (object : ℕ) → Replies p group commands line (refused why) added → AsksFor line (get object) → (p.objects ≤ object) × (why ≡ NoObject)
+    none_there : (why : Refusal) (added : List Command) (object : ℕ) → Replies p group commands line (refused why) added → AsksFor line (Ask (get object)) → (p.objects ≤ object) × (why ≡ NoObject)
     none_there why added object is asks = ⊎_elim
-        (λ (m : AsksMade p commands line (made added (refused why))). absurd (made_clash (get object) asks (λ e. omega (arith, e)) m))
-        (λ (q : (((x : ℕ) × AsksFor line (get x) × (p.objects ≤ x) × (why ≡ NoObject)) ⊎ AsksTree p commands line (refused why)) × (added ≡ [])). ⊎_elim
-        (λ (g : (x : ℕ) × AsksFor line (get x) × (p.objects ≤ x) × (why ≡ NoObject)). (subst (λ (x : ℕ). p.objects ≤ x) (same_object g.0 object g.1 asks) g.2, g.3))
-        (λ (t : AsksTree p commands line (refused why)). absurd (tree_clash (get object) asks (λ e. omega (arith, e)) t))
+        (λ (m : AsksMade p commands line (made added (refused why))). absurd (made_clash (Ask (get object)) asks (λ e. omega (arith, e)) m))
+        (λ (q : (((x : ℕ) × AsksFor line (Ask (get x)) × (p.objects ≤ x) × (why ≡ NoObject)) ⊎ AsksTree p commands line (refused why)) × (added ≡ [])). ⊎_elim
+        (λ (g : (x : ℕ) × AsksFor line (Ask (get x)) × (p.objects ≤ x) × (why ≡ NoObject)). (subst (λ (x : ℕ). p.objects ≤ x) (same_object g.0 object g.1 asks) g.2, g.3))
+        (λ (t : AsksTree p commands line (refused why)). absurd (tree_clash (Ask (get object)) asks (λ e. omega (arith, e)) t))
         q.0)
         is
 
     -- a value is not asked of a tree
-    no_tree : (object : ℕ) (added : List Command) → Replies p group commands line bad_tree added → AsksFor line (get object) → ⊥
+    no_tree : (object : ℕ) (added : List Command) → Replies p group commands line bad_tree added → AsksFor line (Ask (get object)) → ⊥
     no_tree object added is asks = ⊎_elim
-        (λ (m : AsksMade p commands line (made added bad_tree)). made_clash (get object) asks (λ e. omega (arith, e)) m)
-        (λ (t : AsksTree p commands line bad_tree × (added ≡ [])). tree_clash (get object) asks (λ e. omega (arith, e)) t.0)
+        (λ (m : AsksMade p commands line (made added bad_tree)). made_clash (Ask (get object)) asks (λ e. omega (arith, e)) m)
+        (λ (t : AsksTree p commands line bad_tree × (added ≡ [])). tree_clash (Ask (get object)) asks (λ e. omega (arith, e)) t.0)
         is
 
     -- nor of a hash file
-    no_denial : (object : ℕ) (why : Denial) (added : List Command) → Replies p group commands line (denied why) added → AsksFor line (get object) → ⊥
+    no_denial : (object : ℕ) (why : Denial) (added : List Command) → Replies p group commands line (denied why) added → AsksFor line (Ask (get object)) → ⊥
     no_denial object why added is asks = ⊎_elim
-        (λ (m : AsksMade p commands line (made added (denied why))). made_clash (get object) asks (λ e. omega (arith, e)) m)
-        (λ (t : (why ≡ BadHash) × AsksTree p commands line (denied why) × (added ≡ [])). tree_clash (get object) asks (λ e. omega (arith, e)) t.1)
+        (λ (m : AsksMade p commands line (made added (denied why))). made_clash (Ask (get object)) asks (λ e. omega (arith, e)) m)
+        (λ (t : (why ≡ BadHash) × AsksTree p commands line (denied why) × (added ≡ [])). tree_clash (Ask (get object)) asks (λ e. omega (arith, e)) t.1)
         is
 
-    pub no_object_exactly : (reply : Reply) (added : List Command) (object : ℕ) → Replies p group commands line reply added → AsksFor line (get object) → (reply ≡ refused NoObject) ↔ (p.objects ≤ object)
+    pub no_object_exactly : (reply : Reply) (added : List Command) (object : ℕ) → Replies p group commands line reply added → AsksFor line (Ask (get object)) → (reply ≡ refused NoObject) ↔ (p.objects ≤ object)
     no_object_exactly (value bytes) added object is asks = ⊎_elim
-        (λ (g : (x : ℕ) × AsksFor line (get x) × (x < p.objects) × (bytes ≡ state_of p commands x)). (λ e. cc, λ high. absurd (omega (arith, high, g.2, same_object g.0 object g.1 asks))))
-        (λ (t : AsksTree p commands line (value bytes)). absurd (tree_clash (get object) asks (λ e. omega (arith, e)) t))
+        (λ (g : (x : ℕ) × AsksFor line (Ask (get x)) × (x < p.objects) × (bytes ≡ state_of p commands x)). (λ e. cc, λ high. absurd (omega (arith, high, g.2, same_object g.0 object g.1 asks))))
+        (λ (t : AsksTree p commands line (value bytes)). absurd (tree_clash (Ask (get object)) asks (λ e. omega (arith, e)) t))
         is.0
-    no_object_exactly bad added object is asks = absurd (is.0 (get object) asks)
+    no_object_exactly bad added object is asks = absurd (is.0 (Ask (get object)) asks)
     no_object_exactly (refused why) added object is asks = let here = none_there why added object is asks in (λ e. here.0, λ high. ap (λ (w : Refusal). refused w) here.1)
     no_object_exactly bad_tree added object is asks = absurd (no_tree object added is asks)
     no_object_exactly (denied why) added object is asks = absurd (no_denial object why added is asks)
-    no_object_exactly reply added object is asks = absurd (let a = fits (get object) asks reply added is (λ e. cc) in omega (arith, a.0, a.1))
+    no_object_exactly reply added object is asks = absurd (let a = fits (Ask (get object)) asks reply added is (λ e. cc) in omega (arith, a.0, a.1))
 
-    pub value_exactly : (reply : Reply) (added : List Command) (object : ℕ) → Replies p group commands line reply added → AsksFor line (get object) → object < p.objects → reply ≡ value (state_of p commands object)
+    pub value_exactly : (reply : Reply) (added : List Command) (object : ℕ) → Replies p group commands line reply added → AsksFor line (Ask (get object)) → object < p.objects → reply ≡ value (state_of p commands object)
     value_exactly (value bytes) added object is asks low = ⊎_elim
-        (λ (g : (x : ℕ) × AsksFor line (get x) × (x < p.objects) × (bytes ≡ state_of p commands x)). ap (λ (v : List ℕ). value v) (g.3 ∙ ap (λ (x : ℕ). state_of p commands x) (same_object g.0 object g.1 asks)))
-        (λ (t : AsksTree p commands line (value bytes)). absurd (tree_clash (get object) asks (λ e. omega (arith, e)) t))
+        (λ (g : (x : ℕ) × AsksFor line (Ask (get x)) × (x < p.objects) × (bytes ≡ state_of p commands x)). ap (λ (v : List ℕ). value v) (g.3 ∙ ap (λ (x : ℕ). state_of p commands x) (same_object g.0 object g.1 asks)))
+        (λ (t : AsksTree p commands line (value bytes)). absurd (tree_clash (Ask (get object)) asks (λ e. omega (arith, e)) t))
         is.0
-    value_exactly bad added object is asks low = absurd (is.0 (get object) asks)
+    value_exactly bad added object is asks low = absurd (is.0 (Ask (get object)) asks)
     value_exactly (refused why) added object is asks low = let here = none_there why added object is asks in absurd (omega (arith, low, here.0))
     value_exactly bad_tree added object is asks low = absurd (no_tree object added is asks)
     value_exactly (denied why) added object is asks low = absurd (no_denial object why added is asks)
-    value_exactly reply added object is asks low = absurd (let a = fits (get object) asks reply added is (λ e. cc) in omega (arith, a.0, a.1))
+    value_exactly reply added object is asks low = absurd (let a = fits (Ask (get object)) asks reply added is (λ e. cc) in omega (arith, a.0, a.1))
 
     pub forced_exactly : (reply : Reply) (added : List Command) → Replies p group commands line reply added → AsksFor line force → group ≡ None → reply ≡ forced (length commands)
     forced_exactly (forced n) added is asks none = ap (λ (k : ℕ). forced k) is.2
@@ -477,7 +457,7 @@ module _ (p : Params) (group : Option ℕ) (commands : List Command) (line : Lis
       λ e. cc,
       λ here. absurd (⊎_elim
           (λ (b : (op : Command) × AsksBehind p commands line added op). made_clash here.0 here.2 (λ e. let c = barred_class here.0 here.1 in omega (arith, e, c.0)) b.1.asks)
-          (λ (u : (request : Request) × HasLsn request × AsksFor line request × (group ≡ None) × (added ≡ [])). not_both group here.3 u.3)
+          (λ (u : (request : Request) × IsNumbered request × AsksFor line request × (group ≡ None) × (added ≡ [])). not_both group here.3 u.3)
           is.0),
     )
     in_group_exactly reply added is = (
@@ -486,34 +466,34 @@ module _ (p : Params) (group : Option ℕ) (commands : List Command) (line : Lis
     )
 
     -- and the end of a group exactly outside groups
-    pub no_group_exactly : (reply : Reply) (added : List Command) → Replies p group commands line reply added → (reply ≡ no_group) ↔ (AsksFor line end_group × (group ≡ None))
+    pub no_group_exactly : (reply : Reply) (added : List Command) → Replies p group commands line reply added → (reply ≡ no_group) ↔ (AsksFor line (Group end_group) × (group ≡ None))
     no_group_exactly no_group added is = (λ e. (is.0, is.1), λ here. refl)
     no_group_exactly ok added is = (
       λ e. cc,
       λ here. absurd (⊎_elim
-          (λ (m : AsksMade p commands line (made added ok) × (length (commands ++ added) < 2 ^ 62)). made_clash end_group here.0 (λ e. omega (arith, e)) m.0)
+          (λ (m : AsksMade p commands line (made added ok) × (length (commands ++ added) < 2 ^ 62)). made_clash (Group end_group) here.0 (λ e. omega (arith, e)) m.0)
           (λ (g : (request : Request) × IsGranted group request × AsksFor line request × (added ≡ [])).
-          let some : IsTrue (is_some group) = subst (λ (r : Request). IsGranted group r) (one g.0 end_group g.2 here.0) g.1 in not_both group some here.1)
+          let some : IsTrue (is_some group) = subst (λ (r : Request). IsGranted group r) (one g.0 (Group end_group) g.2 here.0) g.1 in not_both group some here.1)
           is),
     )
-    no_group_exactly bad added is = (λ e. cc, λ here. absurd (is.0 end_group here.0))
+    no_group_exactly bad added is = (λ e. cc, λ here. absurd (is.0 (Group end_group) here.0))
     no_group_exactly (full used need limit) added is = (
       λ e. cc,
       λ here. absurd (⊎_elim
           (λ (b : (op : Command) × AsksBehind p commands line added op × (need ≡ needed_in (size_of group (commands ++ added)) (record_length p op)) × (limit ≡ p.limit) × (limit < used + need)).
-          made_clash end_group here.0 (λ e. omega (arith, e)) b.1.asks)
+          made_clash (Group end_group) here.0 (λ e. omega (arith, e)) b.1.asks)
           (λ (u : (request : Request) × IsLogged request × AsksFor line request × (group ≡ None) × (limit ≡ 2 ^ 48) × IsOver request used need limit × (added ≡ [])).
-          omega (arith, logged_class u.0 u.1, ap class (one u.0 end_group u.2 here.0)))
+          omega (arith, logged_class u.0 u.1, ap class (one u.0 (Group end_group) u.2 here.0)))
           is),
     )
     no_group_exactly (end number) added is = (
       λ e. cc,
       λ here. absurd (⊎_elim
-          (λ (b : (op : Command) × AsksBehind p commands line added op). made_clash end_group here.0 (λ e. omega (arith, e)) b.1.asks)
-          (λ (u : (request : Request) × HasLsn request × AsksFor line request × (group ≡ None) × (added ≡ [])). omega (arith, numbered_class u.0 u.1, ap class (one u.0 end_group u.2 here.0)))
+          (λ (b : (op : Command) × AsksBehind p commands line added op). made_clash (Group end_group) here.0 (λ e. omega (arith, e)) b.1.asks)
+          (λ (u : (request : Request) × IsNumbered request × AsksFor line request × (group ≡ None) × (added ≡ [])). omega (arith, numbered_class u.0 u.1, ap class (one u.0 (Group end_group) u.2 here.0)))
           is.0),
     )
-    no_group_exactly reply added is = (λ e. cc, λ here. absurd (let a = fits end_group here.0 reply added is (λ e. cc) in omega (arith, a.0, a.1)))
+    no_group_exactly reply added is = (λ e. cc, λ here. absurd (let a = fits (Group end_group) here.0 reply added is (λ e. cc) in omega (arith, a.0, a.1)))
 
     -- the course that the line of an accepted command has is that of its record
     own_course : (op : Command) (before after : Stage) (stop : Stop) → commands_of before.world.history ≡ commands → refusal_after p commands op ≡ None → AsksCommand line op → Ends p before line stop after
@@ -545,7 +525,7 @@ module _ (p : Params) (group : Option ℕ) (commands : List Command) (line : Lis
       λ f. absurd f,
       λ over. absurd (⊎_elim
           (λ (ends : Ends p before line Through after). room_else op before after Through (λ a b c e. cc) same none asks ends over)
-          (λ (starts : StartsBackup before line (forced_stage p before) after). command_clash op bstart (λ e. omega (arith, e)) asks starts.0)
+          (λ (starts : StartsBackup before line (forced_stage p before) after). command_clash op (Save bstart) (λ e. omega (arith, e)) asks starts.0)
           goes),
     )
     full_exactly (ran k) added op before after is goes same asks none = absurd (⊎_elim
@@ -577,7 +557,7 @@ module _ (p : Params) (group : Option ℕ) (commands : List Command) (line : Lis
     full_exactly (full used need limit) added op before after is goes same asks none = (
       λ f. ⊎_elim
           (λ (ends : Ends p before line (Full used need limit) after). full_over (meaning_in p) (is_some before.world.group) p.limit op before.world before.used used need limit (own_course op before after (Full used need limit) same none asks ends))
-          (λ (saves : IsBackupFull p before line used need (forced_stage p before) after). absurd (command_clash op bfinish (λ e. omega (arith, e)) asks saves.0))
+          (λ (saves : IsBackupFull p before line used need (forced_stage p before) after). absurd (command_clash op (Save bfinish) (λ e. omega (arith, e)) asks saves.0))
           goes,
       λ over. tt,
     )

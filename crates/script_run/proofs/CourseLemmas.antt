@@ -9,7 +9,7 @@ use Rattle.explain_core.specs.Turns.{count_below, dirty_in}
 use Rattle.explain_core.specs.World.{World, Step, run, end_of}
 use Rattle.explain_core.specs.World.Step.{Append, Begin, Block_gate, Header_gate}
 use Rattle.running_store.specs.Courses.{Course, course, is_through, and_then, waits, buffered, grown, force_steps, force_course, room_steps, placed, cached_length, identity_length, identity_steps}
-use Rattle.cache_manager.specs.InstallCourses.{identity_course, identities, must_log, others, finish_steps, rounds, has_members, install_course, round_limit, round_course, is_next_due, drain_turn, drains, logged_by, logged_in}
+use Rattle.cache_manager.specs.InstallCourses.{identity_course, identities, must_log, others, finish_steps, rounds, has_members, install_course, round_limit, round_course, is_next_due, next_turn, turns, logged_by, logged_in}
 use Rattle.running_store.specs.Courses.Stop.{Through, Full, At_end}
 use Rattle.running_store.specs.CourseLaws.{behind_both}
 use Rattle.running_store.specs.Running.{AreUpkeep}
@@ -20,7 +20,8 @@ use Rattle.formats.specs.Limits.{lsn_end}
 use Rattle.checkpointing.specs.Courses.{taking_course, checkpoint_steps, checkpoint_course, logged_course, trim_course}
 use Rattle.execution.specs.Courses.{append_course, needed, unplaced_steps}
 use Rattle.script_lines.specs.Grammar.{Request}
-use Rattle.script_lines.specs.declared.line.Line.TheVariants.{Install as install, Drain as drain, Checkpoint as checkpoint, Trim as trim}
+use Rattle.script_lines.specs.declared.line.Line.TheVariants.{Keep}
+use Rattle.script_lines.specs.declared.line.Upkeep.TheVariants.{Install as install, Drain as drain, Checkpoint as checkpoint, Trim as trim}
 use Rattle.store_engine.specs.Calls.{begin_course}
 use Rattle.shell_base.specs.Store.{Command}
 use Rattle.script_run.specs.Replies.{IsOver, IsUpkeep}
@@ -67,42 +68,42 @@ module _ (m : Meaning Command) where
     stop_install : (copies : ℕ) (w : World Command) (used : ℕ) → MayStop r (install_course m copies w used).stop
     stop_install copies w used = stop_either r (has_members m w) (rounds m copies m.objects w used) (course [] used Through) (stop_rounds copies m.objects w used) tt
 
-    stop_turn : (copies : ℕ) (w : World Command) (used : ℕ) → MayStop r (drain_turn m copies w used).stop
-    stop_turn copies w used =
-        stop_either r (is_next_due m copies w) (round_course m copies (round_limit m) w used) (rounds m copies m.objects w used) tt (stop_rounds copies m.objects w used)
+    stop_turn : (most copies : ℕ) (w : World Command) (used : ℕ) → MayStop r (next_turn m copies most w used).stop
+    stop_turn most copies w used =
+        stop_either r (is_next_due m copies w) (round_course m copies most w used) (rounds m copies m.objects w used) tt (stop_rounds copies m.objects w used)
 
-    stop_drains : (copies n : ℕ) (w : World Command) (used : ℕ) → MayStop r (drains m copies n w used).stop
-    stop_drains copies zero w used = tt
-    stop_drains copies (suc n) w used =
-        stop_either r (has_members m w) (and_then m w (drain_turn m copies w used) (λ v used. drains m copies n v used)) (course [] used Through)
-        (stop_then r w (drain_turn m copies w used) (λ v used. drains m copies n v used) (stop_turn copies w used) (λ v used. stop_drains copies n v used)) tt
+    stop_turns : (most copies n : ℕ) (w : World Command) (used : ℕ) → MayStop r (turns m copies most n w used).stop
+    stop_turns most copies zero w used = tt
+    stop_turns most copies (suc n) w used =
+        stop_either r (has_members m w) (and_then m w (next_turn m copies most w used) (λ v used. turns m copies most n v used)) (course [] used Through)
+        (stop_then r w (next_turn m copies most w used) (λ v used. turns m copies most n v used) (stop_turn most copies w used) (λ v used. stop_turns most copies n v used)) tt
 
-  stop_taking : (w : World Command) (used : ℕ) → MayStop checkpoint (taking_course m w used).stop
+  stop_taking : (w : World Command) (used : ℕ) → MayStop (Keep checkpoint) (taking_course m w used).stop
   stop_taking w used =
       let n = checkpoint_length m w in
-      stop_then checkpoint w (course (room_steps m w n) used Through) (logged_course m) tt
+      stop_then (Keep checkpoint) w (course (room_steps m w n) used Through) (logged_course m) tt
       (λ v used.
       let k = checkpoint_length m v in
-      stop_either checkpoint (nat_lt (2 ^ 48) (grown m v used k)) (course [] used (Full used (k + 5) (2 ^ 48))) (course checkpoint_steps (grown m v used k) Through) (refl, λ over. over) tt)
+      stop_either (Keep checkpoint) (nat_lt (2 ^ 48) (grown m v used k)) (course [] used (Full used (k + 5) (2 ^ 48))) (course checkpoint_steps (grown m v used k) Through) (refl, λ over. over) tt)
 
-  stop_checkpoint : (w : World Command) (used : ℕ) → MayStop checkpoint (checkpoint_course m w used).stop
+  stop_checkpoint : (w : World Command) (used : ℕ) → MayStop (Keep checkpoint) (checkpoint_course m w used).stop
   stop_checkpoint w used =
       let c = taking_course m w used in
-      stop_either checkpoint (is_through c.stop) c (course (c.steps ++ force_steps m (run m w c.steps)) c.used c.stop) (stop_taking w used) (stop_taking w used)
+      stop_either (Keep checkpoint) (is_through c.stop) c (course (c.steps ++ force_steps m (run m w c.steps)) c.used c.stop) (stop_taking w used) (stop_taking w used)
 
-  stop_trim : (epoch : ℕ) (w : World Command) (used : ℕ) → MayStop trim (trim_course m epoch w used).stop
+  stop_trim : (epoch : ℕ) (w : World Command) (used : ℕ) → MayStop (Keep trim) (trim_course m epoch w used).stop
   stop_trim epoch w used =
-      cond_both (nat_le lsn_end epoch) _ _ (λ (c : Course Command). MayStop trim c.stop) (λ worn. tt)
-      (λ left. stop_then trim w (force_course m w used) (rewrite_course m) tt
-      (λ v used. cond_both (nat_lt (2 ^ 48) (trimmed_file m v)) _ _ (λ (c : Course Command). MayStop trim c.stop)
+      cond_both (nat_le lsn_end epoch) _ _ (λ (c : Course Command). MayStop (Keep trim) c.stop) (λ worn. tt)
+      (λ left. stop_then (Keep trim) w (force_course m w used) (rewrite_course m) tt
+      (λ v used. cond_both (nat_lt (2 ^ 48) (trimmed_file m v)) _ _ (λ (c : Course Command). MayStop (Keep trim) c.stop)
       (λ over. let high : 2 ^ 48 < trimmed_file m v = grind (arith, nat_tests, over) in (refl, λ more. high)) (λ fits. tt)))
 
   -- what may stop a request's course
   pub may_stop : (epoch copies : ℕ) (r : Request) → IsUpkeep r → (w : World Command) (used : ℕ) → MayStop r (upkeep_course epoch copies r m w used).stop
-  may_stop epoch copies install is w used = stop_install install (λ n. tt) (λ a b c more. more) copies w used
-  may_stop epoch copies drain is w used = stop_drains drain (λ n. tt) (λ a b c more. more) copies (count_below (end_of w) w.graph + dirty_in m w) w used
-  may_stop epoch copies checkpoint is w used = stop_checkpoint w used
-  may_stop epoch copies trim is w used = stop_trim epoch w used
+  may_stop epoch copies (Keep install) is w used = stop_install (Keep install) (λ n. tt) (λ a b c more. more) copies w used
+  may_stop epoch copies (Keep drain) is w used = stop_turns (Keep drain) (λ n. tt) (λ a b c more. more) (round_limit m) copies (count_below (end_of w) w.graph + dirty_in m w) w used
+  may_stop epoch copies (Keep checkpoint) is w used = stop_checkpoint w used
+  may_stop epoch copies (Keep trim) is w used = stop_trim epoch w used
   may_stop epoch copies r is w used = absurd is
 
   upkeep_taking : (w : World Command) (used : ℕ) → AreUpkeep (taking_course m w used).steps
@@ -127,10 +128,10 @@ module _ (m : Meaning Command) where
 
   -- it adds no command
   pub are_upkeep : (epoch copies : ℕ) (r : Request) → IsUpkeep r → (w : World Command) (used : ℕ) → AreUpkeep (upkeep_course epoch copies r m w used).steps
-  are_upkeep epoch copies install is w used = upkeep_install m copies w used
-  are_upkeep epoch copies drain is w used = upkeep_drain m copies w used
-  are_upkeep epoch copies checkpoint is w used = upkeep_checkpoint w used
-  are_upkeep epoch copies trim is w used = upkeep_trim epoch w used
+  are_upkeep epoch copies (Keep install) is w used = upkeep_install m copies w used
+  are_upkeep epoch copies (Keep drain) is w used = upkeep_drain m copies w used
+  are_upkeep epoch copies (Keep checkpoint) is w used = upkeep_checkpoint w used
+  are_upkeep epoch copies (Keep trim) is w used = upkeep_trim epoch w used
   are_upkeep epoch copies r is w used = absurd is
 
   -- steps that log no identity write

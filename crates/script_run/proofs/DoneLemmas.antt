@@ -42,7 +42,10 @@ use Rattle.execution.specs.declared.exec_err.ExecErr.{ExecErr}
 use Rattle.execution.specs.declared.exec_err.ExecErr.TheVariants.{Refused, LogFull, LsnEnd, DiskFault, Damaged}
 use Rattle.execution.specs.Failures.{IsExecFailure}
 use Rattle.script_lines.specs.Grammar.{Request, AsksFor}
-use Rattle.script_lines.specs.declared.line.Line.TheVariants.{Begin as begin_group, End as end_group, Force as force, Trim as trim, BackupStart as bstart, BackupCopy as bcopy, BackupFinish as bfinish}
+use Rattle.script_lines.specs.declared.line.Line.TheVariants.{Force as force, Keep, Save}
+use Rattle.script_lines.specs.declared.line.Upkeep.{Upkeep}
+use Rattle.script_lines.specs.declared.line.Upkeep.TheVariants.{Trim as trim}
+use Rattle.script_lines.specs.declared.line.Saving.TheVariants.{Start as bstart}
 use Rattle.script_lines.specs.Replies.{Reply, ok, ran, value, pairs, forced, bad, refused, bad_tree, tree_full, denied, in_group, no_group, full, end, object_value, command_count, stat, copied, saved, backup_denied, summary, silence, reply_of}
 use Rattle.script_lines.specs.declared.answer.Answer.{Answer}
 use Rattle.script_lines.specs.declared.answer.Answer.TheVariants as answers
@@ -53,19 +56,19 @@ use Rattle.store_engine.specs.FailureLaws.{still_none_damaged}
 use Rattle.store_engine.specs.Grouping.{ungrouped}
 use Rattle.store_engine.specs.Engine as of_engine
 use Rattle.shell_base.specs.Store.{IsAttached, IsEngineCall, Command, meaning_in, record_length, refusal_after, HasCause, Stands, ShowsIn, Says, Holds, Between}
-use Rattle.shell_base.specs.First.{stage_of}
+use Rattle.shell_base.specs.First.{Stage, stage_of}
 use Rattle.shell_base.specs.declared.stop.Stop.{Stop as Early}
-use Rattle.shell_base.specs.HoldLaws.{holds_between, in_engine}
-use Rattle.script_run.specs.Groups.{Regroups, begun_after, group_after, open_in, size_of, waiting}
-use Rattle.script_run.specs.Found.{EndsAtLast, EndsForced, IsStopped, IsOfEngine, IsUndone, IsBarredIn, IsDeniedIn, IsDone, IsAnswerOf, MayStop, IsUpkept}
-use Rattle.script_run.specs.Replies.{AsksCommand, Replies, IsBarred, IsDenied, IsGranted, IsLogged, IsUpkeep, IsLast, IsTrueIn}
+use Rattle.shell_base.specs.HoldLaws.{in_engine}
+use Rattle.script_run.specs.Groups.{Regroups, begun_after, open_in, size_of, waiting}
+use Rattle.script_run.specs.Found.{EndsAtLast, EndsForced, IsStopped, IsOfEngine, IsDone, IsAnswerOf, MayStop, IsUpkept}
+use Rattle.script_run.specs.Replies.{AsksCommand, Replies, IsDenied, IsGranted, IsLast, IsTrueIn}
 use Rattle.script_run.specs.Made.{Made, made, AsksMade, AsksBehind}
 use Rattle.script_run.specs.Run.{IsAnswerFound}
-use Rattle.script_run.specs.Courses.{IsCourseDue}
+use Rattle.script_run.specs.Courses.{IsCourseDue, Works}
 use Rattle.script_run.specs.Stages.{IsBesideBackup, Ends, GoesBy, stage_after, upkeep_course}
 use Rattle.script_run.proofs.GroupLemmas.{none_open}
-use Rattle.script_run.proofs.MomentLemmas.{Works, works_at_once, works_by}
-use Rattle.script_run.proofs.OpenGroups.{Grows, open_size, same_open, some_open, waiting_are}
+use Rattle.script_run.proofs.MomentLemmas.{works_by}
+use Rattle.script_run.proofs.OpenGroups.{Grows, open_size, same_open, waiting_are}
 use Rattle.script_run.proofs.RunLemmas.{leads_on, run_nothing}
 use Rattle.script_run.proofs.MadeLemmas.{made_alike, made_unless, made_ends, number_ends, worn_ends, is_numbered, worn_numbered, one_course}
 use Rattle.script_run.proofs.CourseLemmas.{may_stop, are_upkeep, logged_command, logged_force}
@@ -151,7 +154,7 @@ tied_by {p} {d} {engine} ops line (end number) is says stops = end_tied is.0 is.
         map_each d (λ f. IsSaid p ops f (At_end number)) (λ f. IsTrueIn p f ops line (end number)) (λ f here. (request, asks, (here.0, so f here.0 here.1, here.2))) (stops (At_end number) last)
 
     end_tied : (request : Request) → AsksFor line request → EndsAtLast engine request number → InEachImage d (λ f. IsTrueIn p f ops line (end number))
-    end_tied trim asks worn = map_each d (λ f. IsSaid p ops f (Worn number)) (λ f. IsTrueIn p f ops line (end number)) (λ f here. (trim, asks, here)) (stops (Worn number) worn)
+    end_tied (Keep trim) asks worn = map_each d (λ f. IsSaid p ops f (Worn number)) (λ f. IsTrueIn p f ops line (end number)) (λ f here. (Keep trim, asks, here)) (stops (Worn number) worn)
     end_tied request asks last = of_number request asks (λ f next here. here) last
 tied_by {p} {d} {engine} {commands} ops line (stat counts) is says stops =
     map_each d (λ f. Stands p f (take (forced_in engine) commands)) (λ f. IsTrueIn p f ops line (stat counts))
@@ -481,41 +484,29 @@ unmoved {engine = engine} {commands} reply holds replies goes regroups is_of = r
   is_of = is_of;
 }
 
--- a call that did nothing is answered so
-undone_done : {M : Type 0} (disk : M → Disk) {p : Params} {old now : M} {before after : EngineView} {commands : List Command} {line : List ℕ} {result : Result Answer Early} (answer : Answer) → (holds : Holds p (disk old) before commands)
-    → IsDone p (disk old) (disk old) before before holds.world commands line (reply_of answer) → IsUndone answer old now before after result → IfOk result (λ a. IsDone p (disk old) (disk now) before after holds.world commands line (reply_of a))
-undone_done {M} disk {p} {old} {now} {before} {after} {commands} {line} answer holds here it =
-    let there : IsDone p (disk old) (disk now) before after holds.world commands line (reply_of answer) =
-    subst (λ (x : M). IsDone p (disk old) (disk x) before after holds.world commands line (reply_of answer)) (sym it.machine)
-    (subst (λ (e : EngineView). IsDone p (disk old) (disk old) before e holds.world commands line (reply_of answer)) (sym it.engine) here) in
-    subst (λ (r : Result Answer Early). IfOk r (λ a. IsDone p (disk old) (disk now) before after holds.world commands line (reply_of a))) (sym it.answered) there
+-- a trim that no backup allows is denied beside one
+pub denied_here : (copies : Option ℕ) (upkeep : Upkeep) → (IsBesideBackup copies (Keep upkeep) → ⊥) → IsDenied InBackup (Keep upkeep) × IsTrue (is_some copies)
+denied_here None trim beside = absurd (beside refl)
+denied_here (Some n) trim beside = (tt, refl)
+denied_here copies upkeep beside = absurd (beside tt)
 
--- one that no group allows does nothing within one
-pub barred_done : {M : Type 0} (disk : M → Disk) {p : Params} {old now : M} {before after : EngineView} {commands : List Command} {line : List ℕ} {result : Result Answer Early} (request : Request) → (holds : Holds p (disk old) before commands)
-    → IsBarred request → AsksFor line request → IsTrue (is_some before.group) → IsBarredIn old now before after result → IfOk result (λ answer. IsDone p (disk old) (disk now) before after holds.world commands line (reply_of answer))
-barred_done disk request holds barred asks inside it = undone_done disk answers.InGroup holds (unmoved in_group holds (request, barred, asks, some_open holds.shows inside, refl) refl refl tt) it
-
--- and a trim that no backup allows does nothing beside one
-pub denied_done : {M : Type 0} (disk : M → Disk) {p : Params} {old now : M} {before after : EngineView} {commands : List Command} {line : List ℕ} {result : Result Answer Early} (request : Request) → (holds : Holds p (disk old) before commands)
-    → IsUpkeep request → (IsBesideBackup before.copied request → ⊥) → AsksFor line request → before.group ≡ None → IsDeniedIn old now before after result
-    → IfOk result (λ answer. IsDone p (disk old) (disk now) before after holds.world commands line (reply_of answer))
-denied_done disk {before = before} request holds of_kind beside asks alone it =
-    let here = denied_here before.copied request of_kind beside in
-    undone_done disk (answers.BackupDenied InBackup) holds (unmoved (backup_denied InBackup) holds (request, here.0, asks, none_open holds.shows alone, refl) (here.1, refl) refl tt) it
-  where
-    denied_here : (copies : Option ℕ) (request : Request) → IsUpkeep request → (IsBesideBackup copies request → ⊥) → IsDenied InBackup request × IsTrue (is_some copies)
-    denied_here None trim of_kind beside = absurd (beside refl)
-    denied_here (Some n) trim of_kind beside = (tt, refl)
-    denied_here copies bstart of_kind beside = absurd of_kind
-    denied_here copies request of_kind beside = absurd (beside tt)
-
--- nor is anything done at a moment of it
-pub still_works : {p : Params} {old now : Disk} {engine : EngineView} {commands : List Command} (line : List ℕ) → IsDisk old → (holds : Holds p old engine commands) → now ≡ old → Works p old now (stage_of engine holds.world) line
-still_works {p} {old} {now} {engine} line lawful holds same = subst (λ (d : Disk). Works p old d (stage_of engine holds.world) line) (sym same) (works_at_once line lawful holds)
-
-pub still_images : {p : Params} {old now : Disk} {engine : EngineView} {commands : List Command} → IsDisk old → Holds p old engine commands → now ≡ old → old.tells_moments → LeavesOnly old now (Between p old engine.group (forced_in engine) (length commands) commands)
-still_images {p} {old} {now} {engine} {commands} lawful holds same told =
-    subst (λ (d : Disk). LeavesOnly old d (Between p old engine.group (forced_in engine) (length commands) commands)) (sym same) (holds_between lawful holds told)
+-- what is answered where objects were read at most: no group begins or ends
+pub read_done : {p : Params} {old mid : Disk} {before after : EngineView} {w : World Command} {commands : List Command} {line : List ℕ} (reply : Reply) → Replies p (open_in w) commands line reply [] → ((group : Option ℕ) → Regroups line reply commands group group)
+    → ((s : Stage) → GoesBy p s line reply s) → IsOfEngine after line reply → mid.said ≡ old.said → (v : World Command) → ShowsIn p mid after v → commands_of v.history ≡ commands → forced_in before ≤ forced_in after
+    → (forced_in after ≡ forced_in before) ⊎ ((before.group ≡ None) × (length commands ≤ forced_in after)) → stage_of after v ≡ stage_of before w → IsDone p old mid before after w commands line reply
+read_done {p} {before = before} {w = w} {commands} {line} reply replies regroups goes is_of quiet v shows are rising which same = record {
+  added = [];
+  replies = replies;
+  quiet = quiet;
+  world = v;
+  shows = shows;
+  commands_are = are ∙ sym (append-nil commands);
+  regroups = subst (λ (s : Stage). Regroups line reply commands (open_in w) (open_in s.world)) (sym same) (regroups (open_in w));
+  rising = rising;
+  which = which;
+  goes = subst (λ (s : Stage). GoesBy p (stage_of before w) line reply s) (sym same) (goes (stage_of before w));
+  is_of = is_of;
+}
 
 -- within a group, or outside
 pub by_group : {P : Type 0} (group : Option ℕ) → (IsTrue (is_some group) → P) → (group ≡ None → P) → P
@@ -524,17 +515,15 @@ by_group (Some begun) inside alone = inside refl
 
 -- beside a backup, or where none is in the way of the request
 pub by_backup : {P : Type 0} (copies : Option ℕ) (request : Request) → ((IsBesideBackup copies request → ⊥) → P) → (IsBesideBackup copies request → P) → P
-by_backup None trim against beside = beside refl
-by_backup (Some n) trim against beside = against (λ none. cc none)
-by_backup copies bstart against beside = against (λ it. it)
+by_backup None (Keep trim) against beside = beside refl
+by_backup (Some n) (Keep trim) against beside = against (λ none. cc none)
+by_backup copies (Save bstart) against beside = against (λ it. it)
 by_backup copies request against beside = beside tt
 
-pub force_works : {p : Params} {old now : Disk} {before : EngineView} {commands : List Command} {line : List ℕ} → IsDisk old → (holds : Holds p old before commands) → AsksFor line force → (IsTrue (is_some before.group) → now ≡ old)
-    → (old.tells_moments → holds.world.group ≡ None → TakesSome (meaning_in p) p old now holds.world (force_course (meaning_in p) holds.world (used_in before)).steps) → Works p old now (stage_of before holds.world) line
-force_works {p} {old} {now} {before} {commands} {line} lawful holds asks inside takes = by_group before.group (λ some. still_works line lawful holds (inside some))
-    (λ none.
-    let alone = holds.shows.group ∙ none in
-    works_by p old now (stage_of before holds.world) line (force_course (meaning_in p) holds.world (used_in before)) (inr (inl (force, tt, asks, alone, refl))) (λ told. takes told alone))
+pub force_works : {p : Params} {old now : Disk} {before : EngineView} {commands : List Command} {line : List ℕ} → (holds : Holds p old before commands) → AsksFor line force → before.group ≡ None
+    → (old.tells_moments → TakesSome (meaning_in p) p old now holds.world (force_course (meaning_in p) holds.world (used_in before)).steps) → Works p old now (stage_of before holds.world) line
+force_works {p} {old} {now} {before} {line = line} holds asks none takes =
+    works_by p old now (stage_of before holds.world) line (force_course (meaning_in p) holds.world (used_in before)) (inr (inl (force, tt, asks, holds.shows.group ∙ none, refl))) takes
 
 -- a force that is done
 pub force_done : {p : Params} {old now : Disk} {before after : EngineView} {commands : List Command} {line : List ℕ} (n : ℕ) → (holds : Holds p old before commands) → AsksFor line force → before.group ≡ None
@@ -563,32 +552,8 @@ force_done {p} {old} {now} {before} {after} {commands} {line} n holds asks alone
 abbrev pub AreCounted : Type 0
 AreCounted = (p : Params) (w : World Command) (steps : List (Step Command)) → AreUpkeep steps → length (run (meaning_in p) w steps).history ≡ length w.history + length (logged_in steps)
 
--- such requests are granted outside groups, and are for no group
-granted_alone : (group : Option ℕ) (request : Request) → IsUpkeep request → group ≡ None → IsGranted group request
-granted_alone group begin_group of_kind none = absurd of_kind
-granted_alone group end_group of_kind none = absurd of_kind
-granted_alone group bstart of_kind none = absurd of_kind
-granted_alone group request of_kind none = (of_kind, none)
-
-upkeep_alike : (request : Request) (group : Option ℕ) (commands : List Command) → IsUpkeep request → group_after request group commands ≡ group
-upkeep_alike begin_group group commands of_kind = absurd of_kind
-upkeep_alike end_group group commands of_kind = absurd of_kind
-upkeep_alike request group commands of_kind = refl
-
-pub upkeep_barred : (request : Request) → IsUpkeep request → IsBarred request
-upkeep_barred begin_group of_kind = tt
-upkeep_barred force of_kind = tt
-upkeep_barred bstart of_kind = tt
-upkeep_barred (bcopy count) of_kind = tt
-upkeep_barred bfinish of_kind = tt
-upkeep_barred request of_kind = of_kind
-
-upkeep_logged : (request : Request) → IsUpkeep request → IsLogged request
-upkeep_logged bfinish of_kind = tt
-upkeep_logged request of_kind = of_kind
-
-module _ (p : Params) (old now : Disk) (before after : EngineView) (commands : List Command) (line : List ℕ) (request : Request) (result : Result Answer Early) (counts : AreCounted)
-    (holds : Holds p old before commands) (of_kind : IsUpkeep request) (asks : AsksFor line request) (alone : before.group ≡ None) (u : IsUpkept old now before after request result) where
+module _ (p : Params) (old now : Disk) (before after : EngineView) (commands : List Command) (line : List ℕ) (upkeep : Upkeep) (result : Result Answer Early) (counts : AreCounted)
+    (holds : Holds p old before commands) (asks : AsksFor line (Keep upkeep)) (alone : before.group ≡ None) (u : IsUpkept old now before after (Keep upkeep) result) where
   abbrev start : World Command
   start = holds.world
 
@@ -599,10 +564,10 @@ module _ (p : Params) (old now : Disk) (before after : EngineView) (commands : L
   copies = of_engine.so_far before.copied
 
   abbrev way : Course Command
-  way = upkeep_course u.epoch copies request mean start (used_in before)
+  way = upkeep_course u.epoch copies (Keep upkeep) mean start (used_in before)
 
   plain : AreUpkeep way.steps
-  plain = are_upkeep mean u.epoch copies request of_kind start (used_in before)
+  plain = are_upkeep mean u.epoch copies (Keep upkeep) tt start (used_in before)
 
   -- no group is open, before it and after it
   none_before : open_in start ≡ None
@@ -611,8 +576,8 @@ module _ (p : Params) (old now : Disk) (before after : EngineView) (commands : L
   none_after : IsAfterIn all_meaning p now after start way → open_in (run mean start way.steps) ≡ None
   none_after there = none_open there.shows (u.call.group ∙ alone)
 
-  granted : IsGranted (open_in start) request
-  granted = granted_alone (open_in start) request of_kind none_before
+  granted : IsGranted (open_in start) (Keep upkeep)
+  granted = (tt, none_before)
 
   count_is : IsAfterIn all_meaning p now after start way → u.logged ≡ length (logged_in way.steps)
   count_is there = ⊎_elim
@@ -625,7 +590,7 @@ module _ (p : Params) (old now : Disk) (before after : EngineView) (commands : L
 
   ends_as : (stop : Stop) → way.stop ≡ stop → IsAfterIn all_meaning p now after start way → Ends p (stage_of before start) line stop (stage_of after (run mean start way.steps))
   ends_as stop is there =
-      (way, inr (inl (request, u.epoch, granted, u.beside, asks, refl)), is, stage_on p before after start way there.used (u.call.identities ∙ ap (λ (n : ℕ). before.identities + n) (count_is there)) u.call.copied)
+      (way, inr (inl (Keep upkeep, u.epoch, granted, u.beside, asks, refl)), is, stage_on p before after start way there.used (u.call.identities ∙ ap (λ (n : ℕ). before.identities + n) (count_is there)) u.call.copied)
 
   rose : (ending : Ending) → (IsFailed ending → ⊥) → KeepsCommands all_meaning old now before after ending → HasRisen before after commands
   rose ending working keeps = ⊎_elim (λ failed. absurd (working failed)) (λ (k : of_engine.Kept all_meaning p before now after commands). risen holds k) (keeps.holds p commands (in_engine holds))
@@ -648,8 +613,8 @@ module _ (p : Params) (old now : Disk) (before after : EngineView) (commands : L
     is_of = is_of;
   }
 
-  may : (stop : Stop) → way.stop ≡ stop → MayStop request stop
-  may stop is = subst (λ (s : Stop). MayStop request s) is (may_stop mean u.epoch copies request of_kind start (used_in before))
+  may : (stop : Stop) → way.stop ≡ stop → MayStop (Keep upkeep) stop
+  may stop is = subst (λ (s : Stop). MayStop (Keep upkeep) s) is (may_stop mean u.epoch copies (Keep upkeep) tt start (used_in before))
 
   -- the answer by how the call ended
   abbrev Answered : Result Answer Early → Type 0
@@ -662,23 +627,23 @@ module _ (p : Params) (old now : Disk) (before after : EngineView) (commands : L
   by_ending : (ending : Ending) (r : Result Answer Early) → IsAnswerOf ending r → IsEngineCall log_limit old now before after u.logged ending → FollowsIn all_meaning p now after start way ending → KeepsCommands all_meaning old now before after ending → Answered r
   by_ending Done r is call there keeps =
       subst (λ (x : Result Answer Early). Answered x) (sym is)
-      (replies_so ok Done (λ f. f) call keeps there.1 (inr (request, granted, asks, refl)) (request, asks, none_still there.1 ∙ sym (upkeep_alike request (open_in start) commands of_kind)) (inl (ends_as Through there.0 there.1)) tt)
+      (replies_so ok Done (λ f. f) call keeps there.1 (inr (Keep upkeep, granted, asks, refl)) (Keep upkeep, asks, none_still there.1) (inl (ends_as Through there.0 there.1)) tt)
   by_ending (Stopped Through) r is call there keeps = absurd is
   by_ending (Stopped (Full used need limit)) r is call there keeps =
       let over = over_limit (is_some before.group) _ _ used need limit (call.stopped (Full used need limit) refl) in
       let bound = may (Full used need limit) there.0 in
       subst (λ (x : Result Answer Early). Answered x) (sym is)
-      (replies_so (full used need limit) (Stopped (Full used need limit)) (λ f. f) call keeps there.1 (inr (request, upkeep_logged request of_kind, asks, none_before, bound.0, bound.1 over, refl)) (none_still there.1) (inl (ends_as (Full used need limit) there.0 there.1)) (inl (left_stopped (Full used need limit) call)))
+      (replies_so (full used need limit) (Stopped (Full used need limit)) (λ f. f) call keeps there.1 (inr (Keep upkeep, tt, asks, none_before, bound.0, bound.1 over, refl)) (none_still there.1) (inl (ends_as (Full used need limit) there.0 there.1)) (inl (left_stopped (Full used need limit) call)))
   by_ending (Stopped (At_end number)) r is call there keeps =
       let number_is = last_number (is_some before.group) _ _ number (call.stopped (At_end number) refl) in
       subst (λ (x : Result Answer Early). Answered x) (sym is)
-      (replies_so (end number) (Stopped (At_end number)) (λ f. f) call keeps there.1 (inr (request, is_numbered number request (may (At_end number) there.0), asks, none_before, refl), number_is) (none_still there.1) (inl (ends_as (At_end number) there.0 there.1))
-      (request, asks, number_ends after number request (may (At_end number) there.0) (left_stopped (At_end number) call)))
+      (replies_so (end number) (Stopped (At_end number)) (λ f. f) call keeps there.1 (inr (Keep upkeep, is_numbered number (Keep upkeep) (may (At_end number) there.0), asks, none_before, refl), number_is) (none_still there.1) (inl (ends_as (At_end number) there.0 there.1))
+      (Keep upkeep, asks, number_ends after number (Keep upkeep) (may (At_end number) there.0) (left_stopped (At_end number) call)))
   by_ending (Stopped (Worn number)) r is call there keeps =
       let number_is = last_epoch_is (is_some before.group) _ _ number (call.stopped (Worn number) refl) in
       subst (λ (x : Result Answer Early). Answered x) (sym is)
-      (replies_so (end number) (Stopped (Worn number)) (λ f. f) call keeps there.1 (inr (request, worn_numbered number request (may (Worn number) there.0), asks, none_before, refl), number_is) (none_still there.1) (inr (ends_as (Worn number) there.0 there.1))
-      (request, asks, worn_ends after number request (may (Worn number) there.0) (left_stopped (Worn number) call)))
+      (replies_so (end number) (Stopped (Worn number)) (λ f. f) call keeps there.1 (inr (Keep upkeep, worn_numbered number (Keep upkeep) (may (Worn number) there.0), asks, none_before, refl), number_is) (none_still there.1) (inr (ends_as (Worn number) there.0 there.1))
+      (Keep upkeep, asks, worn_ends after number (Keep upkeep) (may (Worn number) there.0) (left_stopped (Worn number) call)))
   by_ending Short r is call there keeps = subst (λ (x : Result Answer Early). Answered x) (sym is.2) tt
   by_ending Failed r is call there keeps = subst (λ (x : Result Answer Early). Answered x) (sym is) tt
 
@@ -686,7 +651,7 @@ module _ (p : Params) (old now : Disk) (before after : EngineView) (commands : L
   upkeep_done = by_ending u.ending result u.answered u.call (u.takes.follows p holds.world holds.shows) u.commands
 
   pub upkeep_works : Works p old now (stage_of before start) line
-  upkeep_works = works_by p old now (stage_of before start) line way (inl (inr (inl (request, u.epoch, granted, u.beside, asks, refl)))) (λ told. u.takes.steps told p start holds.shows)
+  upkeep_works = works_by p old now (stage_of before start) line way (inl (inr (inl (Keep upkeep, u.epoch, granted, u.beside, asks, refl)))) (λ told. u.takes.steps told p start holds.shows)
 
 -- what holds of a call that did not fail with the disk
 pub still_attached : {old new : Disk} {before after : EngineView} {most n : ℕ} {ending : Ending} → IsEngineCall most old new before after n ending → (IsFailed ending → ⊥) → IsAttached old before → IsAttached new after

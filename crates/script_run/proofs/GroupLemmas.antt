@@ -6,7 +6,8 @@ use Rattle.disk_model.specs.Disk.{Disk}
 use Rattle.formats.specs.declared.params.Params.{Params}
 use Rattle.explain_core.specs.World.{World}
 use Rattle.script_lines.specs.Grammar.{Request, AsksFor}
-use Rattle.script_lines.specs.declared.line.Line.TheVariants.{Begin as begin_group, End as end_group}
+use Rattle.script_lines.specs.declared.line.Line.TheVariants.{Group}
+use Rattle.script_lines.specs.declared.line.Grouping.TheVariants.{Begin as begin_group, End as end_group}
 use Rattle.script_lines.specs.Replies.{Reply, ok}
 use Rattle.store_engine.specs.Engine.{EngineView}
 use Rattle.shell_base.specs.Store.{Command, ShowsIn}
@@ -44,18 +45,18 @@ pub whole_ended : {T : Type 0} (kept : ℕ) (a : Account) → AllEnd (length a.c
 whole_ended kept a within (any, late) = record { closed = closed_late kept (length a.commands) a.group a.closed (all_whole kept (length a.commands) a.closed late within) late; group = tt }
 
 -- a request that adds commands begins no group
-makes_none : (p : Params) (commands : List Command) (request : Request) (it : Made) → made_by p commands request ≡ Some it → request ≡ begin_group → ⊥
+makes_none : (p : Params) (commands : List Command) (request : Request) (it : Made) → made_by p commands request ≡ Some it → request ≡ Group begin_group → ⊥
 makes_none p commands request it makes is = let none = subst (λ (r : Request). made_by p commands r ≡ Some it) is makes in cc none
 
 -- a line that begins a group adds nothing
-pub begin_adds : AsksOnce → (p : Params) (group : Option ℕ) (commands : List Command) (line : List ℕ) (added : List Command) → Replies p group commands line ok added → AsksFor line begin_group → added ≡ []
+pub begin_adds : AsksOnce → (p : Params) (group : Option ℕ) (commands : List Command) (line : List ℕ) (added : List Command) → Replies p group commands line ok added → AsksFor line (Group begin_group) → added ≡ []
 begin_adds once p group commands line added replies asks = ⊎_elim
-    (λ (made_so : AsksMade p commands line (made added ok) × (length (commands ++ added) < 2 ^ 62)). absurd (makes_none p commands made_so.0.request (made added ok) made_so.0.makes (once line made_so.0.request begin_group made_so.0.asks asks)))
+    (λ (made_so : AsksMade p commands line (made added ok) × (length (commands ++ added) < 2 ^ 62)). absurd (makes_none p commands made_so.0.request (made added ok) made_so.0.makes (once line made_so.0.request (Group begin_group) made_so.0.asks asks)))
     (λ (granted : (request : Request) × IsGranted group request × AsksFor line request × (added ≡ [])). granted.3) replies
 
-request_whole : (kept : ℕ) (a : Account) (request : Request) → AreWhole kept a → (request ≡ begin_group → kept ≤ length a.commands) → IfSome (group_after request a.group a.commands) (λ n. kept ≤ n)
-request_whole kept a begin_group w begins = begins refl
-request_whole kept a end_group w begins = tt
+request_whole : (kept : ℕ) (a : Account) (request : Request) → AreWhole kept a → (request ≡ Group begin_group → kept ≤ length a.commands) → IfSome (group_after request a.group a.commands) (λ n. kept ≤ n)
+request_whole kept a (Group begin_group) w begins = begins refl
+request_whole kept a (Group end_group) w begins = tt
 request_whole kept a request w begins = w.group
 
 -- what splits no group before an answer splits none after it

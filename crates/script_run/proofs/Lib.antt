@@ -6,6 +6,8 @@ pub mod BackupLemmas
 pub mod SavingCalls
 pub mod SavingDone
 pub mod SavingSaid
+pub mod FindingLemmas
+pub mod AnsweringLemmas
 pub mod LineLemmas
 pub mod NotedLemmas
 pub mod ScriptLemmas

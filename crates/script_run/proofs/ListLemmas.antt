@@ -41,10 +41,11 @@ use Rattle.execution.specs.Courses.{append_course}
 use Rattle.execution.specs.declared.exec_err.ExecErr.{ExecErr}
 use Rattle.execution.specs.declared.exec_err.ExecErr.TheVariants as exec_errors
 use Rattle.script_lines.specs.Grammar.{Request, AsksFor}
-use Rattle.script_lines.specs.declared.line.Line.TheVariants.{Run, AppRun as arun, ProgramRun as prun, TreeInsert as tinsert, TreeDelete as tdelete, HashPut as hset, HashDelete as hdel, Begin as begin_group, End as end_group}
+use Rattle.script_lines.specs.declared.line.Line.TheVariants.{Run, Make, Group}
+use Rattle.script_lines.specs.declared.line.Making.TheVariants.{AppRun as arun, ProgramRun as prun, TreeInsert as tinsert, TreeDelete as tdelete, HashPut as hset, HashDelete as hdel}
+use Rattle.script_lines.specs.declared.line.Grouping.TheVariants.{Begin as begin_group, End as end_group}
 use Rattle.script_lines.specs.Replies.{Reply, ok, ran, refused, bad_tree, tree_full, denied, full, end, reply_of}
 use Rattle.script_lines.specs.declared.answer.Answer.{Answer}
-use Rattle.script_lines.specs.declared.answer.Answer.TheVariants as answers
 use Rattle.store_engine.specs.Engine.{EngineView, forced_in, group_size, needed_in, params_of, used_in}
 use Rattle.hash_file.specs.Plan.{HashPlan}
 use Rattle.hash_file.specs.Plan as of_hash
@@ -57,6 +58,7 @@ use Rattle.shell_base.specs.Stops.{IsCaused, IsUndamaged}
 use Rattle.shell_base.specs.First.{stage_of}
 use Rattle.shell_base.specs.declared.stop.Stop.{Stop as Early}
 use Rattle.shell_base.specs.declared.stop.Stop.TheVariants.{DiskFault, Damaged, Memory}
+use Rattle.script_run.specs.Courses.{Works}
 use Rattle.script_run.specs.Found.{IsAnswerTo, IsEndedBy, IsDone, IsMade, IsOfEngine}
 use Rattle.script_run.specs.Groups.{Regroups, group_after, open_in, size_of}
 use Rattle.script_run.specs.Made.{AsksMade, AsksBehind, Made, call_end, hash_made, hash_reply, end_reply, made, made_by, one_unless, plan_made, plan_reply, run_made, run_reply}
@@ -64,7 +66,7 @@ use Rattle.script_run.specs.Replies.{Replies}
 use Rattle.script_run.specs.Run.{Working}
 use Rattle.script_run.specs.Stages.{Ends, GoesBy}
 use Rattle.script_run.proofs.HashLemmas.{planned_delete_all, planned_put_all, some_hash}
-use Rattle.script_run.proofs.MomentLemmas.{Works, works_by}
+use Rattle.script_run.proofs.MomentLemmas.{works_by}
 use Rattle.script_run.proofs.DoneLemmas.{asks_in, last_number, left_stopped, over_limit, still_attached, still_whole}
 use Rattle.script_run.proofs.GroupsOfLists.{open_same}
 use Rattle.script_run.proofs.MadeLemmas.{made_ends}
@@ -126,12 +128,12 @@ made_end p commands it request is = of_request request it is
 
     of_request : (request : Request) (it : Made) → made_by p commands request ≡ Some it → IsEnd it.reply
     of_request (Run op) it same = given _ it same (end_one _ _)
-    of_request (arun app n) it same = given _ it same (end_made p commands (step_of app) n)
-    of_request (prun app code n) it same = given _ it same (end_made p commands (program_step app code) n)
-    of_request (tinsert lo hi key value) it same = let s = state_of p commands in let plan = insert_plan (bounds_of p) lo hi s key value in given _ it same (end_plan p.cap plan.commands (end_reply plan.refusal) (end_end plan.refusal))
-    of_request (tdelete lo hi key) it same = let s = state_of p commands in let plan = delete_plan (bounds_of p) lo hi s key in given _ it same (end_plan p.cap plan.commands (end_reply plan.refusal) (end_end plan.refusal))
-    of_request (hset lo hi key value) it same = given _ it same (end_hash_plan p (of_hash.put_plan (bounds_of p) lo hi (state_of p commands) key value))
-    of_request (hdel lo hi key) it same = given _ it same (end_hash_plan p (of_hash.delete_plan (bounds_of p) lo hi (state_of p commands) key))
+    of_request (Make (arun app n)) it same = given _ it same (end_made p commands (step_of app) n)
+    of_request (Make (prun app code n)) it same = given _ it same (end_made p commands (program_step app code) n)
+    of_request (Make (tinsert lo hi key value)) it same = let s = state_of p commands in let plan = insert_plan (bounds_of p) lo hi s key value in given _ it same (end_plan p.cap plan.commands (end_reply plan.refusal) (end_end plan.refusal))
+    of_request (Make (tdelete lo hi key)) it same = let s = state_of p commands in let plan = delete_plan (bounds_of p) lo hi s key in given _ it same (end_plan p.cap plan.commands (end_reply plan.refusal) (end_end plan.refusal))
+    of_request (Make (hset lo hi key value)) it same = given _ it same (end_hash_plan p (of_hash.put_plan (bounds_of p) lo hi (state_of p commands) key value))
+    of_request (Make (hdel lo hi key)) it same = given _ it same (end_hash_plan p (of_hash.delete_plan (bounds_of p) lo hi (state_of p commands) key))
     of_request request it same = cc
 
 -- where the answer is ok, there are some
@@ -240,33 +242,33 @@ made_some p commands it request is = of_request request it is
   where
     of_request : (request : Request) (it : Made) → made_by p commands request ≡ Some it → HasSome it
     of_request (Run op) it same = some_given _ it same (some_one _ _)
-    of_request (arun app n) it same = some_given _ it same (λ e none. some_made p commands (step_of app) n e)
-    of_request (prun app code n) it same = some_given _ it same (λ e none. some_made p commands (program_step app code) n e)
-    of_request (tinsert lo hi key value) it same =
+    of_request (Make (arun app n)) it same = some_given _ it same (λ e none. some_made p commands (step_of app) n e)
+    of_request (Make (prun app code n)) it same = some_given _ it same (λ e none. some_made p commands (program_step app code) n e)
+    of_request (Make (tinsert lo hi key value)) it same =
         let b = bounds_of p in
         let s = state_of p commands in
         let plan = insert_plan b lo hi s key value in
         some_given _ it same (some_plan p plan
         (planned_there (is_there b lo hi) (insert_from b lo hi key value (suc (size lo hi)) s) (record { commands = []; refusal = Some NoObject })
         (planned_next (λ op. insert_from b lo hi key value (size lo hi) (after (node_meaning b) s op)) (insert_next b lo hi s key value)) no_object))
-    of_request (tdelete lo hi key) it same =
+    of_request (Make (tdelete lo hi key)) it same =
         let b = bounds_of p in
         let s = state_of p commands in
         let plan = delete_plan b lo hi s key in
         some_given _ it same (some_plan p plan
         (planned_there (is_there b lo hi) (delete_on key (walk lo hi s key)) (record { commands = []; refusal = Some NoObject }) (planned_delete key (walk lo hi s key)) no_object))
-    of_request (hset lo hi key value) it same =
+    of_request (Make (hset lo hi key value)) it same =
         let plan = of_hash.put_plan (bounds_of p) lo hi (state_of p commands) key value in
         some_given _ it same (some_hash p plan (planned_put_all (bounds_of p) lo hi (state_of p commands) key value))
-    of_request (hdel lo hi key) it same =
+    of_request (Make (hdel lo hi key)) it same =
         let plan = of_hash.delete_plan (bounds_of p) lo hi (state_of p commands) key in
         some_given _ it same (some_hash p plan (planned_delete_all (bounds_of p) lo hi (state_of p commands) key))
     of_request request it same = cc
 
 -- a line that asks for commands leaves the open group as it is
 pub made_keeps : (p : Params) (commands : List Command) (it : Made) (request : Request) → made_by p commands request ≡ Some it → (group : Option ℕ) → group_after request group commands ≡ group
-made_keeps p commands it begin_group same group = cc same
-made_keeps p commands it end_group same group = cc same
+made_keeps p commands it (Group begin_group) same group = cc same
+made_keeps p commands it (Group end_group) same group = cc same
 made_keeps p commands it request same group = refl
 
 -- no identity write is logged by commands

@@ -11,13 +11,15 @@ use Rattle.running_store.specs.Courses.Stop.{Through, Full, At_end, Worn}
 use Rattle.execution.specs.Courses.{append_course}
 use Rattle.store_engine.specs.Lists.{commands_course}
 use Rattle.script_lines.specs.Grammar.{Request}
-use Rattle.script_lines.specs.declared.line.Line.TheVariants.{Run as run, Trim as trim, Begin as begin_group, End as end_group}
+use Rattle.script_lines.specs.declared.line.Line.TheVariants.{Run as run, Keep, Group}
+use Rattle.script_lines.specs.declared.line.Upkeep.TheVariants.{Trim as trim}
+use Rattle.script_lines.specs.declared.line.Grouping.TheVariants.{Begin as begin_group, End as end_group}
 use Rattle.store_engine.specs.Engine.{EngineView}
 use Rattle.shell_base.specs.Store.{Command, refusal_after}
 use Rattle.script_run.specs.Found.{EndsAtLast, IsStopped, MayStop}
 use Rattle.script_run.specs.Groups.{group_after}
 use Rattle.script_run.specs.Made.{Made, AsksMade, made_by, one_made, one_unless}
-use Rattle.script_run.specs.Replies.{AsksCommand, HasLsn}
+use Rattle.script_run.specs.Replies.{AsksCommand, IsNumbered}
 
 -- a line that asks for a command makes it, unless it is refused
 pub command_made : (p : Params) (commands : List Command) (line : List ℕ) (op : Command) → AsksCommand line op → AsksMade p commands line (one_made p commands op)
@@ -28,30 +30,30 @@ made_unless p commands line op refusal is asks = subst (λ (r : Option Refusal).
 
 -- what asks for commands begins and ends no group
 pub made_alike : (p : Params) (commands others : List Command) (it : Made) (group : Option ℕ) (request : Request) → made_by p commands request ≡ Some it → group_after request group others ≡ group
-made_alike p commands others it group begin_group makes = cc
-made_alike p commands others it group end_group makes = cc
+made_alike p commands others it group (Group begin_group) makes = cc
+made_alike p commands others it group (Group end_group) makes = cc
 made_alike p commands others it group request makes = refl
 
 -- and it asks for no trim, so that its `end` says the next number
 pub made_ends : (p : Params) (commands : List Command) (it : Made) (engine : EngineView) (number : ℕ) (request : Request) → made_by p commands request ≡ Some it → IsStopped engine (At_end number) → EndsAtLast engine request number
-made_ends p commands it engine number trim makes stops = cc
+made_ends p commands it engine number (Keep trim) makes stops = cc
 made_ends p commands it engine number request makes stops = stops
 
 -- and so does what may be stopped for lack of one
 pub number_ends : (engine : EngineView) (number : ℕ) (request : Request) → MayStop request (At_end number) → IsStopped engine (At_end number) → EndsAtLast engine request number
-number_ends engine number trim may stops = absurd may
+number_ends engine number (Keep trim) may stops = absurd may
 number_ends engine number request may stops = stops
 
 pub worn_ends : (engine : EngineView) (number : ℕ) (request : Request) → MayStop request (Worn number) → IsStopped engine (Worn number) → EndsAtLast engine request number
-worn_ends engine number trim may stops = stops
+worn_ends engine number (Keep trim) may stops = stops
 worn_ends engine number request may stops = absurd may
 
-pub is_numbered : (number : ℕ) (request : Request) → MayStop request (At_end number) → HasLsn request
-is_numbered number trim may = absurd may
+pub is_numbered : (number : ℕ) (request : Request) → MayStop request (At_end number) → IsNumbered request
+is_numbered number (Keep trim) may = absurd may
 is_numbered number request may = may
 
-pub worn_numbered : (number : ℕ) (request : Request) → MayStop request (Worn number) → HasLsn request
-worn_numbered number trim may = tt
+pub worn_numbered : (number : ℕ) (request : Request) → MayStop request (Worn number) → IsNumbered request
+worn_numbered number (Keep trim) may = tt
 worn_numbered number request may = absurd may
 
 behind_nothing : (c : Course Command) (stop : Stop) → c.stop ≡ stop → behind c (course [] c.used Through) stop ≡ c

@@ -18,7 +18,7 @@ use Rattle.store_engine.specs.Engine.{EngineView}
 use Rattle.store_engine.specs.Grouping.{ungrouped}
 use Rattle.shell_base.specs.First.{Stage, stage_of}
 use Rattle.shell_base.specs.Store.{Command, Holds, ShowsIn, meaning_in}
-use Rattle.script_run.specs.Courses.{IsCourseDue, IsWorkedOn}
+use Rattle.script_run.specs.Courses.{IsCourseDue, IsWorkedOn, Works}
 use Rattle.script_run.specs.Run.{IsAnswerFound, LineStage}
 use Rattle.script_run.specs.Stages.{finish_course}
 
@@ -39,10 +39,6 @@ worked_none p s (line ∷ todo) files shows = record {
   due = inr (inr refl);
   shows = after_none (meaning_in p) (FilesShow (meaning_in p) p files) s.world [] shows;
 }
-
--- at each moment of these calls nothing is said of the line, and some first steps of its course are done
-abbrev pub Works : Params → Disk → Disk → Stage → List ℕ → Type 0
-Works p old mid s line = old.tells_moments → LeavesOnly old mid (IsSilent (IsWorkedOn p s (line ∷ [])) old.said)
 
 -- a call that takes some first steps of what is due
 pub works_by : (p : Params) (old mid : Disk) (s : Stage) (line : List ℕ) (c : Course Command) → IsCourseDue p s (line ∷ []) c → (old.tells_moments → TakesSome (meaning_in p) p old mid s.world c.steps) → Works p old mid s line

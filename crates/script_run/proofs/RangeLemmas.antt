@@ -2,7 +2,6 @@
 use Rattle.std.proofs.Common.{◌≡◌, ◌∙◌, ap, sym, subst, refl, ℕ, Bool, true, false, List, [], ◌∷◌, Option, Some, None, Result, Ok, Err, IfOk}
 use Rattle.std.specs.Prelude.{nat_le, if◌then◌else◌, map, option_map}
 use Rattle.std.proofs.lemmas.Bool.{cond_both}
-use Rattle.oper_core.specs.declared.refusal.Refusal.{Refusal}
 use Rattle.oper_core.specs.declared.refusal.Refusal.TheVariants as refusals
 use Rattle.formats.specs.declared.params.Params.{Params}
 use Rattle.disk_model.specs.Disk.{Disk}
@@ -28,7 +27,6 @@ use Rattle.shell_base.specs.declared.stop.Stop.{Stop as Early}
 use Rattle.script_run.specs.Found.{IsAnswerTo, IsAsked, IsEndedBy, IsMade, answer_of_call_error, answer_of_error, refused_as, reply_in}
 use Rattle.script_run.specs.Made.{call_end, call_made, made_by, plan_reply, tree_answer}
 use Rattle.script_run.specs.declared.asking.Found.{Found}
-use Rattle.script_run.specs.declared.asking.Found.TheVariants as founds
 use Rattle.script_run.proofs.AskLemmas.{no_first}
 use Rattle.script_run.proofs.MakingLemmas.{error_ends}
 

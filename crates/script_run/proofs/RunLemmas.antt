@@ -1,11 +1,11 @@
 -- How a run's moments go on from line to line.
-use Rattle.std.proofs.Common.{◌≡◌, ◌≢◌, ◌⊎◌, inl, inr, ⊎_elim, ◌≤◌, ◌<◌, ◌++◌, ◌+◌, ◌||◌, ◌↔◌, List, ℕ, [], ◌∷◌, length, take, length-append, append_assoc, refl, ap, ◌∙◌, sym, subst, arith, Bool, true, false, Contains, Option, None, Result, Ok, Err, IfOk, OnOk, OnErr, IsErr}
+use Rattle.std.proofs.Common.{◌≡◌, ◌⊎◌, inl, inr, ⊎_elim, ◌≤◌, ◌++◌, ◌+◌, ◌||◌, ◌↔◌, List, ℕ, [], ◌∷◌, length, take, length-append, append_assoc, refl, ap, ◌∙◌, sym, subst, arith, Bool, true, false, Contains, Option, None, Result, Ok, Err, IfOk, OnOk, OnErr, IsErr}
 use Rattle.std.specs.Prelude.{⊤}
 use Rattle.std.proofs.lemmas.List.{append-nil, take_all}
 use Rattle.std.proofs.lemmas.List.Folds.{list_any-append}
 use Rattle.std.specs.List.{flat_map, list_any}
 use Rattle.disk_model.specs.Disk.{Files, Disk, IsDisk, Passes, Runs, Same, SaysFront, LeavesOnly}
-use Rattle.disk_model.specs.Moments.{passes_none, first_call, runs_on, started, weaker}
+use Rattle.disk_model.specs.Moments.{first_call, runs_on, started, weaker}
 use Rattle.disk_model.specs.Silent.{IsSilent as IsQuiet}
 use Rattle.formats.specs.Image.{EndsAt}
 use Rattle.formats.specs.declared.params.Params.{Params}
@@ -16,15 +16,13 @@ use Rattle.standing.specs.Standing.{FilesShow}
 use Rattle.running_store.specs.Courses.{course}
 use Rattle.running_store.specs.Courses.Stop.{Through}
 use Rattle.running_store.specs.Forced.{files_shown}
-use Rattle.oper_core.specs.declared.refusal.Refusal.TheVariants.{NoObject}
 use Rattle.oper_core.specs.Meaning.{Meaning}
 use Rattle.script_lines.specs.Grammar.{Request, AsksFor}
-use Rattle.script_lines.specs.declared.line.Line.TheVariants.{Get as get, Skip as skip}
-use Rattle.script_lines.specs.Replies.{Reply, value, forced, refused, silence, said_line}
+use Rattle.script_lines.specs.Replies.{Reply, forced, said_line}
 use Rattle.op_codec.specs.AllOps.{all_meaning}
 use Rattle.store_engine.specs.Engine.{EngineView, IsAfterIn, accepted_in, forced_in, used_in}
 use Rattle.store_engine.specs.Grouping.{ungrouped}
-use Rattle.shell_base.specs.Store.{Command, meaning_in, state_of, Stands, Holds, Kept, Between}
+use Rattle.shell_base.specs.Store.{Command, meaning_in, Stands, Holds, Between}
 use Rattle.shell_base.specs.First.{Stage, stage_of}
 use Rattle.shell_base.specs.Status.{IsCut, status_after}
 use Rattle.shell_base.specs.declared.status.Status.{Status}
@@ -36,10 +34,10 @@ use Rattle.script_run.specs.Made.{IsFront}
 use Rattle.script_run.specs.Replies.{Replies, IsTrueIn, is_refusing}
 use Rattle.script_run.specs.Stages.{IsQuestion, Ends, GoesBy, Leads, AllGoBy, finish_course}
 use Rattle.script_run.specs.Answers.{IsSilent, Moment, TrueWithin, SaysTruly, with_begun, with_line}
-use Rattle.script_run.specs.Courses.{IsAtWork, StageMoment}
+use Rattle.script_run.specs.Courses.{IsAtWork, StageMoment, Works}
 use Rattle.script_run.specs.Run.{IsTrueSaying, IsTrueSoFar, IsAnswered, IsPartly, Working, During, LineMoment, LineStage, StageSoFar, MomentSoFar, Going, IsComplete, IsAnswerFound, Answering, IsRun}
 use Rattle.script_run.proofs.GroupLemmas.{AsksOnce, after_whole, none_open, whole_ended, whole_late}
-use Rattle.script_run.proofs.MomentLemmas.{Works, found_steps, images_show, worked_none, works_at_once, works_line}
+use Rattle.script_run.proofs.MomentLemmas.{found_steps, images_show, worked_none, works_line}
 use Rattle.script_run.proofs.TrueLemmas.{truly_on, truly_quiet, line_behind, found_truly}
 use Rattle.script_run.specs.StoryLaws.{AreEven, after_commands, after_within, answers_even, ended_whole, next_in, goes_by_more, told_goes, told_truly, said_longer, Story, story_more, story_end, said_more, spoken_more, told_whole, told_silent, told_partly}
 use Rattle.script_run.specs.StartLaws.{AreFew, moment_of, moment_at, first_moment}
@@ -566,13 +564,6 @@ stops_before {p} {old} {new} {before} {after} {w} {commands} {line} (Err stop) i
   steps = works_line works;
 }
 
-abbrev pub kept_nil : {p : Params} {d : Disk} {before engine : EngineView} {commands : List Command} → Kept p before d engine commands → Kept p before d engine (commands ++ [])
-kept_nil {commands = commands} kept = record { holds = holds_as (sym (append-nil commands)) kept.holds; rising = kept.rising; which = kept.which }
-
--- an engine of which nothing was asked
-abbrev pub kept_still : {p : Params} {d : Disk} {engine : EngineView} {commands : List Command} → Holds p d engine commands → Kept p engine d engine commands
-kept_still holds = record { holds = holds; rising = omega arith; which = inl refl }
-
 -- a line leads to a stage with the commands that it adds
 pub leads_on : {p : Params} {old new : Stage} {line : List ℕ} (commands added : List Command) (reply : Reply) → commands_of old.world.history ≡ commands → commands_of new.world.history ≡ commands ++ added
     → Replies p (open_in old.world) commands line reply added → GoesBy p old line reply new → Leads p old line reply new
@@ -582,28 +573,6 @@ leads_on {p} {old} {new} {line} commands added reply was now replies goes = reco
   commands_are = subst (λ (l : List Command). commands_of new.world.history ≡ l ++ added) (sym was) now;
   goes = goes;
 }
-
--- what is answered where objects were read at most: no group begins or ends
-pub found_read : {p : Params} {old mid : Disk} {before after : EngineView} {w : World Command} {commands : List Command} {line : List ℕ} (reply : Reply) → Replies p (open_in w) commands line reply []
-    → ((f : Files) → IsTrueIn p f (waiting (open_in w) (commands ++ [])) line reply) → ((group : Option ℕ) → Regroups line reply commands group group)
-    → ((n : ℕ) → reply ≢ forced n) → ((s : Stage) → GoesBy p s line reply s) → commands_of w.history ≡ commands → mid.said ≡ old.said → (kept : Kept p before mid after commands) → stage_of after kept.holds.world ≡ stage_of before w
-    → IsAnswerFound p old mid before after w commands line reply
-found_read {p} {old} {mid} {before} {after} {w} {commands} {line} reply replies tied regroups other goes was quiet kept same = record {
-  added = [];
-  replies = replies;
-  quiet = quiet;
-  kept = kept_nil kept;
-  regroups = subst (λ (s : Stage). Regroups line reply commands (open_in w) (open_in s.world)) (sym same) (regroups (open_in w));
-  tied = (tied mid.reads, λ told f s left. tied f);
-  acked = λ n is. absurd (other n is);
-  leads = leads_on commands [] reply was (kept.holds.commands_are ∙ sym (append-nil commands)) replies (subst (λ (s : Stage). GoesBy p (stage_of before w) line reply s) (sym same) (goes (stage_of before w)));
-}
-
--- what is answered without a call
-pub found_at_once : {p : Params} {d : Disk} {engine : EngineView} {commands : List Command} {line : List ℕ} (reply : Reply) → (holds : Holds p d engine commands)
-    → Replies p (open_in holds.world) commands line reply [] → ((f : Files) → IsTrueIn p f (waiting (open_in holds.world) (commands ++ [])) line reply) → ((group : Option ℕ) → Regroups line reply commands group group)
-    → ((n : ℕ) → reply ≢ forced n) → ((s : Stage) → GoesBy p s line reply s) → IsAnswerFound p d d engine engine holds.world commands line reply
-found_at_once reply holds replies tied regroups other goes = found_read reply replies tied regroups other goes holds.commands_are refl (kept_still holds) refl
 
 pub run_nothing : (m : Meaning Command) (w : World Command) → run m w [] ≡ w
 unfolding run
@@ -620,50 +589,6 @@ asks_values p s line request question asks = (
   refl,
   λ i. record { world = sym (run_nothing (meaning_in p) s.world) i; used = s.used; identities = none_more s.identities i; copied = s.copied },
 )
-
--- the value that was fetched
-pub found_value : {p : Params} {old mid : Disk} {before after : EngineView} {w : World Command} {commands : List Command} {line : List ℕ} (object : ℕ) (bytes : List ℕ) → AsksFor line (get object) → object < p.objects
-    → bytes ≡ state_of p commands object → commands_of w.history ≡ commands → mid.said ≡ old.said → (kept : Kept p before mid after commands) → stage_of after kept.holds.world ≡ stage_of before w → IsAnswerFound p old mid before after w commands line (value bytes)
-found_value object bytes asks there is was quiet kept same = found_read (value bytes) (inl (object, asks, there, is), refl) (λ f. tt) (λ group. refl) (λ n e. cc) (λ s. refl) was quiet kept same
-
--- or there is no such object
-pub found_none : {p : Params} {old mid : Disk} {before after : EngineView} {w : World Command} {commands : List Command} {line : List ℕ} (object : ℕ) → AsksFor line (get object) → p.objects ≤ object
-    → commands_of w.history ≡ commands → mid.said ≡ old.said → (kept : Kept p before mid after commands) → stage_of after kept.holds.world ≡ stage_of before w → IsAnswerFound p old mid before after w commands line (refused NoObject)
-found_none {p} {line = line} object asks past was quiet kept same =
-    found_read (refused NoObject) (inr (inl (object, asks, past, refl), refl)) (λ f. tt) (λ group. refl) (λ n e. cc) (λ s. asks_values p s line (get object) tt asks) was quiet kept same
-
--- it is said where it is found
-pub said_at_once : {p : Params} {d new : Disk} {engine : EngineView} {commands : List Command} {line : List ℕ} {reply : Reply} (result : Result Bool Stop)
-    → IsDisk d → (holds : Holds p d engine commands) → IsAnswerFound p d d engine engine holds.world commands line reply
-    → Runs Same (SaysFront (said_line reply)) d new → (d.tells_files → OnOk result (new.said ≡ d.said ++ said_line reply)) → IfOk result (λ kind. kind ≡ is_refusing reply)
-    → Answering p d new engine engine holds.world commands line result
-said_at_once {d = d} {line = line} result lawful holds found say all is = found_said result holds.says.accepted (works_none (holds_between lawful holds)) (works_at_once line lawful holds) (passes_none d) found say all is
-
--- a line that is skipped
-pub skipped : {p : Params} {d : Disk} {engine : EngineView} {commands : List Command} {line : List ℕ} → IsDisk d → (holds : Holds p d engine commands) → AsksFor line skip
-    → Answering p d d engine engine holds.world commands line (Ok false)
-skipped {p} {d} {engine} {commands} {line} lawful holds asks = record {
-  whole = record {
-    reply = silence;
-    added = [];
-    replies = (asks, refl);
-    said = sym (append-nil d.said);
-    kept = kept_nil (kept_still holds);
-    regroups = refl;
-    acked = λ n is. cc;
-    kind = refl;
-    leads = leads_on commands [] silence holds.commands_are (holds.commands_are ∙ sym (append-nil commands)) (asks, refl) refl;
-    truly = λ told. weaker d d (Between p d engine.group (forced_in engine) (length commands) commands) (IsTrueSaying p d.said (waiting (open_in holds.world) (commands ++ [])) line silence) (holds_between lawful holds told)
-        (λ files said b. record {
-          true_in = λ e. tt;
-          no_shorter = omega (arith, ap length b.quiet);
-          no_longer = omega (arith, ap length b.quiet, length-append d.said []);
-        });
-  };
-  partly = tt;
-  images = λ told. weaker d d (Between p d engine.group (forced_in engine) (length commands) commands) (LineMoment p d engine (open_in holds.world) commands line) (holds_between lawful holds told) (λ f s b. inl (works_quietly b));
-  steps = works_line (works_at_once line lawful holds);
-}
 
 -- a moment of a run that has one line more to answer, at which no group counts as closed yet
 pub moment_longer : {p : Params} {commands : List Command} {script : List (List ℕ)} {before : List ℕ} (more : List (List ℕ)) (f : Files) (s : List ℕ) → MomentSoFar p commands script before f s → MomentSoFar p commands (script ++ more) before f s

@@ -20,7 +20,8 @@ use Rattle.oper_core.specs.Meaning.{Meaning}
 use Rattle.running_store.specs.Courses.{Course, force_course}
 use Rattle.op_codec.specs.AllOps.{all_meaning}
 use Rattle.script_lines.specs.Grammar.{Request}
-use Rattle.script_lines.specs.declared.line.Line.TheVariants.{BackupStart as bstart, BackupCopy as bcopy, BackupFinish as bfinish}
+use Rattle.script_lines.specs.declared.line.Line.TheVariants.{Save}
+use Rattle.script_lines.specs.declared.line.Saving.TheVariants.{Start as bstart, Copy as bcopy, Finish as bfinish}
 use Rattle.script_lines.specs.declared.answer.Answer.{Answer}
 use Rattle.script_lines.specs.declared.answer.Answer.TheVariants as answers
 use Rattle.store_engine.specs.Engine.{EngineView, IsEngineRead, commands_since, params_of, used_in}
@@ -203,13 +204,13 @@ module _ {M T : Type 0} (disk : M → Disk) (other : T → Disk) (old new : M) (
 
   -- a start that is allowed looks for a store first, and forces the log
   start_goes : (begins none : Type 0) (call : Result (Unit {0}) BackupErr) → LooksFirst all_meaning (disk old) (disk new) before after (IsUntouched old new before after) call
-      → HasStartCause begins none (Rises (disk old).disk_faults (disk new).disk_faults) (Rises (other t).disk_faults (other u).disk_faults) call → Saves bstart (answer_of_call (λ done. answers.Done) call)
-  start_goes begins none (Ok done) forced cause = forced_saving bstart (λ m w used. refl) (other t) (other u) (Ok forced.0) (Ok answers.Done) forced.1 (λ failed. failed) time tt (λ told attached. tt)
-  start_goes begins none (Err errors.AlreadyStore) untouched cause = untouched_saving bstart (answer_of_backup_error errors.AlreadyStore) untouched tt tt
-  start_goes begins none (Err errors.DiskFault) failed cause = forced_saving bstart (λ m w used. refl) (other t) (other u) (Err failed.0) (Err DiskFault) failed.1 tt time cause.1 (λ told attached. tt)
+      → HasStartCause begins none (Rises (disk old).disk_faults (disk new).disk_faults) (Rises (other t).disk_faults (other u).disk_faults) call → Saves (Save bstart) (answer_of_call (λ done. answers.Done) call)
+  start_goes begins none (Ok done) forced cause = forced_saving (Save bstart) (λ m w used. refl) (other t) (other u) (Ok forced.0) (Ok answers.Done) forced.1 (λ failed. failed) time tt (λ told attached. tt)
+  start_goes begins none (Err errors.AlreadyStore) untouched cause = untouched_saving (Save bstart) (answer_of_backup_error errors.AlreadyStore) untouched tt tt
+  start_goes begins none (Err errors.DiskFault) failed cause = forced_saving (Save bstart) (λ m w used. refl) (other t) (other u) (Err failed.0) (Err DiskFault) failed.1 tt time cause.1 (λ told attached. tt)
   start_goes begins none (Err errors.TargetFault) way cause = ⊎_elim
-      (λ (untouched : IsUntouched old new before after). untouched_saving bstart (Err BackupFault) untouched cause tt)
-      (λ (forced : (n : ℕ) × HasForced all_meaning (disk old) (disk new) before after (Ok n)). forced_saving bstart (λ m w used. refl) (other t) (other u) (Ok forced.0) (Err BackupFault) forced.1 tt time cause (λ told attached. tt))
+      (λ (untouched : IsUntouched old new before after). untouched_saving (Save bstart) (Err BackupFault) untouched cause tt)
+      (λ (forced : (n : ℕ) × HasForced all_meaning (disk old) (disk new) before after (Ok n)). forced_saving (Save bstart) (λ m w used. refl) (other t) (other u) (Ok forced.0) (Err BackupFault) forced.1 tt time cause (λ told attached. tt))
       way
   start_goes begins none (Err (errors.InGroup size)) way cause = absurd way
   start_goes begins none (Err (errors.InBackup n)) way cause = absurd way
@@ -221,12 +222,12 @@ module _ {M T : Type 0} (disk : M → Disk) (other : T → Disk) (old new : M) (
 
   pub start_saving : (begins none : Type 0) (call : Result (Unit {0}) BackupErr) → IfErr (judge_start before) (λ why. IsRefusedSo why old new t u before after call)
       → IfOk (judge_start before) (λ done. LooksFirst all_meaning (disk old) (disk new) before after (IsUntouched old new before after) call)
-      → IfOk (judge_start before) (λ done. HasStartCause begins none (Rises (disk old).disk_faults (disk new).disk_faults) (Rises (other t).disk_faults (other u).disk_faults) call) → Saves bstart (answer_of_call (λ done. answers.Done) call)
+      → IfOk (judge_start before) (λ done. HasStartCause begins none (Rises (disk old).disk_faults (disk new).disk_faults) (Rises (other t).disk_faults (other u).disk_faults) call) → Saves (Save bstart) (answer_of_call (λ done. answers.Done) call)
   start_saving begins none call refused looks cause = judged (start_judged before)
     where
-      judged : StartJudged before → Saves bstart (answer_of_call (λ done. answers.Done) call)
-      judged (start_barred size some is) = refused_saving bstart call (λ done. answers.Done) (errors.InGroup size) tt (subst (λ (r : Result (Unit {0}) BackupErr). IfErr r (λ why. IsRefusedSo why old new t u before after call)) is refused)
-      judged (start_denied n alone copies is) = refused_saving bstart call (λ done. answers.Done) (errors.InBackup n) tt (subst (λ (r : Result (Unit {0}) BackupErr). IfErr r (λ why. IsRefusedSo why old new t u before after call)) is refused)
+      judged : StartJudged before → Saves (Save bstart) (answer_of_call (λ done. answers.Done) call)
+      judged (start_barred size some is) = refused_saving (Save bstart) call (λ done. answers.Done) (errors.InGroup size) tt (subst (λ (r : Result (Unit {0}) BackupErr). IfErr r (λ why. IsRefusedSo why old new t u before after call)) is refused)
+      judged (start_denied n alone copies is) = refused_saving (Save bstart) call (λ done. answers.Done) (errors.InBackup n) tt (subst (λ (r : Result (Unit {0}) BackupErr). IfErr r (λ why. IsRefusedSo why old new t u before after call)) is refused)
       judged (start_allowed alone copies is) = start_goes begins none call
           (subst (λ (r : Result (Unit {0}) BackupErr). IfOk r (λ done. LooksFirst all_meaning (disk old) (disk new) before after (IsUntouched old new before after) call)) is looks)
           (subst (λ (r : Result (Unit {0}) BackupErr). IfOk r (λ done. HasStartCause begins none (Rises (disk old).disk_faults (disk new).disk_faults) (Rises (other t).disk_faults (other u).disk_faults) call)) is cause)
@@ -281,26 +282,26 @@ module _ {M T : Type 0} (disk : M → Disk) (other : T → Disk) (old new : M) (
   -- a copy only reads
   pub copy_saving : (count : ℕ) (call : Result ℕ BackupErr) → IfErr (judge_copy before) (λ why. IsRefusedSo why old new t u before after call) → IsEngineRead all_meaning (disk old) (disk new) before (but_copied before after) (IsErrOf call errors.DiskFault)
       → ((disk old).tells_files → IsAttached (disk old) before → (file : FileNo) (place : ℕ) → IsErrOf call (errors.Damaged file place) → ⊥)
-      → IfOk (judge_copy before) (λ copied. IfErr call (CopyFailsBy (disk new) before after.copied (Rises (disk old).disk_faults (disk new).disk_faults) (Rises (other t).disk_faults (other u).disk_faults))) → Saves (bcopy count) (answer_of_call answers.Copied call)
+      → IfOk (judge_copy before) (λ copied. IfErr call (CopyFailsBy (disk new) before after.copied (Rises (disk old).disk_faults (disk new).disk_faults) (Rises (other t).disk_faults (other u).disk_faults))) → Saves (Save (bcopy count)) (answer_of_call answers.Copied call)
   copy_saving count call refused read none cause = judged (copy_judged before)
     where
-      judged : CopyJudged before → Saves (bcopy count) (answer_of_call answers.Copied call)
-      judged (copy_barred size some is) = refused_saving (bcopy count) call answers.Copied (errors.InGroup size) tt (subst (λ (r : Result ℕ BackupErr). IfErr r (λ why. IsRefusedSo why old new t u before after call)) is refused)
-      judged (copy_denied alone copies is) = refused_saving (bcopy count) call answers.Copied errors.NoBackup tt (subst (λ (r : Result ℕ BackupErr). IfErr r (λ why. IsRefusedSo why old new t u before after call)) is refused)
-      judged (copy_allowed n alone copies is) = read_saving (bcopy count) (other t) (other u) (answer_of_call answers.Copied call) read (copy_works call) time
+      judged : CopyJudged before → Saves (Save (bcopy count)) (answer_of_call answers.Copied call)
+      judged (copy_barred size some is) = refused_saving (Save (bcopy count)) call answers.Copied (errors.InGroup size) tt (subst (λ (r : Result ℕ BackupErr). IfErr r (λ why. IsRefusedSo why old new t u before after call)) is refused)
+      judged (copy_denied alone copies is) = refused_saving (Save (bcopy count)) call answers.Copied errors.NoBackup tt (subst (λ (r : Result ℕ BackupErr). IfErr r (λ why. IsRefusedSo why old new t u before after call)) is refused)
+      judged (copy_allowed n alone copies is) = read_saving (Save (bcopy count)) (other t) (other u) (answer_of_call answers.Copied call) read (copy_works call) time
           (copy_caused call (subst (λ (r : Result ℕ BackupErr). IfOk r (λ copied. IfErr call (CopyFailsBy (disk new) before after.copied (Rises (disk old).disk_faults (disk new).disk_faults) (Rises (other t).disk_faults (other u).disk_faults)))) is cause))
           (λ told attached. never_damaged call answers.Copied (none told attached))
 
   -- a finish that is allowed forces the log first
   finish_goes : (fault : FileNo → ℕ → Type 0) (call : Result ℕ BackupErr) → ForcesFirst all_meaning (disk old) (disk new) before after call
       → IfErr call (FinishFailsBy (Rises (disk old).disk_faults (disk new).disk_faults) (Rises (other t).disk_faults (other u).disk_faults) fault after)
-      → ((disk old).tells_files → IsAttached (disk old) before → (file : FileNo) (place : ℕ) → IsErrOf call (errors.Damaged file place) → ⊥) → Saves bfinish (answer_of_call answers.Saved call)
-  finish_goes fault (Ok n) forced cause none = forced_saving bfinish (λ m w used. refl) (other t) (other u) (Ok n) (Ok (answers.Saved n)) forced (λ failed. failed) time tt (λ told attached. tt)
-  finish_goes fault (Err errors.DiskFault) failed cause none = forced_saving bfinish (λ m w used. refl) (other t) (other u) (Err failed.0) (Err DiskFault) failed.1 tt time cause (λ told attached. tt)
-  finish_goes fault (Err errors.TargetFault) forced cause none = forced_saving bfinish (λ m w used. refl) (other t) (other u) (Ok forced.0) (Err BackupFault) forced.1 tt time cause (λ told attached. tt)
-  finish_goes fault (Err (errors.Damaged file place)) forced cause none = forced_saving bfinish (λ m w used. refl) (other t) (other u) (Ok forced.0) (Err (Damaged file place)) forced.1 tt time tt (λ told attached. none told attached file place refl)
-  finish_goes fault (Err (errors.LogFull used need limit)) forced cause none = forced_saving bfinish (λ m w used. refl) (other t) (other u) (Ok forced.0) (Ok (answers.Full used need limit)) forced.1 (λ failed. failed) time tt (λ told attached. tt)
-  finish_goes fault (Err errors.Memory) forced cause none = forced_saving bfinish (λ m w used. refl) (other t) (other u) (Ok forced.0) (Err Memory) forced.1 tt time tt (λ told attached. tt)
+      → ((disk old).tells_files → IsAttached (disk old) before → (file : FileNo) (place : ℕ) → IsErrOf call (errors.Damaged file place) → ⊥) → Saves (Save bfinish) (answer_of_call answers.Saved call)
+  finish_goes fault (Ok n) forced cause none = forced_saving (Save bfinish) (λ m w used. refl) (other t) (other u) (Ok n) (Ok (answers.Saved n)) forced (λ failed. failed) time tt (λ told attached. tt)
+  finish_goes fault (Err errors.DiskFault) failed cause none = forced_saving (Save bfinish) (λ m w used. refl) (other t) (other u) (Err failed.0) (Err DiskFault) failed.1 tt time cause (λ told attached. tt)
+  finish_goes fault (Err errors.TargetFault) forced cause none = forced_saving (Save bfinish) (λ m w used. refl) (other t) (other u) (Ok forced.0) (Err BackupFault) forced.1 tt time cause (λ told attached. tt)
+  finish_goes fault (Err (errors.Damaged file place)) forced cause none = forced_saving (Save bfinish) (λ m w used. refl) (other t) (other u) (Ok forced.0) (Err (Damaged file place)) forced.1 tt time tt (λ told attached. none told attached file place refl)
+  finish_goes fault (Err (errors.LogFull used need limit)) forced cause none = forced_saving (Save bfinish) (λ m w used. refl) (other t) (other u) (Ok forced.0) (Ok (answers.Full used need limit)) forced.1 (λ failed. failed) time tt (λ told attached. tt)
+  finish_goes fault (Err errors.Memory) forced cause none = forced_saving (Save bfinish) (λ m w used. refl) (other t) (other u) (Ok forced.0) (Err Memory) forced.1 tt time tt (λ told attached. tt)
   finish_goes fault (Err (errors.InGroup size)) forced cause none = absurd cause
   finish_goes fault (Err (errors.InBackup n)) forced cause none = absurd cause
   finish_goes fault (Err errors.NoBackup) forced cause none = absurd cause
@@ -310,13 +311,13 @@ module _ {M T : Type 0} (disk : M → Disk) (other : T → Disk) (old new : M) (
   pub finish_saving : (fault : FileNo → ℕ → Type 0) (call : Result ℕ BackupErr) → IfErr (judge_finish before) (λ why. IsRefusedSo why old new t u before after call)
       → IfOk (judge_finish before) (λ done. ForcesFirst all_meaning (disk old) (disk new) before after call)
       → IfOk (judge_finish before) (λ done. IfErr call (FinishFailsBy (Rises (disk old).disk_faults (disk new).disk_faults) (Rises (other t).disk_faults (other u).disk_faults) fault after))
-      → ((disk old).tells_files → IsAttached (disk old) before → (file : FileNo) (place : ℕ) → IsErrOf call (errors.Damaged file place) → ⊥) → Saves bfinish (answer_of_call answers.Saved call)
+      → ((disk old).tells_files → IsAttached (disk old) before → (file : FileNo) (place : ℕ) → IsErrOf call (errors.Damaged file place) → ⊥) → Saves (Save bfinish) (answer_of_call answers.Saved call)
   finish_saving fault call refused forces cause none = judged (finish_judged before)
     where
-      judged : FinishJudged before → Saves bfinish (answer_of_call answers.Saved call)
-      judged (finish_barred size some is) = refused_saving bfinish call answers.Saved (errors.InGroup size) tt (subst (λ (r : Result (Unit {0}) BackupErr). IfErr r (λ why. IsRefusedSo why old new t u before after call)) is refused)
-      judged (finish_denied alone copies is) = refused_saving bfinish call answers.Saved errors.NoBackup tt (subst (λ (r : Result (Unit {0}) BackupErr). IfErr r (λ why. IsRefusedSo why old new t u before after call)) is refused)
-      judged (finish_early n alone copies low is) = refused_saving bfinish call answers.Saved (errors.NotCopied n) tt (subst (λ (r : Result (Unit {0}) BackupErr). IfErr r (λ why. IsRefusedSo why old new t u before after call)) is refused)
+      judged : FinishJudged before → Saves (Save bfinish) (answer_of_call answers.Saved call)
+      judged (finish_barred size some is) = refused_saving (Save bfinish) call answers.Saved (errors.InGroup size) tt (subst (λ (r : Result (Unit {0}) BackupErr). IfErr r (λ why. IsRefusedSo why old new t u before after call)) is refused)
+      judged (finish_denied alone copies is) = refused_saving (Save bfinish) call answers.Saved errors.NoBackup tt (subst (λ (r : Result (Unit {0}) BackupErr). IfErr r (λ why. IsRefusedSo why old new t u before after call)) is refused)
+      judged (finish_early n alone copies low is) = refused_saving (Save bfinish) call answers.Saved (errors.NotCopied n) tt (subst (λ (r : Result (Unit {0}) BackupErr). IfErr r (λ why. IsRefusedSo why old new t u before after call)) is refused)
       judged (finish_allowed n alone copies high is) = finish_goes fault call
           (subst (λ (r : Result (Unit {0}) BackupErr). IfOk r (λ done. ForcesFirst all_meaning (disk old) (disk new) before after call)) is forces)
           (subst (λ (r : Result (Unit {0}) BackupErr). IfOk r (λ done. IfErr call (FinishFailsBy (Rises (disk old).disk_faults (disk new).disk_faults) (Rises (other t).disk_faults (other u).disk_faults) fault after))) is cause) none

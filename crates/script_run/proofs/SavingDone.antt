@@ -24,7 +24,8 @@ use Rattle.restart.specs.Starts.{OrAtStart, at_start}
 use Rattle.op_codec.specs.AllOps.{all_meaning}
 use Rattle.script_lines.specs.Grammar.{Request, AsksFor}
 use Rattle.script_lines.specs.declared.backup_denial.BackupDenial.{BackupDenial}
-use Rattle.script_lines.specs.declared.line.Line.TheVariants.{BackupStart as bstart, BackupCopy as bcopy, BackupFinish as bfinish}
+use Rattle.script_lines.specs.declared.line.Line.TheVariants.{Save}
+use Rattle.script_lines.specs.declared.line.Saving.TheVariants.{Start as bstart, Copy as bcopy, Finish as bfinish}
 use Rattle.script_lines.specs.Replies.{Reply, ok, full, in_group, copied, saved, backup_denied}
 use Rattle.script_lines.specs.declared.answer.Answer.{Answer}
 use Rattle.script_lines.specs.declared.answer.Answer.TheVariants as answers
@@ -161,7 +162,7 @@ module _ {p : Params} {start t u : Disk} (lawful : IsDisk t) (ends : IsDisk u) (
       inr (inl (inl (shut_none files (kept_closed (from.0.0 Objects) (files Objects) from.0.2.changed ((copies.target told).shut telling from.0.0 t.said from.0.1)))))))
 
   -- it was closed, until the store was whole, as the line asks
-  moved_whole : {lines : List (List ℕ)} {replies : List Reply} {commands others : List Command} {d : Disk} {engine : EngineView} {w : World Command} {line : List ℕ} → AsksFor line bfinish → BackupGoing p start lines replies commands d engine w t → t.tells_files → Copies all_meaning p d engine w t
+  moved_whole : {lines : List (List ℕ)} {replies : List Reply} {commands others : List Command} {d : Disk} {engine : EngineView} {w : World Command} {line : List ℕ} → AsksFor line (Save bfinish) → BackupGoing p start lines replies commands d engine w t → t.tells_files → Copies all_meaning p d engine w t
       → others ≡ commands → (t.tells_moments → LeavesOnly t u (IsShutOrWhole all_meaning p others t)) → SaysOfBackup p start lines replies (line ∷ []) commands u
   moved_whole {lines} {replies} {commands} {others} {line = line} asks g told copies same images =
       moved (line ∷ []) g.says (none_kept g (copies_closed copies told)) (λ n has. absurd (none_saved g (copies_closed copies told) n has))
@@ -201,7 +202,7 @@ module _ (p : Params) (start old new t u : Disk) (before after : EngineView) (w 
   all_first : (n : ℕ) → n ≡ length commands → take n (commands ++ []) ≡ commands
   all_first n is = ap (λ (l : List Command). take n l) (append-nil commands) ∙ take_all n commands (omega (arith, is))
 
-  pub full_goes : AsksFor line bfinish → (used need limit k : ℕ) → before.copied ≡ Some k → commands_of w.history ≡ commands → (Copies all_meaning p old before w t → Copies all_meaning p new after v u)
+  pub full_goes : AsksFor line (Save bfinish) → (used need limit k : ℕ) → before.copied ≡ Some k → commands_of w.history ≡ commands → (Copies all_meaning p old before w t → Copies all_meaning p new after v u)
       → (t.tells_moments → Copies all_meaning p old before w t → LeavesOnly t u (IsShutOrWhole all_meaning p (commands_of w.history) t)) → GoesOn (full used need limit) v
   full_goes asks used need limit k is are on images told lines replies g =
       let copies = subst (λ (o : Option ℕ). IfSome o (λ n. Copies all_meaning p old before w t)) is g.copying in
@@ -214,7 +215,7 @@ module _ (p : Params) (start old new t u : Disk) (before after : EngineView) (w 
         subst (λ (l : List Command). Stands p files l) (sym (all_first (length commands) refl)) stands,
       ))) tt) told (on copies)
 
-  pub saved_goes : AsksFor line bfinish → (n k : ℕ) → before.copied ≡ Some k → after.copied ≡ None → n ≡ length commands → commands_of w.history ≡ commands
+  pub saved_goes : AsksFor line (Save bfinish) → (n k : ℕ) → before.copied ≡ Some k → after.copied ≡ None → n ≡ length commands → commands_of w.history ≡ commands
       → (Copies all_meaning p old before w t → t.tells_files → InEachImage u (λ files. Stands p files (commands_of w.history)))
       → (t.tells_moments → Copies all_meaning p old before w t → LeavesOnly t u (IsShutOrWhole all_meaning p (commands_of w.history) t)) → GoesOn (saved n) v
   saved_goes asks n k is none count are stands images told lines replies g =
@@ -258,7 +259,7 @@ module _ (p : Params) (start old new t u : Disk) (before after : EngineView) (w 
   copy_stays k is runs told lines replies g =
       moved_shut lawful ends time (line ∷ []) g told (subst (λ (o : Option ℕ). IfSome o (λ n. Copies all_meaning p old before w t)) is g.copying) runs
 
-  pub finish_stays : AsksFor line bfinish → (k : ℕ) → before.copied ≡ Some k → commands_of w.history ≡ commands → (t.tells_moments → Copies all_meaning p old before w t → LeavesOnly t u (IsShutOrWhole all_meaning p (commands_of w.history) t))
+  pub finish_stays : AsksFor line (Save bfinish) → (k : ℕ) → before.copied ≡ Some k → commands_of w.history ≡ commands → (t.tells_moments → Copies all_meaning p old before w t → LeavesOnly t u (IsShutOrWhole all_meaning p (commands_of w.history) t))
       → BackupStays p start old new before after w commands line t u
   finish_stays asks k is are images told lines replies g =
       let copies = subst (λ (o : Option ℕ). IfSome o (λ n. Copies all_meaning p old before w t)) is g.copying in
@@ -376,7 +377,7 @@ module _ {M T : Type 0} (disk : M → Disk) (other : T → Disk) (old new : M) (
   failed_done stop stays = record { whole = tt; stopped = stays }
 
   -- a start
-  module _ (asks : AsksFor line bstart) (kept : (other t).tells_files → BeginsStore ((other t).reads Objects) → Stays (other t) (other u))
+  module _ (asks : AsksFor line (Save bstart)) (kept : (other t).tells_files → BeginsStore ((other t).reads Objects) → Stays (other t) (other u))
       (moments : (other t).tells_moments → BeginsNone (other t).reads → LeavesOnly (other t) (other u) (OrAtStart (other t) (NoneIn (other t)))) where
     start_goes : before.group ≡ None → before.copied ≡ None → (call : Result (Unit {0}) BackupErr) → LooksFirst all_meaning (disk old) (disk new) before after (IsUntouched old new before after) call → after.copied ≡ copied_by_start before.copied call
         → ((p : Params) (w : World Command) → ShowsIn p (disk old) before w → OnOk call (Copies all_meaning p (disk new) after (run (meaning_in p) w (force_steps (meaning_in p) w)) (other u)))
@@ -385,7 +386,7 @@ module _ {M T : Type 0} (disk : M → Disk) (other : T → Disk) (old new : M) (
         let f = forced_so holds alone forced.1 in
         record {
           whole = (
-            forced_done (forced.1.call.quiet holds.shows.shows.told) ok holds f (inr (bstart, none_open holds.shows alone, asks, refl)) (bstart, asks, f.group) (inr (asks, none, forced_stage_is (Some 0) f copies)) tt,
+            forced_done (forced.1.call.quiet holds.shows.shows.told) ok holds f (inr (Save bstart, none_open holds.shows alone, asks, refl)) (Save bstart, asks, f.group) (inr (asks, none, forced_stage_is (Some 0) f copies)) tt,
             started_goes p start (disk old) (disk new) (other t) (other u) before after holds.world (run (meaning_in p) holds.world (force_steps (meaning_in p) holds.world)) commands line lawful ends time (begun p holds.world holds.shows) cause moments,
           );
           stopped = tt;
@@ -394,7 +395,7 @@ module _ {M T : Type 0} (disk : M → Disk) (other : T → Disk) (old new : M) (
         subst (λ (x : M). IsSavingDone p start (disk old) (disk x) before after holds.world commands line (other t) (other u) (answer_of_backup_error errors.AlreadyStore)) (sym untouched.machine)
         (subst (λ (e : EngineView). IsSavingDone p start (disk old) (disk old) before e holds.world commands line (other t) (other u) (answer_of_backup_error errors.AlreadyStore)) (sym untouched.engine) (record {
           whole = (
-            unmoved (backup_denied denials.AlreadyStore) holds (bstart, tt, asks, none_open holds.shows alone, refl) (none, refl) refl tt,
+            unmoved (backup_denied denials.AlreadyStore) holds (Save bstart, tt, asks, none_open holds.shows alone, refl) (none, refl) refl tt,
             kept_goes p start (disk old) (disk old) (other t) (other u) before before holds.world holds.world commands line lawful ends time none cause kept,
           );
           stopped = tt;
@@ -418,15 +419,15 @@ module _ {M T : Type 0} (disk : M → Disk) (other : T → Disk) (old new : M) (
       where
         judged : StartJudged before → Answers (answer_of_call (λ done. answers.Done) call)
         judged (start_barred size some is) = refused_done call (λ done. answers.Done) (errors.InGroup size) (subst (λ (r : Result (Unit {0}) BackupErr). IfErr r (λ why. IsRefusedSo why old new t u before after call)) is refused)
-            (barred_so p start (disk old) (other t) before commands line holds bstart tt asks some)
+            (barred_so p start (disk old) (other t) before commands line holds (Save bstart) tt asks some)
         judged (start_denied n alone is judge) = refused_done call (λ done. answers.Done) (errors.InBackup n) (subst (λ (r : Result (Unit {0}) BackupErr). IfErr r (λ why. IsRefusedSo why old new t u before after call)) judge refused)
-            (denied_so p start (disk old) (other t) before commands line holds denials.InBackup bstart tt asks alone (subst (λ (o : Option ℕ). IsTrue (is_some o)) (sym is) refl) (λ there. tt))
+            (denied_so p start (disk old) (other t) before commands line holds denials.InBackup (Save bstart) tt asks alone (subst (λ (o : Option ℕ). IsTrue (is_some o)) (sym is) refl) (λ there. tt))
         judged (start_allowed alone none judge) = start_goes alone none call
             (subst (λ (r : Result (Unit {0}) BackupErr). IfOk r (λ done. LooksFirst all_meaning (disk old) (disk new) before after (IsUntouched old new before after) call)) judge looks) copies begun rises target_rises
             (subst (λ (r : Result (Unit {0}) BackupErr). IfOk r (λ done. HasStartCause ((other t).tells_files → BeginsStore ((other t).reads Objects)) ((other t).tells_files → BeginsNone (other t).reads) rises target_rises call)) judge cause)
 
   -- a copy
-  module _ (count : ℕ) (asks : AsksFor line (bcopy count)) (runs : Runs (In Objects KeepsGate) Same (other t) (other u)) where
+  module _ (count : ℕ) (asks : AsksFor line (Save (bcopy count))) (runs : Runs (In Objects KeepsGate) Same (other t) (other u)) where
     copy_fails : (k : ℕ) → before.copied ≡ Some k → (stop : Early) → Answers (Err stop)
     copy_fails k is stop = failed_done stop (copy_stays p start (disk old) (disk new) (other t) (other u) before after holds.world holds.world commands line lawful ends time k is runs)
 
@@ -493,14 +494,14 @@ module _ {M T : Type 0} (disk : M → Disk) (other : T → Disk) (old new : M) (
       where
         judged : CopyJudged before → Answers (answer_of_call answers.Copied call)
         judged (copy_barred size some judge) = refused_done call answers.Copied (errors.InGroup size) (subst (λ (r : Result ℕ BackupErr). IfErr r (λ why. IsRefusedSo why old new t u before after call)) judge refused)
-            (barred_so p start (disk old) (other t) before commands line holds (bcopy count) tt asks some)
+            (barred_so p start (disk old) (other t) before commands line holds (Save (bcopy count)) tt asks some)
         judged (copy_denied alone none judge) = refused_done call answers.Copied errors.NoBackup (subst (λ (r : Result ℕ BackupErr). IfErr r (λ why. IsRefusedSo why old new t u before after call)) judge refused)
-            (denied_so p start (disk old) (other t) before commands line holds denials.NoBackup (bcopy count) tt asks alone none (λ there. tt))
+            (denied_so p start (disk old) (other t) before commands line holds denials.NoBackup (Save (bcopy count)) tt asks alone none (λ there. tt))
         judged (copy_allowed k alone is judge) = copy_goes k alone is call read (subst (λ (r : Result ℕ BackupErr). IfOk r (λ k. CopiesUpTo k (min (k + count) (params_of before).objects) after.copied call)) judge end) now on
             (failure_in rises target_rises call (subst (λ (r : Result ℕ BackupErr). IfOk r (λ k. IfErr call (CopyFailsBy (disk new) before after.copied rises target_rises))) judge cause))
 
   -- a finish
-  module _ (asks : AsksFor line bfinish) (within : IfSome before.copied (λ n. n ≤ (params_of before).objects))
+  module _ (asks : AsksFor line (Save bfinish)) (within : IfSome before.copied (λ n. n ≤ (params_of before).objects))
       (moments : (other t).tells_moments → (p : Params) (w : World Command) → Copies all_meaning p (disk old) before w (other t) → LeavesOnly (other t) (other u) (IsShutOrWhole all_meaning p (commands_of w.history) (other t))) where
     finish_fails : (k : ℕ) → before.copied ≡ Some k → (stop : Early) → Answers (Err stop)
     finish_fails k is stop = failed_done stop (finish_stays p start (disk old) (disk new) (other t) (other u) before after holds.world holds.world commands line lawful ends time asks k is holds.commands_are (λ telling copies. moments telling p holds.world copies))
@@ -539,7 +540,7 @@ module _ {M T : Type 0} (disk : M → Disk) (other : T → Disk) (old new : M) (
         let f = forced_so holds alone forced.1 in
         record {
           whole = (
-            forced_done (forced.1.call.quiet holds.shows.shows.told) (full used need limit) holds f (inr (bfinish, tt, asks, none_open holds.shows alone, cause.1, cause.2, refl)) f.group
+            forced_done (forced.1.call.quiet holds.shows.shows.told) (full used need limit) holds f (inr (Save bfinish, tt, asks, none_open holds.shows alone, cause.1, cause.2, refl)) f.group
                 (inr (asks, all_copied k is high, cause.0 ∙ f.used, long, forced_stage_is before.copied f copies)) (inr (record { none_waits = f.none_waits; alone = f.alone; used_is = cause.0 })),
             full_goes p start (disk old) (disk new) (other t) (other u) before after holds.world (run (meaning_in p) holds.world (force_steps (meaning_in p) holds.world)) commands line lawful ends time asks used need limit k is holds.commands_are (λ c. ⊎_elim (λ failed. absurd (full_no_fault (Err (errors.LogFull used need limit)) used need limit refl failed)) (λ c. c) (again p holds.world c)) (λ telling c. moments telling p holds.world c),
           );
@@ -563,11 +564,11 @@ module _ {M T : Type 0} (disk : M → Disk) (other : T → Disk) (old new : M) (
       where
         judged : FinishJudged before → Answers (answer_of_call answers.Saved call)
         judged (finish_barred size some judge) = refused_done call answers.Saved (errors.InGroup size) (subst (λ (r : Result (Unit {0}) BackupErr). IfErr r (λ why. IsRefusedSo why old new t u before after call)) judge refused)
-            (barred_so p start (disk old) (other t) before commands line holds bfinish tt asks some)
+            (barred_so p start (disk old) (other t) before commands line holds (Save bfinish) tt asks some)
         judged (finish_denied alone none judge) = refused_done call answers.Saved errors.NoBackup (subst (λ (r : Result (Unit {0}) BackupErr). IfErr r (λ why. IsRefusedSo why old new t u before after call)) judge refused)
-            (denied_so p start (disk old) (other t) before commands line holds denials.NoBackup bfinish tt asks alone none (λ there. tt))
+            (denied_so p start (disk old) (other t) before commands line holds denials.NoBackup (Save bfinish) tt asks alone none (λ there. tt))
         judged (finish_early n alone is low judge) = refused_done call answers.Saved (errors.NotCopied n) (subst (λ (r : Result (Unit {0}) BackupErr). IfErr r (λ why. IsRefusedSo why old new t u before after call)) judge refused)
-            (denied_so p start (disk old) (other t) before commands line holds denials.NotCopied bfinish tt asks alone (n, is, subst (λ (q : Params). n < q.objects) holds.shows.shows.store.params low) (λ there. tt))
+            (denied_so p start (disk old) (other t) before commands line holds denials.NotCopied (Save bfinish) tt asks alone (n, is, subst (λ (q : Params). n < q.objects) holds.shows.shows.store.params low) (λ there. tt))
         judged (finish_allowed k alone is high judge) = finish_goes k alone is high call (subst (λ (r : Result (Unit {0}) BackupErr). IfOk r (λ done. ForcesFirst all_meaning (disk old) (disk new) before after call)) judge forces) copies stands
             (λ p w c. subst (λ (r : Result (Unit {0}) BackupErr). IfOk r (λ done. OnErr call (IsFault call ⊎ Copies all_meaning p (disk new) after (run (meaning_in p) w (force_steps (meaning_in p) w)) (other u)))) judge (again p w c))
             long rises target_rises fault (subst (λ (r : Result (Unit {0}) BackupErr). IfOk r (λ done. IfErr call (FinishFailsBy rises target_rises fault after))) judge cause)

@@ -1,5 +1,5 @@
 -- How a backup goes on beside the lines of a script.
-use Rattle.std.proofs.Common.{◌≡◌, ◌∙◌, sym, subst, refl, ◌⊎◌, inl, inr, ⊎_elim, ◌≤◌, ◌++◌, ℕ, List, [], ◌∷◌, length, length-append, take, arith, Contains, Option, Some, None, Result, Ok, Err, IsErr, Bool}
+use Rattle.std.proofs.Common.{◌≡◌, ◌∙◌, sym, subst, refl, ◌⊎◌, inl, inr, ⊎_elim, ◌≤◌, ◌++◌, ℕ, List, [], ◌∷◌, length, length-append, take, arith, Contains, Option, Some, None, Result, Ok, Err, IsErr, IfOk, Bool}
 use Rattle.std.specs.Prelude.{IfSome, IsTrue}
 use Rattle.std.specs.Option.{is_some}
 use Rattle.std.proofs.lemmas.List.{take-append-le}
@@ -22,7 +22,10 @@ use Rattle.checkpointing.specs.Courses.{checkpoint_course}
 use Rattle.restart.specs.Starts.{or_weaker}
 use Rattle.op_codec.specs.AllOps.{all_meaning}
 use Rattle.script_lines.specs.Grammar.{Request, AsksFor}
-use Rattle.script_lines.specs.declared.line.Line.TheVariants.{Install as install, Drain as drain, Checkpoint as checkpoint, Trim as trim, Begin as begin_group, End as end_group, BackupStart as bstart, BackupCopy as bcopy, BackupFinish as bfinish}
+use Rattle.script_lines.specs.declared.line.Line.TheVariants.{Keep, Group, Save}
+use Rattle.script_lines.specs.declared.line.Upkeep.TheVariants.{Install as install, Drain as drain, Checkpoint as checkpoint, Trim as trim}
+use Rattle.script_lines.specs.declared.line.Grouping.TheVariants.{Begin as begin_group, End as end_group}
+use Rattle.script_lines.specs.declared.line.Saving.TheVariants.{Start as bstart, Copy as bcopy, Finish as bfinish}
 use Rattle.script_lines.specs.Replies.{Reply, ok, ran, value, pairs, forced, bad, refused, bad_tree, tree_full, denied, in_group, no_group, full, end, object_value, command_count, stat, copied, saved, backup_denied, summary, silence}
 use Rattle.script_lines.specs.declared.backup_denial.BackupDenial.TheVariants.{AlreadyStore}
 use Rattle.store_engine.specs.Beside.{MayGoBeside}
@@ -33,11 +36,12 @@ use Rattle.backup_copy.specs.Copies.{Copies}
 use Rattle.shell_base.specs.First.{Stage, stage_of}
 use Rattle.shell_base.specs.Store.{Command, ShowsIn, Stands, meaning_in}
 use Rattle.shell_base.specs.declared.stop.Stop.{Stop as Early}
+use Rattle.script_run.specs.Found.{IsDone}
 use Rattle.script_run.specs.Groups.{begun_after, open_in}
 use Rattle.script_run.specs.Made.{Made, AsksMade}
 use Rattle.script_run.specs.Replies.{IsDenied, IsGranted, IsOfBackup, Replies}
-use Rattle.script_run.specs.Run.{Answering, IsPartly}
-use Rattle.script_run.specs.Saving.{AllFindStore, AnsweringBeside, AsksBackup, AsksFinish, BackupGoesOn, FindsStore, FinishIsFull, IsNoneOrSaved, MayBeLeft, SaysOfBackup, store_after, store_behind}
+use Rattle.script_run.specs.Run.{Answering}
+use Rattle.script_run.specs.Saving.{AllFindStore, AnsweringBeside, AsksBackup, IsDoneBeside, AsksFinish, BackupGoesOn, FindsStore, FinishIsFull, IsNoneOrSaved, MayBeLeft, SaysOfBackup, store_after, store_behind}
 use Rattle.script_run.specs.Stages.{Ends, GoesBy, HasCourse, IsBackupFull, IsBesideBackup, IsQuestion, StartsBackup, forced_stage, stage_after, upkeep_course}
 use Rattle.script_run.specs.StoryLaws.{answer_cases}
 
@@ -88,13 +92,13 @@ module _ {old new backup : Disk} (laws : BesideLaws old new backup) {p : Params}
 
   -- what is granted beside a backup goes beside it
   granted_beside : (n : ℕ) → before.copied ≡ Some n → (epoch used : ℕ) (request : Request) → IsGranted (open_in w) request → IsBesideBackup before.copied request → MayGoBeside m n w (upkeep_course epoch n request m w used).steps
-  granted_beside n copies epoch used install may beside = laws.install b n w used (small_in shows) (running (group_none w w.group may.1))
-  granted_beside n copies epoch used drain may beside = laws.drain b n w used (small_in shows) (running (group_none w w.group may.1))
-  granted_beside n copies epoch used checkpoint may beside = laws.checkpoint b n w used (small_in shows) (running (group_none w w.group may.1))
-  granted_beside n copies epoch used trim may beside = absurd (none_some (sym beside ∙ copies))
-  granted_beside n copies epoch used begin_group may beside = laws.begin b n w used (small_in shows) (running (group_none w w.group may))
-  granted_beside n copies epoch used end_group may beside = laws.end b n w used (group_some w w.group may)
-  granted_beside n copies epoch used bstart may beside = absurd beside
+  granted_beside n copies epoch used (Keep install) may beside = laws.install b n w used (small_in shows) (running (group_none w w.group may.1))
+  granted_beside n copies epoch used (Keep drain) may beside = laws.drain b n w used (small_in shows) (running (group_none w w.group may.1))
+  granted_beside n copies epoch used (Keep checkpoint) may beside = laws.checkpoint b n w used (small_in shows) (running (group_none w w.group may.1))
+  granted_beside n copies epoch used (Keep trim) may beside = absurd (none_some (sym beside ∙ copies))
+  granted_beside n copies epoch used (Group begin_group) may beside = laws.begin b n w used (small_in shows) (running (group_none w w.group may))
+  granted_beside n copies epoch used (Group end_group) may beside = laws.end b n w used (group_some w w.group may)
+  granted_beside n copies epoch used (Save bstart) may beside = absurd beside
   granted_beside n copies epoch used request may beside = absurd may.0
 
   module _ (after : EngineView) where
@@ -146,7 +150,7 @@ module _ {old new backup : Disk} (laws : BesideLaws old new backup) {p : Params}
     goes_on : (line : List ℕ) (reply : Reply) (commands added : List Command) (now : Stage) → (AsksBackup line → ⊥) → Replies p (open_in w) commands line reply added → GoesBy p here line reply now → Goes now
     goes_on line ok commands added now other replies goes = ⊎_elim
         (λ (ends : Ends p here line Through now). by_course line Through now ends)
-        (λ (starts : StartsBackup here line (forced_stage p here) now). absurd (other (bstart, tt, starts.0)))
+        (λ (starts : StartsBackup here line (forced_stage p here) now). absurd (other (Save bstart, tt, starts.0)))
         goes
     goes_on line (ran k) commands added now other replies goes = by_course line Through now goes
     goes_on line (refused why) commands added now other replies goes = by_course line Through now goes
@@ -155,7 +159,7 @@ module _ {old new backup : Disk} (laws : BesideLaws old new backup) {p : Params}
     goes_on line (denied why) commands added now other replies goes = by_course line Through now goes
     goes_on line (full used need limit) commands added now other replies goes = ⊎_elim
         (λ (ends : Ends p here line (Full used need limit) now). by_course line (Full used need limit) now ends)
-        (λ (saves : IsBackupFull p here line used need (forced_stage p here) now). absurd (other (bfinish, tt, saves.0)))
+        (λ (saves : IsBackupFull p here line used need (forced_stage p here) now). absurd (other (Save bfinish, tt, saves.0)))
         goes
     goes_on line (end number) commands added now other replies goes = ⊎_elim
         (λ (last : Ends p here line (At_end number) now). by_course line (At_end number) now last)
@@ -163,8 +167,8 @@ module _ {old new backup : Disk} (laws : BesideLaws old new backup) {p : Params}
         goes
     goes_on line (forced k) commands added now other replies goes = by_force now replies.1 goes
     goes_on line (stat counts) commands added now other replies goes = still now goes.1
-    goes_on line (copied k) commands added now other replies goes = absurd (other (bcopy goes.1, tt, goes.2))
-    goes_on line (saved k) commands added now other replies goes = absurd (other (bfinish, tt, replies.0))
+    goes_on line (copied k) commands added now other replies goes = absurd (other (Save (bcopy goes.1), tt, goes.2))
+    goes_on line (saved k) commands added now other replies goes = absurd (other (Save bfinish, tt, replies.0))
     goes_on line (backup_denied why) commands added now other replies goes = still now goes.1
     goes_on line (value bytes) commands added now other replies goes = still now goes
     goes_on line (pairs pair others) commands added now other replies goes = still now goes
@@ -195,16 +199,16 @@ same_store there reply none = refl
 
 -- a line of no backup is not answered by one
 denied_start : (request : Request) → IsDenied AlreadyStore request → IsOfBackup request
-denied_start bstart is = tt
+denied_start (Save bstart) is = tt
 denied_start request is = absurd is
 
 module _ (p : Params) (group : Option ℕ) (commands : List Command) (line : List ℕ) (added : List Command) (other : AsksBackup line → ⊥) where
   other_saves : (reply : Reply) → Replies p group commands line reply added → (n : ℕ) → reply ≡ saved n → ⊥
-  other_saves reply replies n is = let here = subst (λ (r : Reply). Replies p group commands line r added) is replies in other (bfinish, tt, here.0)
+  other_saves reply replies n is = let here = subst (λ (r : Reply). Replies p group commands line r added) is replies in other (Save bfinish, tt, here.0)
 
   other_finds : (there : Type 0) (reply : Reply) → Replies p group commands line reply added → FindsStore there line reply
   other_finds there (backup_denied AlreadyStore) replies = absurd (other (replies.0, denied_start replies.0 replies.1, replies.2))
-  other_finds there ok replies = λ asks is. other (bstart, tt, asks)
+  other_finds there ok replies = λ asks is. other (Save bstart, tt, asks)
   other_finds there reply replies = tt
 
 -- no line is none that ends a backup
@@ -219,11 +223,11 @@ full_later line reply lines replies later = later
 full_more : (lines : List (List ℕ)) (replies : List Reply) (line : List ℕ) (reply : Reply) → FinishIsFull lines replies → FinishIsFull (lines ++ line ∷ []) (replies ++ reply ∷ [])
 full_more [] replies line reply is = absurd is
 full_more (l ∷ lines) [] line reply is = absurd is
-full_more (l ∷ lines) (full used need limit ∷ replies) line reply is = ⊎_elim (λ (asks : AsksFor l bfinish). inl asks) (λ (later : FinishIsFull lines replies). inr (full_more lines replies line reply later)) is
+full_more (l ∷ lines) (full used need limit ∷ replies) line reply is = ⊎_elim (λ (asks : AsksFor l (Save bfinish)). inl asks) (λ (later : FinishIsFull lines replies). inr (full_more lines replies line reply later)) is
 full_more (l ∷ lines) (r ∷ replies) line reply is = full_more lines replies line reply is
 
 -- the last one got `full`
-pub full_last : (there : Type 0) (lines : List (List ℕ)) (replies : List Reply) (line : List ℕ) (used need limit : ℕ) → AllFindStore there lines replies → AsksFor line bfinish → FinishIsFull (lines ++ line ∷ []) (replies ++ full used need limit ∷ [])
+pub full_last : (there : Type 0) (lines : List (List ℕ)) (replies : List Reply) (line : List ℕ) (used need limit : ℕ) → AllFindStore there lines replies → AsksFor line (Save bfinish) → FinishIsFull (lines ++ line ∷ []) (replies ++ full used need limit ∷ [])
 full_last there [] [] line used need limit all asks = inl asks
 full_last there (l ∷ lines) (r ∷ replies) line used need limit all asks = full_later l r (lines ++ line ∷ []) (replies ++ full used need limit ∷ []) (full_last (store_after there r) lines replies line used need limit all.1 asks)
 full_last there [] (r ∷ replies) line used need limit all asks = absurd all
@@ -304,26 +308,9 @@ module _ {p : Params} {start : Disk} where
         still_copying it None was copies = subst (λ (x : Option ℕ). IfSome x (λ n. Copies all_meaning p new after v backup)) (sym (it.copies ∙ was)) tt
         still_copying it (Some n) was copies = subst (λ (x : Option ℕ). IfSome x (λ n. Copies all_meaning p new after v backup)) (sym (it.copies ∙ was)) (it.keeps now it.copies copies)
 
-    pub beside_other : (result : Result Bool Early) → Answering p old new before after w commands line result → AnsweringBeside p start old new before after w commands line backup backup result
-    beside_other (Ok refusing) a = record {
-      whole = (a.whole, other_goes_on a.whole.reply a.whole.added a.whole.kept.holds.world a.whole.replies a.whole.leads.goes a.whole.kept.holds.shows);
-      partly = tt;
-      images = a.images;
-      steps = a.steps;
-    }
-    beside_other (Err stop) a = record {
-      whole = tt;
-      partly = ⊎_elim
-          (λ (quiet : new.said ≡ old.said). inl (quiet, λ told lines replies g. says_come (line ∷ []) g.says))
-          (λ (part : IsPartly p old new (stage_of before w) commands line). inr (
-            part,
-            λ told lines replies g. says_more line part.reply part.added g.says (other_saves p (open_in w) commands line part.added other part.reply part.replies)
-                (other_finds p (open_in w) commands line part.added other (store_behind (BeginsStore (start.reads Objects)) replies) part.reply part.replies),
-          ))
-          a.partly;
-      images = a.images;
-      steps = a.steps;
-    }
+    pub done_beside : {A : Type 0} (reply : A → Reply) (result : Result A Early) → IfOk result (λ found. IsDone p old new before after w commands line (reply found)) → IsDoneBeside p start old new before after w commands line backup backup reply result
+    done_beside reply (Ok found) d = record { whole = (d, other_goes_on (reply found) d.added d.world d.replies d.goes d.shows); stopped = tt }
+    done_beside reply (Err stop) d = record { whole = tt; stopped = λ told lines replies g. says_come (line ∷ []) g.says }
 
   -- nothing was said of the line, whatever it asks
   pub beside_quiet : {old new : Disk} {before after : EngineView} {w : World Command} {commands : List Command} {line : List ℕ} (backup : Disk) (result : Result Bool Early) → IsErr result → new.said ≡ old.said

@@ -9,9 +9,10 @@ use Rattle.explain_core.specs.World.{World}
 use Rattle.standing.specs.Moments.{TakesSome}
 use Rattle.op_codec.specs.AllOps.{all_meaning}
 use Rattle.script_lines.specs.Grammar.{AsksFor}
-use Rattle.script_lines.specs.declared.line.Line.TheVariants.{BackupStart as bstart, BackupFinish as bfinish}
-use Rattle.script_lines.specs.Replies.{Reply, reply_of, said_line}
-use Rattle.script_lines.specs.declared.answer.Answer.{Answer}
+use Rattle.script_lines.specs.declared.line.Line.TheVariants.{Save}
+use Rattle.script_lines.specs.declared.line.Saving.{Saving}
+use Rattle.script_lines.specs.declared.line.Saving.TheVariants.{Start as bstart, Copy as bcopy, Finish as bfinish}
+use Rattle.script_lines.specs.Replies.{Reply, said_line}
 use Rattle.store_engine.specs.Engine as of_engine
 use Rattle.backup_copy.specs.Copies.{Copies}
 use Rattle.store_engine.specs.Engine.{EngineView, used_in}
@@ -21,31 +22,27 @@ use Rattle.shell_base.specs.Store.{Command, Holds, Says, meaning_in}
 use Rattle.shell_base.specs.declared.stop.Stop.{Stop}
 use Rattle.shell_base.specs.declared.stop.Stop.TheVariants.{DiskFault, Damaged, ReadFault, SayFault, BackupFault, Memory, TooLong}
 use Rattle.shell_base.specs.HoldLaws.{rises_within, shows_stays}
-use Rattle.script_run.specs.Courses.{IsCourseDue}
-use Rattle.script_run.specs.Found.{IsDone}
+use Rattle.script_run.specs.Courses.{IsCourseDue, Works}
 use Rattle.script_run.specs.Replies.{is_refusing}
 use Rattle.script_run.specs.Run.{Answering, IsCausedBeside, Working}
-use Rattle.script_run.specs.Saving.{AnsweringBeside, BackupGoesOn, BackupGoing, BackupStays, IsSavingDone, saving_course}
-use Rattle.script_run.specs.Work.{saving_request}
-use Rattle.script_run.specs.declared.work.Saving.{Saving}
-use Rattle.script_run.specs.declared.work.Saving.TheVariants.{Start, Copy, Finish}
-use Rattle.script_run.proofs.DoneLemmas.{SaysAlone, SaysWithin, by_group, done_holds, found_of, still_works}
-use Rattle.script_run.proofs.MomentLemmas.{Works, works_by}
+use Rattle.script_run.specs.Saving.{AnsweringBeside, BackupGoing, BackupStays, IsDoneBeside, saving_course}
+use Rattle.script_run.proofs.DoneLemmas.{SaysAlone, SaysWithin, by_group, done_holds, found_of}
+use Rattle.script_run.proofs.MomentLemmas.{works_at_once, works_by}
 use Rattle.script_run.proofs.RunLemmas.{found_partly, found_said, stops_before}
 
 -- what may be done for the line
-saving_due : (p : Params) (s : Stage) (line : List ℕ) (saving : Saving) → AsksFor line (saving_request saving) → s.world.group ≡ None → IsCourseDue p s (line ∷ []) (saving_course (saving_request saving) (meaning_in p) s.world s.used)
-saving_due p s line Start asks alone = inr (inl (bstart, tt, asks, alone, refl))
-saving_due p s line (Copy count) asks alone = inr (inr refl)
-saving_due p s line Finish asks alone = inr (inl (bfinish, tt, asks, alone, refl))
+saving_due : (p : Params) (s : Stage) (line : List ℕ) (saving : Saving) → AsksFor line (Save saving) → s.world.group ≡ None → IsCourseDue p s (line ∷ []) (saving_course (Save saving) (meaning_in p) s.world s.used)
+saving_due p s line bstart asks alone = inr (inl (Save bstart, tt, asks, alone, refl))
+saving_due p s line (bcopy count) asks alone = inr (inr refl)
+saving_due p s line bfinish asks alone = inr (inl (Save bfinish, tt, asks, alone, refl))
 
-pub saving_works : {p : Params} {old now : Disk} {before : EngineView} {commands : List Command} {line : List ℕ} (saving : Saving) → IsDisk old → (holds : Holds p old before commands) → AsksFor line (saving_request saving)
-    → (IsTrue (is_some before.group) → now ≡ old) → (holds.world.group ≡ None → old.tells_moments → TakesSome (meaning_in p) p old now holds.world (saving_course (saving_request saving) (meaning_in p) holds.world (used_in before)).steps)
+pub saving_works : {p : Params} {old now : Disk} {before : EngineView} {commands : List Command} {line : List ℕ} (saving : Saving) → IsDisk old → (holds : Holds p old before commands) → AsksFor line (Save saving)
+    → (IsTrue (is_some before.group) → now ≡ old) → (holds.world.group ≡ None → old.tells_moments → TakesSome (meaning_in p) p old now holds.world (saving_course (Save saving) (meaning_in p) holds.world (used_in before)).steps)
     → Works p old now (stage_of before holds.world) line
-saving_works {p} {old} {now} {before} {line = line} saving lawful holds asks inside takes = by_group before.group (λ some. still_works line lawful holds (inside some))
+saving_works {p} {old} {now} {before} {line = line} saving lawful holds asks inside takes = by_group before.group (λ some. subst (λ (d : Disk). Works p old d (stage_of before holds.world) line) (sym (inside some)) (works_at_once line lawful holds))
     (λ none.
     let alone = holds.shows.group ∙ none in
-    works_by p old now (stage_of before holds.world) line (saving_course (saving_request saving) (meaning_in p) holds.world (used_in before)) (saving_due p (stage_of before holds.world) line saving asks alone) (takes alone))
+    works_by p old now (stage_of before holds.world) line (saving_course (Save saving) (meaning_in p) holds.world (used_in before)) (saving_due p (stage_of before holds.world) line saving asks alone) (takes alone))
 
 -- what ended it is handed on
 pub passed_beside : {S T : Type 0} (result : Result T Stop) (answered : Result S Stop) (why : Stop) (old now backup backed : Disk) → IsErrAnd result (λ stop. stop ≡ why) → answered ≡ Err why
@@ -70,23 +67,18 @@ said_beside (Ok value) old mid new backup backed time cause = tt
 said_beside (Err stop) old mid new backup backed time cause = later_cause old mid new backup backed time stop cause
 
 -- the call ended without an answer
-pub saving_stopped : {p : Params} {start old new : Disk} {before after : EngineView} {w : World Command} {commands : List Command} {line : List ℕ} {backup backed : Disk} {stop : Stop} (result : Result Bool Stop) (answered : Result Answer Stop) → answered ≡ Err stop → IsErr result
-    → IsSavingDone p start old new before after w commands line backup backed answered → (old.tells_moments → LeavesOnly old new (Working p old before commands line)) → Works p old new (stage_of before w) line → new.said ≡ old.said
+pub saving_stopped : {A : Type 0} (reply : A → Reply) {p : Params} {start old new : Disk} {before after : EngineView} {w : World Command} {commands : List Command} {line : List ℕ} {backup backed : Disk} {stop : Stop} (result : Result Bool Stop) (found : Result A Stop) → found ≡ Err stop → IsErr result
+    → IsDoneBeside p start old new before after w commands line backup backed reply found → (old.tells_moments → LeavesOnly old new (Working p old before commands line)) → Works p old new (stage_of before w) line → new.said ≡ old.said
     → AnsweringBeside p start old new before after w commands line backup backed result
-saving_stopped (Ok refusing) answered was is done images works quiet = absurd (cc is)
-saving_stopped {p} {start} {old} {new} {before} {after} {w} {commands} {line} {backup} {backed} (Err stop) answered was is done images works quiet =
+saving_stopped reply (Ok refusing) found was is done images works quiet = absurd (cc is)
+saving_stopped {A} reply {p} {start} {old} {new} {before} {after} {w} {commands} {line} {backup} {backed} (Err stop) found was is done images works quiet =
     let a : Answering p old new before after w commands line (Err stop) = stops_before (Err stop) is images works quiet in
     record {
       whole = tt;
-      partly = inl (quiet, subst (λ (r : Result Answer Stop). OnErr r (BackupStays p start old new before after w commands line backup backed)) was done.stopped);
+      partly = inl (quiet, subst (λ (r : Result A Stop). OnErr r (BackupStays p start old new before after w commands line backup backed)) was done.stopped);
       images = a.images;
       steps = a.steps;
     }
-
--- the answer is found, and the backup went on with it
-abbrev DoneBeside : Params → Disk → Disk → Disk → EngineView → EngineView → World Command → List Command → List ℕ → Disk → Disk → Answer → Type 0
-DoneBeside p start old mid before after w commands line backup backed answer =
-    (d : IsDone p old mid before after w commands line (reply_of answer)) × BackupGoesOn p start old mid before after w commands line backup backed (reply_of answer) d.added d.world
 
 -- so it does once the answer is said
 said_going : {p : Params} {start mid new : Disk} {after : EngineView} {lines : List (List ℕ)} {replies : List Reply} {commands : List Command} {w : World Command} {backed : Disk} {says : List ℕ → List ℕ → Type 0} → Runs Same says mid new
@@ -110,35 +102,32 @@ said_going {p} {start} {mid} {new} {after} {lines} {replies} {commands} {w} {bac
     some_still (Some n) goes here = goes n here
 
 -- the answer that was found has been said, or a beginning of it
-pub saving_said : {p : Params} {start old mid new : Disk} {before after : EngineView} {commands : List Command} {line : List ℕ} {backup backed : Disk} (result : Result Bool Stop) (answered : Result Answer Stop) (answer : Answer) → answered ≡ Ok answer
-    → (holds : Holds p old before commands) → IsSavingDone p start old mid before after holds.world commands line backup backed answered
+pub saving_said : {A : Type 0} (reply : A → Reply) (found : A) {p : Params} {start old mid new : Disk} {before after : EngineView} {commands : List Command} {line : List ℕ} {backup backed : Disk} (result : Result Bool Stop)
+    → (holds : Holds p old before commands) → IsDoneBeside p start old mid before after holds.world commands line backup backed reply (Ok found)
     → ((all : List Command) → of_engine.Holds all_meaning p mid after all → Says p mid after all) → SaysAlone mid after → SaysWithin mid after
     → (old.tells_moments → LeavesOnly old mid (Working p old before commands line)) → Works p old mid (stage_of before holds.world) line → Passes old mid
-    → Runs Same (SaysFront (said_line (reply_of answer))) mid new → (mid.tells_files → OnOk result (new.said ≡ mid.said ++ said_line (reply_of answer))) → IfOk result (λ kind. kind ≡ is_refusing (reply_of answer))
+    → Runs Same (SaysFront (said_line (reply found))) mid new → (mid.tells_files → OnOk result (new.said ≡ mid.said ++ said_line (reply found))) → IfOk result (λ kind. kind ≡ is_refusing (reply found))
     → AnsweringBeside p start old new before after holds.world commands line backup backed result
-saving_said {p} {start} {old} {mid} {new} {before} {after} {commands} {line} {backup} {backed} result answered answer was holds done says alone within images works time say all is = by_result result all is
+saving_said reply found {p} {start} {old} {mid} {new} {before} {after} {commands} {line} {backup} {backed} result holds done says alone within images works time say all is = by_result result all is
   where
-    both : DoneBeside p start old mid before after holds.world commands line backup backed answer
-    both = subst (λ (r : Result Answer Stop). IfOk r (λ (a : Answer). DoneBeside p start old mid before after holds.world commands line backup backed a)) was done.whole
-
-    by_result : (result : Result Bool Stop) → (mid.tells_files → OnOk result (new.said ≡ mid.said ++ said_line (reply_of answer))) → IfOk result (λ kind. kind ≡ is_refusing (reply_of answer))
+    by_result : (result : Result Bool Stop) → (mid.tells_files → OnOk result (new.said ≡ mid.said ++ said_line (reply found))) → IfOk result (λ kind. kind ≡ is_refusing (reply found))
         → AnsweringBeside p start old new before after holds.world commands line backup backed result
     by_result (Ok kind) all is =
-        let d = both.0 in
+        let d = done.whole.0 in
         let a = found_said (Ok kind) holds.says.accepted images works time (found_of holds d (says (commands ++ d.added) (done_holds d)) alone within) say all is in
         record {
-          whole = (a.whole, λ told lines replies g. said_going say (both.1 told lines replies g));
+          whole = (a.whole, λ told lines replies g. said_going say (done.whole.1 told lines replies g));
           partly = tt;
           images = a.images;
           steps = a.steps;
         }
     by_result (Err stop) all is =
-        let d = both.0 in
-        let found = found_of holds d (says (commands ++ d.added) (done_holds d)) alone within in
-        let a = found_said (Err stop) holds.says.accepted images works time found say all is in
+        let d = done.whole.0 in
+        let it = found_of holds d (says (commands ++ d.added) (done_holds d)) alone within in
+        let a = found_said (Err stop) holds.says.accepted images works time it say all is in
         record {
           whole = tt;
-          partly = inr (found_partly images time found say, λ told lines replies g. (both.1 told lines replies g).says);
+          partly = inr (found_partly images time it say, λ told lines replies g. (done.whole.1 told lines replies g).says);
           images = a.images;
           steps = a.steps;
         }

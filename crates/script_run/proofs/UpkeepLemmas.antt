@@ -1,14 +1,12 @@
 -- How the calls are answered that no group allows, and what holds of them by their answers.
-use Rattle.std.proofs.Common.{◌≡◌, ◌∙◌, ap, refl, sym, subst, inl, inr, ℕ, List, Option, None, Some, Result, Ok, Err, IfErr, IfOk, OnOk, false}
-use Rattle.std.specs.Prelude.{⊤, IfSome, IsTrue, length}
+use Rattle.std.proofs.Common.{◌≡◌, ◌∙◌, ap, refl, sym, subst, inl, inr, ℕ, Option, None, Some, Result, Ok, Err, IfErr, OnOk, false}
+use Rattle.std.specs.Prelude.{⊤, IfSome, IsTrue}
 use Rattle.std.specs.Option.{is_some}
 use Rattle.std.specs.Result.{IsErrAnd}
 use Rattle.std.proofs.lemmas.Result.{on_ok_weaker}
-use Rattle.disk_model.specs.Disk.{Disk, IsDisk, LeavesOnly, Passes, Rises}
-use Rattle.disk_model.specs.Moments.{passes_none}
+use Rattle.disk_model.specs.Disk.{Disk, Rises}
 use Rattle.disk_model.specs.declared.machine.Failed.{Failed as Failure}
 use Rattle.disk_model.specs.declared.machine.FileNo.{FileNo}
-use Rattle.formats.specs.declared.params.Params.{Params}
 use Rattle.op_codec.specs.AllOps.{all_meaning}
 use Rattle.log_records.specs.declared.rewrite_err.RewriteErr.{RewriteErr}
 use Rattle.log_records.specs.declared.rewrite_err.RewriteErr.TheVariants as of_rewrite
@@ -24,27 +22,23 @@ use Rattle.cache_manager.specs.declared.install_err.InstallErr.TheVariants as of
 use Rattle.checkpointing.specs.Left.{ending_of_checkpoint}
 use Rattle.checkpointing.specs.declared.checkpoint_err.CheckpointErr.{CheckpointErr}
 use Rattle.checkpointing.specs.declared.checkpoint_err.CheckpointErr.TheVariants as of_checkpoint
-use Rattle.script_lines.specs.Grammar.{AsksFor, Request}
-use Rattle.script_lines.specs.declared.line.Line.TheVariants.{Install as install, Drain as drain, Checkpoint as checkpoint, Trim as trim}
-use Rattle.script_lines.specs.Replies.{reply_of}
+use Rattle.script_lines.specs.Grammar.{Request}
+use Rattle.script_lines.specs.declared.line.Line.TheVariants.{Keep}
+use Rattle.script_lines.specs.declared.line.Upkeep.TheVariants.{Install as install, Drain as drain, Checkpoint as checkpoint, Trim as trim}
 use Rattle.script_lines.specs.declared.answer.Answer.{Answer}
 use Rattle.script_lines.specs.declared.answer.Answer.TheVariants as answers
-use Rattle.script_lines.specs.declared.backup_denial.BackupDenial.TheVariants.{InBackup}
 use Rattle.store_engine.specs.Calls.{IsTakingCheckpoint, IsDraining, IsForcing, IsInstalling, IsRefused, IsRefusedBeside, IsTrimming, work_of_checkpoint, work_of_force, work_of_install, work_of_trim}
-use Rattle.store_engine.specs.Engine.{EngineView, forced_in, group_size, logged_since}
+use Rattle.store_engine.specs.Engine.{EngineView, group_size, logged_since}
 use Rattle.store_engine.specs.declared.work_err.WorkErr.{WorkErr}
-use Rattle.shell_base.specs.Store.{Between, Command, Holds, IsAttached}
-use Rattle.shell_base.specs.First.{stage_of}
+use Rattle.store_engine.specs.declared.work_err.WorkErr.TheVariants as work_errors
+use Rattle.shell_base.specs.Store.{IsAttached}
 use Rattle.shell_base.specs.Stops.{IsCaused, IsUndamaged}
 use Rattle.shell_base.specs.declared.stop.Stop.{Stop}
 use Rattle.shell_base.specs.declared.stop.Stop.TheVariants.{DiskFault, Damaged, ReadFault, SayFault, BackupFault, Memory, TooLong}
-use Rattle.shell_base.specs.HoldLaws.{always, in_engine}
-use Rattle.script_run.specs.Found.{IsAnswerOf, IsBarredIn, IsDeniedIn, IsDone, IsShort, IsUndone, IsUpkept, answer_of_work, answer_of_work_error}
-use Rattle.script_run.specs.Replies.{IsUpkeep}
-use Rattle.script_run.specs.Stages.{IsBesideBackup}
+use Rattle.shell_base.specs.HoldLaws.{always}
+use Rattle.script_run.specs.Found.{IsAnswerOf, IsBarredIn, IsDeniedIn, IsShort, IsUpkept, answer_of_work}
 use Rattle.script_run.proofs.CourseLemmas.{logged_checkpoint, logged_trim}
-use Rattle.script_run.proofs.DoneLemmas.{AreCounted, barred_done, by_backup, by_group, denied_done, images_of, still_attached, still_images, still_whole, still_works, upkeep_barred, upkeep_done, upkeep_works}
-use Rattle.script_run.proofs.MomentLemmas.{Works}
+use Rattle.script_run.proofs.DoneLemmas.{still_attached, still_whole}
 use Rattle.script_run.proofs.OpenGroups.{in_open}
 
 -- what the engine says within a group
@@ -54,12 +48,12 @@ RefusedWithin old new before after call = IfSome (group_size before) (λ size. I
 pub refused_in : {T M : Type 0} {old new : M} {before after : EngineView} (call : Result T WorkErr) → RefusedWithin old new before after call → IsTrue (is_some before.group) → (size : ℕ) × IsRefused size old new before after call
 refused_in {old = old} {new = new} {before = before} {after = after} call refused inside = in_open (λ size. IsRefused size old new before after call) before refused inside
 
--- a call is barred there
-pub barred_in : {T M : Type 0} {old new : M} {before after : EngineView} (call : Result T WorkErr) (result : Result Answer Stop) → RefusedWithin old new before after call → result ≡ answer_of_work call → IsTrue (is_some before.group)
-    → IsBarredIn old new before after result
-barred_in call result refused is inside =
-    let it = refused_in call refused inside in
-    record { machine = it.1.machine; engine = it.1.engine; answered = is ∙ ap (λ r. answer_of_work r) it.1.answer }
+-- a call that is answered so is barred there
+pub barred_by : {T M : Type 0} {old new : M} {before after : EngineView} (answer : Result T WorkErr → Result Answer Stop) → ((size : ℕ) → answer (Err (work_errors.InGroup size)) ≡ Ok answers.InGroup)
+    → (call : Result T WorkErr) (result : Result Answer Stop) → RefusedWithin old new before after call → result ≡ answer call → IsTrue (is_some before.group) → IsBarredIn old new before after result
+barred_by answer inside call result refused is some =
+    let it = refused_in call refused some in
+    record { machine = it.1.machine; engine = it.1.engine; answered = is ∙ ap answer it.1.answer ∙ inside it.0 }
 
 -- a trim is denied beside a backup
 pub denied_in : {T M : Type 0} {old new : M} {before after : EngineView} (call : Result T WorkErr) (result : Result Answer Stop) → IfSome before.copied (λ n. IsRefusedBeside n old new before after call) → result ≡ answer_of_work call
@@ -70,46 +64,9 @@ denied_in {T} {M} {old} {new} {before} {after} call result refused is beside = b
     by_count None it some = cc some
     by_count (Some n) it some = record { machine = it.machine; engine = it.engine; answered = is ∙ ap (λ r. answer_of_work r) it.answer }
 
--- one that is done is not
-pub never_barred : {T M : Type 0} (old new : M) (before after : EngineView) (value : T) → RefusedWithin old new before after (Ok value) → IsTrue (is_some before.group) → ⊥
-never_barred old new before after value refused inside = let it = refused_in {old = old} {new = new} {before = before} {after = after} (Ok value) refused inside in cc it.1.answer
-
--- the machine stays
-pub barred_still : {T M : Type 0} {old new : M} (before after : EngineView) (call : Result T WorkErr) → RefusedWithin old new before after call → IsTrue (is_some before.group) → new ≡ old
-barred_still before after call refused inside = (refused_in {before = before} {after = after} call refused inside).1.machine
-
--- and so does what is attached
-pub barred_attached : {T M : Type 0} (disk : M → Disk) (old new : M) (before after : EngineView) (call : Result T WorkErr) → RefusedWithin old new before after call → IsTrue (is_some before.group) → IsAttached (disk old) before → IsAttached (disk new) after
-barred_attached {T} {M} disk old new before after call refused inside attached =
-    let it = refused_in {old = old} {new = new} {before = before} {after = after} call refused inside in
-    subst (λ (x : M). IsAttached (disk x) after) (sym it.1.machine) (subst (λ (e : EngineView). IsAttached (disk old) e) (sym it.1.engine) attached)
-
 -- what a force says outside groups
 abbrev pub ForcesAlone : Disk → Disk → EngineView → EngineView → Result ℕ WorkErr → Type 0
 ForcesAlone old new before after call = (answer : Result ℕ Failure) × (call ≡ work_of_force answer) × IsForcing all_meaning old new before after answer
-
-abbrev value_of : Result ℕ WorkErr → ℕ
-value_of (Ok n) = n
-value_of (Err e) = 0
-
-abbrev HasValue : Result ℕ WorkErr → Type 0
-HasValue (Ok n) = ⊤
-HasValue (Err e) = ⊥
-
-pub forced_alone : {old new : Disk} {before after : EngineView} (n : ℕ) → ForcesAlone old new before after (Ok n) → IsForcing all_meaning old new before after (Ok n)
-forced_alone {old} {new} {before} {after} n alone = by_answer alone.0 alone.1 alone.2
-  where
-    by_answer : (answer : Result ℕ Failure) → Ok n ≡ work_of_force answer → IsForcing all_meaning old new before after answer → IsForcing all_meaning old new before after (Ok n)
-    by_answer (Ok k) is it = subst (λ (j : ℕ). IsForcing all_meaning old new before after (Ok j)) (sym (ap value_of is)) it
-    by_answer (Err e) is it = absurd (subst (λ (r : Result ℕ WorkErr). HasValue r) is tt)
-
--- it fails with the disk alone
-pub unforced_alone : {old new : Disk} {before after : EngineView} (error : WorkErr) (result : Result Answer Stop) → ForcesAlone old new before after (Err error) → result ≡ answer_of_work_error error → result ≡ Err DiskFault
-unforced_alone error result alone is = by_answer alone.0 alone.1
-  where
-    by_answer : (answer : Result ℕ Failure) → Err error ≡ work_of_force answer → result ≡ Err DiskFault
-    by_answer (Ok k) same = cc same
-    by_answer (Err e) same = is ∙ ap (λ r. answer_of_work r) same
 
 -- how the end of a call is answered
 install_ends : {T : Type 0} (answer : Result T InstallErr) → IsAnswerOf (ending_of answer) (answer_of_work (work_of_install answer))
@@ -156,7 +113,7 @@ trim_whole (Err of_rewrite.Memory) file place is = cc is
 
 module _ {old new : Disk} {before after : EngineView} {result : Result Answer Stop} where
   pub installed_upkept : (call : Result Install WorkErr) → (answer : Result Install InstallErr) × (call ≡ work_of_install answer) × IsInstalling all_meaning old new before after answer → result ≡ answer_of_work call
-      → IsUpkept old new before after install result
+      → IsUpkept old new before after (Keep install) result
   installed_upkept call alone is =
       let same = is ∙ ap (λ r. answer_of_work r) alone.1 in
       record {
@@ -173,7 +130,7 @@ module _ {old new : Disk} {before after : EngineView} {result : Result Answer St
       }
 
   pub drained_upkept : (call : Result ℕ WorkErr) → (answer : Result ℕ InstallErr) × (call ≡ work_of_install answer) × IsDraining all_meaning old new before after answer → result ≡ answer_of_work call
-      → IsUpkept old new before after drain result
+      → IsUpkept old new before after (Keep drain) result
   drained_upkept call alone is =
       let same = is ∙ ap (λ r. answer_of_work r) alone.1 in
       record {
@@ -190,7 +147,7 @@ module _ {old new : Disk} {before after : EngineView} {result : Result Answer St
       }
 
   pub checkpointed_upkept : {T : Type 0} (call : Result T WorkErr) → (answer : Result T CheckpointErr) × (call ≡ work_of_checkpoint answer) × IsTakingCheckpoint all_meaning old new before after answer → result ≡ answer_of_work call
-      → IsUpkept old new before after checkpoint result
+      → IsUpkept old new before after (Keep checkpoint) result
   checkpointed_upkept call alone is =
       let same = is ∙ ap (λ r. answer_of_work r) alone.1 in
       record {
@@ -207,7 +164,7 @@ module _ {old new : Disk} {before after : EngineView} {result : Result Answer St
       }
 
   pub trimmed_upkept : {T : Type 0} (call : Result T WorkErr) → before.copied ≡ None → (answer : Result T RewriteErr) × (call ≡ work_of_trim answer) × IsTrimming all_meaning old new before after answer → result ≡ answer_of_work call
-      → IsUpkept old new before after trim result
+      → IsUpkept old new before after (Keep trim) result
   trimmed_upkept call none alone is =
       let same = is ∙ ap (λ r. answer_of_work r) alone.1 in
       let epoch = before.parts.log.log.header.epoch in
@@ -244,7 +201,7 @@ module _ {old now : Disk} {before after : EngineView} {request : Request} {resul
   caused_by Short r is fault = subst (λ (x : Result Answer Stop). IfErr x (λ stop. IsCaused stop old now)) (sym is.2) (short_cause old now is.0 is.1)
   caused_by Failed r is fault = subst (λ (x : Result Answer Stop). IfErr x (λ stop. IsCaused stop old now)) (sym is) (fault tt)
 
-  upkept_cause : IfErr result (λ stop. IsCaused stop old now)
+  pub upkept_cause : IfErr result (λ stop. IsCaused stop old now)
   upkept_cause = caused_by u.ending result u.answered u.call.fault
 
   short_whole : (r : Result Answer Stop) → ((file : FileNo) (place : ℕ) → r ≡ Err (Damaged file place) → ⊥) → IfErr r IsUndamaged
@@ -257,7 +214,7 @@ module _ {old now : Disk} {before after : EngineView} {request : Request} {resul
   short_whole (Err Memory) none = tt
   short_whole (Err TooLong) none = tt
 
-  upkept_undamaged : old.tells_files → IsAttached old before → IfErr result IsUndamaged
+  pub upkept_undamaged : old.tells_files → IsAttached old before → IfErr result IsUndamaged
   upkept_undamaged told attached = short_whole result (u.undamaged told attached)
 
   -- a call that was answered did not fail
@@ -267,69 +224,11 @@ module _ {old now : Disk} {before after : EngineView} {request : Request} {resul
   working Short r is = always r (λ failed. failed)
   working Failed r is = subst (λ (x : Result Answer Stop). OnOk x (⊤ → ⊥)) (sym is) tt
 
-  upkept_attached : IsAttached old before → OnOk result (IsAttached now after)
+  pub upkept_attached : IsAttached old before → OnOk result (IsAttached now after)
   upkept_attached attached = on_ok_weaker result (λ well. still_attached u.call well attached) (working u.ending result u.answered)
 
-  upkept_whole : OnOk result (after.broken ≡ false)
+  pub upkept_whole : OnOk result (after.broken ≡ false)
   upkept_whole = on_ok_weaker result (λ well. still_whole u.call well) (working u.ending result u.answered)
-
--- what holds of it where nothing was done
-module _ {M : Type 0} (disk : M → Disk) {old now : M} {before after : EngineView} {result : Result Answer Stop} {answer : Answer} (it : IsUndone answer old now before after result) where
-  pub still_time : Passes (disk old) (disk now)
-  still_time = subst (λ (x : M). Passes (disk old) (disk x)) (sym it.machine) (passes_none (disk old))
-
-  pub still_cause : IfErr result (λ stop. IsCaused stop (disk old) (disk now))
-  still_cause = subst (λ (r : Result Answer Stop). IfErr r (λ stop. IsCaused stop (disk old) (disk now))) (sym it.answered) tt
-
-  pub still_undamaged : IfErr result IsUndamaged
-  still_undamaged = subst (λ (r : Result Answer Stop). IfErr r IsUndamaged) (sym it.answered) tt
-
-  pub still_on : IsAttached (disk old) before → IsAttached (disk now) after
-  still_on attached = subst (λ (x : M). IsAttached (disk x) after) (sym it.machine) (subst (λ (e : EngineView). IsAttached (disk old) e) (sym it.engine) attached)
-
-  pub still_unbroken : before.broken ≡ false → after.broken ≡ false
-  still_unbroken fine = ap (λ (e : EngineView). e.broken) it.engine ∙ fine
-
--- So it is in all cases: within a group, beside a backup that is in the way, and else.
-module _ {M : Type 0} (disk : M → Disk) {old now : M} {before after : EngineView} (request : Request) {result : Result Answer Stop} (inside : IsTrue (is_some before.group) → IsBarredIn old now before after result)
-    (denied : before.group ≡ None → (IsBesideBackup before.copied request → ⊥) → IsDeniedIn old now before after result)
-    (alone : before.group ≡ None → IsBesideBackup before.copied request → IsUpkept (disk old) (disk now) before after request result) where
-  either : {P : Type 0} → ((answer : Answer) → IsUndone answer old now before after result → P) → (IsUpkept (disk old) (disk now) before after request result → P) → P
-  either undone upkept = by_group before.group (λ some. undone answers.InGroup (inside some))
-      (λ none. by_backup before.copied request (λ beside. undone (answers.BackupDenied InBackup) (denied none beside)) (λ beside. upkept (alone none beside)))
-
-  pub either_time : Passes (disk old) (disk now)
-  either_time = either (λ answer it. still_time disk it) (λ u. u.call.time)
-
-  pub either_cause : IfErr result (λ stop. IsCaused stop (disk old) (disk now))
-  either_cause = either (λ answer it. still_cause disk it) (λ u. upkept_cause u)
-
-  pub either_undamaged : (disk old).tells_files → IsAttached (disk old) before → IfErr result IsUndamaged
-  either_undamaged told attached = either (λ answer it. still_undamaged disk it) (λ u. upkept_undamaged u told attached)
-
-  pub either_attached : IsAttached (disk old) before → OnOk result (IsAttached (disk now) after)
-  either_attached attached = either (λ answer it. always result (still_on disk it attached)) (λ u. upkept_attached u attached)
-
-  pub either_whole : before.broken ≡ false → OnOk result (after.broken ≡ false)
-  either_whole fine = either (λ answer it. always result (still_unbroken disk it fine)) (λ u. upkept_whole u)
-
-  module _ {p : Params} {commands : List Command} (lawful : IsDisk (disk old)) (holds : Holds p (disk old) before commands) where
-    pub either_quiet : (disk now).said ≡ (disk old).said
-    either_quiet = either (λ answer it. ap (λ (x : M). (disk x).said) it.machine) (λ u. u.call.quiet holds.shows.shows.told)
-
-    pub either_images : (disk old).tells_moments → LeavesOnly (disk old) (disk now) (Between p (disk old) before.group (forced_in before) (length commands) commands)
-    either_images told = either (λ answer it. still_images lawful holds (ap disk it.machine) told) (λ u. images_of holds (u.commands.images told p commands (in_engine holds)))
-
-    module _ {line : List ℕ} (counts : AreCounted) (of_kind : IsUpkeep request) (asks : AsksFor line request) where
-      pub either_done : IfOk result (λ answer. IsDone p (disk old) (disk now) before after holds.world commands line (reply_of answer))
-      either_done = by_group before.group (λ some. barred_done disk request holds (upkeep_barred request of_kind) asks some (inside some))
-          (λ none. by_backup before.copied request (λ beside. denied_done disk request holds of_kind beside asks none (denied none beside))
-          (λ beside. upkeep_done p (disk old) (disk now) before after commands line request result counts holds of_kind asks none (alone none beside)))
-
-      pub either_works : Works p (disk old) (disk now) (stage_of before holds.world) line
-      either_works = by_group before.group (λ some. still_works line lawful holds (ap disk (inside some).machine))
-          (λ none. by_backup before.copied request (λ beside. still_works line lawful holds (ap disk (denied none beside).machine))
-          (λ beside. upkeep_works p (disk old) (disk now) before after commands line request result counts holds of_kind asks none (alone none beside)))
 
 -- what ended it is handed on
 pub passed_cause : {S T : Type 0} (result : Result T Stop) (answered : Result S Stop) (why : Stop) (old now : Disk) → IsErrAnd result (λ stop. stop ≡ why) → answered ≡ Err why → IfErr answered (λ stop. IsCaused stop old now) → IfErr result (λ stop. IsCaused stop old now)

@@ -1,14 +1,16 @@
 -- What is done at each moment of a call, by the courses of the restart and of the lines.
 use Rattle.std.specs.Prelude.{◌≡◌, ◌⊎◌, ◌++◌, ⊤, ℕ, List, [], ◌∷◌, take, None}
 use Rattle.std.specs.List.{flat_map}
-use Rattle.disk_model.specs.Disk.{Files, Disk}
+use Rattle.disk_model.specs.Disk.{Files, Disk, LeavesOnly}
+use Rattle.disk_model.specs.Silent.{IsSilent}
 use Rattle.formats.specs.declared.params.Params.{Params}
 use Rattle.standing.specs.Moments.{ShowsSome}
 use Rattle.standing.specs.Standing.{FilesShow}
 use Rattle.running_store.specs.Courses.{Course, course, force_course}
 use Rattle.running_store.specs.Courses.Stop.{Through}
 use Rattle.script_lines.specs.Grammar.{Request, AsksFor}
-use Rattle.script_lines.specs.declared.line.Line.TheVariants.{Force as force, BackupStart as bstart, BackupFinish as bfinish}
+use Rattle.script_lines.specs.declared.line.Line.TheVariants.{Force as force, Save}
+use Rattle.script_lines.specs.declared.line.Saving.TheVariants.{Start as bstart, Finish as bfinish}
 use Rattle.script_lines.specs.Replies.{Reply, said_line}
 use Rattle.shell_base.specs.declared.budget.Budget.{Budget}
 use Rattle.shell_base.specs.Store.{Command, meaning_in}
@@ -18,8 +20,8 @@ use Rattle.script_run.specs.Stages.{HasCourse, Leads, AllGoBy, finish_course}
 -- the log is forced for such a request
 abbrev pub IsForcing : Request → Type 0
 IsForcing force = ⊤
-IsForcing bstart = ⊤
-IsForcing bfinish = ⊤
+IsForcing (Save bstart) = ⊤
+IsForcing (Save bfinish) = ⊤
 IsForcing request = ⊥
 
 -- What may be done for the next of these lines before anything is said of it: the course that the line has the engine take,
@@ -34,6 +36,10 @@ pub record IsWorkedOn (p : Params) (s : Stage) (todo : List (List ℕ)) (files :
   pub its : Course Command
   pub due : IsCourseDue p s todo its
   pub shows : ShowsSome (meaning_in p) p s.world its.steps files
+
+-- at each moment of these calls nothing is said of the line, and some first steps of what is due for it are done
+abbrev pub Works : Params → Disk → Disk → Stage → List ℕ → Type 0
+Works p old mid s line = old.tells_moments → LeavesOnly old mid (IsSilent (IsWorkedOn p s (line ∷ [])) old.said)
 
 -- an answer to the line is being said, and the image shows the world that it leads to
 pub record IsBeingSaid (p : Params) (s : Stage) (line part : List ℕ) (files : Files) : Type 0 where

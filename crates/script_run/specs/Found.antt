@@ -24,7 +24,8 @@ use Rattle.tree_client.specs.Answers.{TreeErr}
 use Rattle.logical_btree.specs.declared.refusal.TreeRefusal.TheVariants as tree_refusals
 use Rattle.op_codec.specs.AllOps.{all_meaning}
 use Rattle.script_lines.specs.Grammar.{Request, AsksFor}
-use Rattle.script_lines.specs.declared.line.Line.TheVariants.{Trim as trim}
+use Rattle.script_lines.specs.declared.line.Line.TheVariants.{Keep}
+use Rattle.script_lines.specs.declared.line.Upkeep.TheVariants.{Trim as trim}
 use Rattle.store_engine.specs.Lists.{AddsFront, AreCalls, ending_of as ending_of_calls}
 use Rattle.execution.specs.Stops.{StopsCommand}
 use Rattle.execution.specs.declared.exec_err.ExecErr.{ExecErr}
@@ -41,7 +42,7 @@ use Rattle.shell_base.specs.declared.stop.Stop.{Stop}
 use Rattle.shell_base.specs.declared.stop.Stop.TheVariants.{DiskFault, Damaged, Memory}
 use Rattle.script_run.specs.Groups.{Regroups, open_in}
 use Rattle.script_run.specs.Made.{Made, made_by, tree_answer}
-use Rattle.script_run.specs.Replies.{Replies, HasLsn, IsOver}
+use Rattle.script_run.specs.Replies.{Replies, IsNumbered, IsOver}
 use Rattle.script_run.specs.Stages.{GoesBy, IsBesideBackup, upkeep_course}
 use Rattle.script_run.specs.declared.asking.Found.{Found}
 use Rattle.script_run.specs.declared.asking.Found.TheVariants as founds
@@ -52,7 +53,7 @@ IsStopped engine stop = (most : ℕ) × StopsCommand (is_some engine.group) most
 
 -- why no number is left: after a trim no epoch is, else no number for a record
 abbrev pub EndsAtLast : EngineView → Request → ℕ → Type 0
-EndsAtLast engine trim number = IsStopped engine (Worn number)
+EndsAtLast engine (Keep trim) number = IsStopped engine (Worn number)
 EndsAtLast engine request number = IsStopped engine (At_end number)
 
 -- nothing waits, no group is open, and the log has this length
@@ -119,9 +120,9 @@ IsAnswerOf Failed result = result ≡ Err DiskFault
 abbrev pub MayStop : Request → CourseStop → Type 0
 MayStop request Through = ⊤
 MayStop request (Full used need limit) = (limit ≡ 2 ^ 48) × (limit < used + need → IsOver request used need limit)
-MayStop trim (At_end number) = ⊥
-MayStop request (At_end number) = HasLsn request
-MayStop trim (Worn epoch) = ⊤
+MayStop (Keep trim) (At_end number) = ⊥
+MayStop request (At_end number) = IsNumbered request
+MayStop (Keep trim) (Worn epoch) = ⊤
 MayStop request (Worn epoch) = ⊥
 
 -- A call for a request that adds no command took its course, so far as its answer says. So many

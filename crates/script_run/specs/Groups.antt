@@ -4,7 +4,8 @@ use Rattle.std.specs.List.{AllByRecursion}
 use Rattle.explain_core.specs.History.{commands_of}
 use Rattle.explain_core.specs.World.{World}
 use Rattle.script_lines.specs.Grammar.{Request, AsksFor}
-use Rattle.script_lines.specs.declared.line.Line.TheVariants.{Begin as begin_group, End as end_group}
+use Rattle.script_lines.specs.declared.line.Line.TheVariants.{Group}
+use Rattle.script_lines.specs.declared.line.Grouping.TheVariants.{Begin as begin_group, End as end_group}
 use Rattle.script_lines.specs.Replies.{Reply, ok}
 use Rattle.shell_base.specs.Store.{Command}
 
@@ -58,12 +59,12 @@ size_of (Some n) commands = Some (length commands - n)
 
 -- the open group after a request that is answered `ok`, and the closed ones
 abbrev pub group_after : Request → Option ℕ → List Command → Option ℕ
-group_after begin_group group commands = Some (length commands)
-group_after end_group group commands = None
+group_after (Group begin_group) group commands = Some (length commands)
+group_after (Group end_group) group commands = None
 group_after request group commands = group
 
 abbrev pub closed_after : Request → Account → List Span
-closed_after end_group a = closed_with a.group (length a.commands) a.closed
+closed_after (Group end_group) a = closed_with a.group (length a.commands) a.closed
 closed_after request a = a.closed
 
 -- Answered `ok`, `begin` opens a group and `end` closes it; no other answer changes the groups. The commands that the line adds

@@ -1,7 +1,6 @@
 pub mod Groups
 pub mod Made
 pub mod Replies
-pub mod Work
 pub mod Noted
 pub mod Printed
 pub mod Stages
@@ -10,6 +9,7 @@ pub mod Answers
 pub mod Found
 pub mod Run
 pub mod Saving
+pub mod Finding
 pub mod PrintedLaws
 pub mod RunCalls
 pub mod StartLaws

@@ -20,7 +20,9 @@ use Rattle.script_lines.specs.declared.denial.Denial.TheVariants as denials
 use Rattle.logical_btree.specs.declared.refusal.TreeRefusal.{TreeRefusal}
 use Rattle.logical_btree.specs.declared.refusal.TreeRefusal.TheVariants.{NoObject, BadTree, TreeFull, NoKey}
 use Rattle.script_lines.specs.Grammar.{Request, AsksFor}
-use Rattle.script_lines.specs.declared.line.Line.TheVariants.{Run as run, AppRun as arun, ProgramRun as prun, TreeInsert as tinsert, TreeDelete as tdelete, TreeGet as tget, TreeRange as trange, HashPut as hset, HashGet as hget, HashDelete as hdel}
+use Rattle.script_lines.specs.declared.line.Line.TheVariants.{Run as run, Make, Ask}
+use Rattle.script_lines.specs.declared.line.Making.TheVariants.{AppRun as arun, ProgramRun as prun, TreeInsert as tinsert, TreeDelete as tdelete, HashPut as hset, HashDelete as hdel}
+use Rattle.script_lines.specs.declared.line.Question.TheVariants.{TreeGet as tget, TreeRange as trange, HashGet as hget}
 use Rattle.script_lines.specs.Replies.{Reply, ok, value, ran, pairs_reply, refused, bad_tree, tree_full, denied}
 use Rattle.shell_base.specs.Store.{Command, refusal_after, state_of}
 
@@ -95,12 +97,12 @@ hash_made p plan = call_made hash hash_reply p plan
 -- what a request for commands makes after these
 abbrev pub made_by : Params → List Command → Request → Option Made
 made_by p commands (run op) = Some (one_made p commands op)
-made_by p commands (arun app n) = Some (run_made p commands (step_of app) n)
-made_by p commands (prun app code n) = Some (run_made p commands (program_step app code) n)
-made_by p commands (tinsert lo hi key bytes) = Some (plan_made p (insert_plan (bounds_of p) lo hi (state_of p commands) key bytes))
-made_by p commands (tdelete lo hi key) = Some (plan_made p (delete_plan (bounds_of p) lo hi (state_of p commands) key))
-made_by p commands (hset lo hi key bytes) = Some (hash_made p (of_hash.put_plan (bounds_of p) lo hi (state_of p commands) key bytes))
-made_by p commands (hdel lo hi key) = Some (hash_made p (of_hash.delete_plan (bounds_of p) lo hi (state_of p commands) key))
+made_by p commands (Make (arun app n)) = Some (run_made p commands (step_of app) n)
+made_by p commands (Make (prun app code n)) = Some (run_made p commands (program_step app code) n)
+made_by p commands (Make (tinsert lo hi key bytes)) = Some (plan_made p (insert_plan (bounds_of p) lo hi (state_of p commands) key bytes))
+made_by p commands (Make (tdelete lo hi key)) = Some (plan_made p (delete_plan (bounds_of p) lo hi (state_of p commands) key))
+made_by p commands (Make (hset lo hi key bytes)) = Some (hash_made p (of_hash.put_plan (bounds_of p) lo hi (state_of p commands) key bytes))
+made_by p commands (Make (hdel lo hi key)) = Some (hash_made p (of_hash.delete_plan (bounds_of p) lo hi (state_of p commands) key))
 made_by p commands request = None
 
 -- After the commands the line asks for these commands, and has this answer where the log takes all of them.
@@ -140,9 +142,9 @@ hash_found (Err why) = hash_reply why
 
 -- the answer to a request for pairs of a tree or a hash file
 abbrev pub tree_answer : Params → State → Request → Option Reply
-tree_answer p s (tget lo hi key) = Some (found_reply (get_answer (bounds_of p) lo hi s key))
-tree_answer p s (trange lo hi from to) = Some (range_reply (range_answer (bounds_of p) lo hi s from to))
-tree_answer p s (hget lo hi key) = Some (hash_found (of_hash.get_answer (bounds_of p) lo hi s key))
+tree_answer p s (Ask (tget lo hi key)) = Some (found_reply (get_answer (bounds_of p) lo hi s key))
+tree_answer p s (Ask (trange lo hi from to)) = Some (range_reply (range_answer (bounds_of p) lo hi s from to))
+tree_answer p s (Ask (hget lo hi key)) = Some (hash_found (of_hash.get_answer (bounds_of p) lo hi s key))
 tree_answer p s request = None
 
 -- After the commands the line asks for pairs of a tree or a hash file, and this is the answer.

@@ -8,7 +8,8 @@ use Rattle.explain_core.specs.World.{World}
 use Rattle.restart.specs.Starts.{OrAtStart}
 use Rattle.op_codec.specs.AllOps.{all_meaning}
 use Rattle.script_lines.specs.Grammar.{Request, AsksFor}
-use Rattle.script_lines.specs.declared.line.Line.TheVariants.{BackupStart as bstart, BackupCopy as bcopy, BackupFinish as bfinish}
+use Rattle.script_lines.specs.declared.line.Line.TheVariants.{Save}
+use Rattle.script_lines.specs.declared.line.Saving.TheVariants.{Start as bstart, Copy as bcopy, Finish as bfinish}
 use Rattle.script_lines.specs.Replies.{Reply, ok, full, saved, backup_denied, reply_of}
 use Rattle.script_lines.specs.declared.answer.Answer.{Answer}
 use Rattle.script_lines.specs.declared.answer.Answer.TheVariants as answers
@@ -66,7 +67,7 @@ store_behind there (reply ∷ replies) = store_behind (store_after there reply) 
 -- the answer says truly whether a store was there: `refused AlreadyStore` where one was, and no backup starts there
 abbrev pub FindsStore : Type 0 → List ℕ → Reply → Type 0
 FindsStore there line (backup_denied denials.AlreadyStore) = there
-FindsStore there line ok = AsksFor line bstart → there → ⊥
+FindsStore there line ok = AsksFor line (Save bstart) → there → ⊥
 FindsStore there line reply = ⊤
 
 -- so do all these answers to these lines
@@ -77,11 +78,11 @@ AllFindStore there lines replies = ⊥
 
 -- one of these lines is to end a backup
 abbrev pub AsksFinish : List (List ℕ) → Type 0
-AsksFinish lines = (line : List ℕ) × Contains lines line × AsksFor line bfinish
+AsksFinish lines = (line : List ℕ) × Contains lines line × AsksFor line (Save bfinish)
 
 -- one of these lines was to end a backup, and was answered by `full`
 abbrev pub FinishIsFull : List (List ℕ) → List Reply → Type 0
-FinishIsFull (line ∷ lines) (full used need limit ∷ replies) = AsksFor line bfinish ⊎ FinishIsFull lines replies
+FinishIsFull (line ∷ lines) (full used need limit ∷ replies) = AsksFor line (Save bfinish) ⊎ FinishIsFull lines replies
 FinishIsFull (line ∷ lines) (reply ∷ replies) = FinishIsFull lines replies
 FinishIsFull lines replies = ⊥
 
@@ -138,9 +139,12 @@ module _ (p : Params) (start : Disk) where
         → SaysOfBackup (lines ++ line ∷ []) (replies ++ reply ∷ []) [] (commands ++ added) backed
 
     -- what the line asks for is done, and nothing is said of it yet; or the call ended without an answer
-    pub record IsSavingDone (result : Result Answer Stop) : Type 0 where
-      pub whole : IfOk result (λ answer. (d : IsDone p old new before after w commands line (reply_of answer)) × BackupGoesOn (reply_of answer) d.added d.world)
+    pub record IsDoneBeside {A : Type 0} (reply : A → Reply) (result : Result A Stop) : Type 0 where
+      pub whole : IfOk result (λ found. (d : IsDone p old new before after w commands line (reply found)) × BackupGoesOn (reply found) d.added d.world)
       pub stopped : OnErr result BackupStays
+
+    abbrev pub IsSavingDone : Result Answer Stop → Type 0
+    IsSavingDone = IsDoneBeside reply_of
 
     -- The line was answered, or a beginning of its answer was said, or nothing, and the backup went on.
     pub record AnsweringBeside (result : Result Bool Stop) : Type 0 where
@@ -151,7 +155,7 @@ module _ (p : Params) (start : Disk) where
 
 -- what may be done with the store for a line of a backup: a force as it starts and ends, nothing between
 abbrev pub saving_course : Request → Meaning Command → World Command → ℕ → Course Command
-saving_course (bcopy count) m w used = course [] used Through
+saving_course (Save (bcopy count)) m w used = course [] used Through
 saving_course request m w used = force_course m w used
 
 -- What a call for such a line makes of engine and machine, on every machine.

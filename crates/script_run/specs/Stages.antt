@@ -12,7 +12,10 @@ use Rattle.cache_manager.specs.InstallCourses.{logged_in, install_course, drain_
 use Rattle.running_store.specs.Courses.Stop.{Through, Full, At_end, Worn}
 use Rattle.op_codec.specs.AllOps.{all_meaning}
 use Rattle.script_lines.specs.Grammar.{Request, AsksFor}
-use Rattle.script_lines.specs.declared.line.Line.TheVariants.{Get as get, TreeGet as tget, TreeRange as trange, HashGet as hget, Install as install, Drain as drain, Checkpoint as checkpoint, Trim as trim, Begin as begin_group, End as end_group, BackupStart as bstart, BackupCopy as bcopy, BackupFinish as bfinish}
+use Rattle.script_lines.specs.declared.line.Line.TheVariants.{Ask, Keep, Group, Save}
+use Rattle.script_lines.specs.declared.line.Upkeep.TheVariants.{Install as install, Drain as drain, Checkpoint as checkpoint, Trim as trim}
+use Rattle.script_lines.specs.declared.line.Grouping.TheVariants.{Begin as begin_group, End as end_group}
+use Rattle.script_lines.specs.declared.line.Saving.TheVariants.{Start as bstart, Copy as bcopy, Finish as bfinish}
 use Rattle.script_lines.specs.Replies.{Reply, ok, ran, forced, refused, bad_tree, tree_full, denied, full, end, stat, copied, saved, backup_denied}
 use Rattle.script_lines.specs.declared.backup_denial.BackupDenial.{BackupDenial}
 use Rattle.script_lines.specs.declared.backup_denial.BackupDenial.TheVariants.{InBackup, NoBackup, AlreadyStore, NotCopied}
@@ -39,26 +42,23 @@ with_copied copies s = record { world = s.world; used = s.used; identities = s.i
 -- What is done for a request that adds no command, in a world with a log of a length; this is the epoch of the log in force,
 -- and so many objects are copied.
 abbrev pub upkeep_course : ℕ → ℕ → Request → Meaning Command → World Command → ℕ → Course Command
-upkeep_course epoch copies install m w used = install_course m copies w used
-upkeep_course epoch copies drain m w used = drain_course m copies w used
-upkeep_course epoch copies checkpoint m w used = checkpoint_course m w used
-upkeep_course epoch copies trim m w used = trim_course m epoch w used
-upkeep_course epoch copies begin_group m w used = begin_course m w used
-upkeep_course epoch copies end_group m w used = end_course m w used
+upkeep_course epoch copies (Keep install) m w used = install_course m copies w used
+upkeep_course epoch copies (Keep drain) m w used = drain_course m copies w used
+upkeep_course epoch copies (Keep checkpoint) m w used = checkpoint_course m w used
+upkeep_course epoch copies (Keep trim) m w used = trim_course m epoch w used
+upkeep_course epoch copies (Group begin_group) m w used = begin_course m w used
+upkeep_course epoch copies (Group end_group) m w used = end_course m w used
 upkeep_course epoch copies request m w used = course [] used Through
 
 -- such a request may be done beside a backup: a trim may not, and the start of one takes its own course
 abbrev pub IsBesideBackup : Option ℕ → Request → Type 0
-IsBesideBackup copies trim = copies ≡ None
-IsBesideBackup copies bstart = ⊥
+IsBesideBackup copies (Keep trim) = copies ≡ None
+IsBesideBackup copies (Save bstart) = ⊥
 IsBesideBackup copies request = ⊤
 
 -- a request for values changes nothing
 abbrev pub IsQuestion : Request → Type 0
-IsQuestion (get object) = ⊤
-IsQuestion (tget lo hi key) = ⊤
-IsQuestion (trange lo hi from to) = ⊤
-IsQuestion (hget lo hi key) = ⊤
+IsQuestion (Ask question) = ⊤
 IsQuestion request = ⊥
 
 -- what is done behind the last line: the open group is closed, if there is one, and the log is forced
@@ -97,11 +97,11 @@ forced_stage p s = stage_after p s (force_course (meaning_in p) s.world s.used)
 
 -- a backup starts after a force, where none is made: nothing is copied yet
 abbrev pub StartsBackup : Stage → List ℕ → Stage → Stage → Type 0
-StartsBackup old line mid new = AsksFor line bstart × (old.copied ≡ None) × (new ≡ with_copied (Some 0) mid)
+StartsBackup old line mid new = AsksFor line (Save bstart) × (old.copied ≡ None) × (new ≡ with_copied (Some 0) mid)
 
 -- of so many objects so many more are copied, or all that are left
 abbrev pub CopiesMore : ℕ → Stage → List ℕ → ℕ → Stage → Type 0
-CopiesMore objects old line now new = (before count : ℕ) × AsksFor line (bcopy count) × (old.copied ≡ Some before) × (now ≡ min (before + count) objects) × (new ≡ with_copied (Some now) old)
+CopiesMore objects old line now new = (before count : ℕ) × AsksFor line (Save (bcopy count)) × (old.copied ≡ Some before) × (now ≡ min (before + count) objects) × (new ≡ with_copied (Some now) old)
 
 -- so many bytes has the log of a backup that is taken in this stage
 abbrev pub backup_bytes : Params → Stage → ℕ
@@ -110,7 +110,7 @@ backup_bytes p s = backup_length (meaning_in p) s.world
 -- The log of a backup, all of whose objects are copied, would be too long after a force: the store's own log has so many bytes
 -- then, and the backup's so many. It goes on.
 abbrev pub IsBackupFull : Params → Stage → List ℕ → ℕ → ℕ → Stage → Stage → Type 0
-IsBackupFull p old line used need mid new = AsksFor line bfinish × (old.copied ≡ Some p.objects) × (used ≡ mid.used) × (need ≡ backup_bytes p mid) × (new ≡ mid)
+IsBackupFull p old line used need mid new = AsksFor line (Save bfinish) × (old.copied ≡ Some p.objects) × (used ≡ mid.used) × (need ≡ backup_bytes p mid) × (new ≡ mid)
 
 -- one whose log has room ends after a force
 abbrev pub EndsBackup : Params → Stage → Stage → Stage → Type 0

@@ -8,7 +8,10 @@ use Rattle.std.specs.List.{AllByRecursion, flat_map}
 use Rattle.disk_model.specs.Disk.{Disk, LeavesOnly}
 use Rattle.formats.specs.declared.params.Params.{Params}
 use Rattle.script_lines.specs.Grammar.{Request, AsksFor}
-use Rattle.script_lines.specs.declared.line.Line.TheVariants.{Install as install, Drain as drain, Checkpoint as checkpoint, Trim as trim, Begin as begin_group, End as end_group, BackupStart as bstart}
+use Rattle.script_lines.specs.declared.line.Line.TheVariants.{Keep, Group, Save}
+use Rattle.script_lines.specs.declared.line.Upkeep.TheVariants.{Install as install, Drain as drain, Checkpoint as checkpoint, Trim as trim}
+use Rattle.script_lines.specs.declared.line.Grouping.TheVariants.{Begin as begin_group, End as end_group}
+use Rattle.script_lines.specs.declared.line.Saving.TheVariants.{Start as bstart}
 use Rattle.script_lines.specs.Replies.{Reply, ok, ran, pairs, bad_tree, tree_full, denied, in_group, no_group, value, forced, bad, refused, full, end, object_value, command_count, stat, copied, saved, backup_denied, summary, silence, text_of, said_line}
 use Rattle.shell_base.specs.Store.{Command}
 use Rattle.shell_base.specs.First.{Stage}
@@ -34,7 +37,7 @@ ended_whole kept [] a w = record { closed = closed_whole kept (length a.commands
 ended_whole kept (line ∷ todo) a w = record { closed = w.closed; group = w.group }
 
 request_whole : (kept : ℕ) (request : Request) (a : Account) → AreWhole kept a → AllByRecursion (IsWhole kept) (closed_after request a)
-request_whole kept end_group a w = closed_whole kept (length a.commands) a.group a.closed w.closed w.group
+request_whole kept (Group end_group) a w = closed_whole kept (length a.commands) a.group a.closed w.closed w.group
 request_whole kept request a w = w.closed
 
 -- an answer splits no closed group
@@ -51,7 +54,7 @@ end_within n most [] le are = tt
 end_within n most (span ∷ spans) le are = (omega (arith, le, are.0), end_within n most spans le are.1)
 
 request_ends : (request : Request) (a : Account) → AllEnd (length a.commands) a.closed → AllEnd (length a.commands) (closed_after request a)
-request_ends end_group a are = close a.group
+request_ends (Group end_group) a are = close a.group
   where
     close : (group : Option ℕ) → AllEnd (length a.commands) (closed_with group (length a.commands) a.closed)
     close None = are
@@ -96,8 +99,8 @@ same_next a line reply added is = record {
 -- no line that asks for commands begins or ends a group
 pub made_group : (p : Params) (commands : List Command) (it : Made) (request : Request) (a : Account) → made_by p commands request ≡ Some it
     → (group_after request a.group a.commands ≡ a.group) × (closed_after request a ≡ a.closed)
-made_group p commands it begin_group a is = absurd (cc is)
-made_group p commands it end_group a is = absurd (cc is)
+made_group p commands it (Group begin_group) a is = absurd (cc is)
+made_group p commands it (Group end_group) a is = absurd (cc is)
 made_group p commands it request a is = (refl, refl)
 
 next_made : (p : Params) (a : Account) (line : List ℕ) (added : List Command) (it : Made) → AsksMade p a.commands line it → Next a line ok added
@@ -106,21 +109,21 @@ next_made p a line added it m =
     same_next a line ok added (m.request, m.asks, λ i. record { commands = a.commands ++ added; closed = sym same.1 i; group = sym same.0 i })
 
 next_granted : (a : Account) (line : List ℕ) (added : List Command) (request : Request) → IsGranted a.group request → AsksFor line request → added ≡ [] → Next a line ok added
-next_granted a line added begin_group may asks none = record {
+next_granted a line added (Group begin_group) may asks none = record {
   account = record { commands = a.commands ++ added; closed = a.closed; group = Some (length a.commands) };
-  after = (begin_group, asks, refl);
+  after = (Group begin_group, asks, refl);
   whole = λ kept le w. record { closed = w.closed; group = omega (arith, le, length-append a.commands added, ap length none) };
 }
-next_granted a line added end_group may asks none = record {
+next_granted a line added (Group end_group) may asks none = record {
   account = record { commands = a.commands ++ added; closed = closed_with a.group (length a.commands) a.closed; group = None };
-  after = (end_group, asks, refl);
+  after = (Group end_group, asks, refl);
   whole = λ kept le w. record { closed = closed_whole kept (length a.commands) a.group a.closed w.closed w.group; group = tt };
 }
-next_granted a line added install may asks none = same_next a line ok added (install, asks, refl)
-next_granted a line added drain may asks none = same_next a line ok added (drain, asks, refl)
-next_granted a line added checkpoint may asks none = same_next a line ok added (checkpoint, asks, refl)
-next_granted a line added trim may asks none = same_next a line ok added (trim, asks, refl)
-next_granted a line added bstart may asks none = same_next a line ok added (bstart, asks, refl)
+next_granted a line added (Keep install) may asks none = same_next a line ok added (Keep install, asks, refl)
+next_granted a line added (Keep drain) may asks none = same_next a line ok added (Keep drain, asks, refl)
+next_granted a line added (Keep checkpoint) may asks none = same_next a line ok added (Keep checkpoint, asks, refl)
+next_granted a line added (Keep trim) may asks none = same_next a line ok added (Keep trim, asks, refl)
+next_granted a line added (Save bstart) may asks none = same_next a line ok added (Save bstart, asks, refl)
 next_granted a line added request may asks none = absurd may.0
 
 pub next_of : (p : Params) (a : Account) (line : List ℕ) (reply : Reply) (added : List Command) → Replies p a.group a.commands line reply added → Next a line reply added

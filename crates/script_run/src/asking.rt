@@ -1,19 +1,14 @@
-// Questions to trees and hash files, and their answers.
-ghost use Rattle.std.specs.Prelude.{◌≡◌, false, List, ℕ, OnOk, IfErr};
-ghost use Rattle.disk_model.specs.Disk.{Passes};
-ghost use Rattle.formats.specs.declared.params.Params.{Params};
-ghost use Rattle.script_lines.specs.Grammar.{AsksFor};
-ghost use Rattle.script_lines.specs.declared.line.Line.TheVariants.{HashGet as hget, TreeGet as tget, TreeRange as trange};
+// Questions, and their answers.
+ghost use Rattle.std.specs.Prelude.{◌≡◌, false, IfOk, Some};
+ghost use Rattle.script_lines.specs.declared.line.Line.TheVariants.{Ask};
+ghost use Rattle.script_lines.specs.declared.line.Question.TheVariants.{Get as get, HashGet as hget, TreeGet as tget, TreeRange as trange};
 ghost use Rattle.script_lines.specs.Replies.{reply_of};
-ghost use Rattle.shell_base.specs.Store.{Command, Holds, IsAttached};
-ghost use Rattle.shell_base.specs.Stops.{IsCaused, IsUndamaged};
+ghost use Rattle.store_engine.specs.Engine.{EngineView};
+ghost use Rattle.script_run.specs.Finding.{FindsAnswer, IsLineOf, IsReadable, found_out, outcome_reply};
 ghost use Rattle.script_run.specs.Found.{IsAsked, answer_of_call_error, answer_of_tree_error, hash_answer, refused_as, reply_in};
-ghost use Rattle.script_run.specs.Run.{Answering};
-ghost use Rattle.script_run.specs.Work.{tree_request};
 
 use crate::making::{hash_error_answer, tree_answer};
-use crate::say::say_answer;
-use crate::work::Question;
+use crate::outcome::Outcome;
 use disk_model::Machine;
 use hash_client::HashErr;
 use hash_file::HashFile;
@@ -21,10 +16,10 @@ use key_entries::Short;
 use logical_btree::Tree;
 use op_codec::AllOps;
 use oper_core::Refusal;
-use script_lines::Answer;
-use shell_base::Stop;
+use script_lines::{Answer, Question};
+use shell_base::{Stop, fetched};
 use std::alloc::Global;
-use store_engine::{Engine, engine_stands, nothing_is_made};
+use store_engine::{Engine, nothing_is_made};
 use tree_client::TreeErr;
 
 /// What was found in a tree or a hash file.
@@ -42,7 +37,7 @@ pub enum Found {
 
 impl Found {
     /// How this is answered.
-    fn answer(&self) -> Answer<'_>
+    pub fn answer(&self) -> Answer<'_>
         ensures { reply_of result ≡ reply_in self.now }
     {
         match self {
@@ -83,7 +78,7 @@ fn find_hash<M: Machine>(
     key: Short,
 ) -> Result<Found, Stop>
     requires { engine.old.broken ≡ false }
-    ensures { IsAsked (M.disk machine.old) (M.disk machine.new) engine.old engine.new (hget low high key) result }
+    ensures { IsAsked (M.disk machine.old) (M.disk machine.new) engine.old engine.new (Ask (hget low high key)) result }
 {
     let Some(file) = HashFile::new(low, high) else {
         nothing_is_made(machine, engine);
@@ -105,7 +100,7 @@ fn find<M: Machine>(
     key: Short,
 ) -> Result<Found, Stop>
     requires { engine.old.broken ≡ false }
-    ensures { IsAsked (M.disk machine.old) (M.disk machine.new) engine.old engine.new (tget low high key) result }
+    ensures { IsAsked (M.disk machine.old) (M.disk machine.new) engine.old engine.new (Ask (tget low high key)) result }
 {
     let Some(tree) = Tree::new(low, high) else {
         nothing_is_made(machine, engine);
@@ -129,7 +124,7 @@ fn find_range<M: Machine>(
     to: Short,
 ) -> Result<Found, Stop>
     requires { engine.old.broken ≡ false }
-    ensures { IsAsked (M.disk machine.old) (M.disk machine.new) engine.old engine.new (trange low high from to) result }
+    ensures { IsAsked (M.disk machine.old) (M.disk machine.new) engine.old engine.new (Ask (trange low high from to)) result }
 {
     let Some(tree) = Tree::new(low, high) else {
         nothing_is_made(machine, engine);
@@ -141,45 +136,55 @@ fn find_range<M: Machine>(
     }
 }
 
-/// Looks for what a question asks.
-fn found_in<M: Machine>(
+/// Sees that an object is cached, so that its value can be said.
+fn find_value<M: Machine>(
+    engine: &mut Engine<AllOps>,
+    machine: &mut M,
+    object: u32,
+) -> Result<Outcome, Stop>
+    requires { engine.old.broken ≡ false }
+    ensures found { FindsAnswer (outcome_reply engine.new) (IsLineOf (Some (Ask (get object)))) (M.disk machine.old) (M.disk machine.new) engine.old engine.new result }
+    ensures readable { IfOk result (IsReadable engine.new) }
+{
+    if fetched(engine, machine, object)? {
+        return Ok(Outcome::Cached { object });
+    }
+    Ok(Outcome::Told(Answer::Refused(Refusal::NoObject)))
+}
+
+/// What was found, or why nothing was.
+fn found_out(found: Result<Found, Stop>) -> Result<Outcome, Stop>
+    ensures out { result ≡ found_out found }
+    ensures readable { (engine : EngineView) → IfOk result (IsReadable engine) }
+{
+    match found {
+        Ok(found) => Ok(Outcome::Found(found)),
+        Err(stop) => Err(stop),
+    }
+}
+
+/// Finds the answer to a question.
+pub fn answer_to<M: Machine>(
     alloc: Global,
     engine: &mut Engine<AllOps>,
     machine: &mut M,
     question: Question,
-) -> Result<Found, Stop>
+) -> Result<Outcome, Stop>
     requires { engine.old.broken ≡ false }
-    ensures { IsAsked (M.disk machine.old) (M.disk machine.new) engine.old engine.new (tree_request question) result }
+    ensures found { FindsAnswer (outcome_reply engine.new) (IsLineOf (Some (Ask question))) (M.disk machine.old) (M.disk machine.new) engine.old engine.new result }
+    ensures readable { IfOk result (IsReadable engine.new) }
 {
     match question {
-        Question::Find { low, high, key } => find(engine, machine, low, high, key),
-        Question::Range {
+        Question::Get { object } => find_value(engine, machine, object),
+        Question::TreeGet { low, high, key } => found_out(find(engine, machine, low, high, key)),
+        Question::TreeRange {
             low,
             high,
             from,
             to,
-        } => { find_range(alloc, engine, machine, low, high, from, to) }
-        Question::HashFind { low, high, key } => find_hash(engine, machine, low, high, key),
+        } => found_out(find_range(alloc, engine, machine, low, high, from, to)),
+        Question::HashGet { low, high, key } => found_out(find_hash(
+            engine, machine, low, high, key,
+        )),
     }
-}
-
-/// Answers a question to a tree or a hash file. It reports whether the answer is a refusal.
-pub fn say_found<M: Machine>(
-    alloc: Global,
-    engine: &mut Engine<AllOps>,
-    machine: &mut M,
-    question: Question,
-) -> Result<bool, Stop>
-    requires { engine.old.broken ≡ false }
-    ensures time { Passes (M.disk machine.old) (M.disk machine.new) }
-    ensures answers { (p : Params) (commands : List Command) (line : List ℕ) → (holds : Holds p (M.disk machine.old) engine.old commands) → AsksFor line (tree_request question) →
-        Answering p (M.disk machine.old) (M.disk machine.new) engine.old engine.new holds.world commands line result }
-    ensures cause { IfErr result (λ stop. IsCaused stop (M.disk machine.old) (M.disk machine.new)) }
-    ensures undamaged { (M.disk machine.old).tells_files → IsAttached (M.disk machine.old) engine.old → IfErr result IsUndamaged }
-    ensures attached { IsAttached (M.disk machine.old) engine.old → OnOk result (IsAttached (M.disk machine.new) engine.new) }
-    ensures unbroken { OnOk result (engine.new.broken ≡ false) }
-{
-    let found = found_in(alloc, engine, machine, question)?;
-    engine_stands(machine, engine);
-    say_answer(alloc, machine, &found.answer())
 }

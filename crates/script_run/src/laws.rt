@@ -6,7 +6,10 @@ ghost use Rattle.formats.specs.declared.params.Params.{Params};
 ghost use Rattle.oper_core.specs.declared.refusal.Refusal.{Refusal as Why};
 ghost use Rattle.oper_core.specs.declared.refusal.Refusal.TheVariants.{NoObject};
 ghost use Rattle.script_lines.specs.Grammar.{AsksFor, IsBad, Request};
-ghost use Rattle.script_lines.specs.declared.line.Line.TheVariants.{BackupStart as bstart, BackupCopy as bcopy, BackupFinish as bfinish, End as end_group, Get as get, Force as force, Stat as asks_stat, Skip as skip};
+ghost use Rattle.script_lines.specs.declared.line.Line.TheVariants.{Save, Group, Ask, Force as force, Stat as asks_stat, Skip as skip};
+ghost use Rattle.script_lines.specs.declared.line.Question.TheVariants.{Get as get};
+ghost use Rattle.script_lines.specs.declared.line.Grouping.TheVariants.{End as end_group};
+ghost use Rattle.script_lines.specs.declared.line.Saving.TheVariants.{Start as bstart, Copy as bcopy, Finish as bfinish};
 ghost use Rattle.script_lines.specs.Replies.{Reply, ok, bad, value, refused, forced, in_group, no_group, full, stat, copied, saved, backup_denied, silence, text_of, said_line, HasSmallNumbers};
 ghost use Rattle.script_lines.specs.declared.answer.StatLine.{StatLine};
 ghost use Rattle.script_lines.specs.declared.backup_denial.BackupDenial.{BackupDenial};
@@ -36,9 +39,9 @@ pub fn a_line_gets_the_answer_of_its_cause()
     ensures refused { (p : Params) (group : Option ℕ) (commands : List Command) (line : List ℕ) (reply : Reply) (added : List Command) (op : Command) (why : Why) → Replies p group commands line reply added →
         AsksCommand line op → (reply ≡ refused why) ↔ (refusal_after p commands op ≡ Some why) }
     ensures no_object { (p : Params) (group : Option ℕ) (commands : List Command) (line : List ℕ) (reply : Reply) (added : List Command) (object : ℕ) → Replies p group commands line reply added →
-        AsksFor line (get object) → (reply ≡ refused NoObject) ↔ (p.objects ≤ object) }
+        AsksFor line (Ask (get object)) → (reply ≡ refused NoObject) ↔ (p.objects ≤ object) }
     ensures value { (p : Params) (group : Option ℕ) (commands : List Command) (line : List ℕ) (reply : Reply) (added : List Command) (object : ℕ) → Replies p group commands line reply added →
-        AsksFor line (get object) → object < p.objects → reply ≡ value (state_of p commands object) }
+        AsksFor line (Ask (get object)) → object < p.objects → reply ≡ value (state_of p commands object) }
     ensures forced { (p : Params) (group : Option ℕ) (commands : List Command) (line : List ℕ) (reply : Reply) (added : List Command) → Replies p group commands line reply added →
         AsksFor line force → group ≡ None → reply ≡ forced (length commands) }
     // The answers of each run go by its stages, however it ends (`SaysTruly`, its `goes`).
@@ -47,7 +50,7 @@ pub fn a_line_gets_the_answer_of_its_cause()
     ensures in_group { (p : Params) (group : Option ℕ) (commands : List Command) (line : List ℕ) (reply : Reply) (added : List Command) → Replies p group commands line reply added →
         (reply ≡ in_group) ↔ ((request : Request) × IsBarred request × AsksFor line request × IsTrue (is_some group)) }
     ensures no_group { (p : Params) (group : Option ℕ) (commands : List Command) (line : List ℕ) (reply : Reply) (added : List Command) → Replies p group commands line reply added →
-        (reply ≡ no_group) ↔ (AsksFor line end_group × (group ≡ None)) }
+        (reply ≡ no_group) ↔ (AsksFor line (Group end_group) × (group ≡ None)) }
     ensures counts { (p : Params) (group : Option ℕ) (commands : List Command) (line : List ℕ) (reply : Reply) (added : List Command) → Replies p group commands line reply added →
         AsksFor line asks_stat → (counts : StatLine) × (reply ≡ stat counts) }
     ensures silence { (p : Params) (group : Option ℕ) (commands : List Command) (line : List ℕ) (reply : Reply) (added : List Command) → Replies p group commands line reply added →
@@ -65,17 +68,17 @@ pub fn a_backup_line_gets_the_answer_of_its_cause()
         (reply ≡ backup_denied why) ↔ ((request : Request) × IsDenied why request × AsksFor line request × (open_in before.world ≡ None) × IsDeniedAt p.objects before.copied why) }
     ensures found { (files : Files) (earlier : List Reply) (p : Params) (before after : Stage) (line : List ℕ) (reply : Reply) → Leads p before line reply after →
         FindsStore (store_behind (BeginsStore (files Objects)) earlier) line reply →
-        (reply ≡ backup_denied AlreadyStore) ↔ (AsksFor line bstart × (open_in before.world ≡ None) × (before.copied ≡ None) × store_behind (BeginsStore (files Objects)) earlier) }
+        (reply ≡ backup_denied AlreadyStore) ↔ (AsksFor line (Save bstart) × (open_in before.world ≡ None) × (before.copied ≡ None) × store_behind (BeginsStore (files Objects)) earlier) }
     ensures starts { (files : Files) (earlier : List Reply) (p : Params) (before after : Stage) (line : List ℕ) (reply : Reply) → Leads p before line reply after →
         FindsStore (store_behind (BeginsStore (files Objects)) earlier) line reply →
-        AsksFor line bstart → open_in before.world ≡ None → before.copied ≡ None → (store_behind (BeginsStore (files Objects)) earlier → ⊥) →
+        AsksFor line (Save bstart) → open_in before.world ≡ None → before.copied ≡ None → (store_behind (BeginsStore (files Objects)) earlier → ⊥) →
         (reply ≡ ok) × (after ≡ with_copied (Some 0) (forced_stage p before)) }
     ensures copies { (p : Params) (before after : Stage) (line : List ℕ) (reply : Reply) (count n : ℕ) → Leads p before line reply after →
-        AsksFor line (bcopy count) → open_in before.world ≡ None → before.copied ≡ Some n →
+        AsksFor line (Save (bcopy count)) → open_in before.world ≡ None → before.copied ≡ Some n →
         (reply ≡ copied (min (n + count) p.objects)) × (after ≡ with_copied (Some (min (n + count) p.objects)) before) }
     // It is `full` exactly where the log of the backup would have more than 2^48 bytes.
     ensures saves { (p : Params) (before after : Stage) (line : List ℕ) (reply : Reply) → Leads p before line reply after →
-        AsksFor line bfinish → open_in before.world ≡ None → before.copied ≡ Some p.objects →
+        AsksFor line (Save bfinish) → open_in before.world ≡ None → before.copied ≡ Some p.objects →
         ((reply ≡ saved (length (commands_of before.world.history))) × (backup_bytes p (forced_stage p before) ≤ 2 ^ 48) × (after ≡ with_copied None (forced_stage p before)))
         ⊎ ((reply ≡ full (forced_stage p before).used (backup_bytes p (forced_stage p before)) (2 ^ 48)) × (2 ^ 48 < backup_bytes p (forced_stage p before)) × (after ≡ forced_stage p before)) }
 {

@@ -29,12 +29,12 @@ mod laws;
 mod line;
 mod making;
 mod notes;
+mod outcome;
 mod running;
 mod saving;
 mod say;
 mod script;
 mod upkeep;
-mod work;
 
 pub use bad_line::{BadCause, BadLine};
 pub use laws::{

@@ -1,10 +1,9 @@
 // Several commands, and the answer to them.
 ghost use Rattle.std.specs.Prelude.{◌≡◌, false};
-ghost use Rattle.script_lines.specs.declared.line.Line.TheVariants.{AppRun as arun, ProgramRun as prun, HashDelete as hdel, HashPut as hset, TreeDelete as tdelete, TreeInsert as tinsert};
+ghost use Rattle.script_lines.specs.declared.line.Line.TheVariants.{Make};
+ghost use Rattle.script_lines.specs.declared.line.Making.TheVariants.{AppRun as arun, ProgramRun as prun, HashDelete as hdel, HashPut as hset, TreeDelete as tdelete, TreeInsert as tinsert};
 ghost use Rattle.script_run.specs.Found.{IsMade, answer_of_call_error, answer_of_error, answer_of_tree_error, hash_answer};
-ghost use Rattle.script_run.specs.Work.{made_request};
 
-use crate::work::Making;
 use app_steps::{App, ProgApp};
 use disk_model::Machine;
 use hash_client::HashErr;
@@ -14,19 +13,19 @@ use logical_btree::{Tree, TreeRefusal};
 use op_codec::AllOps;
 use oper_core::Refusal;
 use range_calls::CallErr;
-use script_lines::{Answer, Denial};
+use script_lines::{Answer, Denial, Making};
 use shell_base::Stop;
 use store_engine::{Engine, ExecErr, nothing_is_made};
 use tree_client::TreeErr;
 
 /// What is answered where a command is not done.
-fn error_answer(error: ExecErr) -> Result<Answer<'static>, Stop>
+pub fn error_answer(error: ExecErr) -> Result<Answer<'static>, Stop>
     ensures { result ≡ answer_of_error error }
 {
     match error {
         ExecErr::Refused(refusal) => Ok(Answer::Refused(refusal)),
         ExecErr::LogFull { used, need, limit } => Ok(Answer::Full { used, need, limit }),
-        ExecErr::LsnEnd { number } => Ok(Answer::End { number }),
+        ExecErr::LsnEnd { lsn } => Ok(Answer::End { number: lsn }),
         ExecErr::Damaged { file, place } => Err(Stop::Damaged { file, place }),
         ExecErr::DiskFault => Err(Stop::DiskFault),
         ExecErr::Memory => Err(Stop::Memory),
@@ -84,7 +83,7 @@ fn run_steps<M: Machine>(
     most: u32,
 ) -> Result<Answer<'static>, Stop>
     requires { engine.old.broken ≡ false }
-    ensures { IsMade (M.disk machine.old) (M.disk machine.new) engine.old engine.new (arun app most) result }
+    ensures { IsMade (M.disk machine.old) (M.disk machine.new) engine.old engine.new (Make (arun app most)) result }
 {
     let app = App { app };
     match app.run(engine, machine, most as u64) {
@@ -102,7 +101,7 @@ fn run_program<M: Machine>(
     most: u32,
 ) -> Result<Answer<'static>, Stop>
     requires { engine.old.broken ≡ false }
-    ensures { IsMade (M.disk machine.old) (M.disk machine.new) engine.old engine.new (prun app program most) result }
+    ensures { IsMade (M.disk machine.old) (M.disk machine.new) engine.old engine.new (Make (prun app program most)) result }
 {
     let app = ProgApp { app, program };
     match app.run(engine, machine, most as u64) {
@@ -121,7 +120,7 @@ fn insert<M: Machine>(
     value: Short,
 ) -> Result<Answer<'static>, Stop>
     requires { engine.old.broken ≡ false }
-    ensures { IsMade (M.disk machine.old) (M.disk machine.new) engine.old engine.new (tinsert low high key value) result }
+    ensures { IsMade (M.disk machine.old) (M.disk machine.new) engine.old engine.new (Make (tinsert low high key value)) result }
 {
     let Some(tree) = Tree::new(low, high) else {
         nothing_is_made(machine, engine);
@@ -142,7 +141,7 @@ fn delete<M: Machine>(
     key: Short,
 ) -> Result<Answer<'static>, Stop>
     requires { engine.old.broken ≡ false }
-    ensures { IsMade (M.disk machine.old) (M.disk machine.new) engine.old engine.new (tdelete low high key) result }
+    ensures { IsMade (M.disk machine.old) (M.disk machine.new) engine.old engine.new (Make (tdelete low high key)) result }
 {
     let Some(tree) = Tree::new(low, high) else {
         nothing_is_made(machine, engine);
@@ -164,7 +163,7 @@ fn hash_put<M: Machine>(
     value: Short,
 ) -> Result<Answer<'static>, Stop>
     requires { engine.old.broken ≡ false }
-    ensures { IsMade (M.disk machine.old) (M.disk machine.new) engine.old engine.new (hset low high key value) result }
+    ensures { IsMade (M.disk machine.old) (M.disk machine.new) engine.old engine.new (Make (hset low high key value)) result }
 {
     let Some(file) = HashFile::new(low, high) else {
         nothing_is_made(machine, engine);
@@ -185,7 +184,7 @@ fn hash_delete<M: Machine>(
     key: Short,
 ) -> Result<Answer<'static>, Stop>
     requires { engine.old.broken ≡ false }
-    ensures { IsMade (M.disk machine.old) (M.disk machine.new) engine.old engine.new (hdel low high key) result }
+    ensures { IsMade (M.disk machine.old) (M.disk machine.new) engine.old engine.new (Make (hdel low high key)) result }
 {
     let Some(file) = HashFile::new(low, high) else {
         nothing_is_made(machine, engine);
@@ -204,20 +203,22 @@ pub fn made_answer<M: Machine>(
     making: Making,
 ) -> Result<Answer<'static>, Stop>
     requires { engine.old.broken ≡ false }
-    ensures { IsMade (M.disk machine.old) (M.disk machine.new) engine.old engine.new (made_request making) result }
+    ensures { IsMade (M.disk machine.old) (M.disk machine.new) engine.old engine.new (Make making) result }
 {
     match making {
-        Making::Steps { app, most } => run_steps(engine, machine, app, most),
-        Making::ProgramSteps { app, program, most } => {
-            run_program(engine, machine, app, program, most)
-        }
-        Making::Insert {
+        Making::AppRun { app, steps } => run_steps(engine, machine, app, steps),
+        Making::ProgramRun {
+            app,
+            program,
+            steps,
+        } => { run_program(engine, machine, app, program, steps) }
+        Making::TreeInsert {
             low,
             high,
             key,
             value,
         } => insert(engine, machine, low, high, key, value),
-        Making::Delete { low, high, key } => delete(engine, machine, low, high, key),
+        Making::TreeDelete { low, high, key } => delete(engine, machine, low, high, key),
         Making::HashPut {
             low,
             high,

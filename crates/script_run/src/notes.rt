@@ -2,11 +2,10 @@
 ghost use Rattle.std.specs.Prelude.{◌≡◌, ◌<◌, ◌^◌, List, ℕ, option_map};
 ghost use Rattle.script_lines.specs.Reading.{IsLine};
 ghost use Rattle.script_run.specs.Noted.{TakesLine, none_noted, or_this};
-ghost use Rattle.script_run.specs.Work.{AsksWork};
+ghost use Rattle.script_run.specs.Finding.{IsLineOf};
 
 use crate::bad_line::{BadCause, BadLine, bad_cause};
-use crate::work::Work;
-use script_lines::Next;
+use script_lines::{Line, Next};
 use std::marker::Model;
 
 /// What a run notes of its script: how many lines it took, and which of them was the first that was bad.
@@ -64,15 +63,15 @@ impl Notes {
         }
     }
 
-    /// Takes the line that a reader has found, by what it asks for.
-    pub fn take(&mut self, work: &Work, next: Next, line: &[u8])
+    /// Takes the line that a reader has found, by what it asks; none where it is bad.
+    pub fn take(&mut self, asked: &Option<Line>, next: Next, line: &[u8])
         requires few { self.old.lines < 2 ^ 40 }
-        requires asks { (text : List ℕ) → IsLine next line.now text → AsksWork text work.now }
+        requires asks { (text : List ℕ) → IsLine next line.now text → IsLineOf asked.now text }
         ensures { TakesLine next line.now self.old self.new }
     {
         self.lines += 1;
-        match work {
-            Work::Bad => self.note(next, line),
+        match asked {
+            None => self.note(next, line),
             _ => (),
         }
     }

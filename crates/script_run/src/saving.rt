@@ -1,25 +1,21 @@
 // A backup is started, gone on with and ended.
-ghost use Rattle.std.specs.Prelude.{◌≡◌, false, List, ℕ, IsTrue, OnOk, IfErr};
+ghost use Rattle.std.specs.Prelude.{◌≡◌, false, List, ℕ, IsTrue, Some};
 ghost use Rattle.std.specs.Option.{is_some};
-ghost use Rattle.disk_model.specs.Disk.{Passes};
 ghost use Rattle.formats.specs.declared.params.Params.{Params};
 ghost use Rattle.script_lines.specs.Grammar.{AsksFor};
-ghost use Rattle.script_lines.specs.declared.line.Line.TheVariants.{BackupStart as bstart, BackupCopy as bcopy, BackupFinish as bfinish};
-ghost use Rattle.shell_base.specs.Store.{Command, Holds, IsAttached};
-ghost use Rattle.shell_base.specs.Stops.{IsUndamaged};
-ghost use Rattle.script_run.specs.Run.{IsCausedBeside};
-ghost use Rattle.script_run.specs.Saving.{AnsweringBeside, IsSaving, IsSavingDone, answer_of_backup_error};
-ghost use Rattle.script_run.specs.Work.{saving_request};
+ghost use Rattle.script_lines.specs.Replies.{reply_of};
+ghost use Rattle.script_lines.specs.declared.line.Line.TheVariants.{Save};
+ghost use Rattle.script_lines.specs.declared.line.Saving.TheVariants.{Start as bstart, Copy as bcopy, Finish as bfinish};
+ghost use Rattle.shell_base.specs.Store.{Command, Holds};
+ghost use Rattle.script_run.specs.Saving.{IsSaving, IsSavingDone, answer_of_backup_error};
+ghost use Rattle.script_run.specs.Finding.{FindsBeside, IsLineOf};
 
-use crate::say::say_answer;
-use crate::work::Saving;
 use backup_copy::BackupErr;
 use disk_model::Machine;
 use op_codec::AllOps;
-use script_lines::{Answer, BackupDenial};
+use script_lines::{Answer, BackupDenial, Saving};
 use shell_base::Stop;
-use std::alloc::Global;
-use store_engine::{Engine, engine_stands, stop_is_said};
+use store_engine::Engine;
 
 /// What is answered where a backup is not started, gone on with or ended.
 fn denied(error: BackupErr) -> Result<Answer<'static>, Stop>
@@ -46,9 +42,9 @@ fn started<M: Machine, T: Machine>(
     backup: &mut T,
 ) -> Result<Answer<'static>, Stop>
     requires { engine.old.broken ≡ false }
-    ensures call { IsSaving bstart (M.disk machine.old) (M.disk machine.new) engine.old engine.new (T.disk backup.old) (T.disk backup.new) result }
+    ensures call { IsSaving (Save bstart) (M.disk machine.old) (M.disk machine.new) engine.old engine.new (T.disk backup.old) (T.disk backup.new) result }
     ensures inside { IsTrue (is_some engine.old.group) → machine.new ≡ machine.old }
-    ensures done { (start : T) (p : Params) (commands : List Command) (line : List ℕ) → (holds : Holds p (M.disk machine.old) engine.old commands) → AsksFor line bstart →
+    ensures done { (start : T) (p : Params) (commands : List Command) (line : List ℕ) → (holds : Holds p (M.disk machine.old) engine.old commands) → AsksFor line (Save bstart) →
         IsSavingDone p (T.disk start) (M.disk machine.old) (M.disk machine.new) engine.old engine.new holds.world commands line (T.disk backup.old) (T.disk backup.new) result }
 {
     match backup_copy::start(engine, machine, backup) {
@@ -65,9 +61,9 @@ fn copied<M: Machine, T: Machine>(
     count: u32,
 ) -> Result<Answer<'static>, Stop>
     requires { engine.old.broken ≡ false }
-    ensures call { IsSaving (bcopy count) (M.disk machine.old) (M.disk machine.new) engine.old engine.new (T.disk backup.old) (T.disk backup.new) result }
+    ensures call { IsSaving (Save (bcopy count)) (M.disk machine.old) (M.disk machine.new) engine.old engine.new (T.disk backup.old) (T.disk backup.new) result }
     ensures inside { IsTrue (is_some engine.old.group) → machine.new ≡ machine.old }
-    ensures done { (start : T) (p : Params) (commands : List Command) (line : List ℕ) → (holds : Holds p (M.disk machine.old) engine.old commands) → AsksFor line (bcopy count) →
+    ensures done { (start : T) (p : Params) (commands : List Command) (line : List ℕ) → (holds : Holds p (M.disk machine.old) engine.old commands) → AsksFor line (Save (bcopy count)) →
         IsSavingDone p (T.disk start) (M.disk machine.old) (M.disk machine.new) engine.old engine.new holds.world commands line (T.disk backup.old) (T.disk backup.new) result }
 {
     match backup_copy::copy(engine, machine, backup, count) {
@@ -83,9 +79,9 @@ fn finished<M: Machine, T: Machine>(
     backup: &mut T,
 ) -> Result<Answer<'static>, Stop>
     requires { engine.old.broken ≡ false }
-    ensures call { IsSaving bfinish (M.disk machine.old) (M.disk machine.new) engine.old engine.new (T.disk backup.old) (T.disk backup.new) result }
+    ensures call { IsSaving (Save bfinish) (M.disk machine.old) (M.disk machine.new) engine.old engine.new (T.disk backup.old) (T.disk backup.new) result }
     ensures inside { IsTrue (is_some engine.old.group) → machine.new ≡ machine.old }
-    ensures done { (start : T) (p : Params) (commands : List Command) (line : List ℕ) → (holds : Holds p (M.disk machine.old) engine.old commands) → AsksFor line bfinish →
+    ensures done { (start : T) (p : Params) (commands : List Command) (line : List ℕ) → (holds : Holds p (M.disk machine.old) engine.old commands) → AsksFor line (Save bfinish) →
         IsSavingDone p (T.disk start) (M.disk machine.old) (M.disk machine.new) engine.old engine.new holds.world commands line (T.disk backup.old) (T.disk backup.new) result }
 {
     let _ = engine.copied();
@@ -96,45 +92,18 @@ fn finished<M: Machine, T: Machine>(
 }
 
 /// Starts a backup, goes on with it or ends it, and finds the answer to that.
-fn saving_answer<M: Machine, T: Machine>(
+pub fn saving_answer<M: Machine, T: Machine>(
     engine: &mut Engine<AllOps>,
     machine: &mut M,
     backup: &mut T,
     saving: Saving,
 ) -> Result<Answer<'static>, Stop>
     requires { engine.old.broken ≡ false }
-    ensures call { IsSaving (saving_request saving) (M.disk machine.old) (M.disk machine.new) engine.old engine.new (T.disk backup.old) (T.disk backup.new) result }
-    ensures inside { IsTrue (is_some engine.old.group) → machine.new ≡ machine.old }
-    ensures done { (start : T) (p : Params) (commands : List Command) (line : List ℕ) → (holds : Holds p (M.disk machine.old) engine.old commands) → AsksFor line (saving_request saving) →
-        IsSavingDone p (T.disk start) (M.disk machine.old) (M.disk machine.new) engine.old engine.new holds.world commands line (T.disk backup.old) (T.disk backup.new) result }
+    ensures { FindsBeside reply_of T.disk (IsLineOf (Some (Save saving))) (M.disk machine.old) (M.disk machine.new) engine.old engine.new backup.old backup.new result }
 {
     match saving {
         Saving::Start => started(engine, machine, backup),
         Saving::Copy { count } => copied(engine, machine, backup, count),
         Saving::Finish => finished(engine, machine, backup),
     }
-}
-
-/// Starts a backup, goes on with it or ends it, and says the answer. It reports whether the answer is a refusal.
-pub fn run_saving<M: Machine, T: Machine>(
-    alloc: Global,
-    engine: &mut Engine<AllOps>,
-    machine: &mut M,
-    backup: &mut T,
-    saving: Saving,
-) -> Result<bool, Stop>
-    requires { engine.old.broken ≡ false }
-    ensures time { Passes (M.disk machine.old) (M.disk machine.new) }
-    ensures backup_time { Passes (T.disk backup.old) (T.disk backup.new) }
-    ensures answers { (start : T) (p : Params) (commands : List Command) (line : List ℕ) → (holds : Holds p (M.disk machine.old) engine.old commands) → AsksFor line (saving_request saving) →
-        AnsweringBeside p (T.disk start) (M.disk machine.old) (M.disk machine.new) engine.old engine.new holds.world commands line (T.disk backup.old) (T.disk backup.new) result }
-    ensures cause { IfErr result (λ stop. IsCausedBeside stop (M.disk machine.old) (M.disk machine.new) (T.disk backup.old) (T.disk backup.new)) }
-    ensures undamaged { (M.disk machine.old).tells_files → IsAttached (M.disk machine.old) engine.old → IfErr result IsUndamaged }
-    ensures attached { IsAttached (M.disk machine.old) engine.old → OnOk result (IsAttached (M.disk machine.new) engine.new) }
-    ensures unbroken { OnOk result (engine.new.broken ≡ false) }
-{
-    let answer = saving_answer(engine, machine, backup, saving)?;
-    engine_stands(machine, engine);
-    stop_is_said(machine, engine);
-    say_answer(alloc, machine, &answer)
 }

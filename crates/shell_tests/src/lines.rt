@@ -10,8 +10,8 @@ use op_codec::{AllOps, Sum};
 use op_meaning::PlainOp;
 use oper_core::Refusal;
 use script_lines::{
-    Answer, BackupDenial, Denial, Line, LineErr, LineReader, Next, ReadError, StatLine,
-    answer_line, answer_text, parse_line,
+    Answer, BackupDenial, Denial, Grouping, Line, LineErr, LineReader, Making, Next, Question,
+    ReadError, Saving, StatLine, Upkeep, answer_line, answer_text, parse_line,
 };
 use std::alloc::Global;
 
@@ -197,31 +197,46 @@ fn command_told(op: &AllOps) -> [u32; 4] {
     }
 }
 
+// The form of what makes several commands.
+fn making_told(making: &Making) -> u32 {
+    match making {
+        Making::AppRun { .. } => 10,
+        Making::TreeInsert { .. } => 11,
+        Making::TreeDelete { .. } => 13,
+        Making::ProgramRun { .. } => 27,
+        Making::HashPut { .. } => 28,
+        Making::HashDelete { .. } => 30,
+    }
+}
+
+// The form of a question to a tree or a hash file.
+fn question_told(question: &Question) -> u32 {
+    match question {
+        Question::Get { .. } => 15,
+        Question::TreeGet { .. } => 12,
+        Question::TreeRange { .. } => 14,
+        Question::HashGet { .. } => 29,
+    }
+}
+
 // The form of a line, and the numbers of a command or a `get`. A line that is skipped has none of these forms.
 fn line_told(line: &Line) -> [u32; 4] {
     match line {
         Line::Run(op) => command_told(op),
-        Line::AppRun { .. } => [10, 0, 0, 0],
-        Line::TreeInsert { .. } => [11, 0, 0, 0],
-        Line::TreeGet { .. } => [12, 0, 0, 0],
-        Line::TreeDelete { .. } => [13, 0, 0, 0],
-        Line::TreeRange { .. } => [14, 0, 0, 0],
-        Line::Get { object } => [15, *object, 0, 0],
+        Line::Make(making) => [making_told(making), 0, 0, 0],
+        Line::Ask(Question::Get { object }) => [15, *object, 0, 0],
+        Line::Ask(question) => [question_told(question), 0, 0, 0],
         Line::Force => [16, 0, 0, 0],
-        Line::Install => [17, 0, 0, 0],
-        Line::Drain => [18, 0, 0, 0],
-        Line::Checkpoint => [19, 0, 0, 0],
-        Line::Trim => [20, 0, 0, 0],
+        Line::Keep(Upkeep::Install) => [17, 0, 0, 0],
+        Line::Keep(Upkeep::Drain) => [18, 0, 0, 0],
+        Line::Keep(Upkeep::Checkpoint) => [19, 0, 0, 0],
+        Line::Keep(Upkeep::Trim) => [20, 0, 0, 0],
         Line::Stat => [21, 0, 0, 0],
-        Line::Begin => [22, 0, 0, 0],
-        Line::End => [23, 0, 0, 0],
-        Line::ProgramRun { .. } => [27, 0, 0, 0],
-        Line::HashPut { .. } => [28, 0, 0, 0],
-        Line::HashGet { .. } => [29, 0, 0, 0],
-        Line::HashDelete { .. } => [30, 0, 0, 0],
-        Line::BackupStart => [31, 0, 0, 0],
-        Line::BackupCopy { .. } => [32, 0, 0, 0],
-        Line::BackupFinish => [33, 0, 0, 0],
+        Line::Group(Grouping::Begin) => [22, 0, 0, 0],
+        Line::Group(Grouping::End) => [23, 0, 0, 0],
+        Line::Save(Saving::Start) => [31, 0, 0, 0],
+        Line::Save(Saving::Copy { .. }) => [32, 0, 0, 0],
+        Line::Save(Saving::Finish) => [33, 0, 0, 0],
         Line::Skip => [0; 4],
     }
 }

@@ -1,7 +1,6 @@
 use Rattle.std.proofs.Common.{⊎_elim, inl, inr, subst, sym, refl, map, string_bytes}
 use Rattle.disk_model.specs.Moments.{stays_here}
 use Rattle.command_words.specs.Refusals.{IsRefusal}
-use Rattle.command_words.specs.declared.asked.Asked.TheVariants.{Run}
 use Rattle.shell_base.specs.declared.status.Status.TheVariants.{Memory}
 use Rattle.shell_base.specs.KeepLaws.{keeps_once}
 use Rattle.redo_shell.proofs.CallLemmas.{call_adds_nothing, backup_called, backup_idle, backup_unread, call_for, call_caused, call_exactly, call_goes_on, unread_goes_on}
@@ -12,14 +11,6 @@ use Rattle.redo_shell.proofs.program.top.Goals as goal
 
 pub serve-requires : goal.serve-requires
 serve-requires g c = record { allowed = c.in-Ok.ensures.ok.named.allowed; fresh = c.new.ensures }
-
-pub returns-in-Ok-clause-images : goal.returns-in-Ok-clause-images
-returns-in-Ok-clause-images g c = λ p commands asks opens told.
-    let call = call_for _ _ _ _ _ _ _ (c.words_ask_one_thing.ensures (map string_bytes c.args.words.now) c.in-Ok.asked Run c.in-Ok.ensures.ok asks) c.serve.ensures.call in
-    (call.script p commands opens told).images
-
-pub returns-in-Ok-clause-run : goal.returns-in-Ok-clause-run
-returns-in-Ok-clause-run g c = λ asks. inl (call_for _ _ _ _ _ _ _ (c.words_ask_one_thing.ensures (map string_bytes c.args.words.now) c.in-Ok.asked Run c.in-Ok.ensures.ok asks) c.serve.ensures.call)
 
 pub returns-in-Ok-clause-call : goal.returns-in-Ok-clause-call
 returns-in-Ok-clause-call g c = λ asked asks. inl (call_for _ _ _ _ _ _ _ (c.words_ask_one_thing.ensures (map string_bytes c.args.words.now) c.in-Ok.asked asked c.in-Ok.ensures.ok asks) c.serve.ensures.call)
@@ -42,12 +33,6 @@ returns-in-Ok-clause-exactly g c = call_exactly c.args.budget c.in-Ok.asked c.se
 pub returns-in-Ok-clause-session : goal.returns-in-Ok-clause-session
 returns-in-Ok-clause-session g c = call_goes_on g.M.Machine.disk c.args.machine.now c.serve.new.machine (g.met.M.Machine.lawful c.args.machine.now) c.serve.ensures.time
     (λ other asks. call_for _ _ _ _ _ _ _ (c.words_ask_one_thing.ensures (map string_bytes c.args.words.now) c.in-Ok.asked other c.in-Ok.ensures.ok asks) c.serve.ensures.call)
-
-pub returns-in-Err-Refused-clause-images : goal.returns-in-Err-Refused-clause-images
-returns-in-Err-Refused-clause-images g c = λ p commands asks. absurd (c.in-Err-Refused.ensures.refused (subst IsRefusal (sym c.in-Err-Refused.field-0-is) tt) _ asks)
-
-pub returns-in-Err-Refused-clause-run : goal.returns-in-Err-Refused-clause-run
-returns-in-Err-Refused-clause-run g c = λ asks. absurd (c.in-Err-Refused.ensures.refused (subst IsRefusal (sym c.in-Err-Refused.field-0-is) tt) _ asks)
 
 pub returns-in-Err-Refused-clause-call : goal.returns-in-Err-Refused-clause-call
 returns-in-Err-Refused-clause-call g c = λ asked asks. absurd (c.in-Err-Refused.ensures.refused (subst IsRefusal (sym c.in-Err-Refused.field-0-is) tt) asked asks)

@@ -1,15 +1,16 @@
 use Rattle.std.proofs.Common.{refl}
 use Rattle.app_steps.specs.Steps.{program_step}
-use Rattle.script_lines.specs.declared.line.Line.TheVariants.{ProgramRun as prun}
+use Rattle.script_lines.specs.declared.line.Line.TheVariants.{Make}
+use Rattle.script_lines.specs.declared.line.Making.TheVariants.{ProgramRun as prun}
 use Rattle.script_run.proofs.MakingLemmas.{ran_badly, ran_well}
 use Rattle.script_run.proofs.making.run_program.Goals as goal
 
 pub returns-in-Ok : goal.returns-in-Ok
 returns-in-Ok g c =
-    ran_well _ _ _ _ (prun c.args.app c.args.program c.args.most) (program_step c.args.app c.args.program) c.args.most (λ p commands. refl)
+    ran_well _ _ _ _ (Make (prun c.args.app c.args.program c.args.most)) (program_step c.args.app c.args.program) c.args.most (λ p commands. refl)
     c.in-Ok.count c.in-Ok.ensures.calls c.in-Ok.ensures.adds c.in-Ok.ensures.answer
 
 pub returns-in-Err : goal.returns-in-Err
 returns-in-Err g c =
-    ran_badly _ _ _ _ (prun c.args.app c.args.program c.args.most) (program_step c.args.app c.args.program) c.args.most (λ p commands. refl)
+    ran_badly _ _ _ _ (Make (prun c.args.app c.args.program c.args.most)) (program_step c.args.app c.args.program) c.args.most (λ p commands. refl)
     c.in-Err.error c.in-Err.ensures.calls c.in-Err.ensures.adds c.in-Err.ensures.answer c.error_answer.ensures

@@ -1,6 +1,7 @@
 use Rattle.std.proofs.Common.{Err, Ok, Result, subst, sym}
 use Rattle.disk_model.specs.Disk.{Rises}
-use Rattle.script_lines.specs.declared.line.Line.TheVariants.{BackupCopy as bcopy}
+use Rattle.script_lines.specs.declared.line.Line.TheVariants.{Save}
+use Rattle.script_lines.specs.declared.line.Saving.TheVariants.{Copy as bcopy}
 use Rattle.script_lines.specs.declared.answer.Answer.{Answer}
 use Rattle.shell_base.specs.declared.stop.Stop.{Stop}
 use Rattle.script_run.specs.Saving.{IsSaving, IsSavingDone}
@@ -21,7 +22,7 @@ returns-in-Ok-clause-done g c = λ start p commands line holds asks.
 
 pub returns-in-Err-clause-call : goal.returns-in-Err-clause-call
 returns-in-Err-clause-call g c =
-    subst (λ (r : Result Answer Stop). IsSaving (bcopy c.args.count) (g.M.Machine.disk c.args.machine.now) (g.M.Machine.disk c.copy.new.machine) c.args.engine.now c.copy.new.engine (g.T.Machine.disk c.args.backup.now) (g.T.Machine.disk c.copy.new.target) r) (sym c.denied.ensures)
+    subst (λ (r : Result Answer Stop). IsSaving (Save (bcopy c.args.count)) (g.M.Machine.disk c.args.machine.now) (g.M.Machine.disk c.copy.new.machine) c.args.engine.now c.copy.new.engine (g.T.Machine.disk c.args.backup.now) (g.T.Machine.disk c.copy.new.target) r) (sym c.denied.ensures)
     (copy_saving g.M.Machine.disk g.T.Machine.disk c.args.machine.now c.copy.new.machine c.args.backup.now c.copy.new.target c.args.engine.now c.copy.new.engine (g.met.M.Machine.lawful c.args.machine.now) c.requires c.copy.ensures.runs.time c.args.count (Err c.in-Err.error) c.in-Err.ensures.refused c.in-Err.ensures.read c.in-Err.ensures.undamaged c.in-Err.ensures.cause)
 
 pub returns-in-Err-clause-inside : goal.returns-in-Err-clause-inside

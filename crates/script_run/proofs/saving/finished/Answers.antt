@@ -4,7 +4,8 @@ use Rattle.disk_model.specs.Disk.{Rises}
 use Rattle.log_records.specs.Loading.{IsTailFault}
 use Rattle.op_codec.specs.AllOps.{all_meaning}
 use Rattle.store_engine.specs.Engine.{params_of}
-use Rattle.script_lines.specs.declared.line.Line.TheVariants.{BackupFinish as bfinish}
+use Rattle.script_lines.specs.declared.line.Line.TheVariants.{Save}
+use Rattle.script_lines.specs.declared.line.Saving.TheVariants.{Finish as bfinish}
 use Rattle.script_lines.specs.declared.answer.Answer.{Answer}
 use Rattle.shell_base.specs.declared.stop.Stop.{Stop}
 use Rattle.script_run.specs.Saving.{IsSaving, IsSavingDone}
@@ -25,7 +26,7 @@ returns-in-Ok-clause-done g c = λ start p commands line holds asks.
 
 pub returns-in-Err-clause-call : goal.returns-in-Err-clause-call
 returns-in-Err-clause-call g c =
-    subst (λ (r : Result Answer Stop). IsSaving bfinish (g.M.Machine.disk c.args.machine.now) (g.M.Machine.disk c.finish.new.machine) c.args.engine.now c.finish.new.engine (g.T.Machine.disk c.args.backup.now) (g.T.Machine.disk c.finish.new.target) r) (sym c.denied.ensures)
+    subst (λ (r : Result Answer Stop). IsSaving (Save bfinish) (g.M.Machine.disk c.args.machine.now) (g.M.Machine.disk c.finish.new.machine) c.args.engine.now c.finish.new.engine (g.T.Machine.disk c.args.backup.now) (g.T.Machine.disk c.finish.new.target) r) (sym c.denied.ensures)
     (finish_saving g.M.Machine.disk g.T.Machine.disk c.args.machine.now c.finish.new.machine c.args.backup.now c.finish.new.target c.args.engine.now c.finish.new.engine (g.met.M.Machine.lawful c.args.machine.now) c.requires c.finish.ensures.quiet.time (IsTailFault (all_meaning c.finish.new.engine.parts.log.bounds) (g.M.Machine.disk c.finish.new.machine) c.finish.new.engine.parts.log.log) (Err c.in-Err.error) c.in-Err.ensures.refused c.in-Err.ensures.forces c.in-Err.ensures.cause c.in-Err.ensures.undamaged)
 
 pub returns-in-Err-clause-inside : goal.returns-in-Err-clause-inside

@@ -3,7 +3,8 @@ use Rattle.disk_model.specs.Disk.{Rises}
 use Rattle.disk_model.specs.declared.machine.FileNo.TheVariants.{Objects}
 use Rattle.formats.specs.Objects.{BeginsStore}
 use Rattle.backup_copy.specs.Calls.{BeginsNone}
-use Rattle.script_lines.specs.declared.line.Line.TheVariants.{BackupStart as bstart}
+use Rattle.script_lines.specs.declared.line.Line.TheVariants.{Save}
+use Rattle.script_lines.specs.declared.line.Saving.TheVariants.{Start as bstart}
 use Rattle.script_lines.specs.declared.answer.Answer.{Answer}
 use Rattle.shell_base.specs.declared.stop.Stop.{Stop}
 use Rattle.script_run.specs.Saving.{IsSaving, IsSavingDone}
@@ -24,7 +25,7 @@ returns-in-Ok-clause-done g c = λ start p commands line holds asks.
 
 pub returns-in-Err-clause-call : goal.returns-in-Err-clause-call
 returns-in-Err-clause-call g c =
-    subst (λ (r : Result Answer Stop). IsSaving bstart (g.M.Machine.disk c.args.machine.now) (g.M.Machine.disk c.start.new.machine) c.args.engine.now c.start.new.engine (g.T.Machine.disk c.args.backup.now) (g.T.Machine.disk c.start.new.target) r) (sym c.denied.ensures)
+    subst (λ (r : Result Answer Stop). IsSaving (Save bstart) (g.M.Machine.disk c.args.machine.now) (g.M.Machine.disk c.start.new.machine) c.args.engine.now c.start.new.engine (g.T.Machine.disk c.args.backup.now) (g.T.Machine.disk c.start.new.target) r) (sym c.denied.ensures)
     (start_saving g.M.Machine.disk g.T.Machine.disk c.args.machine.now c.start.new.machine c.args.backup.now c.start.new.target c.args.engine.now c.start.new.engine (g.met.M.Machine.lawful c.args.machine.now) c.requires c.start.ensures.quiet.time ((g.T.Machine.disk c.args.backup.now).tells_files → BeginsStore ((g.T.Machine.disk c.args.backup.now).reads Objects)) ((g.T.Machine.disk c.args.backup.now).tells_files → BeginsNone (g.T.Machine.disk c.args.backup.now).reads) (Err c.in-Err.error) c.in-Err.ensures.refused c.in-Err.ensures.forces c.in-Err.ensures.cause)
 
 pub returns-in-Err-clause-inside : goal.returns-in-Err-clause-inside

@@ -85,34 +85,34 @@ returns-in_err-next-clause-too_long g c = λ told long.
 
 pub returns-in_err-refusing-in_default : goal.returns-in_err-refusing-in_default
 returns-in_err-refusing-in_default g c = record {
-  time = passes_twice (g.M.Machine.disk c.args.machine.now) (g.M.Machine.disk c.loop-lines.machine) (g.M.Machine.disk c.answer_next.new.machine) (g.met.M.Machine.lawful c.answer_next.new.machine) c.loop-lines.invariant.time c.answer_next.ensures.time;
+  time = passes_twice (g.M.Machine.disk c.args.machine.now) (g.M.Machine.disk c.loop-lines.machine) (g.M.Machine.disk c.answer_next.new.machine) (g.met.M.Machine.lawful c.answer_next.new.machine) c.loop-lines.invariant.time c.answer_next.ensures.answered.time;
   answers = λ p commands holds all alone told.
       let so_far = c.loop-lines.invariant.going p commands holds all alone told in
       let l = next_line c.in_ok-next.next _ _ _ (c.in_ok-next.ensures.next (c.loop-lines.invariant.told told)) c.in_default.not-End in
       let here = goes_to (l.0 ∷ _) so_far l.2 in
       let is_line = subst (λ (s : List ℕ). IsLine c.in_ok-next.next s l.0) (sym c.line.ensures) l.1 in
-      ends_in_line c.standing_files_meet_their_format.ensures.few l.0 here c.loop-lines.invariant.time c.in_err-refusing-in_default.was (answering_of c.answer_next.result (c.answer_next.ensures.answers c.args.backup.now p here.account.commands l.0 is_line here.holds));
-  backup_time = passes_twice (g.T.Machine.disk c.args.backup.now) (g.T.Machine.disk c.loop-lines.backup) (g.T.Machine.disk c.answer_next.new.backup) (g.met.T.Machine.lawful c.answer_next.new.backup) c.loop-lines.invariant.backup_time c.answer_next.ensures.backup_time;
+      ends_in_line c.standing_files_meet_their_format.ensures.few l.0 here c.loop-lines.invariant.time c.in_err-refusing-in_default.was (answering_of c.answer_next.result (c.answer_next.ensures.answered.answers c.args.backup.now p here.account.commands l.0 is_line here.holds));
+  backup_time = passes_twice (g.T.Machine.disk c.args.backup.now) (g.T.Machine.disk c.loop-lines.backup) (g.T.Machine.disk c.answer_next.new.backup) (g.met.T.Machine.lawful c.answer_next.new.backup) c.loop-lines.invariant.backup_time c.answer_next.ensures.answered.backup_time;
   backup = λ p commands holds all alone none told.
       let so_far = c.loop-lines.invariant.beside p commands holds all alone none told in
       let l = next_line c.in_ok-next.next _ _ _ (c.in_ok-next.ensures.next (c.loop-lines.invariant.told told)) c.in_default.not-End in
       let here = goes_to_beside g.T.Machine.disk (l.0 ∷ _) so_far l.2 in
       let is_line = subst (λ (s : List ℕ). IsLine c.in_ok-next.next s l.0) (sym c.line.ensures) l.1 in
       ends_in_line_beside g.T.Machine.disk c.standing_files_meet_their_format.ensures.few l.0 here c.loop-lines.invariant.time c.loop-lines.invariant.backup_time
-      (c.answer_next.ensures.answers c.args.backup.now p here.going.account.commands l.0 is_line here.going.holds) (c.answer_next.ensures.idle l.0 is_line) c.in_err-refusing-in_default.was;
+      (c.answer_next.ensures.answered.answers c.args.backup.now p here.going.account.commands l.0 is_line here.going.holds) (c.answer_next.ensures.answered.idle l.0 is_line) c.in_err-refusing-in_default.was;
   complete = λ p commands holds all alone told. IfOk-from_err c.from_residual-in_err-refusing-in_default.result _ c.from_residual-in_err-refusing-in_default.ensures.0;
   some =
       let (script, so_far, beside) = c.loop-lines.invariant.some in
-      let (line, answering, idle) = c.answer_next.ensures.some c.in_default.not-End in (
+      let (line, it) = c.answer_next.ensures.some c.in_default.not-End in (
         script ++ line ∷ [],
         λ p commands holds all alone.
             let here = so_far p commands holds all alone in (
-              ends_in_line c.standing_files_meet_their_format.ensures.few line (with_next line here) c.loop-lines.invariant.time c.in_err-refusing-in_default.was (answering_of c.answer_next.result (answering c.args.backup.now p here.account.commands here.holds)),
+              ends_in_line c.standing_files_meet_their_format.ensures.few line (with_next line here) c.loop-lines.invariant.time c.in_err-refusing-in_default.was (answering_of c.answer_next.result (it.answers c.args.backup.now p here.account.commands line refl here.holds)),
               IfOk-from_err c.from_residual-in_err-refusing-in_default.result _ c.from_residual-in_err-refusing-in_default.ensures.0,
             ),
         λ p commands holds all alone none.
             let here = next_beside g.T.Machine.disk line (beside p commands holds all alone none) in
-            ends_in_line_beside g.T.Machine.disk c.standing_files_meet_their_format.ensures.few line here c.loop-lines.invariant.time c.loop-lines.invariant.backup_time (answering c.args.backup.now p here.going.account.commands here.going.holds) idle
+            ends_in_line_beside g.T.Machine.disk c.standing_files_meet_their_format.ensures.few line here c.loop-lines.invariant.time c.loop-lines.invariant.backup_time (it.answers c.args.backup.now p here.going.account.commands line refl here.going.holds) (it.idle line refl)
             c.in_err-refusing-in_default.was,
       );
   input = λ told.
@@ -121,43 +121,43 @@ returns-in_err-refusing-in_default g c = record {
       let front = notes_to c.answer_next.result l.0 c.answer_next.ensures.noted is_line l.2 (c.loop-lines.invariant.noted told) in
       record { todo = front.0; front = front.1; all = IfOk-from_err c.from_residual-in_err-refusing-in_default.result _ c.from_residual-in_err-refusing-in_default.ensures.0 };
   cause = line_stops (g.M.Machine.disk c.answer_next.new.machine) (g.T.Machine.disk c.answer_next.new.backup) (g.S.Source.faults c.args.input.now) (g.S.Source.faults c.next.new.input) c.loop-lines.invariant.time c.loop-lines.invariant.backup_time c.from_residual-in_err-refusing-in_default.result c.answer_next.result
-      c.in_err-refusing-in_default.field-0.0 c.from_residual-in_err-refusing-in_default.ensures.1 c.in_err-refusing-in_default.was c.answer_next.ensures.cause;
+      c.in_err-refusing-in_default.field-0.0 c.from_residual-in_err-refusing-in_default.ensures.1 c.in_err-refusing-in_default.was c.answer_next.ensures.answered.cause;
   undamaged = λ told attached. line_undamaged c.from_residual-in_err-refusing-in_default.result c.answer_next.result c.in_err-refusing-in_default.field-0.0 c.from_residual-in_err-refusing-in_default.ensures.1 c.in_err-refusing-in_default.was
-      (c.answer_next.ensures.undamaged (c.loop-lines.invariant.time.files_told.0 told) (c.loop-lines.invariant.attached attached));
+      (c.answer_next.ensures.answered.undamaged (c.loop-lines.invariant.time.files_told.0 told) (c.loop-lines.invariant.attached attached));
   too_long = λ told long. absurd (line_not_long c.from_residual-in_err-refusing-in_default.result c.answer_next.result c.in_err-refusing-in_default.field-0.0 (g.M.Machine.disk c.loop-lines.machine) (g.M.Machine.disk c.answer_next.new.machine)
-      (g.T.Machine.disk c.loop-lines.backup) (g.T.Machine.disk c.answer_next.new.backup) c.from_residual-in_err-refusing-in_default.ensures.1 c.in_err-refusing-in_default.was c.answer_next.ensures.cause long);
+      (g.T.Machine.disk c.loop-lines.backup) (g.T.Machine.disk c.answer_next.new.backup) c.from_residual-in_err-refusing-in_default.ensures.1 c.in_err-refusing-in_default.was c.answer_next.ensures.answered.cause long);
 }
 
 pub loop-lines-preserved : goal.loop-lines-preserved
 loop-lines-preserved g c = record {
   told = λ told. c.next.ensures.told (c.loop-lines.invariant.told told);
-  unbroken = c.in_ok-refusing-in_default.ensures.unbroken;
-  attached = λ attached. c.in_ok-refusing-in_default.ensures.attached (c.loop-lines.invariant.attached attached);
-  time = passes_twice (g.M.Machine.disk c.args.machine.now) (g.M.Machine.disk c.loop-lines.machine) (g.M.Machine.disk c.answer_next.new.machine) (g.met.M.Machine.lawful c.answer_next.new.machine) c.loop-lines.invariant.time c.answer_next.ensures.time;
+  unbroken = c.in_ok-refusing-in_default.ensures.answered.unbroken;
+  attached = λ attached. c.in_ok-refusing-in_default.ensures.answered.attached (c.loop-lines.invariant.attached attached);
+  time = passes_twice (g.M.Machine.disk c.args.machine.now) (g.M.Machine.disk c.loop-lines.machine) (g.M.Machine.disk c.answer_next.new.machine) (g.met.M.Machine.lawful c.answer_next.new.machine) c.loop-lines.invariant.time c.answer_next.ensures.answered.time;
   going = λ p commands holds all alone told.
       let so_far = c.loop-lines.invariant.going p commands holds all alone told in
       let l = next_line c.in_ok-next.next _ _ _ (c.in_ok-next.ensures.next (c.loop-lines.invariant.told told)) c.in_default.not-End in
       let here = goes_to (l.0 ∷ _) so_far l.2 in
       let is_line = subst (λ (s : List ℕ). IsLine c.in_ok-next.next s l.0) (sym c.line.ensures) l.1 in
-      goes_on c.standing_files_meet_their_format.ensures.few c.a_line_asks_one_thing.ensures l.0 here c.loop-lines.invariant.time c.in_ok-refusing-in_default.was (answering_of c.answer_next.result (c.answer_next.ensures.answers c.args.backup.now p here.account.commands l.0 is_line here.holds));
-  backup_time = passes_twice (g.T.Machine.disk c.args.backup.now) (g.T.Machine.disk c.loop-lines.backup) (g.T.Machine.disk c.answer_next.new.backup) (g.met.T.Machine.lawful c.answer_next.new.backup) c.loop-lines.invariant.backup_time c.answer_next.ensures.backup_time;
+      goes_on c.standing_files_meet_their_format.ensures.few c.a_line_asks_one_thing.ensures l.0 here c.loop-lines.invariant.time c.in_ok-refusing-in_default.was (answering_of c.answer_next.result (c.answer_next.ensures.answered.answers c.args.backup.now p here.account.commands l.0 is_line here.holds));
+  backup_time = passes_twice (g.T.Machine.disk c.args.backup.now) (g.T.Machine.disk c.loop-lines.backup) (g.T.Machine.disk c.answer_next.new.backup) (g.met.T.Machine.lawful c.answer_next.new.backup) c.loop-lines.invariant.backup_time c.answer_next.ensures.answered.backup_time;
   beside = λ p commands holds all alone none told.
       let so_far = c.loop-lines.invariant.beside p commands holds all alone none told in
       let l = next_line c.in_ok-next.next _ _ _ (c.in_ok-next.ensures.next (c.loop-lines.invariant.told told)) c.in_default.not-End in
       let here = goes_to_beside g.T.Machine.disk (l.0 ∷ _) so_far l.2 in
       let is_line = subst (λ (s : List ℕ). IsLine c.in_ok-next.next s l.0) (sym c.line.ensures) l.1 in
       goes_on_beside g.T.Machine.disk c.standing_files_meet_their_format.ensures.few l.0 here c.loop-lines.invariant.time c.loop-lines.invariant.backup_time
-      (c.answer_next.ensures.answers c.args.backup.now p here.going.account.commands l.0 is_line here.going.holds) (c.answer_next.ensures.idle l.0 is_line) c.a_line_asks_one_thing.ensures c.in_ok-refusing-in_default.was;
+      (c.answer_next.ensures.answered.answers c.args.backup.now p here.going.account.commands l.0 is_line here.going.holds) (c.answer_next.ensures.answered.idle l.0 is_line) c.a_line_asks_one_thing.ensures c.in_ok-refusing-in_default.was;
   some =
       let (script, so_far, beside) = c.loop-lines.invariant.some in
-      let (line, answering, idle) = c.answer_next.ensures.some c.in_default.not-End in (
+      let (line, it) = c.answer_next.ensures.some c.in_default.not-End in (
         script ++ line ∷ [],
         λ p commands holds all alone.
             let here = so_far p commands holds all alone in
-            goes_on c.standing_files_meet_their_format.ensures.few c.a_line_asks_one_thing.ensures line (with_next line here) c.loop-lines.invariant.time c.in_ok-refusing-in_default.was (answering_of c.answer_next.result (answering c.args.backup.now p here.account.commands here.holds)),
+            goes_on c.standing_files_meet_their_format.ensures.few c.a_line_asks_one_thing.ensures line (with_next line here) c.loop-lines.invariant.time c.in_ok-refusing-in_default.was (answering_of c.answer_next.result (it.answers c.args.backup.now p here.account.commands line refl here.holds)),
         λ p commands holds all alone none.
             let here = next_beside g.T.Machine.disk line (beside p commands holds all alone none) in
-            goes_on_beside g.T.Machine.disk c.standing_files_meet_their_format.ensures.few line here c.loop-lines.invariant.time c.loop-lines.invariant.backup_time (answering c.args.backup.now p here.going.account.commands here.going.holds) idle
+            goes_on_beside g.T.Machine.disk c.standing_files_meet_their_format.ensures.few line here c.loop-lines.invariant.time c.loop-lines.invariant.backup_time (it.answers c.args.backup.now p here.going.account.commands line refl here.going.holds) (it.idle line refl)
             c.a_line_asks_one_thing.ensures c.in_ok-refusing-in_default.was,
       );
   reads = omega (arith, c.loop-lines.invariant.reads, c.next.ensures.later);

@@ -1,53 +1,30 @@
-use Rattle.std.proofs.Common.{sym, subst}
-use Rattle.script_lines.specs.declared.line.Line.TheVariants.{Install as install, Drain as drain, Checkpoint as checkpoint, Trim as trim}
-use Rattle.script_run.specs.Found.{IsUpkept}
-use Rattle.script_run.specs.Stages.{IsBesideBackup}
-use Rattle.script_run.specs.Work.{request_for}
-use Rattle.script_run.specs.declared.work.Upkeep.{Upkeep}
+use Rattle.std.proofs.Common.{ap, refl}
+use Rattle.script_lines.specs.declared.line.Line.TheVariants.{Keep}
+use Rattle.script_lines.specs.declared.line.Upkeep.{Upkeep}
+use Rattle.script_lines.specs.declared.line.Upkeep.TheVariants.{Install, Drain, Checkpoint, Trim}
+use Rattle.script_run.specs.Found.{answer_of_work}
 use Rattle.script_run.proofs.DoneLemmas.{by_group}
-use Rattle.script_run.proofs.UpkeepLemmas.{either_time}
+use Rattle.script_run.proofs.FindingLemmas.{finds_for, upkeep_finds}
+use Rattle.script_run.proofs.UpkeepLemmas.{barred_by, checkpointed_upkept, denied_in, drained_upkept, installed_upkept, trimmed_upkept}
 use Rattle.script_run.proofs.upkeep.upkeep_answer.Goals as goal
 
-pub returns-in-Install-clause-in_backup : goal.returns-in-Install-clause-in_backup
-returns-in-Install-clause-in_backup g c = λ none beside. absurd (subst (λ (u : Upkeep). IsBesideBackup c.args.engine.now.copied (request_for u) → ⊥) c.in-Install.is beside tt)
+pub returns-in-Install : goal.returns-in-Install
+returns-in-Install g c = finds_for (Keep Install) (ap (λ (u : Upkeep). Keep u) c.in-Install.is) (upkeep_finds g.M.Machine.disk Install c.identities_are_counted.ensures (g.met.M.Machine.lawful c.args.machine.now) c.requires
+    (λ some. barred_by (λ r. answer_of_work r) (λ size. refl) c.install_one.result c.worked.result c.install_one.ensures.in_group c.worked.ensures some)
+    (λ none beside. absurd (beside tt)) (λ none beside. installed_upkept c.install_one.result (c.install_one.ensures.alone none) c.worked.ensures))
 
-pub returns-in-Install-clause-alone : goal.returns-in-Install-clause-alone
-returns-in-Install-clause-alone g c = λ none beside.
-    subst (λ (u : Upkeep). IsUpkept (g.M.Machine.disk c.args.machine.now) (g.M.Machine.disk c.installed.new.machine) c.args.engine.now c.installed.new.engine (request_for u) c.installed.result) (sym c.in-Install.is) (c.installed.ensures.alone none)
+pub returns-in-Drain : goal.returns-in-Drain
+returns-in-Drain g c = finds_for (Keep Drain) (ap (λ (u : Upkeep). Keep u) c.in-Drain.is) (upkeep_finds g.M.Machine.disk Drain c.identities_are_counted.ensures (g.met.M.Machine.lawful c.args.machine.now) c.requires
+    (λ some. barred_by (λ r. answer_of_work r) (λ size. refl) c.drain.result c.worked-in-Drain.result c.drain.ensures.in_group c.worked-in-Drain.ensures some)
+    (λ none beside. absurd (beside tt)) (λ none beside. drained_upkept c.drain.result (c.drain.ensures.alone none) c.worked-in-Drain.ensures))
 
-pub returns-in-Install-clause-time : goal.returns-in-Install-clause-time
-returns-in-Install-clause-time g c = either_time g.M.Machine.disk install c.installed.ensures.in_group (λ none beside. absurd (beside tt)) (λ none beside. c.installed.ensures.alone none)
+pub returns-in-Checkpoint : goal.returns-in-Checkpoint
+returns-in-Checkpoint g c = finds_for (Keep Checkpoint) (ap (λ (u : Upkeep). Keep u) c.in-Checkpoint.is) (upkeep_finds g.M.Machine.disk Checkpoint c.identities_are_counted.ensures (g.met.M.Machine.lawful c.args.machine.now) c.requires
+    (λ some. barred_by (λ r. answer_of_work r) (λ size. refl) c.checkpoint.result c.worked-in-Checkpoint.result c.checkpoint.ensures.in_group c.worked-in-Checkpoint.ensures some)
+    (λ none beside. absurd (beside tt)) (λ none beside. checkpointed_upkept c.checkpoint.result (c.checkpoint.ensures.alone none) c.worked-in-Checkpoint.ensures))
 
-pub returns-in-Drain-clause-in_backup : goal.returns-in-Drain-clause-in_backup
-returns-in-Drain-clause-in_backup g c = λ none beside. absurd (subst (λ (u : Upkeep). IsBesideBackup c.args.engine.now.copied (request_for u) → ⊥) c.in-Drain.is beside tt)
-
-pub returns-in-Drain-clause-alone : goal.returns-in-Drain-clause-alone
-returns-in-Drain-clause-alone g c = λ none beside.
-    subst (λ (u : Upkeep). IsUpkept (g.M.Machine.disk c.args.machine.now) (g.M.Machine.disk c.drained.new.machine) c.args.engine.now c.drained.new.engine (request_for u) c.drained.result) (sym c.in-Drain.is) (c.drained.ensures.alone none)
-
-pub returns-in-Drain-clause-time : goal.returns-in-Drain-clause-time
-returns-in-Drain-clause-time g c = either_time g.M.Machine.disk drain c.drained.ensures.in_group (λ none beside. absurd (beside tt)) (λ none beside. c.drained.ensures.alone none)
-
-pub returns-in-Checkpoint-clause-in_backup : goal.returns-in-Checkpoint-clause-in_backup
-returns-in-Checkpoint-clause-in_backup g c = λ none beside. absurd (subst (λ (u : Upkeep). IsBesideBackup c.args.engine.now.copied (request_for u) → ⊥) c.in-Checkpoint.is beside tt)
-
-pub returns-in-Checkpoint-clause-alone : goal.returns-in-Checkpoint-clause-alone
-returns-in-Checkpoint-clause-alone g c = λ none beside.
-    subst (λ (u : Upkeep). IsUpkept (g.M.Machine.disk c.args.machine.now) (g.M.Machine.disk c.checked.new.machine) c.args.engine.now c.checked.new.engine (request_for u) c.checked.result) (sym c.in-Checkpoint.is) (c.checked.ensures.alone none)
-
-pub returns-in-Checkpoint-clause-time : goal.returns-in-Checkpoint-clause-time
-returns-in-Checkpoint-clause-time g c = either_time g.M.Machine.disk checkpoint c.checked.ensures.in_group (λ none beside. absurd (beside tt)) (λ none beside. c.checked.ensures.alone none)
-
-pub returns-in-Trim-clause-in_backup : goal.returns-in-Trim-clause-in_backup
-returns-in-Trim-clause-in_backup g c = λ none beside.
-    let other = subst (λ (u : Upkeep). IsBesideBackup c.args.engine.now.copied (request_for u) → ⊥) c.in-Trim.is beside in
-    by_group c.args.engine.now.copied (λ some. c.trimmed.ensures.in_backup none some) (λ uncopied. absurd (other uncopied))
-
-pub returns-in-Trim-clause-alone : goal.returns-in-Trim-clause-alone
-returns-in-Trim-clause-alone g c = λ none beside.
-    let uncopied = subst (λ (u : Upkeep). IsBesideBackup c.args.engine.now.copied (request_for u)) c.in-Trim.is beside in
-    subst (λ (u : Upkeep). IsUpkept (g.M.Machine.disk c.args.machine.now) (g.M.Machine.disk c.trimmed.new.machine) c.args.engine.now c.trimmed.new.engine (request_for u) c.trimmed.result) (sym c.in-Trim.is) (c.trimmed.ensures.alone none uncopied)
-
-pub returns-in-Trim-clause-time : goal.returns-in-Trim-clause-time
-returns-in-Trim-clause-time g c = either_time g.M.Machine.disk trim c.trimmed.ensures.in_group
-    (λ none beside. by_group c.args.engine.now.copied (λ some. c.trimmed.ensures.in_backup none some) (λ uncopied. absurd (beside uncopied))) c.trimmed.ensures.alone
+pub returns-in-Trim : goal.returns-in-Trim
+returns-in-Trim g c = finds_for (Keep Trim) (ap (λ (u : Upkeep). Keep u) c.in-Trim.is) (upkeep_finds g.M.Machine.disk Trim c.identities_are_counted.ensures (g.met.M.Machine.lawful c.args.machine.now) c.requires
+    (λ some. barred_by (λ r. answer_of_work r) (λ size. refl) c.trim.result c.worked-in-Trim.result c.trim.ensures.in_group c.worked-in-Trim.ensures some)
+    (λ none beside. by_group c.args.engine.now.copied (λ some. denied_in c.trim.result c.worked-in-Trim.result (c.trim.ensures.in_backup none) c.worked-in-Trim.ensures some) (λ uncopied. absurd (beside uncopied)))
+    (λ none uncopied. trimmed_upkept c.trim.result uncopied (c.trim.ensures.alone none uncopied) c.worked-in-Trim.ensures))
