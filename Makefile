@@ -1,6 +1,6 @@
 # Installs the programs and the library, without the toolchain and without proving anything: release/ holds them, built (Linux on
 # x86-64).
-#   make install [PREFIX=/usr/local] [DESTDIR=..]      make uninstall      make dist
+#   make install [PREFIX=/usr/local] [DESTDIR=..]      make uninstall      make dist      make deb
 PREFIX = /usr/local
 override PREFIX := $(abspath $(PREFIX))
 bin = $(DESTDIR)$(PREFIX)/bin
@@ -8,11 +8,12 @@ libexec = $(DESTDIR)$(PREFIX)/libexec/redo
 man = $(DESTDIR)$(PREFIX)/share/man/man1
 doc = $(DESTDIR)$(PREFIX)/share/doc/redo
 completions = $(DESTDIR)$(PREFIX)/share/bash-completion/completions
-lib = $(DESTDIR)$(PREFIX)/lib
+libdir = $(PREFIX)/lib
+lib = $(DESTDIR)$(libdir)
 include = $(DESTDIR)$(PREFIX)/include
 version = $(shell sed -n 's/^version=//p' release/start)
 
-.PHONY: all install uninstall dist
+.PHONY: all install uninstall dist deb
 all:
 	@echo "Nothing is to be made: ./redo starts the program. 'make install PREFIX=..' installs it."
 
@@ -25,21 +26,21 @@ install:
 	  sed 's|@LIBEXEC@|$(PREFIX)/libexec/redo|' release/look >$(bin)/$$name || exit; \
 	done
 	chmod 755 $(bin)/redo $(bin)/redo_log $(bin)/redo_check
-	install -m 644 docs/redo.1 $(man)/redo.1
+	install -m 644 docs/redo.1 docs/redo_log.1 docs/redo_check.1 $(man)
 	install -m 644 LICENSE-MIT LICENSE-APACHE THIRD-PARTY $(doc)
 	install -m 644 release/completion.bash $(completions)/redo
-	install -m 755 release/libredo-x86_64-linux.so $(lib)/libredo.so.1
+	install -m 644 release/libredo-x86_64-linux.so $(lib)/libredo.so.1
 	ln -sf libredo.so.1 $(lib)/libredo.so
 	install -m 644 capi/redo.h $(include)/redo.h
-	sed 's|@PREFIX@|$(PREFIX)|; s|@VERSION@|$(version)|' capi/redo.pc.in >$(lib)/pkgconfig/redo.pc
+	sed 's|@PREFIX@|$(PREFIX)|; s|@LIBDIR@|$(libdir)|; s|@VERSION@|$(version)|' capi/redo.pc.in >$(lib)/pkgconfig/redo.pc
 	chmod 644 $(lib)/pkgconfig/redo.pc
 	install -d $(libexec)/python/shell
 	install -m 644 capi/redo.py capi/redo_shell.py $(libexec)/python
 	install -m 644 capi/shell/*.py $(libexec)/python/shell
-	ln -sf ../../../lib/libredo.so.1 $(libexec)/python/libredo.so.1
+	ln -sfr $(lib)/libredo.so.1 $(libexec)/python/libredo.so.1
 
 uninstall:
-	rm -f $(bin)/redo $(bin)/redo_log $(bin)/redo_check $(man)/redo.1 $(completions)/redo
+	rm -f $(bin)/redo $(bin)/redo_log $(bin)/redo_check $(man)/redo.1 $(man)/redo_log.1 $(man)/redo_check.1 $(completions)/redo
 	rm -f $(libexec)/redo $(libexec)/redo_log $(libexec)/redo_check
 	rm -f $(lib)/libredo.so $(lib)/libredo.so.1 $(lib)/pkgconfig/redo.pc $(include)/redo.h
 	rm -f $(doc)/LICENSE-MIT $(doc)/LICENSE-APACHE $(doc)/THIRD-PARTY
@@ -50,5 +51,9 @@ uninstall:
 dist:
 	tar -czf redo-$(version)-x86_64-linux.tar.gz --transform 's|^|redo-$(version)/|' \
 	  README.md CHANGELOG.md LICENSE-MIT LICENSE-APACHE THIRD-PARTY Makefile docs release/redo-x86_64-linux release/redo_log-x86_64-linux \
-	  release/redo_check-x86_64-linux release/start release/look release/completion.bash release/libredo-x86_64-linux.so \
+	  release/redo_check-x86_64-linux release/start release/look release/deb release/completion.bash release/libredo-x86_64-linux.so \
 	  capi/redo.h capi/redo.pc.in capi/redo.py capi/redo_shell.py capi/shell capi/pyproject.toml capi/build_wheel.py
+
+# a package for Debian and Ubuntu: `apt install ./redo_*_amd64.deb`
+deb:
+	release/deb
