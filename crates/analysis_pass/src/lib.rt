@@ -7,9 +7,9 @@
 #![tactic(auto)]
 
 mod analysing;
-mod laws;
 mod plan;
+mod plan_start;
 
 pub use analysing::analyse;
-pub use laws::a_plan_starts_at_the_least_start;
 pub use plan::Plan;
+pub use plan_start::a_plan_starts_at_the_least_start;

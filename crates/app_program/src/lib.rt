@@ -8,13 +8,13 @@
 
 mod effects;
 mod instruction;
-mod laws;
+mod machine_laws;
 mod machine_state;
 mod program;
 mod program_op;
 
 pub use instruction::Instruction;
-pub use laws::{
+pub use machine_laws::{
     a_value_follows_the_machine, machines_have_one_code, the_machine_runs_on_all_input,
 };
 pub use machine_state::MachineState;

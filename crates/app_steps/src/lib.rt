@@ -11,14 +11,14 @@
 
 mod app;
 mod bytes;
-mod laws;
 mod prog_app;
+mod program_runs;
 mod steps;
 
 pub use app::App;
 pub use bytes::known_as_bytes;
-pub use laws::{
+pub use prog_app::ProgApp;
+pub use program_runs::{
     a_program_runs_on_all_that_is_fed, a_run_reads_the_input, stored_values_are_bytes,
     values_are_bytes, why_a_step_is_refused,
 };
-pub use prog_app::ProgApp;

@@ -8,7 +8,7 @@ ghost use Rattle.store_engine.specs.Commands.{HasRun};
 ghost use Rattle.app_steps.specs.Programs.{RunsOn, RunsOnBytes};
 ghost use Rattle.app_steps.specs.Steps.{HasAnswer, program_drain, program_feed, program_step, steps};
 
-use crate::laws::values_are_bytes;
+use crate::program_runs::values_are_bytes;
 use crate::steps::{self, Steps};
 use app_program::ProgramOp;
 use disk_model::Machine;

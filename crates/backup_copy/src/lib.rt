@@ -13,17 +13,17 @@
 #![tactic(auto)]
 
 mod backup_err;
+mod beside_a_backup;
 mod copying;
 mod finishing;
 mod forcing;
 mod giving_up;
-mod laws;
 mod refusing;
 mod starting;
 
 pub use backup_err::BackupErr;
+pub use beside_a_backup::{copies_go_on, the_copy_is_explained};
 pub use copying::copy;
 pub use finishing::finish;
 pub use giving_up::give_up;
-pub use laws::{copies_go_on, the_copy_is_explained};
 pub use starting::start;

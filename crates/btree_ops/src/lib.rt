@@ -9,19 +9,19 @@
 
 mod coding;
 mod halves;
-mod laws;
 mod leaf;
 mod made;
 mod node;
+mod node_laws;
 mod node_op;
 mod reading;
 mod split;
 
 pub use halves::Halves;
-pub use laws::{
+pub use made::Made;
+pub use node::{Branches, Node};
+pub use node_laws::{
     a_delete_acts_on_a_map, a_new_child_stands_behind, a_put_acts_on_a_map, a_split_keeps_all,
     nodes_have_one_code,
 };
-pub use made::Made;
-pub use node::{Branches, Node};
 pub use node_op::NodeOp;

@@ -11,15 +11,17 @@
 #![tactic(auto)]
 
 mod checkpoint_err;
+mod checkpoint_laws;
 mod checkpoints;
-mod laws;
 mod logging;
 mod taking;
 mod trimming;
 mod worked;
 
 pub use checkpoint_err::CheckpointErr;
+pub use checkpoint_laws::{
+    checkpoint_may_be_taken, closing_checkpoint_may_be_taken, trim_may_be_taken,
+};
 pub use checkpoints::{checkpoint, closing_checkpoint};
-pub use laws::{checkpoint_may_be_taken, closing_checkpoint_may_be_taken, trim_may_be_taken};
 pub use trimming::trim;
 pub use worked::{a_checkpoint_has_two_starts, a_trim_keeps_what_is_not_installed};

@@ -7,11 +7,11 @@
 
 mod asked;
 mod command;
-mod laws;
 mod unread;
+mod word_laws;
 mod words;
 
 pub use asked::Asked;
-pub use laws::{plain_words_are_taken, words_ask_one_thing};
 pub use unread::Unread;
+pub use word_laws::{plain_words_are_taken, words_ask_one_thing};
 pub use words::read_words;

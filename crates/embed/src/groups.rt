@@ -11,7 +11,7 @@ ghost use Rattle.transactions.specs.Room.{HasRoomOf};
 ghost use Rattle.embed.specs.Embedded.{IsStillBroken, IsUnharmed, SaysFull, machine_of, opened};
 
 use crate::Store;
-use crate::opening::TUNING;
+use crate::laying_out::TUNING;
 use disk_model::Machine;
 use op_codec::AllOps;
 use store_engine::{Engine, OpenErr, WorkErr};

@@ -12,14 +12,14 @@ mod backups;
 mod calls;
 mod groups;
 mod hashes;
-mod laws;
-mod opening;
+mod laying_out;
 mod queued;
+mod real_files;
 mod staging;
 mod store;
 mod trees;
 mod upkeep;
 
-pub use laws::{real_files_keep_what_is_forced, takes_leave_a_copy};
-pub use opening::lay_out;
+pub use laying_out::lay_out;
+pub use real_files::{real_files_keep_what_is_forced, takes_leave_a_copy};
 pub use store::Store;

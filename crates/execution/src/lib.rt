@@ -12,15 +12,15 @@
 #![tactic(auto)]
 
 mod admitting;
+mod command_laws;
 mod exec_err;
 mod executing;
 mod following;
-mod laws;
 mod placing;
 mod record_err;
 
+pub use command_laws::{exec_may_be_taken, follow_may_be_taken};
 pub use exec_err::ExecErr;
 pub use executing::execute;
 pub use following::follow;
-pub use laws::{exec_may_be_taken, follow_may_be_taken};
 pub use record_err::RecordErr;

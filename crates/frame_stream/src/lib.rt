@@ -6,9 +6,9 @@
 #![tactic(auto)]
 
 mod frame_buffer;
-mod laws;
+mod frame_laws;
 mod writing;
 
 pub use frame_buffer::{BadLength, FrameBuffer};
-pub use laws::frames_are_told_apart;
+pub use frame_laws::frames_are_told_apart;
 pub use writing::{frame_head, push_frame};

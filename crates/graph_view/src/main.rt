@@ -16,8 +16,8 @@ mod draw_error;
 mod drawing;
 mod edges;
 mod kind;
-mod laws;
 mod nodes;
+mod worked_graphs;
 
 use disk_model::StdSource;
 use draw_error::DrawError;

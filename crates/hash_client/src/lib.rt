@@ -12,11 +12,11 @@
 mod deleting;
 mod finding;
 mod getting;
-mod laws;
 mod putting;
+mod whole_runs;
 
 pub use deleting::delete;
 pub use finding::HashErr;
 pub use getting::get;
-pub use laws::only_calls_keep_the_file;
 pub use putting::put;
+pub use whole_runs::only_calls_keep_the_file;

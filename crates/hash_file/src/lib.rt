@@ -9,12 +9,12 @@
 #![tactic(auto)]
 
 mod file;
-mod laws;
+mod hash_file_laws;
 mod refusal;
 mod worked;
 
 pub use file::{HashFile, entry_for, has_room};
-pub use laws::{
+pub use hash_file_laws::{
     a_hash_file_depends_on_its_range, a_hash_file_is_a_map, a_hash_file_refuses_by_cause,
     a_put_ends_with_its_put, commands_are_accepted, growth_keeps_the_file,
 };

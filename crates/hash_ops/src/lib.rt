@@ -7,18 +7,20 @@
 //! depends on key_entries for pairs and codes, on oper_core, and on arrayvec for the entries of a directory.
 #![tactic(auto)]
 
+mod block_laws;
 mod bucket;
 mod coding;
 mod directory;
 mod hash_op;
-mod laws;
 mod made;
 mod numbers;
 mod split;
 
+pub use block_laws::{
+    a_split_keeps_all_pairs, a_split_renames_the_upper_half, blocks_have_one_code,
+};
 pub use bucket::Bucket;
 pub use directory::{Directory, MOST_DEPTH};
 pub use hash_op::HashOp;
-pub use laws::{a_split_keeps_all_pairs, a_split_renames_the_upper_half, blocks_have_one_code};
 pub use made::Made;
 pub use numbers::{has_bit, hash};

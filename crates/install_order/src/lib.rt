@@ -7,15 +7,15 @@
 #![tactic(auto)]
 
 mod entry;
-mod laws;
 mod order;
+mod order_laws;
 mod sparse;
 
 pub use entry::Entry;
-pub use laws::{
+pub use order::{closed, edge, exposed};
+pub use order_laws::{
     exposed_is_first_reads, last_blind_write_is_alone, nodes_are_computed, worked_tables,
 };
-pub use order::{closed, edge, exposed};
 pub use sparse::{
     arcs_left_by_a_removal, arcs_of_one_more, arcs_reach_the_same, no_arc_is_no_edge,
     nodes_left_by_a_removal, nodes_stand_for_nodes, one_arc_more, places_stand_for_lsns,

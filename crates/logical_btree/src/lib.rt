@@ -12,19 +12,19 @@
 
 mod child;
 mod full;
-mod laws;
 mod refusal;
 mod tree;
+mod tree_laws;
 mod worked;
 
 pub use child::child_for;
 pub use full::is_full;
-pub use laws::{
+pub use refusal::TreeRefusal;
+pub use tree::Tree;
+pub use tree_laws::{
     a_range_rises, a_split_keeps_the_tree, a_tree_depends_on_its_range, a_tree_is_an_ordered_map,
     a_tree_refuses_by_cause, an_insert_ends_with_its_put, commands_are_accepted,
 };
-pub use refusal::TreeRefusal;
-pub use tree::Tree;
 pub use worked::{
     eight_inserts_split_the_root, the_first_bad_object_is_told, the_first_full_node_is_split,
 };

@@ -7,9 +7,9 @@
 #![tactic(auto)]
 
 mod all_ops;
-mod laws;
+mod refused_laws;
 mod sum;
 
 pub use all_ops::{AllOps, hash_op, node_op, plain_op, program_op};
-pub use laws::refused_makes_empty;
+pub use refused_laws::refused_makes_empty;
 pub use sum::{ApartFrom, Sum};

@@ -8,11 +8,11 @@
 
 mod app_state;
 mod effects;
-mod laws;
 mod order;
 mod plain_op;
+mod state_codes;
 
 pub use app_state::AppState;
-pub use laws::states_have_one_code;
 pub use order::in_order_is_the_sorted_permutation;
 pub use plain_op::PlainOp;
+pub use state_codes::states_have_one_code;

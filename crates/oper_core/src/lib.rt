@@ -9,19 +9,19 @@
 mod bounds;
 mod byte_list;
 mod family;
-mod laws;
 mod memory;
 mod objs;
 mod oper;
 mod refusal;
 mod values;
+mod wider_bounds;
 
 pub use bounds::Bounds;
 pub use byte_list::ByteList;
 pub use family::Family;
-pub use laws::wider_bounds_keep_commands;
 pub use memory::Memory;
 pub use objs::Objs;
 pub use oper::Oper;
 pub use refusal::Refusal;
 pub use values::Values;
+pub use wider_bounds::wider_bounds_keep_commands;

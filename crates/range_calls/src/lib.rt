@@ -11,16 +11,16 @@
 
 mod call_err;
 mod freeing;
-mod laws;
 mod making;
+mod runs_of_calls;
 mod seeing;
 mod turn;
 mod turning;
 
 pub use call_err::CallErr;
 pub use freeing::least_free;
-pub use laws::{files_stand_for_one_state, makes_go_on, reads_go_on, reads_run_short};
 pub use making::make;
+pub use runs_of_calls::{files_stand_for_one_state, makes_go_on, reads_go_on, reads_run_short};
 pub use seeing::see;
 pub use turn::Turn;
 pub use turning::{Turns, take_turns};

@@ -17,8 +17,8 @@ ghost use Rattle.range_calls.specs.Making.{Makes, Reads};
 ghost use Rattle.range_calls.specs.Store.{Command, Holds, state_of};
 ghost use Rattle.range_calls.specs.Turns.{is_last, turn_answer, turn_plan};
 
-use crate::laws::makes_go_on;
 use crate::making::make;
+use crate::runs_of_calls::makes_go_on;
 use crate::{CallErr, Turn};
 use disk_model::Machine;
 use op_codec::AllOps;

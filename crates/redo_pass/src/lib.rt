@@ -6,12 +6,12 @@
 #![tactic(auto)]
 
 mod choosing;
-mod laws;
 mod limit;
+mod redo_laws;
 mod redoing;
 mod replay;
 
-pub use laws::{
+pub use redo_laws::{
     a_found_world_is_due, a_redo_ends, a_redo_goes_on, a_redo_leaves_nothing, a_replay_is_shown,
     an_empty_store_shows_it, records_are_members, what_is_due_is_set,
 };

@@ -14,14 +14,14 @@
 #![tactic(auto)]
 
 mod demo;
-mod laws;
 mod program;
+mod session_laws;
 mod tally;
 
-pub use laws::{
+pub use program::top;
+pub use script_run::{BadCause, BadLine, Notes};
+pub use session_laws::{
     a_call_is_followed, a_fuse_is_its_machine, a_run_is_a_call, a_saved_backup_lasts,
     a_second_start_goes_on, sessions_keep_what_was_forced,
 };
-pub use program::top;
-pub use script_run::{BadCause, BadLine, Notes};
 pub use shell_base::{Budget, Status};

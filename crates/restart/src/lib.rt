@@ -10,13 +10,13 @@
 //! and on checkpointing, which takes the checkpoint.
 #![tactic(auto)]
 
-mod laws;
 mod loading;
-mod opening;
+mod redone_store;
+mod restart_laws;
 mod restarting;
 mod tuning;
 
-pub use laws::{a_restart_may_be_made, one_damage};
+pub use restart_laws::{a_restart_may_be_made, one_damage};
 pub use restarting::restart;
 pub use stable_objects::OpenErr;
 pub use tuning::Tuning;

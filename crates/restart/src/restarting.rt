@@ -12,7 +12,7 @@ ghost use Rattle.restart.specs.Opening.{IsJudged, IsOpening, OpensOn, OpensThrou
 
 use crate::Tuning;
 use crate::loading::load;
-use crate::opening::open;
+use crate::redone_store::open;
 use disk_model::Machine;
 use oper_core::Oper;
 use running_store::Store;

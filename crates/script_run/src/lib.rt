@@ -25,8 +25,8 @@ mod asking;
 mod bad_line;
 mod forms;
 mod grouping;
-mod laws;
 mod line;
+mod line_answers;
 mod making;
 mod notes;
 mod outcome;
@@ -37,7 +37,7 @@ mod script;
 mod upkeep;
 
 pub use bad_line::{BadCause, BadLine};
-pub use laws::{
+pub use line_answers::{
     a_backup_line_gets_the_answer_of_its_cause, a_line_gets_the_answer_of_its_cause,
     the_lines_said_are_the_answers,
 };

@@ -15,16 +15,16 @@ mod budget;
 mod damage;
 mod fetching;
 mod notice;
-mod opening;
 mod say;
 mod status;
 mod stop;
+mod store_opening;
 
 pub use budget::Budget;
 pub use damage::end_damaged;
 pub use fetching::fetched;
 pub use notice::end_numbered;
-pub use opening::{end_unopened, open_store};
 pub use say::{end_with, say_line};
 pub use status::{Status, status_after};
 pub use stop::Stop;
+pub use store_opening::{end_unopened, open_store};

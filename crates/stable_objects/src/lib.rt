@@ -18,20 +18,20 @@ mod gates;
 mod growing;
 mod heads;
 mod larger;
-mod laws;
 mod layout;
 mod loading;
+mod objects_gate;
 mod open_err;
-mod opening;
 mod preparing;
 mod replacing;
+mod slot_laws;
 mod slots;
 mod value;
 mod window;
 
-pub use laws::{
+pub use open_err::OpenErr;
+pub use slot_laws::{
     a_byte_is_written_later, a_file_is_filled, a_store_stays_while_it_grows,
     a_version_is_one_of_two, ready_gates_open_alone, spare_slots_are_not_seen,
 };
-pub use open_err::OpenErr;
 pub use slots::Slots;

@@ -18,14 +18,14 @@
 
 mod feeding;
 mod follow_err;
-mod laws;
 mod standby;
+mod standby_laws;
 mod upkeep;
 
 pub use follow_err::FollowErr;
-pub use laws::{
+pub use standby::Standby;
+pub use standby_laws::{
     a_log_is_shipped, a_primary_is_followed, a_standby_catches_up, a_stream_is_followed_in_one_way,
     a_stream_is_refused_in_one_way, a_stream_without_fault_is_not_refused, one_primary_is_followed,
     standby_stands, what_is_shipped_is_followed, what_is_stable_stays,
 };
-pub use standby::Standby;

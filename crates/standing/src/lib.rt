@@ -7,10 +7,10 @@
 //! log_blocks and stable_objects.
 #![tactic(auto)]
 
-mod laws;
+mod standing_files;
 mod worked;
 
-pub use laws::{
+pub use standing_files::{
     a_changed_objects_file_stands, a_copy_stands, checkpoints_of_a_log_fit, files_hold_one_store,
     files_show_a_world, files_stand_for_one_state, image_stands, new_files_stand_for_nothing,
     same_parts_stand_for_the_same, standing_files_have_no_fault, unseen_steps_change_nothing,

@@ -25,15 +25,15 @@
 mod beside;
 mod copying;
 mod engine;
+mod engine_laws;
+mod engine_restart;
 mod executing;
 mod following;
 mod grouping;
 mod init_err;
-mod laws;
 mod lengths;
 mod lists;
 mod making;
-mod opening;
 mod ship_err;
 mod shipping;
 mod stat;
@@ -47,15 +47,15 @@ pub use beside::{a_copied_log_is_of_the_world, a_copy_goes_on, calls_go_beside_a
 pub use cache_manager::{Install, InstallErr};
 pub use checkpointing::CheckpointErr;
 pub use engine::Engine;
+pub use engine_laws::{
+    a_trim_behind_a_drain_leaves_nothing, engine_stands, group_is_closed, identities_are_counted,
+    opens_on_a_world, standing_files_meet_their_format, stop_is_said,
+};
 pub use execution::{ExecErr, RecordErr};
 pub use following::records_are_judged;
 pub use formats::ReadErr;
 pub use grouping::NoGroup;
 pub use init_err::InitErr;
-pub use laws::{
-    a_trim_behind_a_drain_leaves_nothing, engine_stands, group_is_closed, identities_are_counted,
-    opens_on_a_world, standing_files_meet_their_format, stop_is_said,
-};
 pub use lengths::lengths_are_told;
 pub use lists::{
     calls_go_on, commands_log_no_identity, exec_goes_on, fetch_goes_on, fronts_are_joined,

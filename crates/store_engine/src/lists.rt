@@ -10,7 +10,7 @@ ghost use Rattle.store_engine.specs.Lists.{AddsFront, AreCalls, commands_course}
 ghost use Rattle.store_engine.specs.ListSteps.{AddsBehind, CallsBehind, ExecDone, ExecFailed, ExecRefused, ExecStopped, FetchDone, FetchFailed, RunsShort};
 
 use crate::Engine;
-use crate::laws::engine_stands;
+use crate::engine_laws::engine_stands;
 use disk_model::Machine;
 use oper_core::Oper;
 

@@ -5,7 +5,7 @@ ghost use Rattle.stable_objects.specs.Larger.{IsLarger};
 ghost use Rattle.store_engine.specs.Upgrading.{IsUpgrading};
 
 use crate::Engine;
-use crate::laws::engine_stands;
+use crate::engine_laws::engine_stands;
 use crate::upgrade_err::UpgradeErr;
 use disk_model::Machine;
 use formats::Params;

@@ -8,10 +8,10 @@ ghost use Rattle.write_graph.specs.Graph.{lsns, IsNodeNamed, NamesNode, NamesMin
 
 use crate::entry_table::Entries;
 use crate::firsts::{note_writes, pass_over, written};
-use crate::laws::slots_name_nodes;
 use crate::links::Links;
 use crate::listing::{lsns_of, slots_of, written_by};
 use crate::renewing::add_held;
+use crate::slot_names::slots_name_nodes;
 use indexmap::IndexMap;
 use install_order::{Entry, nodes_stand_for_nodes};
 use oper_core::Memory;

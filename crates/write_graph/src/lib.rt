@@ -12,7 +12,6 @@ mod firsts;
 mod graph;
 mod head;
 mod head_table;
-mod laws;
 mod linking;
 mod links;
 mod listing;
@@ -20,5 +19,6 @@ mod lowering;
 mod places;
 mod renewing;
 mod rows;
+mod slot_names;
 
 pub use graph::{NodeNo, WriteGraph};

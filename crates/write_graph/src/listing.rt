@@ -5,7 +5,7 @@ ghost use Rattle.write_graph.specs.Naming.{AreSlots};
 ghost use Rattle.write_graph.specs.Listing.{IsLsnOf, IsWrittenBy, AreBelow, AreSlotsOf};
 
 use crate::entry_table::Entries;
-use crate::laws::slots_name_nodes;
+use crate::slot_names::slots_name_nodes;
 use graph_nodes::SlotGraph;
 use oper_core::Memory;
 use std::alloc::Global;

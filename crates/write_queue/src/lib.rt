@@ -9,7 +9,6 @@
 #![tactic(auto)]
 
 mod adding;
-mod laws;
 mod lent;
 mod lent_mem;
 mod looking;
@@ -17,9 +16,10 @@ mod past;
 mod queue;
 mod queue_mem;
 mod queued;
+mod real_files;
 
-pub use laws::{fronts_are_what_is_left, lent_fronts_are_what_is_left};
 pub use lent_mem::LentMem;
 pub use past::Past;
 pub use queue_mem::QueueMem;
 pub use queued::Queued;
+pub use real_files::{fronts_are_what_is_left, lent_fronts_are_what_is_left};

@@ -1,0 +1,9 @@
+use Rattle.running_store.specs.Running.{KeepsSound}
+use Rattle.checkpointing.proofs.Allowed.{closing_taken}
+use Rattle.checkpointing.proofs.checkpoint_laws.closing_checkpoint_may_be_taken.Goals as goal
+
+pub returns : goal.returns
+returns g c = λ b w used small is.
+    let m = g.O.Oper.meaning b in
+    let keeps : KeepsSound m = λ v taken sound may. c.every_run_keeps.ensures.from_sound b v taken small sound may in
+    closing_taken m keeps w is used

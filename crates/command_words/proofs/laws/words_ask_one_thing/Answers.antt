@@ -1,5 +1,0 @@
-use Rattle.command_words.proofs.OneLemmas.{words_one}
-use Rattle.command_words.proofs.laws.words_ask_one_thing.Goals as goal
-
-pub returns : goal.returns
-returns c = words_one

@@ -1,5 +1,0 @@
-use Rattle.disk_model.proofs.Exact.{within_exact}
-use Rattle.disk_model.proofs.laws.write_within_leaves_exactly.Goals as goal
-
-pub returns : goal.returns
-returns c at n old left within = within_exact at n old left within

@@ -1,5 +1,0 @@
-use Rattle.hash_file.proofs.AlikeLemmas.{file_stays}
-use Rattle.hash_file.proofs.laws.a_hash_file_depends_on_its_range.Goals as goal
-
-pub returns : goal.returns
-returns c = λ lo hi order s t alike is. file_stays lo hi s t alike order is

@@ -1,8 +1,0 @@
-use Rattle.hash_file.proofs.CallLemmas.{put_refusals, delete_refusals}
-use Rattle.hash_file.proofs.laws.a_hash_file_refuses_by_cause.Goals as goal
-
-pub returns : goal.returns
-returns c = record {
-  put = λ b lo hi s key value r range file is. put_refusals b lo hi key value range s r file is;
-  delete = delete_refusals;
-}

@@ -1,5 +1,0 @@
-use Rattle.range_calls.specs.JoinLaws.{reads_short}
-use Rattle.range_calls.proofs.laws.reads_run_short.Goals as goal
-
-pub returns : goal.returns
-returns g c = reads_short g.M.Machine.disk c.fetch_goes_on.ensures.memory
