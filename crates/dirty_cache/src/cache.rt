@@ -55,6 +55,7 @@ impl Cache {
 
     /// Takes the memory that `set` needs for the object, beside what is taken for others. Nothing else changes, also
     /// where it is out of memory. The room stays for good.
+    /// The place is an empty one of the map, which counts do not see; a `set` of an object that has one takes no memory.
     pub fn make_room(&mut self, x: u32) -> Result<(), Memory>
         ensures room { OnOk result (HasRoom self.new x) }
         ensures same { IsUnchanged self.old self.new }

@@ -24,6 +24,7 @@ pub fn take(alloc: Global, starts: &[(u32, u64)], next: u64) -> Result<DirtyPage
 
 /// The number from which a redo applies what the records write to the object: its redo start in the table, or the
 /// table's next LSN where it has none.
+/// Of two pairs of one object it takes the first.
 pub fn redo_from(table: &DirtyPageTable, object: u32) -> u64
     ensures { result ≡ redo_from table.now object }
 {

@@ -6,6 +6,7 @@ ghost use Rattle.disk_model.specs.Padded.{padded};
 use crate::{Failed, FileNo, Machine};
 
 /// Fills a buffer with the bytes at an offset. A byte past the file's end counts as 0.
+/// It is one call: a read gives fewer bytes only at the file's end.
 pub fn read_padded<M: Machine>(
     machine: &mut M,
     file: FileNo,

@@ -22,6 +22,7 @@ record_code m (Identity lsn x value) = 2 ∷ (little_bytes 8 lsn ++ (little_byte
 record_code m (Checkpoint table) = 3 ∷ table_code table
 
 -- a record is in the grammar: its operation is, or its object is there and its value within CAP, or its table is
+-- (that a number is the next one, and below 2^62, is no part of the grammar, but of the record's place: IsPlaced)
 abbrev pub IsRecord : {O : Type 0} → Meaning O → Record O → Type 0
 IsRecord m (Command lsn op) = (lsn < 2 ^ 64) × IsInGrammar m op
 IsRecord m (Identity lsn x value) = (lsn < 2 ^ 64) × (x < m.objects) × (length value ≤ m.cap)

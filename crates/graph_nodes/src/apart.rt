@@ -7,6 +7,7 @@ use crate::nodes::Nodes;
 use number_lists::{Chains, PackedOption, SparseChains};
 
 /// Whether the first cell in the list of the node w has an arc from the node v.
+/// It is asked before a search: histories in which each object is made from the one before bring such arcs nearly alone.
 pub(crate) fn is_led_from(v: u32, w: u32, nodes: &Nodes, into: &SparseChains) -> bool
     requires list { w < length into.now.lists }
     requires cells { AreCells nodes.now.arcs.now nodes.now.node.now (list_at into.now.lists w) }

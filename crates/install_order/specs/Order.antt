@@ -16,6 +16,7 @@ IsClosed a installed = (o p x : ℕ) → IsFalse (installed o) → IsTrue (insta
 
 -- no operation outside `installed` accesses x, or the first that does reads it:
 -- each of them that writes x has one of them at or before it that reads x
+-- (the law exposed_is_first_reads has the usual wording)
 abbrev pub IsExposed : Access → (ℕ → Bool) → ℕ → Type 0
 IsExposed a installed x = (p : ℕ) → IsFalse (installed p) → IsTrue (a.writes p x) → (o : ℕ) × (o ≤ p) × IsFalse (installed o) × IsTrue (a.reads o x)
 

@@ -13,6 +13,7 @@ use std::marker::Model;
 const MOST: usize = 32;
 
 /// A key of a node, or the value beside one: 1 to 32 bytes, which contracts see as that list.
+/// It takes no memory, so the check of a command, which has no allocator, reads a node by it.
 #[derive(Clone, Copy)]
 pub struct Short {
     bytes: [u8; 32],

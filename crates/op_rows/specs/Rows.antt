@@ -15,6 +15,7 @@ are_apart (x ∷ objects) = not (is_among x objects) && are_apart objects
 
 -- the objects are there, and no two are one. (Each number has four bytes in the code, and so in each operation: none is
 -- ever refused for it.)
+-- (its refusal BadPlace, and those of numbers of more than four bytes, are met by no operation of the program)
 abbrev pub named : Bounds → List ℕ → List ℕ → Option Refusal
 named b objects numbers =
     or_else (unless (list_all (λ x. nat_lt x b.objects) objects) NoObject)

@@ -50,6 +50,7 @@ impl Objects {
     /// The objects of the store in the objects file. Of the clean ones as many are cached at a time as have at most
     /// `clean_bytes` bytes together, however long their values are, and at least `clean`, which is one or more. None is
     /// cached yet.
+    /// The limit goes by CAP, and not by the values that are cached, so it is a number of the store, which a clause can say.
     pub fn load<M: Machine>(
         alloc: Global,
         machine: &mut M,

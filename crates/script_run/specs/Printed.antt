@@ -23,6 +23,7 @@ abbrev pub SaysNumber : (ℕ → Reply) → List ℕ → ℕ → Type 0
 SaysNumber answer bytes n = (n < 2 ^ 64) × Contains (whole_lines bytes) (text_of (answer n))
 
 -- that so many commands are forced
+-- (read off the bytes: who reads the output has whole lines, and no list of answers)
 abbrev pub SaysForced : List ℕ → ℕ → Type 0
 SaysForced bytes n = SaysNumber forced bytes n
 

@@ -22,6 +22,7 @@ use Rattle.script_run.specs.Groups.{size_of}
 use Rattle.script_run.specs.Made.{made, AsksMade, AsksBehind, AsksTree}
 
 -- the line asks for this one command
+-- (a relation, since two operations of the log are asked by no line)
 abbrev pub AsksCommand : List ℕ → Command → Type 0
 AsksCommand line op = AsksFor line (run op)
 

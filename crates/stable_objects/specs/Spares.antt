@@ -38,6 +38,8 @@ pub record KeepsBut (layout : Layout) (free : ℕ → Type 0) (old new : List �
   pub same : last_slot layout < length old → (j : ℕ) → (free j → ⊥) → byte_at j new ≡ byte_at j old
 
 -- all stays but the gates of open spare slots
+-- (gates and what stands behind them are two sets of free bytes with a sync between: else a torn write could open a gate over
+-- bytes that an image before had changed)
 abbrev pub KeepsButGates : SlotsView → List ℕ → List ℕ → Type 0
 KeepsButGates slots = KeepsBut (layout_of slots) (IsSpareGate slots)
 

@@ -141,6 +141,8 @@ fn leaf_piece<M: Machine>(
 /// tree, rising.
 ///
 /// It fails as [`get`](crate::get) of the key does.
+///
+/// At most seven pairs, so it takes no memory and keeps no stack that a change of the tree would break.
 pub fn piece_from<M: Machine>(
     tree: &Tree,
     engine: &mut Engine<AllOps>,
