@@ -1,5 +1,5 @@
 -- The levels of nodes after an arc, a slot more, and a removal.
-use Rattle.std.proofs.Common.{◌≡◌, ◌≢◌, ◌∙◌, ap, sym, subst, ℕ, zero, suc, ◌+◌, ◌*◌, ◌/◌, ◌<◌, ◌≤◌, List, [], ◌∷◌, ◌++◌, length, length-append, refl, arith, inl, inr}
+use Rattle.std.proofs.Common.{◌≡◌, ◌≢◌, ◌∙◌, ap, sym, subst, ℕ, ◌+◌, ◌*◌, ◌/◌, ◌<◌, ◌≤◌, List, [], ◌∷◌, ◌++◌, length, length-append, refl, arith, inl, inr}
 use Rattle.std.specs.Prelude.{IsTrue, ◌⊎◌, Bool, true, Option, None, Some, slice_set}
 use Rattle.std.proofs.lemmas.Bool.{cases_eq, cases_Bool, both_ways, cond-true, cond-false}
 use Rattle.std.proofs.lemmas.List.{get_or-set_other, length-set}
@@ -21,8 +21,8 @@ use Rattle.graph_nodes.proofs.Ordered.{cell-free, names-all, set-end, slot-of, w
 use Rattle.graph_nodes.proofs.Slot.{arc-same, held-same, node-same}
 use Rattle.graph_nodes.proofs.Ways.{levels, slot_level}
 
-pub linkable-kept : (arcs : List (Option ℕ)) (node : List ℕ) (held : List Bool) (name : List ℕ) (members into : Lists) (level : List ℕ) (near : Lists) → IsKept arcs node held name members into → length level ≡ length node → length near.lists ≡ length node → near.items ≡ length arcs → IsLinkable arcs node members level near
-linkable-kept arcs node held name members into level near kept e f g = record {
+pub linkable-kept : (arcs : List (Option ℕ)) (node : List ℕ) (held : List Bool) (name : List ℕ) (members into near : Lists) → IsKept arcs node held name members into → length near.lists ≡ length node → near.items ≡ length arcs → IsLinkable arcs node members near
+linkable-kept arcs node held name members into near kept f g = record {
   ends = λ c j arc. let lt = kept.range.ends c j arc in (lt, kept.range.nodes j lt);
   below = kept.range.nodes;
   filed = kept.filed;
@@ -31,22 +31,22 @@ linkable-kept arcs node held name members into level near kept e f g = record {
     small = kept.range.small;
     member_lists = kept.range.member_lists;
     member_items = kept.range.member_items;
-    levels = e;
     near_lists = f;
     near_items = g;
   };
 }
 
 -- the tables of a graph are what a search reads
-pub ready-at : (arcs a : List (Option ℕ)) (node b : List ℕ) (held : List Bool) (name : List ℕ) (members into : Lists) (level : List ℕ) (near : Lists) (room : ℕ) → IsKept arcs node held name members into → HaveLevels arcs node held level near → 8 * length node ≤ room → a ≡ arcs → b ≡ node → AreReady a b members level near room
-ready-at arcs a node b held name members into level near room kept have wide ea eb =
-    subst (λ (xs : List (Option ℕ)). AreReady xs b members level near room) (sym ea)
-    (subst (λ (xs : List ℕ). AreReady arcs xs members level near room) (sym eb)
+pub ready-at : (arcs a : List (Option ℕ)) (node b : List ℕ) (held : List Bool) (name : List ℕ) (members into : Lists) (level : List ℕ) (near : Lists) (room level_room : ℕ) → IsKept arcs node held name members into → HaveLevels arcs node held level near → 8 * length node ≤ room → length node ≤ level_room → a ≡ arcs → b ≡ node → AreReady a b members level near room level_room
+ready-at arcs a node b held name members into level near room level_room kept have wide deep ea eb =
+    subst (λ (xs : List (Option ℕ)). AreReady xs b members level near room level_room) (sym ea)
+    (subst (λ (xs : List ℕ). AreReady arcs xs members level near room level_room) (sym eb)
     record {
       nodes = kept.nodes;
       levelled = have.levelled;
-      linkable = linkable-kept arcs node held name members into level near kept have.levels have.lists have.items;
+      linkable = linkable-kept arcs node held name members into near kept have.lists have.items;
       fit = omega (arith, kept.range.cells, wide);
+      deep = deep;
     })
 
 -- the same tables
@@ -63,7 +63,6 @@ have-as arcs a node b held h level n near m have ea eb eh en el ei =
         only = λ k c t. have.levelled.only k c (subst (λ (ls : List (List ℕ)). IsTrue (is_among c (list_at ls k))) el t);
       };
       lost = λ k c t. have.lost k c (subst (λ (ls : List (List ℕ)). IsTrue (is_among c (list_at ls k))) el t);
-      levels = have.levels;
       lists = ap length el ∙ have.lists;
       items = ei ∙ have.items;
     })))
@@ -78,7 +77,6 @@ have-none level near e f g =
         only = λ m c t. absurd (no m c t);
       };
       lost = λ m c t. absurd (no m c t);
-      levels = ap length e;
       lists = ap length f;
       items = g;
     }
@@ -220,40 +218,31 @@ have-inserted arcs old new held name names ma mb ia ib level raised near na nb n
     record {
       levelled = levelled-inserted arcs old new held raised na nb nc ns one c to kept.nodes still.levelled lost lt none holds way is at fits into_one link;
       lost = lost-inserted arcs old new held raised na nb nc ns one c to kept.nodes still.levelled lost lt none holds way is at fits into_one link;
-      levels = still.levels ∙ have.levels ∙ sym are.size;
       lists = link.same.lists ∙ moved.same.lists ∙ still.same.lists ∙ have.lists ∙ sym are.size;
       items = link.same.items ∙ moved.same.items ∙ still.same.items ∙ have.items ∙ sym (length-set arcs c (Some to));
     }
 
--- a level more is of a node that is not there yet
-level-same : (level : List ℕ) (m : ℕ) → level_at (level ++ 0 ∷ []) m ≡ level_at level m
-level-same [] zero = refl
-level-same [] (suc m) = refl
-level-same (l ∷ level) zero = refl
-level-same (l ∷ level) (suc m) = level-same level m
-
 -- one more slot, whose node is at the lowest level
-pub have-slot : (arcs more : List (Option ℕ)) (node : List ℕ) (held : List Bool) (level : List ℕ) (na nb nc : Lists) → HaveLevels arcs node held level na → length held ≡ length node → length arcs ≡ 8 * length node → more ≡ arcs ++ no_arcs 8 → IsWider na nb → AreItemsAdded 8 nb nc → HaveLevels more (node ++ length node ∷ []) (held ++ true ∷ []) (level ++ 0 ∷ []) nc
+pub have-slot : (arcs more : List (Option ℕ)) (node : List ℕ) (held : List Bool) (level : List ℕ) (na nb nc : Lists) → HaveLevels arcs node held level na → length held ≡ length node → length arcs ≡ 8 * length node → more ≡ arcs ++ no_arcs 8 → IsWider na nb → AreItemsAdded 8 nb nc → HaveLevels more (node ++ length node ∷ []) (held ++ true ∷ []) level nc
 have-slot arcs more node held level na nb nc have holds size e wide add =
     let n = length node in
     let arc : (c : ℕ) → arc_at more c ≡ arc_at arcs c = λ c. ap (λ (xs : List (Option ℕ)). arc_at xs c) e ∙ arc-same arcs 8 c in
     let lists : (j : ℕ) → list_at nc.lists j ≡ list_at na.lists j = λ j. add.here j ∙ wide.here j in
     let count : length more ≡ length arcs + 8 = ap length e ∙ length-append arcs (no_arcs 8) in
     let was : (m c : ℕ) → IsTrue (is_among c (list_at nc.lists m)) → IsTrue (is_among c (list_at na.lists m)) = λ m c t. subst (λ (xs : List ℕ). IsTrue (is_among c xs)) (lists m) t in
-    let at : (i : ℕ) → level_at (level ++ 0 ∷ []) (node_at (node ++ n ∷ []) i) ≡ level_at level (node_at node i) = λ i. level-same level (node_at (node ++ n ∷ []) i) ∙ ap (λ (m : ℕ). level_at level m) (node-same node i) in
+    let at : (i : ℕ) → level_at level (node_at (node ++ n ∷ []) i) ≡ level_at level (node_at node i) = λ i. ap (λ (m : ℕ). level_at level m) (node-same node i) in
     record {
       levelled = record {
         rise = λ c j a. omega (arith, have.levelled.rise c j (sym (arc c) ∙ a), at (c / 8), at j);
         there = λ c j a apart even. subst (λ (m : ℕ). IsTrue (is_among c (list_at nc.lists m))) (sym (node-same node j))
             (subst (λ (xs : List ℕ). IsTrue (is_among c xs)) (sym (lists (node_at node j)))
             (have.levelled.there c j (sym (arc c) ∙ a) (λ q. apart (node-same node (c / 8) ∙ q ∙ sym (node-same node j))) (sym (at (c / 8)) ∙ even ∙ at j)));
-        only = λ m c t. let r = have.levelled.only m c (was m c t) in (omega (arith, r.0, count), λ j a. let both = r.1 j (sym (arc c) ∙ a) in (node-same node j ∙ both.0, at (c / 8) ∙ both.1 ∙ sym (level-same level m)));
+        only = λ m c t. let r = have.levelled.only m c (was m c t) in (omega (arith, r.0, count), λ j a. let both = r.1 j (sym (arc c) ∙ a) in (node-same node j ∙ both.0, at (c / 8) ∙ both.1));
       };
       lost = λ m c t none.
           let in_na = was m c t in
           let low = slot-of c n (omega (arith, (have.levelled.only m c in_na).0, size)) in
           held-same held (c / 8) (omega (arith, low, holds)) ∙ have.lost m c in_na (sym (arc c) ∙ none);
-      levels = omega (arith, length-append level (0 ∷ []), length-append node (n ∷ []), have.levels);
       lists = omega (arith, add.lists, wide.lists, have.lists, length-append node (n ∷ []));
       items = omega (arith, add.items, wide.items, have.items, count);
     }
@@ -286,7 +275,6 @@ module _ (arcs left : List (Option ℕ)) (old new : List ℕ) (n : ℕ) (slots :
               let gone : arc_at arcs c ≡ None = elim (clear.rest c) [ inl same ↦ sym same ∙ none | inr s ↦ absurd (both_ways _ f s) ] in
               rel.rest (c / 8) (λ s. both_ways _ f s) ∙ have.lost m c t gone
         ];
-        levels = have.levels ∙ sym alone.size;
         lists = have.lists ∙ sym alone.size;
         items = have.items ∙ sym clear.size;
       }

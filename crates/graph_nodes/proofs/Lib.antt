@@ -18,6 +18,7 @@ pub mod Cleared
 pub mod Gone
 pub mod Asked
 pub mod Told
+pub mod NameTables
 pub mod Least
 pub mod Pruned
 pub mod Levelled

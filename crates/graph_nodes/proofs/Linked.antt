@@ -6,15 +6,15 @@ use Rattle.std.proofs.lemmas.Bool.{cases_eq, or_left, or_right, or_cases, eqb-tr
 use Rattle.oper_core.specs.State.{is_among}
 use Rattle.number_lists.specs.Lists.{Lists, list_at, AreAsMany, IsFree, IsPushed}
 use Rattle.graph_nodes.specs.Arcs.{arc_at, node_at}
-use Rattle.graph_nodes.specs.Levels.{AreLifted, AreLinked, IsLinkable, IsNear}
+use Rattle.graph_nodes.specs.Levels.{AreLinked, IsLinkable, IsNear}
 use Rattle.graph_nodes.proofs.Found.{among-place}
 use Rattle.graph_nodes.proofs.Followed.{IsOfEarly}
 use Rattle.graph_nodes.proofs.Joined.{many-same, many-twice}
 use Rattle.graph_nodes.proofs.Scattered.{apart-places}
 
 -- as many lists and cells are enough
-pub linkable-same : (arcs : List (Option ℕ)) (node : List ℕ) (members : Lists) (level : List ℕ) (a b : Lists) → AreAsMany a b → IsLinkable arcs node members level a → IsLinkable arcs node members level b
-linkable-same arcs node members level a b same is = record {
+pub linkable-same : (arcs : List (Option ℕ)) (node : List ℕ) (members a b : Lists) → AreAsMany a b → IsLinkable arcs node members a → IsLinkable arcs node members b
+linkable-same arcs node members a b same is = record {
   ends = is.ends;
   below = is.below;
   filed = is.filed;
@@ -23,30 +23,10 @@ linkable-same arcs node members level a b same is = record {
     small = is.sizes.small;
     member_lists = is.sizes.member_lists;
     member_items = is.sizes.member_items;
-    levels = is.sizes.levels;
     near_lists = same.lists ∙ is.sizes.near_lists;
     near_items = same.items ∙ is.sizes.near_items;
   };
 }
-
--- and so they are after some nodes were lifted
-pub linkable-lifted : (arcs : List (Option ℕ)) (node : List ℕ) (members : Lists) (level new : List ℕ) (a b : Lists) (ahead : List ℕ) (l : ℕ) → AreLifted ahead l level new a b → IsLinkable arcs node members level a → IsLinkable arcs node members new b
-linkable-lifted arcs node members level new a b ahead l lift is =
-    let on = linkable-same arcs node members level a b lift.same is in
-    record {
-      ends = on.ends;
-      below = on.below;
-      filed = on.filed;
-      sizes = record {
-        cells = on.sizes.cells;
-        small = on.sizes.small;
-        member_lists = on.sizes.member_lists;
-        member_items = on.sizes.member_items;
-        levels = lift.levels ∙ on.sizes.levels;
-        near_lists = on.sizes.near_lists;
-        near_items = on.sizes.near_items;
-      };
-    }
 
 -- none of these cells has an arc to a node of its level
 pub linked-none : (P : ℕ → Type 0) (arcs : List (Option ℕ)) (node level : List ℕ) (old : Lists) → ((m c : ℕ) → P c → IsNear arcs node level c m → ⊥) → AreLinked P arcs node level old old

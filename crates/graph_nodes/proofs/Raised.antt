@@ -1,8 +1,7 @@
 -- How nodes are raised.
-use Rattle.std.proofs.Common.{◌≡◌, ◌≢◌, ◌∙◌, ap, sym, subst, ℕ, ◌+◌, ◌/◌, ◌<◌, ◌≤◌, List, [], length, refl, arith, inl, inr}
-use Rattle.std.specs.Prelude.{IsTrue, IsFalse, ◌⊎◌, Option, Some, slice_index, slice_set}
+use Rattle.std.proofs.Common.{◌≡◌, ◌≢◌, ◌∙◌, ap, sym, subst, ℕ, zero, suc, ◌+◌, ◌/◌, ◌<◌, ◌≤◌, List, [], ◌∷◌, ◌++◌, length, refl, arith, inl, inr}
+use Rattle.std.specs.Prelude.{IsTrue, IsFalse, ◌⊎◌, Option, Some, slice_index}
 use Rattle.std.proofs.lemmas.Bool.{cases_eq, cases_lt, cases_Bool, both_ways}
-use Rattle.std.proofs.lemmas.List.{get_or-set_same, get_or-set_other, length-set}
 use Rattle.oper_core.specs.State.{is_among}
 use Rattle.number_lists.specs.Lists.{Lists, list_at, AreAsMany, IsCleared, IsFree}
 use Rattle.graph_nodes.specs.Arcs.{arc_at, node_at}
@@ -16,24 +15,27 @@ use Rattle.graph_nodes.proofs.Options.{none-some, of-some}
 use Rattle.graph_nodes.proofs.Read.{arc-cell}
 use Rattle.graph_nodes.proofs.Settled.{settled-fewer}
 
+-- a nought more is the level of a node that had none
+pub level-push : (level : List ℕ) (m : ℕ) → level_at (level ++ 0 ∷ []) m ≡ level_at level m
+level-push [] zero = refl
+level-push [] (suc m) = refl
+level-push (l ∷ level) zero = refl
+level-push (l ∷ level) (suc m) = level-push level m
+
 -- the first so many of these nodes are lifted
 pub record IsLifting (ahead : List ℕ) (l i : ℕ) (old now : List ℕ) (old_near near : Lists) : Type 0 where
   pub done : (k : ℕ) → k < i → level_at now (slice_index ahead k) ≡ l
   pub rest : (m : ℕ) → (level_at now m ≡ level_at old m) ⊎ IsTrue (is_among m ahead)
-  pub levels : length now ≡ length old
   pub cleared : (k : ℕ) → k < i → list_at near.lists (slice_index ahead k) ≡ []
   pub others : (m : ℕ) → (list_at near.lists m ≡ list_at old_near.lists m) ⊎ IsTrue (is_among m ahead)
   pub same : AreAsMany old_near near
 
 pub lift-none : (ahead : List ℕ) (l : ℕ) (level : List ℕ) (near : Lists) → IsLifting ahead l 0 level level near near
-lift-none ahead l level near = record { done = λ k lt. absurd (omega (arith, lt)); rest = λ m. inl refl; levels = refl; cleared = λ k lt. absurd (omega (arith, lt)); others = λ m. inl refl; same = many-same near }
+lift-none ahead l level near = record { done = λ k lt. absurd (omega (arith, lt)); rest = λ m. inl refl; cleared = λ k lt. absurd (omega (arith, lt)); others = λ m. inl refl; same = many-same near }
 
-pub lift-on : (ahead : List ℕ) (l i n : ℕ) (old now : List ℕ) (old_near near new_near : Lists) → IsLifting ahead l i old now old_near near → n ≡ slice_index ahead i → i < length ahead → n < length now → IsCleared near n new_near → IsLifting ahead l (i + 1) old (slice_set now n l) old_near new_near
-lift-on ahead l i n old now old_near near new_near is e lt low clear =
-    let new = slice_set now n l in
+pub lift-on : (ahead : List ℕ) (l i n : ℕ) (old now new : List ℕ) (old_near near new_near : Lists) → IsLifting ahead l i old now old_near near → n ≡ slice_index ahead i → i < length ahead → level_at new n ≡ l → ((m : ℕ) → m ≢ n → level_at new m ≡ level_at now m) → IsCleared near n new_near → IsLifting ahead l (i + 1) old new old_near new_near
+lift-on ahead l i n old now new old_near near new_near is e lt at off clear =
     let here : IsTrue (is_among n ahead) = subst (λ (k : ℕ). IsTrue (is_among k ahead)) (sym e) (place-among ahead i lt) in
-    let at : level_at new n ≡ l = get_or-set_same now n l 0 low in
-    let off : (m : ℕ) → m ≢ n → level_at new m ≡ level_at now m = λ m ne. get_or-set_other now n m l 0 ne in
     record {
       done = λ k below. elim (cases_eq (slice_index ahead k) n) [
         | inl q ↦ ap (λ (m : ℕ). level_at new m) q ∙ at
@@ -46,7 +48,6 @@ lift-on ahead l i n old now old_near near new_near is e lt low clear =
         | inl q ↦ inr (subst (λ (k : ℕ). IsTrue (is_among k ahead)) (sym q) here)
         | inr ne ↦ elim (is.rest m) [ inl s ↦ inl (off m ne ∙ s) | inr s ↦ inr s ]
       ];
-      levels = length-set now n l ∙ is.levels;
       cleared = λ k below. elim (cases_eq (slice_index ahead k) n) [
         | inl q ↦ ap (λ (m : ℕ). list_at new_near.lists m) q ∙ clear.here
         | inr ne ↦ elim (cases_eq k i) [
@@ -65,46 +66,30 @@ pub lift-end : (ahead : List ℕ) (l i : ℕ) (old now : List ℕ) (old_near nea
 lift-end ahead l i old now old_near near e is = record {
   done = λ m t. let p = among-place m ahead t in ap (λ (k : ℕ). level_at now k) (sym p.2) ∙ is.done p.0 (omega (arith, e, p.1));
   rest = λ m none. elim (is.rest m) [ inl s ↦ s | inr s ↦ absurd (none s) ];
-  levels = is.levels;
   cleared = λ m t. let p = among-place m ahead t in ap (λ (k : ℕ). list_at near.lists k) (sym p.2) ∙ is.cleared p.0 (omega (arith, e, p.1));
   others = λ m none. elim (is.others m) [ inl s ↦ s | inr s ↦ absurd (none s) ];
   same = is.same;
 }
 
 pub still-none : (arcs : List (Option ℕ)) (node level : List ℕ) (near : Lists) → AreLevelled arcs node level near → AreStillLevelled arcs node level level near near
-still-none arcs node level near are = record { levelled = are; levels = refl; lost = λ m c t none. t; same = many-same near }
+still-none arcs node level near are = record { levelled = are; lost = λ m c t none. t; same = many-same near }
 
 pub still-twice : (arcs : List (Option ℕ)) (node a b c : List ℕ) (na nb nc : Lists) → AreStillLevelled arcs node a b na nb → AreStillLevelled arcs node b c nb nc → AreStillLevelled arcs node a c na nc
 still-twice arcs node a b c na nb nc f g = record {
   levelled = g.levelled;
-  levels = g.levels ∙ f.levels;
   lost = λ m k t none. f.lost m k (g.lost m k t none) none;
   same = many-twice na nb nc f.same g.same;
 }
 
 -- what is read is there still
-pub ready-on : (arcs : List (Option ℕ)) (node : List ℕ) (members : Lists) (a b : List ℕ) (na nb : Lists) (r s : ℕ) → AreReady arcs node members a na r → AreStillLevelled arcs node a b na nb → r ≤ s → AreReady arcs node members b nb s
-ready-on arcs node members a b na nb r s is still le =
-    let on = linkable-same arcs node members a na nb still.same is.linkable in
-    record {
-      nodes = is.nodes;
-      levelled = still.levelled;
-      linkable = record {
-        ends = on.ends;
-        below = on.below;
-        filed = on.filed;
-        sizes = record {
-          cells = on.sizes.cells;
-          small = on.sizes.small;
-          member_lists = on.sizes.member_lists;
-          member_items = on.sizes.member_items;
-          levels = still.levels ∙ on.sizes.levels;
-          near_lists = on.sizes.near_lists;
-          near_items = on.sizes.near_items;
-        };
-      };
-      fit = omega (arith, is.fit, le);
-    }
+pub ready-on : (arcs : List (Option ℕ)) (node : List ℕ) (members : Lists) (a b : List ℕ) (na nb : Lists) (r s ra rb : ℕ) → AreReady arcs node members a na r ra → AreStillLevelled arcs node a b na nb → r ≤ s → ra ≤ rb → AreReady arcs node members b nb s rb
+ready-on arcs node members a b na nb r s ra rb is still le more = record {
+  nodes = is.nodes;
+  levelled = still.levelled;
+  linkable = linkable-same arcs node members na nb still.same is.linkable;
+  fit = omega (arith, is.fit, le);
+  deep = omega (arith, is.deep, more);
+}
 
 nothing : (xs : List ℕ) (c : ℕ) → xs ≡ [] → IsTrue (is_among c xs) → ⊥
 nothing xs c e t = both_ways _ refl (subst (λ (ys : List ℕ). IsTrue (is_among c ys)) e t)
@@ -190,7 +175,6 @@ module _ (arcs : List (Option ℕ)) (node level new : List ℕ) (near mid : List
         )
       ];
     };
-    levels = lift.levels;
     lost = λ m c t none. elim (link.only m c t) [
       | inl o ↦ elim (cases_Bool (is_among m ahead)) [
         | inl tm ↦ absurd (nothing (list_at mid.lists m) c (lift.cleared m tm) o)
@@ -234,7 +218,6 @@ pruned-still arcs node level a b are is = record {
     there = λ c j arc apart even. is.kept (node_at node j) c j (are.there c j arc apart even) arc apart;
     only = λ m c t. are.only m c (is.fewer m c t);
   };
-  levels = refl;
   lost = λ m c t none. is.fewer m c t;
   same = is.same;
 }

@@ -25,12 +25,12 @@ arc-same [] n c = nones-at n c
 arc-same (a ∷ arcs) n zero = refl
 arc-same (a ∷ arcs) n (suc c) = arc-same arcs n c
 
-read-left : (node : List ℕ) (i v d : ℕ) → i < length node → slice_index_or (node ++ v ∷ []) i d ≡ slice_index_or node i d
+pub read-left : (node : List ℕ) (i v d : ℕ) → i < length node → slice_index_or (node ++ v ∷ []) i d ≡ slice_index_or node i d
 read-left [] i v d lt = absurd (omega arith)
 read-left (x ∷ node) zero v d lt = refl
 read-left (x ∷ node) (suc i) v d lt = read-left node i v d (omega arith)
 
-read-last : (node : List ℕ) (v d : ℕ) → slice_index_or (node ++ v ∷ []) (length node) d ≡ v
+pub read-last : (node : List ℕ) (v d : ℕ) → slice_index_or (node ++ v ∷ []) (length node) d ≡ v
 read-last [] v d = refl
 read-last (x ∷ node) v d = read-last node v d
 

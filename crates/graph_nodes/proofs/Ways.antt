@@ -155,8 +155,8 @@ module _ (arcs : List (Option ℕ)) (node level : List ℕ) (near : Lists) (node
       omega (arith, are.rise e.0 e.1 e.2, at_v, at_w)
 
 -- what a search of the lists reads
-pub searchable-of : (arcs : List (Option ℕ)) (node : List ℕ) (members : Lists) (level : List ℕ) (near : Lists) (end room : ℕ) → AreReady arcs node members level near room → end ≡ length node → IsSearchable arcs node near end room
-searchable-of arcs node members level near end room is e = record {
+pub searchable-of : (arcs : List (Option ℕ)) (node : List ℕ) (members : Lists) (level : List ℕ) (near : Lists) (end room level_room : ℕ) → AreReady arcs node members level near room level_room → end ≡ length node → IsSearchable arcs node near end room
+searchable-of arcs node members level near end room level_room is e = record {
   lists = omega (arith, e, is.linkable.sizes.near_lists);
   cells = λ n c t. let r = is.levelled.only n c t in (r.0, omega (arith, r.0, is.linkable.sizes.cells));
   below = λ i lt. omega (arith, e, is.linkable.below i lt);

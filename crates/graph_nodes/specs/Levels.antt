@@ -7,7 +7,7 @@ use Rattle.graph_nodes.specs.Arcs.{arc_at, node_at, AreBelow, AreEnds, IsArc}
 use Rattle.graph_nodes.specs.Into.{AreLost}
 use Rattle.graph_nodes.specs.Merge.{IsFiled}
 
--- the level of the node m
+-- the level of the node m, which is nought where the table has none
 abbrev pub level_at : List ℕ → ℕ → ℕ
 level_at level m = slice_index_or level m 0
 
@@ -17,11 +17,10 @@ pub record AreLevelled (arcs : List (Option ℕ)) (node level : List ℕ) (near 
   pub there : (c j : ℕ) → arc_at arcs c ≡ Some j → (node_at node (c / 8) ≡ node_at node j → ⊥) → level_at level (node_at node (c / 8)) ≡ level_at level (node_at node j) → IsTrue (is_among c (list_at near.lists (node_at node j)))
   pub only : (m c : ℕ) → IsTrue (is_among c (list_at near.lists m)) → (c < length arcs) × ((j : ℕ) → arc_at arcs c ≡ Some j → (node_at node j ≡ m) × (level_at level (node_at node (c / 8)) ≡ level_at level m))
 
--- each node has a level, and a cell in a list that has no arc is one of a slot that is not held
+-- the levels fit the arcs, and a cell in a list that has no arc is one of a slot that is not held
 pub record HaveLevels (arcs : List (Option ℕ)) (node : List ℕ) (held : List Bool) (level : List ℕ) (near : Lists) : Type 0 where
   pub levelled : AreLevelled arcs node level near
   pub lost : AreLost arcs held near
-  pub levels : length level ≡ length node
   pub lists : length near.lists ≡ length node
   pub items : near.items ≡ length arcs
 
@@ -32,33 +31,32 @@ pub record HasLevelRoom (room slots capacity : ℕ) (near : Lists) : Type 0 wher
   pub items : 8 * room ≤ near.item_room
 
 -- all tables are as long as there are slots, or eight times as long
-pub record AreSized (arcs : List (Option ℕ)) (node : List ℕ) (members : Lists) (level : List ℕ) (near : Lists) : Type 0 where
+pub record AreSized (arcs : List (Option ℕ)) (node : List ℕ) (members near : Lists) : Type 0 where
   pub cells : length arcs ≡ 8 * length node
   pub small : length node ≤ 2 ^ 28
   pub member_lists : length members.lists ≡ length node
   pub member_items : members.items ≡ length node
-  pub levels : length level ≡ length node
   pub near_lists : length near.lists ≡ length node
   pub near_items : near.items ≡ length arcs
 
--- what it takes to put cells into lists: each is listed as a slot's, and there are as many lists, levels and members as slots
-pub record IsLinkable (arcs : List (Option ℕ)) (node : List ℕ) (members : Lists) (level : List ℕ) (near : Lists) : Type 0 where
+-- what it takes to put cells into lists: each is listed as a slot's, and there are as many lists and members as slots
+pub record IsLinkable (arcs : List (Option ℕ)) (node : List ℕ) (members near : Lists) : Type 0 where
   pub ends : AreEnds arcs node (length node)
   pub below : AreBelow node (length node)
   pub filed : IsFiled node members
-  pub sizes : AreSized arcs node members level near
+  pub sizes : AreSized arcs node members near
 
--- what a search for the way between two nodes reads
-pub record AreReady (arcs : List (Option ℕ)) (node : List ℕ) (members : Lists) (level : List ℕ) (near : Lists) (room : ℕ) : Type 0 where
+-- what a search for the way between two nodes reads, where there is memory for so many cells, and for so many levels
+pub record AreReady (arcs : List (Option ℕ)) (node : List ℕ) (members : Lists) (level : List ℕ) (near : Lists) (room level_room : ℕ) : Type 0 where
   pub nodes : AreNodes (IsArc arcs) (node_at node)
   pub levelled : AreLevelled arcs node level near
-  pub linkable : IsLinkable arcs node members level near
+  pub linkable : IsLinkable arcs node members near
   pub fit : length arcs ≤ room
+  pub deep : length node ≤ level_room
 
 -- the levels fit still, and a cell without an arc is in no list that it was not in
 pub record AreStillLevelled (arcs : List (Option ℕ)) (node old new : List ℕ) (old_near new_near : Lists) : Type 0 where
   pub levelled : AreLevelled arcs node new new_near
-  pub levels : length new ≡ length old
   pub lost : (m c : ℕ) → IsTrue (is_among c (list_at new_near.lists m)) → arc_at arcs c ≡ None → IsTrue (is_among c (list_at old_near.lists m))
   pub same : AreAsMany old_near new_near
 
@@ -71,7 +69,6 @@ pub record IsRaisedTo (w l : ℕ) (old new : List ℕ) : Type 0 where
 pub record AreLifted (ahead : List ℕ) (l : ℕ) (old new : List ℕ) (old_near new_near : Lists) : Type 0 where
   pub done : (m : ℕ) → IsTrue (is_among m ahead) → level_at new m ≡ l
   pub rest : (m : ℕ) → (IsTrue (is_among m ahead) → ⊥) → level_at new m ≡ level_at old m
-  pub levels : length new ≡ length old
   pub cleared : (m : ℕ) → IsTrue (is_among m ahead) → list_at new_near.lists m ≡ []
   pub others : (m : ℕ) → (IsTrue (is_among m ahead) → ⊥) → list_at new_near.lists m ≡ list_at old_near.lists m
   pub same : AreAsMany old_near new_near

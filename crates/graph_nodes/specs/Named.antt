@@ -1,5 +1,5 @@
 -- The names of nodes, and which nodes are minimal.
-use Rattle.std.specs.Prelude.{◌≡◌, ℕ, ◌<◌, ◌≤◌, ◌⊎◌, ◌↔◌, ◌+◌, ◌++◌, ◌∷◌, Bool, IsTrue, IsFalse, List, [], length, Option}
+use Rattle.std.specs.Prelude.{◌≡◌, ℕ, zero, suc, ◌<◌, ◌≤◌, ◌⊎◌, ◌↔◌, ◌+◌, ◌++◌, ◌∷◌, Bool, IsTrue, IsFalse, List, [], length, Option}
 use Rattle.oper_core.specs.State.{is_among}
 use Rattle.number_lists.specs.Lists.{Lists, list_at}
 use Rattle.number_lists.specs.Marks.{mark_at}
@@ -40,6 +40,16 @@ pub record Naming : Type 0 where
   pub names : List Bool
   pub minimal : List Bool
   pub room : ℕ
+
+-- what contracts see of a table of names: the name of each node, and for how many more there is memory
+pub record NameList : Type 0 where
+  pub items : List ℕ
+  pub room : ℕ
+
+-- the names of the first so many nodes, each its own slot where the table has none
+abbrev pub names_of : List ℕ → ℕ → List ℕ
+names_of name zero = []
+names_of name (suc n) = names_of name n ++ name_at name n ∷ []
 
 -- each name is a slot
 abbrev pub AreSlots : List ℕ → Type 0

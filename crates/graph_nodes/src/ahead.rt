@@ -7,6 +7,7 @@ ghost use Rattle.graph_nodes.specs.Levels.{level_at};
 ghost use Rattle.graph_nodes.specs.Kept.{IsWide};
 ghost use Rattle.graph_nodes.specs.Merge.{IsFiled};
 
+use crate::levels::level_of;
 use crate::nodes::Nodes;
 use number_lists::NumberSet;
 
@@ -24,7 +25,6 @@ pub(crate) fn find_low(
     requires filed { IsFiled nodes.now.node.now nodes.now.members.now }
     requires size { length nodes.now.arcs.now ≡ 8 * length nodes.now.node.now }
     requires ends { AreEnds nodes.now.arcs.now nodes.now.node.now ahead.old.end }
-    requires levels { ahead.old.end ≤ length level.now }
     requires lists { ahead.old.end ≤ length nodes.now.members.now.lists }
     requires room { nodes.now.members.now.items ≤ vec_capacity slots.old }
     ensures found { AreAhead nodes.now.arcs.now nodes.now.node.now level.now l w ahead.new.members }
@@ -50,7 +50,6 @@ fn follow_slots(slots: &[u32], l: u32, nodes: &Nodes, level: &[u32], ahead: &mut
     requires slots { (i : ℕ) → IsTrue (is_among i slots.now) → i < length nodes.now.node.now }
     requires size { length nodes.now.arcs.now ≡ 8 * length nodes.now.node.now }
     requires ends { AreEnds nodes.now.arcs.now nodes.now.node.now ahead.old.end }
-    requires levels { ahead.old.end ≤ length level.now }
     ensures { AreFollowed (λ c. IsTrue (is_among (c / 8) slots.now)) nodes.now.arcs.now nodes.now.node.now level.now l ahead.old ahead.new }
 {
     for s in slots {
@@ -62,7 +61,6 @@ fn follow_slots(slots: &[u32], l: u32, nodes: &Nodes, level: &[u32], ahead: &mut
 fn follow_slot(slot: u32, l: u32, nodes: &Nodes, level: &[u32], ahead: &mut NumberSet)
     requires cells { 8 * slot + 8 ≤ length nodes.now.arcs.now }
     requires ends { AreEnds nodes.now.arcs.now nodes.now.node.now ahead.old.end }
-    requires levels { ahead.old.end ≤ length level.now }
     ensures { AreFollowed (λ c. c / 8 ≡ slot) nodes.now.arcs.now nodes.now.node.now level.now l ahead.old ahead.new }
 {
     for i in 0..8usize {
@@ -74,7 +72,6 @@ fn follow_slot(slot: u32, l: u32, nodes: &Nodes, level: &[u32], ahead: &mut Numb
 fn follow_arc(cell: usize, l: u32, nodes: &Nodes, level: &[u32], ahead: &mut NumberSet)
     requires cell { cell < length nodes.now.arcs.now }
     requires ends { AreEnds nodes.now.arcs.now nodes.now.node.now ahead.old.end }
-    requires levels { ahead.old.end ≤ length level.now }
     ensures { AreFollowed (λ c. c ≡ cell) nodes.now.arcs.now nodes.now.node.now level.now l ahead.old ahead.new }
 {
     let arcs = nodes.arcs;
@@ -83,7 +80,7 @@ fn follow_arc(cell: usize, l: u32, nodes: &Nodes, level: &[u32], ahead: &mut Num
         return;
     };
     let n = node[to as usize];
-    if level[n as usize] < l {
+    if level_of(n, level) < l {
         ahead.add(n);
     }
 }

@@ -133,7 +133,7 @@ impl SlotGraph {
         self.members.make_room(1, 1)?;
         self.into.make_room(1, 8)?;
         self.searches.make_room(self.arcs.len() + 8)?;
-        self.levels.make_room()?;
+        self.levels.make_room(self.node.len() + 1)?;
         self.room = 1;
         Ok(())
     }
@@ -156,7 +156,6 @@ impl SlotGraph {
         add_cells(&mut self.arcs, &mut self.into);
         self.searches.found.add_number();
         self.searches.ahead.add_number();
-        push_in_room(&mut self.levels.level, 0);
         self.levels.near.add_list();
         add_items(&mut self.levels.near);
         self.room -= 1;

@@ -1,7 +1,8 @@
-ghost use Rattle.std.specs.Prelude.{◌≡◌, ◌≤◌, ◌+◌, [], OnOk, length};
+ghost use Rattle.std.specs.Prelude.{◌≡◌, ℕ, ◌<◌, ◌≤◌, [], OnOk, length};
 ghost use Rattle.std.specs.Vec.{vec_capacity};
+ghost use Rattle.graph_nodes.specs.Levels.{level_at};
 
-use number_lists::SparseChains;
+use number_lists::{SparseChains, push_in_room};
 use oper_core::Memory;
 use std::alloc::Global;
 
@@ -11,7 +12,7 @@ pub(crate) const LEAST_LOOKS: u64 = 64;
 /// The levels of nodes. A search against the arcs looks at the nodes of one level alone.
 #[derive(Drop)]
 pub(crate) struct Levels {
-    /// By node, its level: no arc leads to a lower one.
+    /// By node, its level: no arc leads to a lower one. Past the greatest node that was ever raised, nothing, for nought.
     pub(crate) level: Vec<u32>,
     /// By node, the cells whose arcs lead into it from another node of its level, and some without such an arc.
     pub(crate) near: SparseChains,
@@ -39,17 +40,25 @@ impl Levels {
         }
     }
 
-    /// Takes the memory for one more node. Nothing else changes, also where it is out of memory.
-    pub(crate) fn make_room(&mut self) -> Result<(), Memory>
+    /// The level of the node.
+    pub(crate) fn at(&self, n: u32) -> u32
+        ensures { result ≡ level_at self.now.level.items n }
+    {
+        level_of(n, self.level.as_slice())
+    }
+
+    /// Takes the memory for so many nodes, and for one more list of cells. Nothing else changes, also where it is out of memory.
+    pub(crate) fn make_room(&mut self, nodes: usize) -> Result<(), Memory>
         ensures level { self.new.level.items ≡ self.old.level.items }
         ensures capacity { vec_capacity self.old.level ≤ vec_capacity self.new.level }
         ensures lists { self.new.near.lists ≡ self.old.near.lists }
         ensures items { self.new.near.items ≡ self.old.near.items }
         ensures list_room { self.old.near.list_room ≤ self.new.near.list_room }
         ensures item_room { self.old.near.item_room ≤ self.new.near.item_room }
-        ensures room { OnOk result ((length self.new.level.items + 1 ≤ vec_capacity self.new.level) × (1 ≤ self.new.near.list_room) × (8 ≤ self.new.near.item_room)) }
+        ensures room { OnOk result ((nodes ≤ vec_capacity self.new.level) × (1 ≤ self.new.near.list_room) × (8 ≤ self.new.near.item_room)) }
     {
-        self.level.reserve(1)?;
+        let more = nodes.saturating_sub(self.level.len());
+        self.level.reserve(more)?;
         self.near.make_room(1, 8)?;
         Ok(())
     }
@@ -61,5 +70,36 @@ impl Levels {
         let left = self.spent.saturating_sub(self.used);
         let more = if average < left { average } else { left };
         more.saturating_add(LEAST_LOOKS)
+    }
+}
+
+/// The level of the node, nought where the table has none.
+pub(crate) fn level_of(n: u32, level: &[u32]) -> u32
+    ensures { result ≡ level_at level.now n }
+{
+    let n = n as usize;
+    if n < level.len() { level[n] } else { 0 }
+}
+
+/// Sets the level of the node.
+pub(crate) fn set_level(n: u32, l: u32, level: &mut Vec<u32>)
+    requires { n < vec_capacity level.old }
+    ensures here { level_at level.new.items n ≡ l }
+    ensures others { (m : ℕ) → (m ≡ n → ⊥) → level_at level.new.items m ≡ level_at level.old.items m }
+    ensures capacity { vec_capacity level.old ≤ vec_capacity level.new }
+{
+    fill(n as usize + 1, level);
+    level[n as usize] = l;
+}
+
+/// Writes down the levels of so many nodes at least.
+fn fill(count: usize, level: &mut Vec<u32>)
+    requires { count ≤ vec_capacity level.old }
+    ensures each { (m : ℕ) → level_at level.new.items m ≡ level_at level.old.items m }
+    ensures enough { count ≤ length level.new.items }
+    ensures capacity { vec_capacity level.old ≤ vec_capacity level.new }
+{
+    for i in level.len()..count {
+        push_in_room(level, 0);
     }
 }

@@ -12,6 +12,7 @@ mod graph;
 mod levels;
 mod linking;
 mod merging;
+mod name_table;
 mod names;
 mod nodes;
 mod pruning;

@@ -6,6 +6,7 @@ ghost use Rattle.number_lists.specs.Lists.{IsFree};
 ghost use Rattle.graph_nodes.specs.Arcs.{arc_at, node_at};
 ghost use Rattle.graph_nodes.specs.Levels.{AreLinked, IsLinkable, level_at};
 
+use crate::levels::level_of;
 use crate::nodes::Nodes;
 use number_lists::{NumberSet, SparseChains};
 
@@ -17,7 +18,7 @@ pub(crate) fn link_all(
     near: &mut SparseChains,
     slots: &mut Vec<u32>,
 )
-    requires ready { IsLinkable nodes.now.arcs.now nodes.now.node.now nodes.now.members.now level.now near.old }
+    requires ready { IsLinkable nodes.now.arcs.now nodes.now.node.now nodes.now.members.now near.old }
     requires room { nodes.now.members.now.items ≤ vec_capacity slots.old }
     requires ahead { ahead.now.end ≤ length nodes.now.node.now }
     requires free { (c j : ℕ) → IsTrue (is_among (node_at nodes.now.node.now (c / 8)) ahead.now.members) → arc_at nodes.now.arcs.now c ≡ Some j → IsFree near.old.lists c }
@@ -32,7 +33,7 @@ pub(crate) fn link_all(
 /// Puts the cells of the node that have arcs to other nodes of its level into the lists of these.
 fn link_node(n: u32, nodes: &Nodes, level: &[u32], near: &mut SparseChains, slots: &mut Vec<u32>)
     requires n { n < length nodes.now.node.now }
-    requires ready { IsLinkable nodes.now.arcs.now nodes.now.node.now nodes.now.members.now level.now near.old }
+    requires ready { IsLinkable nodes.now.arcs.now nodes.now.node.now nodes.now.members.now near.old }
     requires room { nodes.now.members.now.items ≤ vec_capacity slots.old }
     requires free { (c j : ℕ) → node_at nodes.now.node.now (c / 8) ≡ n → arc_at nodes.now.arcs.now c ≡ Some j → IsFree near.old.lists c }
     ensures linked { AreLinked (λ c. node_at nodes.now.node.now (c / 8) ≡ n) nodes.now.arcs.now nodes.now.node.now level.now near.old near.new }
@@ -46,7 +47,7 @@ fn link_node(n: u32, nodes: &Nodes, level: &[u32], near: &mut SparseChains, slot
 fn link_slots(slots: &[u32], nodes: &Nodes, level: &[u32], near: &mut SparseChains)
     requires slots { (i : ℕ) → IsTrue (is_among i slots.now) → i < length nodes.now.node.now }
     requires distinct { IsDistinct nat_eq slots.now }
-    requires ready { IsLinkable nodes.now.arcs.now nodes.now.node.now nodes.now.members.now level.now near.old }
+    requires ready { IsLinkable nodes.now.arcs.now nodes.now.node.now nodes.now.members.now near.old }
     requires free { (c j : ℕ) → IsTrue (is_among (c / 8) slots.now) → arc_at nodes.now.arcs.now c ≡ Some j → IsFree near.old.lists c }
     ensures { AreLinked (λ c. IsTrue (is_among (c / 8) slots.now)) nodes.now.arcs.now nodes.now.node.now level.now near.old near.new }
 {
@@ -58,7 +59,7 @@ fn link_slots(slots: &[u32], nodes: &Nodes, level: &[u32], near: &mut SparseChai
 /// Puts the cells of the slot that have arcs to other nodes of one level into the lists of these.
 fn link_slot(slot: u32, nodes: &Nodes, level: &[u32], near: &mut SparseChains)
     requires slot { slot < length nodes.now.node.now }
-    requires ready { IsLinkable nodes.now.arcs.now nodes.now.node.now nodes.now.members.now level.now near.old }
+    requires ready { IsLinkable nodes.now.arcs.now nodes.now.node.now nodes.now.members.now near.old }
     requires free { (c j : ℕ) → c / 8 ≡ slot → arc_at nodes.now.arcs.now c ≡ Some j → IsFree near.old.lists c }
     ensures { AreLinked (λ c. c / 8 ≡ slot) nodes.now.arcs.now nodes.now.node.now level.now near.old near.new }
 {
@@ -70,7 +71,7 @@ fn link_slot(slot: u32, nodes: &Nodes, level: &[u32], near: &mut SparseChains)
 /// Puts the cell into the list of the node to which its arc leads, if that is another one and both are of one level.
 pub(crate) fn link_cell(cell: u32, nodes: &Nodes, level: &[u32], near: &mut SparseChains)
     requires cell { cell < length nodes.now.arcs.now }
-    requires ready { IsLinkable nodes.now.arcs.now nodes.now.node.now nodes.now.members.now level.now near.old }
+    requires ready { IsLinkable nodes.now.arcs.now nodes.now.node.now nodes.now.members.now near.old }
     requires free { (j : ℕ) → arc_at nodes.now.arcs.now cell ≡ Some j → IsFree near.old.lists cell }
     ensures { AreLinked (λ c. c ≡ cell) nodes.now.arcs.now nodes.now.node.now level.now near.old near.new }
 {
@@ -87,9 +88,7 @@ pub(crate) fn link_cell(cell: u32, nodes: &Nodes, level: &[u32], near: &mut Spar
 
 /// Whether these are two nodes of one level.
 fn are_near(m: u32, n: u32, level: &[u32]) -> bool
-    requires m { m < length level.now }
-    requires n { n < length level.now }
     ensures { IsTrue result ↔ ((m ≡ n → ⊥) × (level_at level.now m ≡ level_at level.now n)) }
 {
-    m != n && level[m as usize] == level[n as usize]
+    m != n && level_of(m, level) == level_of(n, level)
 }

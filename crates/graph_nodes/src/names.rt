@@ -5,7 +5,8 @@ ghost use Rattle.graph_nodes.specs.Arcs.{name_at};
 ghost use Rattle.graph_nodes.specs.Named.{AreForgotten, AreNamesMerged, IsTold, IsNameAdded};
 ghost use Rattle.graph_nodes.specs.Removed.{AreAlone};
 
-use number_lists::{NumberSet, NumberTree, push_in_room};
+use crate::name_table::NameTable;
+use number_lists::{NumberSet, NumberTree};
 use oper_core::Memory;
 use std::alloc::Global;
 use std::marker::Model;
@@ -14,7 +15,7 @@ use std::marker::Model;
 #[derive(Drop)]
 pub(crate) struct Names {
     /// By node, its name.
-    name: Vec<u32>,
+    name: NameTable,
     /// The names of the nodes whose slots are held.
     names: NumberTree,
     /// The names of those that are minimal.
@@ -22,13 +23,12 @@ pub(crate) struct Names {
 }
 
 impl Model for Names {
-    ghost use Rattle.std.specs.Prelude.{◌≡◌, ◌-◌, ◌^◌, ◌≤◌, min, length};
-    ghost use Rattle.std.specs.Vec.{vec_capacity};
+    ghost use Rattle.std.specs.Prelude.{◌≡◌, ◌^◌, ◌≤◌, min, length};
     ghost use Rattle.graph_nodes.specs.Named.{Naming, AreSlots};
 
     ghost Value = { Naming };
 
-    ghost view = { λ n. record { name = n.name.items; names = n.names.marks; minimal = n.minimal.marks; room = min (vec_capacity n.name - length n.name.items) (min n.names.room n.minimal.room) } };
+    ghost view = { λ n. record { name = n.name.items; names = n.names.marks; minimal = n.minimal.marks; room = min n.name.room (min n.names.room n.minimal.room) } };
 
     ghost invariant = { λ n. AreSlots n.name.items × (length n.names.marks ≡ length n.name.items) × (length n.minimal.marks ≡ length n.name.items) × (length n.name.items ≤ 2 ^ 32) };
 }
@@ -41,7 +41,7 @@ impl Names {
         ensures minimal { result.minimal ≡ [] }
     {
         Names {
-            name: Vec::new(alloc),
+            name: NameTable::new(alloc),
             names: NumberTree::new(alloc),
             minimal: NumberTree::new(alloc),
         }
@@ -69,7 +69,7 @@ impl Names {
         ensures room { OnOk result (0 < self.new.room) }
         ensures kept { self.old.room ≤ self.new.room }
     {
-        self.name.reserve(1)?;
+        self.name.make_room()?;
         self.names.make_room()?;
         self.minimal.make_room()?;
         Ok(())
@@ -82,7 +82,7 @@ impl Names {
         ensures { IsNameAdded self.old self.new }
     {
         let slot = self.name.len() as u32;
-        push_in_room(&mut self.name, slot);
+        self.name.add();
         self.names.add_number();
         self.names.insert(slot);
         self.minimal.add_number();
@@ -96,10 +96,10 @@ impl Names {
         requires taken { taken.now.end ≤ length self.old.name }
         ensures { AreNamesMerged taken.now.members one self.old self.new }
     {
-        let least = least_name(taken, self.name.as_slice());
-        forget(least, taken, self.name.as_slice(), &mut self.names);
-        forget(least, taken, self.name.as_slice(), &mut self.minimal);
-        self.name[one as usize] = least;
+        let least = least_name(taken, &self.name);
+        forget(least, taken, &self.name, &mut self.names);
+        forget(least, taken, &self.name, &mut self.minimal);
+        self.name.set(one, least);
     }
 
     /// Tells whether no arc leads into the node from another.
@@ -107,7 +107,7 @@ impl Names {
         requires { m < length self.old.name }
         ensures { IsTold m is_free self.old self.new }
     {
-        let name = self.name[m as usize];
+        let name = self.name.get(m);
         let is_minimal = is_free && self.names.contains(name);
         self.minimal.set(name, is_minimal);
     }
@@ -121,22 +121,23 @@ impl Names {
         ensures minimal { self.new.minimal ≡ slice_set self.old.minimal (name_at self.old.name m) false }
         ensures room { self.new.room ≡ self.old.room }
     {
-        let name = self.name[m as usize];
+        let name = self.name.get(m);
         self.names.remove(name);
         self.minimal.remove(name);
-        part(slots, self.name.as_mut_slice());
+        part(slots, &mut self.name);
     }
 }
 
 /// Takes away the marks at the taken nodes' names but the least.
-fn forget(least: u32, taken: &NumberSet, name: &[u32], marks: &mut NumberTree)
-    requires names { taken.now.end ≤ length name.now }
-    requires below { (m : ℕ) → m < length name.now → name_at name.now m < length marks.old.marks }
-    ensures forgotten { AreForgotten taken.now.members name.now least marks.old.marks marks.new.marks }
+fn forget(least: u32, taken: &NumberSet, name: &NameTable, marks: &mut NumberTree)
+    requires names { taken.now.end ≤ length name.now.items }
+    requires below { (m : ℕ) → m < length name.now.items → name_at name.now.items m < length marks.old.marks }
+    ensures forgotten { AreForgotten taken.now.members name.now.items least marks.old.marks marks.new.marks }
     ensures room { marks.new.room ≡ marks.old.room }
 {
     for i in 0..taken.len() {
-        let here = name[taken.get(i) as usize];
+        let m = taken.get(i);
+        let here = name.get(m);
         if here != least {
             marks.remove(here);
         }
@@ -144,25 +145,28 @@ fn forget(least: u32, taken: &NumberSet, name: &[u32], marks: &mut NumberTree)
 }
 
 /// Gives each of the slots its own name.
-fn part(slots: &[u32], name: &mut [u32])
-    requires { (i : ℕ) → IsTrue (is_among i slots.now) → i < length name.old }
-    ensures { AreAlone slots.now name.old name.new }
+fn part(slots: &[u32], name: &mut NameTable)
+    requires { (i : ℕ) → IsTrue (is_among i slots.now) → i < length name.old.items }
+    ensures alone { AreAlone slots.now name.old.items name.new.items }
+    ensures room { name.new.room ≡ name.old.room }
 {
     for s in slots {
-        name[*s as usize] = *s;
+        name.set_own(*s);
     }
 }
 
 /// The least of the taken nodes' names.
-fn least_name(taken: &NumberSet, name: &[u32]) -> u32
+fn least_name(taken: &NumberSet, name: &NameTable) -> u32
     requires some { 0 < length taken.now.members }
-    requires names { taken.now.end ≤ length name.now }
-    ensures least { (m : ℕ) → IsTrue (is_among m taken.now.members) → result ≤ name_at name.now m }
-    ensures from { (m : ℕ) × IsTrue (is_among m taken.now.members) × (result ≡ name_at name.now m) }
+    requires names { taken.now.end ≤ length name.now.items }
+    ensures least { (m : ℕ) → IsTrue (is_among m taken.now.members) → result ≤ name_at name.now.items m }
+    ensures from { (m : ℕ) × IsTrue (is_among m taken.now.members) × (result ≡ name_at name.now.items m) }
 {
-    let mut least = name[taken.get(0) as usize];
+    let first = taken.get(0);
+    let mut least = name.get(first);
     for i in 0..taken.len() {
-        least = smaller(least, name[taken.get(i) as usize]);
+        let m = taken.get(i);
+        least = smaller(least, name.get(m));
     }
     least
 }

@@ -32,7 +32,7 @@ pub(crate) fn find_way(
     requires w { IsOwn nodes.now.arcs.now nodes.now.node.now w }
     requires found_end { searches.old.found.end ≡ length nodes.now.node.now }
     requires ahead_end { searches.old.ahead.end ≡ length nodes.now.node.now }
-    requires ready { AreReady nodes.now.arcs.now nodes.now.node.now nodes.now.members.now levels.old.level.items levels.old.near (vec_capacity searches.old.cells) }
+    requires ready { AreReady nodes.now.arcs.now nodes.now.node.now nodes.now.members.now levels.old.level.items levels.old.near (vec_capacity searches.old.cells) (vec_capacity levels.old.level) }
     requires into { AreInto nodes.now.arcs.now nodes.now.node.now into.now × (length into.now.lists ≡ length nodes.now.node.now) }
     ensures way { AreOnWay nodes.now.arcs.now nodes.now.node.now v w searches.new.found.members }
     ensures fits { (v ≡ w) ⊎ (level_at levels.new.level.items v ≤ level_at levels.new.level.items w) }
@@ -45,8 +45,8 @@ pub(crate) fn find_way(
     if v == w {
         return;
     }
-    let l = levels.level[v as usize];
-    if l < levels.level[w as usize] {
+    let l = levels.at(v);
+    if l < levels.at(w) {
         return;
     }
     if is_led_from(v, w, nodes, into) {
@@ -100,7 +100,7 @@ fn search(v: u32, w: u32, nodes: &Nodes, levels: &mut Levels, searches: &mut Sea
     requires fits { level_at levels.old.level.items v ≤ level_at levels.old.level.items w }
     requires found_end { searches.old.found.end ≡ length nodes.now.node.now }
     requires ahead_end { searches.old.ahead.end ≡ length nodes.now.node.now }
-    requires ready { AreReady nodes.now.arcs.now nodes.now.node.now nodes.now.members.now levels.old.level.items levels.old.near (vec_capacity searches.old.cells) }
+    requires ready { AreReady nodes.now.arcs.now nodes.now.node.now nodes.now.members.now levels.old.level.items levels.old.near (vec_capacity searches.old.cells) (vec_capacity levels.old.level) }
     ensures way { IsToldWay nodes.now.arcs.now nodes.now.node.now v w searches.new.ahead.members result }
     ensures fits { level_at levels.new.level.items v ≤ level_at levels.new.level.items w }
     ensures still { AreStillLevelled nodes.now.arcs.now nodes.now.node.now levels.old.level.items levels.new.level.items levels.old.near levels.new.near }
@@ -117,7 +117,7 @@ fn search(v: u32, w: u32, nodes: &Nodes, levels: &mut Levels, searches: &mut Sea
         return take_way(v, w, nodes, levels, searches);
     }
     give_up(v, w, nodes, levels, searches);
-    if levels.level[v as usize] < levels.level[w as usize] {
+    if levels.at(v) < levels.at(w) {
         return false;
     }
     look_all(v, w, nodes, &levels.near, searches);
@@ -129,7 +129,7 @@ fn give_up(v: u32, w: u32, nodes: &Nodes, levels: &mut Levels, searches: &mut Se
     requires v { v < length nodes.now.node.now }
     requires w { w < length nodes.now.node.now }
     requires ahead_end { searches.old.ahead.end ≡ length nodes.now.node.now }
-    requires ready { AreReady nodes.now.arcs.now nodes.now.node.now nodes.now.members.now levels.old.level.items levels.old.near (vec_capacity searches.old.cells) }
+    requires ready { AreReady nodes.now.arcs.now nodes.now.node.now nodes.now.members.now levels.old.level.items levels.old.near (vec_capacity searches.old.cells) (vec_capacity levels.old.level) }
     ensures fits { level_at levels.new.level.items v ≤ level_at levels.new.level.items w }
     ensures still { AreStillLevelled nodes.now.arcs.now nodes.now.node.now levels.old.level.items levels.new.level.items levels.old.near levels.new.near }
     ensures level { vec_capacity levels.old.level ≤ vec_capacity levels.new.level }
@@ -137,7 +137,7 @@ fn give_up(v: u32, w: u32, nodes: &Nodes, levels: &mut Levels, searches: &mut Se
     ensures ahead { IsWide searches.old.ahead searches.new.ahead }
     ensures capacity { vec_capacity searches.old.cells ≤ vec_capacity searches.new.cells }
 {
-    let l = next_level(levels.level[v as usize]);
+    let l = next_level(levels.at(v));
     let looks = raise(
         w,
         l,
@@ -164,7 +164,7 @@ fn take_way(v: u32, w: u32, nodes: &Nodes, levels: &Levels, searches: &mut Searc
     requires fits { level_at levels.now.level.items v ≤ level_at levels.now.level.items w }
     requires found_end { searches.old.found.end ≡ length nodes.now.node.now }
     requires ahead_end { searches.old.ahead.end ≡ length nodes.now.node.now }
-    requires ready { AreReady nodes.now.arcs.now nodes.now.node.now nodes.now.members.now levels.now.level.items levels.now.near (vec_capacity searches.old.cells) }
+    requires ready { AreReady nodes.now.arcs.now nodes.now.node.now nodes.now.members.now levels.now.level.items levels.now.near (vec_capacity searches.old.cells) (vec_capacity levels.now.level) }
     requires over { IsSearched nodes.now.arcs.now nodes.now.node.now levels.now.near v w searches.old.found.members }
     ensures way { IsToldWay nodes.now.arcs.now nodes.now.node.now v w searches.new.ahead.members result }
     ensures found { searches.new.found ≡ searches.old.found }

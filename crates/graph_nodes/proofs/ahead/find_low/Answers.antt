@@ -26,9 +26,6 @@ follow_slots-requires-clause-slots c i t = (c.requires.filed.only c.get-n.result
 pub follow_slots-requires-clause-ends : goal.follow_slots-requires-clause-ends
 follow_slots-requires-clause-ends c = ends-to c.args.nodes.now.arcs.now c.args.nodes.now.node.now c.args.ahead.now.end c.steps.ahead.end c.steps.invariant.1.end c.requires.ends
 
-pub follow_slots-requires-clause-levels : goal.follow_slots-requires-clause-levels
-follow_slots-requires-clause-levels c = omega (arith, c.requires.levels, c.steps.invariant.1.end)
-
 pub steps-preserved : goal.steps-preserved
 steps-preserved c =
     let was = c.steps.invariant in

@@ -6,11 +6,6 @@ use Rattle.graph_nodes.proofs.ahead.follow_arc.Goals as goal
 pub bounds-node-to : goal.bounds-node-to
 bounds-node-to c = (c.requires.ends c.args.cell c.in-Some.to (arc-read c.args.nodes.now.arcs.now c.args.cell c.index-arcs-cell.result c.get.result c.in-Some.to c.requires.cell c.index-arcs-cell.is c.get.ensures c.in-Some.is)).0
 
-pub bounds-level-n : goal.bounds-level-n
-bounds-level-n c =
-    let ends = c.requires.ends c.args.cell c.in-Some.to (arc-read c.args.nodes.now.arcs.now c.args.cell c.index-arcs-cell.result c.get.result c.in-Some.to c.requires.cell c.index-arcs-cell.is c.get.ensures c.in-Some.is) in
-    omega (arith, ends.1, node-read c.args.nodes.now.node.now c.in-Some.to ends.0, c.requires.levels)
-
 pub add-requires : goal.add-requires
 add-requires c =
     let ends = c.requires.ends c.args.cell c.in-Some.to (arc-read c.args.nodes.now.arcs.now c.args.cell c.index-arcs-cell.result c.get.result c.in-Some.to c.requires.cell c.index-arcs-cell.is c.get.ensures c.in-Some.is) in

@@ -13,7 +13,7 @@ pub link_node-requires-clause-n : goal.link_node-requires-clause-n
 link_node-requires-clause-n c = omega (arith, c.get.ensures.below, c.requires.ahead)
 
 pub link_node-requires-clause-ready : goal.link_node-requires-clause-ready
-link_node-requires-clause-ready c = linkable-same c.args.nodes.now.arcs.now c.args.nodes.now.node.now c.args.nodes.now.members.now c.args.level.now c.args.near.now c.loop-i.near c.loop-i.invariant.0.same c.requires.ready
+link_node-requires-clause-ready c = linkable-same c.args.nodes.now.arcs.now c.args.nodes.now.node.now c.args.nodes.now.members.now c.args.near.now c.loop-i.near c.loop-i.invariant.0.same c.requires.ready
 
 pub link_node-requires-clause-room : goal.link_node-requires-clause-room
 link_node-requires-clause-room c = omega (arith, c.requires.room, c.loop-i.invariant.1)

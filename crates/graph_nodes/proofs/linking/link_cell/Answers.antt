@@ -8,18 +8,6 @@ use Rattle.graph_nodes.proofs.linking.link_cell.Goals as goal
 pub bounds-node-to : goal.bounds-node-to
 bounds-node-to c = (c.requires.ready.ends c.args.cell c.in-Some.to (arc-read c.args.nodes.now.arcs.now c.args.cell c.index-arcs-cell.result c.get.result c.in-Some.to c.requires.cell c.index-arcs-cell.is c.get.ensures c.in-Some.is)).0
 
-pub are_near-requires-clause-m : goal.are_near-requires-clause-m
-are_near-requires-clause-m c =
-    let ready = c.requires.ready in
-    let slot : c.args.cell / 8 < length c.args.nodes.now.node.now = omega (arith, c.requires.cell, ready.sizes.cells) in
-    omega (arith, node-read c.args.nodes.now.node.now (c.args.cell / 8) slot, ready.below (c.args.cell / 8) slot, ready.sizes.levels)
-
-pub are_near-requires-clause-n : goal.are_near-requires-clause-n
-are_near-requires-clause-n c =
-    let ready = c.requires.ready in
-    let ends = ready.ends c.args.cell c.in-Some.to (arc-read c.args.nodes.now.arcs.now c.args.cell c.index-arcs-cell.result c.get.result c.in-Some.to c.requires.cell c.index-arcs-cell.is c.get.ensures c.in-Some.is) in
-    omega (arith, node-read c.args.nodes.now.node.now c.in-Some.to ends.0, ends.1, ready.sizes.levels)
-
 pub push-requires-clause-list : goal.push-requires-clause-list
 push-requires-clause-list c =
     let ready = c.requires.ready in

@@ -10,7 +10,7 @@ pub link_cell-requires-clause-cell : goal.link_cell-requires-clause-cell
 link_cell-requires-clause-cell c = omega (arith, c.requires.slot, c.requires.ready.sizes.cells, c.loop-i-test.true)
 
 pub link_cell-requires-clause-ready : goal.link_cell-requires-clause-ready
-link_cell-requires-clause-ready c = linkable-same c.args.nodes.now.arcs.now c.args.nodes.now.node.now c.args.nodes.now.members.now c.args.level.now c.args.near.now c.loop-i.near c.loop-i.invariant.same c.requires.ready
+link_cell-requires-clause-ready c = linkable-same c.args.nodes.now.arcs.now c.args.nodes.now.node.now c.args.nodes.now.members.now c.args.near.now c.loop-i.near c.loop-i.invariant.same c.requires.ready
 
 pub link_cell-requires-clause-free : goal.link_cell-requires-clause-free
 link_cell-requires-clause-free c j arc =

@@ -15,7 +15,7 @@ link_slot-requires-clause-slot c =
     c.requires.slots (slice_index c.args.slots.now c.loop-s.s-index) (place-among c.args.slots.now c.loop-s.s-index lt)
 
 pub link_slot-requires-clause-ready : goal.link_slot-requires-clause-ready
-link_slot-requires-clause-ready c = linkable-same c.args.nodes.now.arcs.now c.args.nodes.now.node.now c.args.nodes.now.members.now c.args.level.now c.args.near.now c.loop-s.near c.loop-s.invariant.same c.requires.ready
+link_slot-requires-clause-ready c = linkable-same c.args.nodes.now.arcs.now c.args.nodes.now.node.now c.args.nodes.now.members.now c.args.near.now c.loop-s.near c.loop-s.invariant.same c.requires.ready
 
 pub link_slot-requires-clause-free : goal.link_slot-requires-clause-free
 link_slot-requires-clause-free c k j at arc =

@@ -1,20 +1,16 @@
 use Rattle.std.proofs.Common.{arith, inl, inr}
 use Rattle.graph_nodes.proofs.Bare.{bare-apart}
-use Rattle.graph_nodes.proofs.Found.{level-read}
 use Rattle.graph_nodes.proofs.Raised.{still-twice, pruned-still}
 use Rattle.graph_nodes.proofs.Turned.{as-wide-after, wide-twice}
 use Rattle.graph_nodes.proofs.Ways.{below-apart, led-apart, led-fits}
 use Rattle.graph_nodes.proofs.uniting.find_way.Goals as goal
 
-pub returns-then-l-index-clause-way : goal.returns-then-l-index-clause-way
-returns-then-l-index-clause-way c =
+pub returns-then-l-at-clause-way : goal.returns-then-l-at-clause-way
+returns-then-l-at-clause-way c =
     let nodes = c.args.nodes.now in
     let levels = c.args.levels.now in
     let ready = c.requires.ready in
-    let size = ready.linkable.sizes.levels in
-    let v = level-read levels.level.items c.args.v c.index-l.result.now (omega (arith, size, c.requires.v.slot)) c.index-l.ensures in
-    let w = level-read levels.level.items c.args.w c.index.result.now (omega (arith, size, c.requires.w.slot)) c.index.ensures in
-    inl (below-apart nodes.arcs.now nodes.node.now levels.level.items levels.near ready.nodes ready.levelled c.args.v c.args.w (omega (arith, c.if-l-index.true, v, w)), c.clear.ensures.members)
+    inl (below-apart nodes.arcs.now nodes.node.now levels.level.items levels.near ready.nodes ready.levelled c.args.v c.args.w (omega (arith, c.if-l-at.true, c.at-l.ensures, c.at.ensures)), c.clear.ensures.members)
 
 pub is_led_from-requires-clause-list : goal.is_led_from-requires-clause-list
 is_led_from-requires-clause-list c = omega (arith, c.requires.into.1, c.requires.w.slot)

@@ -1,5 +1,5 @@
-use Rattle.std.proofs.Common.{◌≡◌, ◌∙◌, length, arith}
-use Rattle.graph_nodes.proofs.Found.{searching-end, level-read}
+use Rattle.std.proofs.Common.{arith}
+use Rattle.graph_nodes.proofs.Found.{searching-end}
 use Rattle.graph_nodes.proofs.Ways.{below-apart}
 use Rattle.graph_nodes.proofs.uniting.search.Goals as goal
 
@@ -8,15 +8,12 @@ take_way-requires-clause-over c =
     let searches = c.look.new.searches in
     searching-end c.args.nodes.now.arcs.now c.args.nodes.now.node.now c.args.levels.now.near c.args.v c.args.w searches.back.next searches.found.members (omega (arith, c.if-searches-len.true, c.len.ensures.count)) c.look.ensures.against
 
-pub returns-then-index-clause-way : goal.returns-then-index-clause-way
-returns-then-index-clause-way c =
+pub returns-then-at-clause-way : goal.returns-then-at-clause-way
+returns-then-at-clause-way c =
     let nodes = c.args.nodes.now in
     let levels = c.give_up.new.levels in
     let still = c.give_up.ensures.still in
-    let size : length levels.level.items ≡ length nodes.node.now = still.levels ∙ c.requires.ready.linkable.sizes.levels in
-    let v = level-read levels.level.items c.args.v c.index.result.now (omega (arith, size, c.requires.v.slot)) c.index.ensures in
-    let w = level-read levels.level.items c.args.w c.index-2.result.now (omega (arith, size, c.requires.w.slot)) c.index-2.ensures in
-    below-apart nodes.arcs.now nodes.node.now levels.level.items levels.near c.requires.ready.nodes still.levelled c.args.v c.args.w (omega (arith, c.if-index.true, v, w))
+    below-apart nodes.arcs.now nodes.node.now levels.level.items levels.near c.requires.ready.nodes still.levelled c.args.v c.args.w (omega (arith, c.if-at.true, c.at.ensures, c.at-2.ensures))
 
 pub take_way-requires-2-clause-over : goal.take_way-requires-2-clause-over
 take_way-requires-2-clause-over c =

@@ -50,11 +50,11 @@ invariant_of-self c =
         ahead = omega (arith, some, was.ahead, c.add_number-2.ensures.room);
       },
       marked-as (nodes ++ n ∷ []) c.push_in_room.new.items.items (held ++ true ∷ []) c.push_in_room-2.new.items.items c.add_cells.new.into c.add_cells.new.into c.add.new.self c.add.new.self now c.push_in_room-2.ensures.items refl refl refl refl marks,
-      have-as c.add_cells.new.arcs.items c.add_cells.new.arcs.items (nodes ++ n ∷ []) c.push_in_room.new.items.items (held ++ true ∷ []) c.push_in_room-2.new.items.items (c.self.inside.levels.level.items ++ 0 ∷ []) c.push_in_room-3.new.items.items c.add_items.new.lists c.add_items.new.lists
+      have-as c.add_cells.new.arcs.items c.add_cells.new.arcs.items (nodes ++ n ∷ []) c.push_in_room.new.items.items (held ++ true ∷ []) c.push_in_room-2.new.items.items c.self.inside.levels.level.items c.self.inside.levels.level.items c.add_items.new.lists c.add_items.new.lists
           (have-slot c.self.inside.arcs.items c.add_cells.new.arcs.items nodes held c.self.inside.levels.level.items c.self.inside.levels.near c.add_list-3.new.self c.add_items.new.lists c.self.invariant.5 c.self.invariant.0.range.holds c.self.invariant.0.range.cells c.add_cells.ensures.added.arcs c.add_list-3.ensures c.add_items.ensures)
-          refl now c.push_in_room-2.ensures.items c.push_in_room-3.ensures.items refl refl,
+          refl now c.push_in_room-2.ensures.items refl refl refl,
       record {
-        level = omega (arith, size, some, c.self.invariant.6.level, c.push_in_room-3.ensures.capacity);
+        level = omega (arith, size, some, c.self.invariant.6.level);
         lists = omega (arith, some, c.self.invariant.6.lists, c.add_list-3.ensures.list_room, c.add_items.ensures.list_room);
         items = omega (arith, some, c.self.invariant.6.items, c.add_list-3.ensures.item_room, c.add_items.ensures.item_room);
       },
@@ -73,11 +73,6 @@ returns-clause-nodes c =
     c.self.invariant.0 small names c.add_list.ensures c.add_item.ensures push c.add_list-2.ensures c.add_cells.ensures.added in
     let now : c.push_in_room.new.items.items ≡ nodes ++ n ∷ [] = c.push_in_room.ensures.items ∙ ap (λ (k : ℕ). nodes ++ k ∷ []) e in
     subst (λ (xs : List ℕ). AreNodes (IsArc c.add_cells.new.arcs.items) (node_at xs)) (sym now) after.nodes
-
-pub push_in_room-requires-3 : goal.push_in_room-requires-3
-push_in_room-requires-3 c =
-    let some : 0 < c.self.inside.room = subst (λ (g : Graph). 0 < g.room) (sym c.self.view_is) c.requires.room in
-    omega (arith, some, c.self.invariant.6.level, c.self.invariant.5.levels, c.self.inside.levels.level.ok.0)
 
 pub add_list-requires-3 : goal.add_list-requires-3
 add_list-requires-3 c =

@@ -50,8 +50,8 @@ find_way-requires-clause-ahead_end c = c.self.invariant.2 ∙ sym (ap length c.a
 
 pub find_way-requires-clause-ready : goal.find_way-requires-clause-ready
 find_way-requires-clause-ready c =
-    ready-at c.self.inside.arcs.items c.as_slice.result.now c.self.inside.node.items c.as_slice-2.result.now c.self.inside.held.items c.self.inside.names.name c.self.inside.members c.self.inside.into c.self.inside.levels.level.items c.self.inside.levels.near (vec_capacity c.self.inside.searches.cells)
-    c.self.invariant.0 c.self.invariant.5 (omega (arith, c.self.invariant.3.scratch)) c.as_slice.ensures.value c.as_slice-2.ensures.value
+    ready-at c.self.inside.arcs.items c.as_slice.result.now c.self.inside.node.items c.as_slice-2.result.now c.self.inside.held.items c.self.inside.names.name c.self.inside.members c.self.inside.into c.self.inside.levels.level.items c.self.inside.levels.near (vec_capacity c.self.inside.searches.cells) (vec_capacity c.self.inside.levels.level)
+    c.self.invariant.0 c.self.invariant.5 (omega (arith, c.self.invariant.3.scratch)) (omega (arith, c.self.invariant.6.level)) c.as_slice.ensures.value c.as_slice-2.ensures.value
 
 pub find_way-requires-clause-into : goal.find_way-requires-clause-into
 find_way-requires-clause-into c =
@@ -406,10 +406,9 @@ link_cell-requires-clause-ready c =
     let still : AreStillLevelled arcs old level raised near na = still-at c.as_slice.result.now arcs c.as_slice-2.result.now old level raised near na c.as_slice.ensures.value c.as_slice-2.ensures.value c.find_way.ensures.still in
     let moved : AreMoved (gathered join.0 (node_at new c.args.to)) na nb = subst (λ (k : ℕ). AreMoved (gathered join.0 k) na nb) at c.join_lists.ensures in
     let size = join.2.3.size in
-    let ready = linkable-kept set new held names.name c.gather.new.members c.tidy.new.into raised nb after (still.levels ∙ c.self.invariant.5.levels ∙ sym size) (moved.same.lists ∙ still.same.lists ∙ c.self.invariant.5.lists ∙ sym size) (moved.same.items ∙ still.same.items ∙ c.self.invariant.5.items ∙ sym (length-set arcs c.args.cell (Some c.args.to))) in
-    subst (λ (xs : List ℕ). IsLinkable c.as_slice-5.result.now c.as_slice-6.result.now c.gather.new.members xs nb) (sym c.as_slice-7.ensures.value)
-    (subst (λ (xs : List ℕ). IsLinkable c.as_slice-5.result.now xs c.gather.new.members raised nb) (sym (c.as_slice-6.ensures.value ∙ back))
-    (subst (λ (xs : List (Option ℕ)). IsLinkable xs new c.gather.new.members raised nb) (sym (c.as_slice-5.ensures.value ∙ stored)) ready))
+    let ready = linkable-kept set new held names.name c.gather.new.members c.tidy.new.into nb after (moved.same.lists ∙ still.same.lists ∙ c.self.invariant.5.lists ∙ sym size) (moved.same.items ∙ still.same.items ∙ c.self.invariant.5.items ∙ sym (length-set arcs c.args.cell (Some c.args.to))) in
+    subst (λ (xs : List ℕ). IsLinkable c.as_slice-5.result.now xs c.gather.new.members nb) (sym (c.as_slice-6.ensures.value ∙ back))
+    (subst (λ (xs : List (Option ℕ)). IsLinkable xs new c.gather.new.members nb) (sym (c.as_slice-5.ensures.value ∙ stored)) ready)
 
 pub link_cell-requires-clause-free : goal.link_cell-requires-clause-free
 link_cell-requires-clause-free c j arc =

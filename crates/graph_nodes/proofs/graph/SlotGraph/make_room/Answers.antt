@@ -109,7 +109,7 @@ invariant_of-self-2 c =
           c.make_room.ensures.name c.make_room.ensures.names c.make_room.ensures.minimal c.self.invariant.4,
       have-as c.self.inside.arcs.items c.reserve.new.self.items c.self.inside.node.items c.reserve-2.new.self.items c.self.inside.held.items c.reserve-3.new.self.items c.self.inside.levels.level.items c.make_room-5.new.self.level.items c.self.inside.levels.near c.make_room-5.new.self.near c.self.invariant.5 c.reserve.ensures.items c.reserve-2.ensures.items c.reserve-3.ensures.items c.make_room-5.ensures.level c.make_room-5.ensures.lists c.make_room-5.ensures.items,
       record {
-        level = omega (arith, same, c.in_ok-make_room-5.ensures.room.0, ap length c.make_room-5.ensures.level, c.self.invariant.5.levels);
+        level = omega (arith, same, c.in_ok-make_room-5.ensures.room.0, c.len-2.ensures, c.reserve-2.new.self.ok.0);
         lists = c.in_ok-make_room-5.ensures.room.1;
         items = c.in_ok-make_room-5.ensures.room.2;
       },
