@@ -47,12 +47,13 @@ stays_closed before after x closing same closed cached =
     ⊎_elim (λ kept. kept ∙ was) (λ none. none) (closing.spare_lsns x)
 
 -- what is known while the spare slots of some objects are closed, one after the other
-pub record HaveClosed (first now : Disk) (before after : Laid) (done : List ℕ) : Type 0 where
+pub record HaveClosed (first now : Disk) (before after : Laid) (written : Bool) (done : List ℕ) : Type 0 where
   pub runs : Runs (In Objects (KeepsButGates before.slots)) Same first now
   pub slots : IsClosing before.slots after.slots
   pub cache : after.cache ≡ before.cache
   pub closed : All (HasClosedSpare after) done
   pub are : first.tells_files → AreOf before.slots (first.reads Objects) → AreOf after.slots (now.reads Objects)
+  pub idle : written ≡ false → IsSettled first → IsSettled now
 
 -- The spare slots are closed, and then filled.
 module _ (old mid : Disk) (before after : SlotsView) (closing : IsClosing before after) (first : Runs (In Objects (KeepsButGates before)) Same old mid)

@@ -1,7 +1,7 @@
 // Objects are made ready for their flush: what is cached of them is written to the slots that don't hold them, whose gates stay
 // closed.
-ghost use Rattle.std.specs.Prelude.{◌≡◌, ℕ, List, [], ◌∷◌, All, false, OnOk, IsErr};
-ghost use Rattle.disk_model.specs.Disk.{Any, In, IsSettled, LeavesOnly, Rises, Runs, Same};
+ghost use Rattle.std.specs.Prelude.{◌≡◌, ℕ, List, [], ◌∷◌, All, true, false, IfOk, OnOk, IsErr};
+ghost use Rattle.disk_model.specs.Disk.{Any, In, IsSettled, IsSettledIn, LeavesOnly, Rises, Runs, Same, Stays};
 ghost use Rattle.disk_model.specs.declared.machine.FileNo.TheVariants.{Objects as ObjectsFile};
 ghost use Rattle.formats.specs.declared.params.Params.{Params as Numbers};
 ghost use Rattle.stable_objects.specs.SlotsView.{AreOf};
@@ -23,24 +23,39 @@ use crate::store::Store;
 use disk_model::{Failed, FileNo, Machine};
 use oper_core::Oper;
 
+// Syncs the objects file, if something was written to it.
+fn sync_written<M: Machine>(machine: &mut M, written: bool) -> Result<(), Failed>
+    ensures kept { Stays (M.disk machine.old) (M.disk machine.new) }
+    ensures settled { written ≡ true → OnOk result (IsSettledIn ObjectsFile (M.disk machine.new)) }
+    ensures idle { written ≡ false → machine.new ≡ machine.old }
+    ensures cause { IsErr result → Rises (M.disk machine.old).disk_faults (M.disk machine.new).disk_faults }
+{
+    if written {
+        machine.sync(FileNo::Objects)?;
+    }
+    Ok(())
+}
+
 impl Objects {
-    /// Closes the slot that doesn't hold an object, if the object is cached. Nothing is synced.
-    fn close_spare<M: Machine>(&mut self, machine: &mut M, object: u32) -> Result<(), Failed>
+    /// Closes the slot that doesn't hold an object, if the object is cached, and says whether it was open. Nothing is synced.
+    fn close_spare<M: Machine>(&mut self, machine: &mut M, object: u32) -> Result<bool, Failed>
         ensures runs { Runs (In ObjectsFile (KeepsButGates self.old.slots)) Same (M.disk machine.old) (M.disk machine.new) }
         ensures slots { IsClosing self.old.slots self.new.slots }
         ensures cache { self.new.cache ≡ self.old.cache }
         ensures closed { OnOk result (HasClosedSpare self.new object) }
         ensures are { (M.disk machine.old).tells_files → AreOf self.old.slots ((M.disk machine.old).reads ObjectsFile) →
             OnOk result (AreOf self.new.slots ((M.disk machine.new).reads ObjectsFile)) }
+        ensures idle { IfOk result (λ was_open. was_open ≡ false → machine.new ≡ machine.old) }
         ensures cause { IsErr result → Rises (M.disk machine.old).disk_faults (M.disk machine.new).disk_faults }
     {
+        let mut was_open = false;
         if self.holds(object) {
-            self.slots.close_spare(machine, object)?;
+            was_open = self.slots.close_spare(machine, object)?;
         }
-        Ok(())
+        Ok(was_open)
     }
 
-    /// Closes the slots that don't hold these objects, of those that are cached, and syncs them.
+    /// Closes the slots that don't hold these objects, of those that are cached, with one sync where one of them was open.
     fn close_spares<M: Machine>(&mut self, machine: &mut M, objects: &[u32]) -> Result<(), Failed>
         ensures runs { Runs (In ObjectsFile (KeepsButGates self.old.slots)) Same (M.disk machine.old) (M.disk machine.new) }
         ensures slots { IsClosing self.old.slots self.new.slots }
@@ -51,10 +66,11 @@ impl Objects {
         ensures settled { IsSettled (M.disk machine.old) → OnOk result (IsSettled (M.disk machine.new)) }
         ensures cause { IsErr result → Rises (M.disk machine.old).disk_faults (M.disk machine.new).disk_faults }
     {
+        let mut written = false;
         for object in objects {
-            self.close_spare(machine, *object)?;
+            written |= self.close_spare(machine, *object)?;
         }
-        machine.sync(FileNo::Objects)?;
+        sync_written(machine, written)?;
         Ok(())
     }
 
@@ -117,7 +133,7 @@ impl Objects {
 
 impl<O: Oper> Store<O> {
     /// Makes these objects ready to be flushed, of those that are cached, with two syncs: the slots that don't hold them are
-    /// closed and then filled. The flush of one that did not change since then has only to open a gate. No gate is opened
+    /// closed (without a sync where all are) and then filled. The flush of one that did not change since then has only to open a gate. No gate is opened
     /// here, so the store shows the world that it showed.
     pub fn prepare<M: Machine>(&mut self, machine: &mut M, objects: &[u32]) -> Result<(), Failed>
         requires unbroken { self.old.broken ≡ false }

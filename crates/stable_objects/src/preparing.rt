@@ -1,6 +1,6 @@
 // The slots that hold no object are closed and filled, and their gates stay closed. So several objects are made ready for
 // their new values with two syncs, and no reader of them sees it.
-ghost use Rattle.std.specs.Prelude.{◌≡◌, ◌<◌, ◌≤◌, length, OnOk, IsErr};
+ghost use Rattle.std.specs.Prelude.{◌≡◌, ◌<◌, ◌≤◌, length, false, IfOk, OnOk, IsErr};
 ghost use Rattle.disk_model.specs.Disk.{Rises, Runs, In, Same};
 ghost use Rattle.disk_model.specs.declared.machine.FileNo.TheVariants.{Objects};
 ghost use Rattle.stable_objects.specs.Replacing.{IsFilled};
@@ -14,24 +14,26 @@ use crate::replacing::write_slot;
 use disk_model::{Failed, FileNo, Machine};
 
 impl Slots {
-    /// Closes the slot that doesn't hold an object, if it is open. Nothing is synced. It fails where the device does.
-    pub fn close_spare<M: Machine>(&mut self, machine: &mut M, object: u32) -> Result<(), Failed>
+    /// Closes the slot that doesn't hold an object, and says whether it was open. Nothing is synced. It fails where the
+    /// device does.
+    pub fn close_spare<M: Machine>(&mut self, machine: &mut M, object: u32) -> Result<bool, Failed>
         requires { object < self.old.params.objects }
         ensures runs { Runs (In Objects (KeepsButGates self.old)) Same (M.disk machine.old) (M.disk machine.new) }
         ensures slots { IsClosing self.old self.new }
         ensures closed { OnOk result (spare_lsn self.new object ≡ 0) }
         ensures are { (M.disk machine.old).tells_files → AreOf self.old ((M.disk machine.old).reads Objects) →
             OnOk result (AreOf self.new ((M.disk machine.new).reads Objects)) }
+        ensures idle { IfOk result (λ was_open. was_open ≡ false → machine.new ≡ machine.old) }
         ensures cause { IsErr result → Rises (M.disk machine.old).disk_faults (M.disk machine.new).disk_faults }
     {
         let slot = self.spare(object);
         if self.heads[slot] == 0 {
-            return Ok(());
+            return Ok(false);
         }
         let place = gate_place(self.layout(), slot as u32);
         machine.write_at(FileNo::Objects, place, &[CLOSED])?;
         self.heads[slot] = 0;
-        Ok(())
+        Ok(true)
     }
 
     /// Writes an LSN and a value into the slot that doesn't hold an object, if it is closed, and leaves its gate so.

@@ -52,24 +52,20 @@ module _ (g : Over) (c : After-give_back g) where
   count : length c.lend-lent.result ≡ length objects
   count = ap length values ∙ length-map objects (cached_values c.args.cache.now)
 
-pub returns-clause-made : goal.returns-clause-made
-returns-clause-made g c =
-    let at = goal.at.returns-clause-made g c in
+pub returns : goal.returns
+returns g c =
     let m = g.O.Oper.meaning c.args.bounds in
-    let reads = values g at.After-give_back ∙ ap (map (cached_values c.args.cache.now)) (reads_are g at.After-give_back) in
-    IfOk-weaker c.apply_in_place-answer.result (λ made. made ≡ m.effect c.args.op c.lend-lent.result) (λ made. made ≡ m.effect c.args.op (map (cached_values c.args.cache.now) (m.reads c.args.op)))
-    (λ made is. is ∙ ap (λ (vs : List (List ℕ)). m.effect c.args.op vs) reads) c.apply_in_place-answer.ensures.made
-
-pub returns-clause-kept : goal.returns-clause-kept
-returns-clause-kept g c =
-    let at = (goal.at.returns-clause-kept g c).After-give_back in
-    let m = g.O.Oper.meaning c.args.bounds in
-    on_ok_weaker c.apply_in_place-answer.result
-    (λ kept. back g at (m.writes c.args.op) (λ x out among. unwritten (objects g at) (m.writes c.args.op) c.lend-lent.result c.apply_in_place-answer.new.values x
-    (subst (λ (l : List ℕ). KeepsUnwritten l (m.writes c.args.op) c.lend-lent.result c.apply_in_place-answer.new.values) (sym (reads_are g at)) kept) (count g at) out among))
-    c.apply_in_place-answer.ensures.kept
-
-pub returns-clause-same : goal.returns-clause-same
-returns-clause-same g c =
-    let at = (goal.at.returns-clause-same g c).After-give_back in
-    on_err_weaker c.apply_in_place-answer.result (λ same. back g at [] (λ x out among. ap (λ (vs : List (List ℕ)). value_for x (objects g at) vs) same)) c.apply_in_place-answer.ensures.err
+    let at = (goal.at.returns g c).After-give_back in
+    record {
+      made =
+          let at = goal.at.returns g c in
+          let reads = values g at.After-give_back ∙ ap (map (cached_values c.args.cache.now)) (reads_are g at.After-give_back) in
+          IfOk-weaker c.apply_in_place-answer.result (λ made. made ≡ m.effect c.args.op c.lend-lent.result) (λ made. made ≡ m.effect c.args.op (map (cached_values c.args.cache.now) (m.reads c.args.op)))
+          (λ made is. is ∙ ap (λ (vs : List (List ℕ)). m.effect c.args.op vs) reads) c.apply_in_place-answer.ensures.made;
+      kept =
+          on_ok_weaker c.apply_in_place-answer.result
+          (λ kept. back g at (m.writes c.args.op) (λ x out among. unwritten (objects g at) (m.writes c.args.op) c.lend-lent.result c.apply_in_place-answer.new.values x
+          (subst (λ (l : List ℕ). KeepsUnwritten l (m.writes c.args.op) c.lend-lent.result c.apply_in_place-answer.new.values) (sym (reads_are g at)) kept) (count g at) out among))
+          c.apply_in_place-answer.ensures.kept;
+      same = on_err_weaker c.apply_in_place-answer.result (λ same. back g at [] (λ x out among. ap (λ (vs : List (List ℕ)). value_for x (objects g at) vs) same)) c.apply_in_place-answer.ensures.err;
+    }

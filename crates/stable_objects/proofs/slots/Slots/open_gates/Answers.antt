@@ -1,4 +1,4 @@
-use Rattle.std.proofs.Common.{◌≡◌, ℕ, List, ◌<◌, length, take, refl, sym, subst, arith}
+use Rattle.std.proofs.Common.{rules, ◌≡◌, ℕ, List, ◌<◌, length, take, refl, sym, subst, arith}
 use Rattle.std.specs.Prelude.{slice_index}
 use Rattle.std.proofs.lemmas.List.{take_all}
 use Rattle.disk_model.specs.Disk.{Files}
@@ -24,31 +24,22 @@ loop-object-preserved g c =
     opened_more c.args.self.now objects all i c.loop-object-test.true _ _ _ c.loop-object.invariant c.open_spare.ensures.runs c.in_ok-open_spare.ensures.opened
     (among_all (λ (x : ℕ). x < c.args.self.now.params.objects) objects all) (λ x there. among_front x i objects there)
 
-pub returns-in_err-open_spare-clause-runs : goal.returns-in_err-open_spare-clause-runs
-returns-in_err-open_spare-clause-runs g c =
-    let objects = c.args.objects.now in
-    let i = c.loop-object.object-index in
-    run_on c.args.self.now objects _ _ _ c.loop-object.invariant.runs
-    (open_run c.args.self.now objects (slice_index objects i) (c.requires.below i 0 c.loop-object-test.true) (among_at objects i c.loop-object-test.true) _ _ c.open_spare.ensures.runs)
-
-pub returns-in_err-open_spare-clause-cells : goal.returns-in_err-open_spare-clause-cells
-returns-in_err-open_spare-clause-cells g c pairs told are ready =
+pub returns-in_err-open_spare : goal.returns-in_err-open_spare
+returns-in_err-open_spare g c =
     let objects = c.args.objects.now in
     let i = c.loop-object.object-index in
     let run = run_on c.args.self.now objects _ _ _ c.loop-object.invariant.runs
     (open_run c.args.self.now objects (slice_index objects i) (c.requires.below i 0 c.loop-object-test.true) (among_at objects i c.loop-object-test.true) _ _ c.open_spare.ensures.runs) in
-    old_or_new c.args.self.now objects pairs _ _ are ready (run.reads told).changed
-
-pub returns-in_err-open_spare-clause-any_moment : goal.returns-in_err-open_spare-clause-any_moment
-returns-in_err-open_spare-clause-any_moment g c pairs told settled are ready =
-    let objects = c.args.objects.now in
-    let i = c.loop-object.object-index in
-    let run = run_on c.args.self.now objects _ _ _ c.loop-object.invariant.runs
-    (open_run c.args.self.now objects (slice_index objects i) (c.requires.below i 0 c.loop-object-test.true) (among_at objects i c.loop-object-test.true) _ _ c.open_spare.ensures.runs) in
-    gates_moments c.args.self.now objects pairs _ _ run told settled are ready
-
-pub returns-in_err-open_spare-clause-cause : goal.returns-in_err-open_spare-clause-cause
-returns-in_err-open_spare-clause-cause g c is_err below = let risen = c.in_err-open_spare.ensures.cause refl below in omega (arith, risen, c.loop-object.invariant.runs.time.disk_faults)
+    record {
+      runs =
+          run_on c.args.self.now objects _ _ _ c.loop-object.invariant.runs
+          (open_run c.args.self.now objects (slice_index objects i) (c.requires.below i 0 c.loop-object-test.true) (among_at objects i c.loop-object-test.true) _ _ c.open_spare.ensures.runs);
+      opened = search rules;
+      settled = search rules;
+      cells = λ pairs told are ready. old_or_new c.args.self.now objects pairs _ _ are ready (run.reads told).changed;
+      any_moment = λ pairs told settled are ready. gates_moments c.args.self.now objects pairs _ _ run told settled are ready;
+      cause = λ is_err below. let risen = c.in_err-open_spare.ensures.cause refl below in omega (arith, risen, c.loop-object.invariant.runs.time.disk_faults);
+    }
 
 pub returns-in_err-sync-clause-runs : goal.returns-in_err-sync-clause-runs
 returns-in_err-sync-clause-runs g c = runs_then_stays _ _ _ _ c.loop-object.invariant.runs c.sync.ensures.kept
