@@ -1,7 +1,7 @@
 ghost use Rattle.std.specs.Prelude.{◌≡◌, ◌<◌, ◌≤◌, ◌^◌, ◌++◌, [], ◌∷◌, List, ℕ, IfNone, IfOk, IfSome, drop, length};
 ghost use Rattle.std.specs.List.{AllByRecursion};
 ghost use Rattle.oper_core.specs.Meaning.{StartsWithCode};
-ghost use Rattle.op_rows.specs.Rows.{all_numbers, names_code, text_of};
+ghost use Rattle.op_rows.specs.Rows.{all_numbers, names_code, objects_alone, text_of, with_number as a_number};
 ghost use Rattle.op_rows.specs.RowLaws.{rows_bounded, rows_lawful, rows_widen};
 ghost use Rattle.op_meaning.specs.Table.{is_plain_tag, plain_meaning, plain_row};
 ghost use Rattle.op_meaning.specs.TableLaws.{are_plain_rows, plain_tagged};
@@ -38,6 +38,27 @@ pub enum PlainOp {
     AppWrite { app: u32, to: u32 },
 }
 
+// Two objects, without a number and a text.
+fn of_two<'a>(tag: u8, x: u32, y: u32, reads: Objs, writes: Objs) -> Names<'a>
+    ensures { result ≡ objects_alone tag (x ∷ y ∷ []) reads writes }
+{
+    Names::of_objects(tag, both(x, y), reads, writes)
+}
+
+// Two objects, of which the first is read, and a number.
+fn with_number<'a>(tag: u8, x: u32, y: u32, number: u32, writes: Objs) -> Names<'a>
+    ensures { result ≡ a_number tag (x ∷ y ∷ []) number (x ∷ []) writes }
+{
+    Names {
+        tag,
+        objects: both(x, y),
+        number: Some(number),
+        text: None,
+        reads: Objs::one(x),
+        writes,
+    }
+}
+
 impl PlainOp {
     /// What it names: the first half of its row.
     fn names(&self) -> Names<'_>
@@ -53,55 +74,31 @@ impl PlainOp {
                 reads: Objs::new(),
                 writes: Objs::one(*object),
             },
-            PlainOp::Copy { from, to } => Names::of_objects(
-                2,
+            PlainOp::Copy { from, to } => of_two(2, *from, *to, Objs::one(*from), Objs::one(*to)),
+            PlainOp::Append { from, to } => of_two(3, *from, *to, both(*from, *to), Objs::one(*to)),
+            PlainOp::Cut { from, to, place } => with_number(
+                4,
+                *from,
+                *to,
+                *place,
                 both(*from, *to),
-                Objs::one(*from),
-                Objs::one(*to),
             ),
-            PlainOp::Append { from, to } => Names::of_objects(
-                3,
-                both(*from, *to),
-                both(*from, *to),
-                Objs::one(*to),
-            ),
-            PlainOp::Cut { from, to, place } => Names {
-                tag: 4,
-                objects: both(*from, *to),
-                number: Some(*place),
-                text: None,
-                reads: Objs::one(*from),
-                writes: both(*from, *to),
-            },
-            PlainOp::Sort { from, to, width } => Names {
-                tag: 5,
-                objects: both(*from, *to),
-                number: Some(*width),
-                text: None,
-                reads: Objs::one(*from),
-                writes: Objs::one(*to),
-            },
-            PlainOp::Swap { first, second } => Names::of_objects(
-                6,
-                both(*first, *second),
-                both(*first, *second),
-                both(*first, *second),
-            ),
+            PlainOp::Sort { from, to, width } => with_number(5, *from, *to, *width, Objs::one(*to)),
+            PlainOp::Swap {
+                first: x,
+                second: y,
+            } => of_two(6, *x, *y, both(*x, *y), both(*x, *y)),
             PlainOp::Exec { app } => {
                 Names::of_objects(7, Objs::one(*app), Objs::one(*app), Objs::one(*app))
             }
-            PlainOp::AppRead { app, from } => Names::of_objects(
+            PlainOp::AppRead { app, from } => of_two(
                 8,
-                both(*app, *from),
+                *app,
+                *from,
                 both(*app, *from),
                 Objs::one(*app),
             ),
-            PlainOp::AppWrite { app, to } => Names::of_objects(
-                9,
-                both(*app, *to),
-                Objs::one(*app),
-                Objs::one(*to),
-            ),
+            PlainOp::AppWrite { app, to } => of_two(9, *app, *to, Objs::one(*app), Objs::one(*to)),
         }
     }
 
