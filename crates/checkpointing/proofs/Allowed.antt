@@ -11,9 +11,9 @@ use Rattle.running_store.specs.Courses.Stop.{Through, Full, Worn}
 use Rattle.formats.specs.Limits.{log_limit, lsn_end}
 use Rattle.running_store.specs.Running.{AreUpkeep, IsRunning, KeepsSound, MayBeTaken, may_be_taken, running_after}
 use Rattle.running_store.specs.RewriteLaws.{gate_allowed}
-use Rattle.running_store.specs.Rewrites.{checkpoint_length, new_base, rewrite_course, trimmed, trimmed_file}
+use Rattle.running_store.specs.Rewrites.{checkpoint_length, new_base, rewrite_within, trimmed, trimmed_file}
 use Rattle.cache_manager.specs.Upkeep.{upkeep_append}
-use Rattle.checkpointing.specs.Courses.{taking_course, checkpoint_steps, checkpoint_course, closing_course, logged_course, trim_course}
+use Rattle.checkpointing.specs.Courses.{taking_course, checkpoint_steps, checkpoint_course, closing_course, logged_course, trim_within}
 
 -- steps on the log alone, which may be taken wherever calls are made
 abbrev ArePlain : {O : Type 0} → List (Step O) → Type 0
@@ -88,19 +88,19 @@ module _ {O : Type 0} (m : Meaning O) where
     forced_running : IsRunning m v
     forced_running = running_after m w (force_steps m w) keeps is (plain_upkeep (force_steps m w) (plain_force w)) (plain_allowed w (force_steps m w) (plain_force w) is.live is.alone)
 
-    rewrite_allowed : (used : ℕ) → AreAllowed m v (rewrite_course m v used).steps
-    rewrite_allowed used =
-        cond_both (nat_lt log_limit (trimmed_file m v)) (course [] used (Full used (trimmed_file m v) log_limit)) (course (Header_gate (new_base m v) ∷ []) (trimmed m v) Through) (λ (c : Course O). AreAllowed m v c.steps) (λ full. tt)
+    rewrite_allowed : (most used : ℕ) → AreAllowed m v (rewrite_within m most v used).steps
+    rewrite_allowed most used =
+        cond_both (nat_lt most (trimmed_file m v)) (course [] used (Full used (trimmed_file m v) most)) (course (Header_gate (new_base m v) ∷ []) (trimmed m v) Through) (λ (c : Course O). AreAllowed m v c.steps) (λ full. tt)
         (λ fits. (gate_allowed m v forced_running.sound forced_running.live forced_running.alone forced_all, tt))
 
-    rewrite_upkeep : (used : ℕ) → AreUpkeep (rewrite_course m v used).steps
-    rewrite_upkeep used =
-        cond_both (nat_lt log_limit (trimmed_file m v)) (course [] used (Full used (trimmed_file m v) log_limit)) (course (Header_gate (new_base m v) ∷ []) (trimmed m v) Through) (λ (c : Course O). AreUpkeep c.steps) (λ full. tt) (λ fits. (tt, tt))
+    rewrite_upkeep : (most used : ℕ) → AreUpkeep (rewrite_within m most v used).steps
+    rewrite_upkeep most used =
+        cond_both (nat_lt most (trimmed_file m v)) (course [] used (Full used (trimmed_file m v) most)) (course (Header_gate (new_base m v) ∷ []) (trimmed m v) Through) (λ (c : Course O). AreUpkeep c.steps) (λ full. tt) (λ fits. (tt, tt))
 
-    pub trim_taken : (epoch used : ℕ) → MayBeTaken m w (trim_course m epoch w used).steps
-    trim_taken epoch used =
-        let rest = rewrite_course m v used in
-        cond_both (nat_le lsn_end epoch) (course [] used (Worn epoch)) (and_then m w (force_course m w used) (λ v used. rewrite_course m v used)) (λ (c : Course O). MayBeTaken m w c.steps)
+    pub trim_taken : (most epoch used : ℕ) → MayBeTaken m w (trim_within m most epoch w used).steps
+    trim_taken most epoch used =
+        let rest = rewrite_within m most v used in
+        cond_both (nat_le lsn_end epoch) (course [] used (Worn epoch)) (and_then m w (force_course m w used) (λ v used. rewrite_within m most v used)) (λ (c : Course O). MayBeTaken m w c.steps)
         (λ worn. plain_taken [] tt)
-        (λ early. may_be_taken m w (force_steps m w ++ rest.steps) keeps is (upkeep_append m (force_steps m w) rest.steps (plain_upkeep (force_steps m w) (plain_force w)) (rewrite_upkeep used))
-        (allowed-append m w (force_steps m w) rest.steps (plain_allowed w (force_steps m w) (plain_force w) is.live is.alone) (rewrite_allowed used)))
+        (λ early. may_be_taken m w (force_steps m w ++ rest.steps) keeps is (upkeep_append m (force_steps m w) rest.steps (plain_upkeep (force_steps m w) (plain_force w)) (rewrite_upkeep most used))
+        (allowed-append m w (force_steps m w) rest.steps (plain_allowed w (force_steps m w) (plain_force w) is.live is.alone) (rewrite_allowed most used)))

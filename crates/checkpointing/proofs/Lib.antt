@@ -5,3 +5,4 @@ mod Closing
 mod Base
 mod Trimmed
 mod Allowed
+mod Kept

@@ -24,38 +24,38 @@ use Rattle.running_store.specs.Courses.{and_then, course, force_course}
 use Rattle.running_store.specs.Courses.Stop.{Worn}
 use Rattle.running_store.specs.Finished.{IsQuiet}
 use Rattle.running_store.specs.Parts.{Parts, Shows, meaning_in}
-use Rattle.running_store.specs.Rewrites.{IsKeptFrom, rewrite_course}
+use Rattle.running_store.specs.Rewrites.{IsKeptFrom, rewrite_within}
 use Rattle.running_store.specs.Taking.{Ending, Takes}
 use Rattle.running_store.specs.Taking.Ending.{Done, Stopped, Failed}
 use Rattle.running_store.specs.TakesLaws.{takes_both, takes_first, takes_none, takes_same, takes_stop}
 use Rattle.checkpointing.specs.Checkpoints.{IsTakenBy}
-use Rattle.checkpointing.specs.Courses.{trim_course}
+use Rattle.checkpointing.specs.Courses.{trim_within}
 use Rattle.checkpointing.specs.Left.{DamagedBy, IsTooLong}
 use Rattle.checkpointing.proofs.Base.{base_is}
 use Rattle.checkpointing.proofs.CheckpointLogs.{taken_here}
 
 -- the log has had its last epoch
-pub trim_worn : {O : Type 0} (meaning : Bounds → Meaning O) (d : Disk) (it : Parts) (epoch told : ℕ) → told ≡ epoch → lsn_end ≤ epoch → IsDisk d → Takes meaning d d it it (λ m w used. trim_course m epoch w used) (Stopped (Worn told))
-trim_worn meaning d it epoch told same last lawful =
-    takes_same meaning d d it it (λ m w used. course [] used (Worn told)) (λ m w used. trim_course m epoch w used) (Stopped (Worn told))
+pub trim_worn : {O : Type 0} (meaning : Bounds → Meaning O) (d : Disk) (it : Parts) (most epoch told : ℕ) → told ≡ epoch → lsn_end ≤ epoch → IsDisk d → Takes meaning d d it it (λ m w used. trim_within m most epoch w used) (Stopped (Worn told))
+trim_worn meaning d it most epoch told same last lawful =
+    takes_same meaning d d it it (λ m w used. course [] used (Worn told)) (λ m w used. trim_within m most epoch w used) (Stopped (Worn told))
     (λ p w shows. ap (λ (k : ℕ). course [] (used_of it.log.log) (Worn k)) same ∙ sym (cond-true (nat_le lsn_end epoch) _ _ (le-leb lsn_end epoch last)))
     (takes_stop meaning d d it it (λ m w. []) (Worn told) (takes_none meaning d it lawful))
 
-module _ {O : Type 0} (meaning : Bounds → Meaning O) (epoch : ℕ) (early : epoch < lsn_end) (old new : Disk) (before after : Parts) where
-  trims : (ending : Ending) → Takes meaning old new before after (λ m w used. and_then m w (force_course m w used) (λ v used. rewrite_course m v used)) ending → Takes meaning old new before after (λ m w used. trim_course m epoch w used) ending
+module _ {O : Type 0} (meaning : Bounds → Meaning O) (most epoch : ℕ) (early : epoch < lsn_end) (old new : Disk) (before after : Parts) where
+  trims : (ending : Ending) → Takes meaning old new before after (λ m w used. and_then m w (force_course m w used) (λ v used. rewrite_within m most v used)) ending → Takes meaning old new before after (λ m w used. trim_within m most epoch w used) ending
   trims ending =
-      takes_same meaning old new before after (λ m w used. and_then m w (force_course m w used) (λ v used. rewrite_course m v used)) (λ m w used. trim_course m epoch w used) ending
+      takes_same meaning old new before after (λ m w used. and_then m w (force_course m w used) (λ v used. rewrite_within m most v used)) (λ m w used. trim_within m most epoch w used) ending
       (λ p w shows. sym (cond-false (nat_le lsn_end epoch) _ _ (lt-leb lsn_end epoch early)))
 
   -- the force fails
-  pub trim_unforced : Takes meaning old new before after (λ m w used. force_course m w used) Failed → Takes meaning old new before after (λ m w used. trim_course m epoch w used) Failed
-  trim_unforced takes = trims Failed (takes_first meaning (λ m w used. force_course m w used) (λ m v used. rewrite_course m v used) old new before after Failed tt takes)
+  pub trim_unforced : Takes meaning old new before after (λ m w used. force_course m w used) Failed → Takes meaning old new before after (λ m w used. trim_within m most epoch w used) Failed
+  trim_unforced takes = trims Failed (takes_first meaning (λ m w used. force_course m w used) (λ m v used. rewrite_within m most v used) old new before after Failed tt takes)
 
   -- it is done, and then the log is rewritten, or not
-  pub trim_then : (mid : Disk) (here : Parts) (ending : Ending) → IsQuiet old mid → Takes meaning old mid before here (λ m w used. force_course m w used) Done → Takes meaning mid new here after (λ m v used. rewrite_course m v used) ending
-      → Takes meaning old new before after (λ m w used. trim_course m epoch w used) ending
+  pub trim_then : (mid : Disk) (here : Parts) (ending : Ending) → IsQuiet old mid → Takes meaning old mid before here (λ m w used. force_course m w used) Done → Takes meaning mid new here after (λ m v used. rewrite_within m most v used) ending
+      → Takes meaning old new before after (λ m w used. trim_within m most epoch w used) ending
   trim_then mid here ending quiet first second =
-      trims ending (takes_both meaning (λ m w used. force_course m w used) (λ m v used. rewrite_course m v used) old mid new before here after ending quiet first second)
+      trims ending (takes_both meaning (λ m w used. force_course m w used) (λ m v used. rewrite_within m most v used) old mid new before here after ending quiet first second)
 
 -- the least of a checkpoint's starts and of the log's next LSN
 pub record IsLeastStart (log : RecordLogView) (table : DirtyPageTable) (base : ℕ) : Type 0 where
@@ -96,12 +96,12 @@ kept_from meaning lawful d it table so base least p w shows =
     }
 
 -- so it is rewritten after the force, or not
-pub trim_rewrites : {O : Type 0} (meaning : Bounds → Meaning O) (epoch : ℕ) → epoch < lsn_end → (old new : Disk) (before after : Parts) (mid : Disk) (here : Parts) (ending : Ending) → IsQuiet old mid
+pub trim_rewrites : {O : Type 0} (meaning : Bounds → Meaning O) (most epoch : ℕ) → epoch < lsn_end → (old new : Disk) (before after : Parts) (mid : Disk) (here : Parts) (ending : Ending) → IsQuiet old mid
     → Takes meaning old mid before here (λ m w used. force_course m w used) Done → ((b : Bounds) → IsSmall b → IsLawful (meaning b)) → (table : DirtyPageTable) → IsTakenBy meaning here table → (base : ℕ) → IsLeastStart here.log table base
-    → (((p : Params) (w : World O) → Shows (meaning_in meaning p) p mid here w → IsKeptFrom (meaning_in meaning p) w base table) → Takes meaning mid new here after (λ m w used. rewrite_course m w used) ending)
-    → Takes meaning old new before after (λ m w used. trim_course m epoch w used) ending
-trim_rewrites meaning epoch early old new before after mid here ending quiet forced lawful table so base least rewrites =
-    trim_then meaning epoch early old new before after mid here ending quiet forced (rewrites (kept_from meaning lawful mid here table so base least))
+    → (((p : Params) (w : World O) → Shows (meaning_in meaning p) p mid here w → IsKeptFrom (meaning_in meaning p) w base table) → Takes meaning mid new here after (λ m w used. rewrite_within m most w used) ending)
+    → Takes meaning old new before after (λ m w used. trim_within m most epoch w used) ending
+trim_rewrites meaning most epoch early old new before after mid here ending quiet forced lawful table so base least rewrites =
+    trim_then meaning most epoch early old new before after mid here ending quiet forced (rewrites (kept_from meaning lawful mid here table so base least))
 
 -- where there is no start it is the next LSN
 pub least_next : (log : RecordLogView) (table : DirtyPageTable) (base : ℕ) → IsLeastStart log table base → table.starts ≡ [] → base ≡ log.next
@@ -109,12 +109,12 @@ least_next log table base least none =
     let high = least.greatest log.next (omega arith) (subst (λ (l : List (ℕ × ℕ)). All (λ s. log.next ≤ s.1) l) (sym none) (λ k d below. absurd (omega (arith, below)))) in omega (arith, high, least.next)
 
 -- what is reported to be damaged, and what to be too long
-pub fails_told : (rises : Type 0) (fault : FileNo → ℕ → Type 0) (length_is : ℕ → Type 0) (log : LogView) (e : RewriteErr) → RewriteFails rises fault length_is log e → DamagedBy fault e × IsTooLong e
-fails_told rises fault length_is log DiskFault cause = (tt, tt)
-fails_told rises fault length_is log (LogFull len need limit) cause = (tt, cause.3)
-fails_told rises fault length_is log (Damaged file place) cause = (cause.0, tt)
-fails_told rises fault length_is log (Exhausted epoch) cause = (tt, tt)
-fails_told rises fault length_is log Memory cause = (tt, tt)
+pub fails_told : (rises : Type 0) (fault : FileNo → ℕ → Type 0) (length_is : ℕ → Type 0) (log : LogView) (most : ℕ) (e : RewriteErr) → RewriteFails rises fault length_is log most e → DamagedBy fault e × IsTooLong e
+fails_told rises fault length_is log most DiskFault cause = (tt, tt)
+fails_told rises fault length_is log most (LogFull len need limit) cause = (tt, cause.3)
+fails_told rises fault length_is log most (Damaged file place) cause = (cause.0, tt)
+fails_told rises fault length_is log most (Exhausted epoch) cause = (tt, tt)
+fails_told rises fault length_is log most Memory cause = (tt, tt)
 
 pub none_damaged : (e : RewriteErr) → (FindsDamage e → ⊥) → DamagedBy (λ file place. ⊥) e
 none_damaged DiskFault none = tt

@@ -3,7 +3,8 @@ ghost use Rattle.oper_core.specs.Meaning.{IsSmall};
 ghost use Rattle.oper_core.specs.declared.bounds.Bounds.{Bounds};
 ghost use Rattle.explain_core.specs.World.{World};
 ghost use Rattle.running_store.specs.Running.{IsRunning, MayBeTaken};
-ghost use Rattle.checkpointing.specs.Courses.{checkpoint_course, closing_course, trim_course};
+ghost use Rattle.checkpointing.specs.declared.due.Due.{Due};
+ghost use Rattle.checkpointing.specs.Courses.{checkpoint_course, closing_course, trim_within, upkeep_course};
 
 use oper_core::Oper;
 
@@ -23,10 +24,19 @@ pub fn closing_checkpoint_may_be_taken<O: Oper>()
     explain_core::every_run_keeps::<O>();
 }
 
-/// And so may a trim of a log of any epoch.
+/// So may a trim of a log of any epoch, however long it may leave the log.
 pub fn trim_may_be_taken<O: Oper>()
-    ensures { (b : Bounds) (w : World O) (epoch used : ℕ) → IsSmall b → IsRunning (O.meaning b) w →
-        MayBeTaken (O.meaning b) w (trim_course (O.meaning b) epoch w used).steps }
+    ensures { (b : Bounds) (w : World O) (most epoch used : ℕ) → IsSmall b → IsRunning (O.meaning b) w →
+        MayBeTaken (O.meaning b) w (trim_within (O.meaning b) most epoch w used).steps }
 {
     explain_core::every_run_keeps::<O>();
+}
+
+/// And so may upkeep, whatever is due.
+pub fn upkeep_may_be_taken<O: Oper>()
+    ensures { (b : Bounds) (w : World O) (due : Due) (epoch copied used : ℕ) → IsSmall b → IsRunning (O.meaning b) w →
+        MayBeTaken (O.meaning b) w (upkeep_course (O.meaning b) due epoch copied w used).steps }
+{
+    explain_core::every_run_keeps::<O>();
+    cache_manager::turn_may_be_taken::<O>();
 }

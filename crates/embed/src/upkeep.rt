@@ -1,5 +1,5 @@
-// Groups, forces, installs, checkpoints and trims.
-ghost use Rattle.std.specs.Prelude.{◌≡◌, true, false, ℕ, None, Some, Ok, IfSome, Result};
+// Groups, forces, installs, checkpoints, trims and upkeep.
+ghost use Rattle.std.specs.Prelude.{◌≡◌, true, false, ℕ, None, Some, Ok, IfSome, Result, max};
 ghost use Rattle.disk_model.specs.Disk.{Passes};
 ghost use Rattle.disk_model.specs.declared.machine.Failed.{Failed as ForceFailure};
 ghost use Rattle.log_records.specs.declared.rewrite_err.RewriteErr.{RewriteErr as RewriteFailure};
@@ -7,13 +7,14 @@ ghost use Rattle.cache_manager.specs.declared.install.Install.{Install as Instal
 ghost use Rattle.cache_manager.specs.declared.install_err.InstallErr.{InstallErr as InstallFailure};
 ghost use Rattle.checkpointing.specs.declared.checkpoint_err.CheckpointErr.{CheckpointErr as CheckpointFailure};
 ghost use Rattle.op_codec.specs.AllOps.{all_meaning};
-ghost use Rattle.store_engine.specs.Calls.{IsBeginning, IsTakingCheckpoint, IsDraining, IsForcing, IsInstalling, IsRefused, IsRefusedBeside, IsTrimming, work_of_checkpoint, work_of_force, work_of_install, work_of_trim};
+ghost use Rattle.store_engine.specs.Calls.{IsBeginning, IsTakingCheckpoint, IsDraining, IsForcing, IsInstalling, IsRefused, IsRefusedBeside, IsTending, IsTrimming, work_of_checkpoint, work_of_force, work_of_install, work_of_trim};
 ghost use Rattle.store_engine.specs.Engine.{group_size};
+ghost use Rattle.store_engine.specs.Upkept.{IsKeptUp, IsLeftAlone};
 ghost use Rattle.embed.specs.Embedded.{IsStillBroken, Reports};
 
 use crate::Store;
 use disk_model::Machine;
-use store_engine::{Install, Stat, WorkErr};
+use store_engine::{Install, Pace, ReadErr, Stat, Upkeep, WorkErr};
 
 impl<M: Machine + Drop> Store<M> {
     /// Makes all commands durable. It answers how many there are; in a group `InGroup`.
@@ -82,6 +83,34 @@ impl<M: Machine + Drop> Store<M> {
             return Err(WorkErr::DiskFault);
         }
         self.engine.drain(&mut self.machine)
+    }
+
+    /// One turn of upkeep: installs so many nodes together at most (of 0 it is one), with four syncs at most, or one alone, as the
+    /// engine's `tend`. It answers how many: none exactly where none was left.
+    pub fn tend(&mut self, most: usize) -> Result<u64, WorkErr>
+        ensures time { Passes (M.disk self.old.machine) (M.disk self.new.machine) }
+        ensures in_group { self.old.engine.broken ≡ false → IfSome (group_size self.old.engine) (λ size. IsRefused size self.old.machine self.new.machine self.old.engine self.new.engine result) }
+        ensures alone { self.old.engine.broken ≡ false → self.old.engine.group ≡ None → (answer : Result ℕ InstallFailure) × (result ≡ work_of_install answer) × IsTending all_meaning (M.disk self.old.machine) (M.disk self.new.machine) self.old.engine self.new.engine (max 1 most) answer }
+        ensures broken { self.old.engine.broken ≡ true → IsStillBroken WorkErr.DiskFault self.old self.new result }
+    {
+        if self.engine.is_broken() {
+            return Err(WorkErr::DiskFault);
+        }
+        self.engine.tend(&mut self.machine, most)
+    }
+
+    /// Upkeep at a pace, for a program that makes this call after each of its others: at most one turn and at most one short trim, as
+    /// the engine's `keep_up`. In a group nothing is done.
+    pub fn keep_up(&mut self, pace: &mut Pace) -> Result<Upkeep, ReadErr>
+        ensures time { Passes (M.disk self.old.machine) (M.disk self.new.machine) }
+        ensures in_group { self.old.engine.broken ≡ false → IfSome (group_size self.old.engine) (λ size. IsLeftAlone self.old.machine self.new.machine self.old.engine self.new.engine result) }
+        ensures alone { self.old.engine.broken ≡ false → self.old.engine.group ≡ None → IsKeptUp all_meaning (M.disk self.old.machine) (M.disk self.new.machine) self.old.engine self.new.engine result }
+        ensures broken { self.old.engine.broken ≡ true → IsStillBroken ReadErr.DiskFault self.old self.new result }
+    {
+        if self.engine.is_broken() {
+            return Err(ReadErr::DiskFault);
+        }
+        self.engine.keep_up(&mut self.machine, pace)
     }
 
     /// Logs a checkpoint of where a redo begins, and makes it durable.

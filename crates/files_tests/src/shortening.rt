@@ -5,7 +5,7 @@ use crate::log::{NEW_LOG, empty_store};
 use crate::records::{BOUNDS, counts, four_records, loaded};
 use dirty_page_table::{DirtyPageTable, Starts};
 use disk_model::{Crash, FileNo, Machine, MemMachine};
-use formats::ReadErr;
+use formats::{MAX_LOG, ReadErr};
 use log_records::{RecordLog, RewriteErr};
 use op_meaning::PlainOp;
 use std::alloc::Global;
@@ -47,7 +47,7 @@ pub fn shorten<M: Machine>(
 {
     let next = log.next();
     if log.buffered() == 0 && log.base() <= base && base <= next {
-        log.rewrite(machine, base, DirtyPageTable { next, starts })?;
+        log.rewrite(machine, base, DirtyPageTable { next, starts }, MAX_LOG)?;
     }
     Ok(())
 }

@@ -142,10 +142,10 @@ module _ {O : Type 0} (m : Meaning O) where
   new_commands h base records range are low = let below = left_below m base h.base h.base records are in omega (arith, range.commands, below, low)
 
 -- why it fails where the old log could not be read
-pub read_fails : (rises : Type 0) (fault : FileNo → ℕ → Type 0) (length_is : ℕ → Type 0) (log : LogView) (e : ReadErr) → log.header.epoch < 2 ^ 62 → FailsBy rises fault e → RewriteFails rises fault length_is log (rewrite_from_read e)
-read_fails rises fault length_is log DiskFault early fails = (fails, early)
-read_fails rises fault length_is log (Damaged file place) early fails = (fails, early)
-read_fails rises fault length_is log Memory early fails = early
+pub read_fails : (rises : Type 0) (fault : FileNo → ℕ → Type 0) (length_is : ℕ → Type 0) (log : LogView) (most : ℕ) (e : ReadErr) → log.header.epoch < 2 ^ 62 → FailsBy rises fault e → RewriteFails rises fault length_is log most (rewrite_from_read e)
+read_fails rises fault length_is log most DiskFault early fails = (fails, early)
+read_fails rises fault length_is log most (Damaged file place) early fails = (fails, early)
+read_fails rises fault length_is log most Memory early fails = early
 
 -- and it found no damage where none was reported
 pub none_found : (e : ReadErr) → (TellsDamage e → ⊥) → FindsDamage (rewrite_from_read e) → ⊥

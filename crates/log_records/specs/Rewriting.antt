@@ -125,18 +125,18 @@ pub record IsRefused {O : Type 0} (m : Meaning O) (before after : Disk) (log : R
 abbrev pub IsNewLength : {O : Type 0} → Meaning O → Disk → RecordLogView → ℕ → DirtyPageTable → ℕ → Type 0
 IsNewLength {O = O} m d log base table n = d.tells_files → (stable : List (Record O)) → Keeps m d log stable [] → n ≡ file_length (new_payloads m base table stable)
 
--- and over such files that length is within its range
-abbrev pub IsWithinLength : {O : Type 0} → Meaning O → Disk → RecordLogView → ℕ → DirtyPageTable → Type 0
-IsWithinLength {O = O} m d log base table = d.tells_files → (stable : List (Record O)) → Keeps m d log stable [] → file_length (new_payloads m base table stable) ≤ 2 ^ 48
+-- and over such files that length is at most this one
+abbrev pub IsWithinLength : {O : Type 0} → Meaning O → Disk → RecordLogView → ℕ → DirtyPageTable → ℕ → Type 0
+IsWithinLength {O = O} m d log base table most = d.tells_files → (stable : List (Record O)) → Keeps m d log stable [] → file_length (new_payloads m base table stable) ≤ most
 
 -- Why a rewrite fails: at the last epoch; or else by a fault of the disk, by damage in the old log, out of memory,
--- or where the new file would be longer than 2^48 bytes.
-abbrev pub RewriteFails : Type 0 → (FileNo → ℕ → Type 0) → (ℕ → Type 0) → LogView → RewriteErr → Type 0
-RewriteFails rises fault length_is log DiskFault = rises × (log.header.epoch < 2 ^ 62)
-RewriteFails rises fault length_is log (LogFull used need limit) = (used ≡ used_of log) × length_is need × (limit ≡ 2 ^ 48) × (limit < need) × (log.header.epoch < 2 ^ 62)
-RewriteFails rises fault length_is log (Damaged file place) = fault file place × (log.header.epoch < 2 ^ 62)
-RewriteFails rises fault length_is log (Exhausted epoch) = (epoch ≡ log.header.epoch) × (epoch ≡ 2 ^ 62)
-RewriteFails rises fault length_is log Memory = log.header.epoch < 2 ^ 62
+-- or where the new file would have more bytes than it may have.
+abbrev pub RewriteFails : Type 0 → (FileNo → ℕ → Type 0) → (ℕ → Type 0) → LogView → ℕ → RewriteErr → Type 0
+RewriteFails rises fault length_is log most DiskFault = rises × (log.header.epoch < 2 ^ 62)
+RewriteFails rises fault length_is log most (LogFull used need limit) = (used ≡ used_of log) × length_is need × (limit ≡ most) × (limit < need) × (log.header.epoch < 2 ^ 62)
+RewriteFails rises fault length_is log most (Damaged file place) = fault file place × (log.header.epoch < 2 ^ 62)
+RewriteFails rises fault length_is log most (Exhausted epoch) = (epoch ≡ log.header.epoch) × (epoch ≡ 2 ^ 62)
+RewriteFails rises fault length_is log most Memory = log.header.epoch < 2 ^ 62
 
 -- it reports damage in the old log
 abbrev pub FindsDamage : RewriteErr → Type 0
@@ -153,10 +153,10 @@ rewrite_from_read (of_read.Damaged file place) = Damaged file place
 rewrite_from_read of_read.Memory = Memory
 
 -- How a rewrite of this log ends. Where it fails the log is as it was, and is in force, unless a fault of the disk is reported.
--- Where the new file would have more than 2^48 bytes no file is changed. It succeeds only before the last epoch, and with a file
--- within that length.
-pub record IsRewriteEnd {O T : Type 0} (m : Meaning O) (before after : Disk) (log now : RecordLogView) (base : ℕ) (table : DirtyPageTable) (result : Result T RewriteErr) : Type 0 where
+-- Where the new file would have more bytes than it may have no file is changed. It succeeds only before the last epoch, and with a
+-- file of at most so many bytes.
+pub record IsRewriteEnd {O T : Type 0} (m : Meaning O) (before after : Disk) (log now : RecordLogView) (base : ℕ) (table : DirtyPageTable) (most : ℕ) (result : Result T RewriteErr) : Type 0 where
   pub kept : OnErr result (now ≡ log)
   pub refused : IfErr result (λ e. e ≢ DiskFault → IsRefused m before after log)
-  pub long : before.tells_files → (stable : List (Record O)) → Keeps m before log stable [] → 2 ^ 48 < file_length (new_payloads m base table stable) → Stays before after
-  pub made : OnOk result ((log.log.header.epoch < 2 ^ 62) × IsWithinLength m before log base table)
+  pub long : before.tells_files → (stable : List (Record O)) → Keeps m before log stable [] → most < file_length (new_payloads m base table stable) → Stays before after
+  pub made : OnOk result ((log.log.header.epoch < 2 ^ 62) × IsWithinLength m before log base table most)

@@ -1,5 +1,5 @@
 // What a new log will be, before anything of it is written.
-ghost use Rattle.std.specs.Prelude.{◌≡◌, ◌<◌, ◌+◌, ◌^◌, ◌∷◌, [], List, IfErr, IfOk};
+ghost use Rattle.std.specs.Prelude.{◌≡◌, ◌<◌, ◌≤◌, ◌+◌, ◌^◌, ◌∷◌, [], List, IfErr, IfOk};
 ghost use Rattle.disk_model.specs.Disk.{Rises, Stays};
 ghost use Rattle.formats.specs.Reading.{FailsBy, TellsDamage};
 ghost use Rattle.formats.specs.declared.record.Record.{Record};
@@ -15,7 +15,7 @@ use crate::new_log::NewLog;
 use crate::{RecordLog, RewriteErr};
 use dirty_page_table::DirtyPageTable;
 use disk_model::Machine;
-use formats::{BLOCK_HEAD, LSN_END, MAX_LOG, ReadErr};
+use formats::{BLOCK_HEAD, LSN_END, ReadErr};
 use log_blocks::LogWriter;
 use oper_core::Oper;
 
@@ -66,22 +66,24 @@ impl<O: Oper> RecordLog<O> {
         })
     }
 
-    // The same, where a file has room for it, and a writer for the other file.
+    // The same, where its file has at most so many bytes, and a writer for the other file.
     pub(crate) fn plan<M: Machine>(
         &self,
         m: &mut M,
         base: u64,
         table: &DirtyPageTable,
+        most: u64,
     ) -> Result<(NewLog, LogWriter), RewriteErr>
-        requires { IsRewritable (O.meaning self.now.bounds) self.now base table.now }
+        requires rewritable { IsRewritable (O.meaning self.now.bounds) self.now base table.now }
+        requires most { most ≤ 2 ^ 48 }
         ensures kept { Stays (M.disk m.old) (M.disk m.new) }
         ensures may { IfOk result (λ it. MayReplace (O.meaning self.now.bounds) (M.disk m.new) self.now base table.now it.0 it.1) }
-        ensures within { IfOk result (λ _. IsWithinLength (O.meaning self.now.bounds) (M.disk m.old) self.now base table.now) }
+        ensures within { IfOk result (λ _. IsWithinLength (O.meaning self.now.bounds) (M.disk m.old) self.now base table.now most) }
         ensures idle { self.now.log.header.epoch ≡ 2 ^ 62 → m.new ≡ m.old }
         ensures undamaged { (M.disk m.old).tells_files → (stable : List (Record O)) → Keeps (O.meaning self.now.bounds) (M.disk m.old) self.now stable []
             → IfErr result (λ e. FindsDamage e → ⊥) }
         ensures cause { IfErr result (RewriteFails (Rises (M.disk m.old).disk_faults (M.disk m.new).disk_faults)
-            (IsTailFault (O.meaning self.now.bounds) (M.disk m.new) self.now.log) (IsNewLength (O.meaning self.now.bounds) (M.disk m.old) self.now base table.now) self.now.log) }
+            (IsTailFault (O.meaning self.now.bounds) (M.disk m.new) self.now.log) (IsNewLength (O.meaning self.now.bounds) (M.disk m.old) self.now base table.now) self.now.log most) }
     {
         let epoch = self.log.epoch();
         if epoch >= LSN_END {
@@ -89,11 +91,11 @@ impl<O: Oper> RecordLog<O> {
         }
         let new = self.measure_new(m, base, table)?;
         let need = file_length(&new.lengths);
-        if need > MAX_LOG {
+        if need > most {
             return Err(RewriteErr::LogFull {
                 used: self.log.used(),
                 need,
-                limit: MAX_LOG,
+                limit: most,
             });
         }
         let out = self.log.writer(self.alloc)?;

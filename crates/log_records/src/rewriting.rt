@@ -129,16 +129,18 @@ impl<O: Oper> RecordLog<O> {
     }
 
     /// Puts a new log in the place of this one: the commands and identity writes from a base on, and after them a checkpoint.
-    /// They stand in blocks of whole records, each as full as these allow. The new log is in force once it is whole, so
-    /// at any moment it is that one or the old one. No more than one record and 64 KiB of the new log are in memory at a
+    /// They stand in blocks of whole records, each as full as these allow. Where its file would have more than `most` bytes
+    /// `LogFull` is answered. The new log is in force once it is whole, so at any moment it is that one or the old one. No more than one record and 64 KiB of the new log are in memory at a
     /// time. At `DiskFault` of a write, load the log again.
     pub fn rewrite<M: Machine>(
         &mut self,
         m: &mut M,
         base: u64,
         table: DirtyPageTable,
+        most: u64,
     ) -> Result<(), RewriteErr>
-        requires { IsRewritable (O.meaning self.old.bounds) self.old base table }
+        requires rewritable { IsRewritable (O.meaning self.old.bounds) self.old base table }
+        requires most { most ≤ 2 ^ 48 }
         ensures runs { Runs (In (other_of self.old.log.active) Any) Same (M.disk m.old) (M.disk m.new) }
 
         // A crash at any moment of the call leaves the old log in force, or the new one, whole.
@@ -151,16 +153,16 @@ impl<O: Oper> RecordLog<O> {
 
         ensures settled { IsSettled (M.disk m.old) → OnOk result (IsSettled (M.disk m.new)) }
         ensures rewritten { OnOk result ((payloads : List (List ℕ)) × (commands : ℕ) × (self.new ≡ record self.old { log = rewritten self.old.log base commands payloads })) }
-        ensures ends { IsRewriteEnd (O.meaning self.old.bounds) (M.disk m.old) (M.disk m.new) self.old self.new base table result }
+        ensures ends { IsRewriteEnd (O.meaning self.old.bounds) (M.disk m.old) (M.disk m.new) self.old self.new base table most result }
 
         // At the last epoch no call is made.
         ensures idle { self.old.log.header.epoch ≡ 2 ^ 62 → m.new ≡ m.old }
         ensures undamaged { (M.disk m.old).tells_files → (stable : List (Record O)) → Keeps (O.meaning self.old.bounds) (M.disk m.old) self.old stable []
             → IfErr result (λ e. FindsDamage e → ⊥) }
         ensures cause { IfErr result (RewriteFails (Rises (M.disk m.old).disk_faults (M.disk m.new).disk_faults)
-            (IsTailFault (O.meaning self.old.bounds) (M.disk m.new) self.old.log) (IsNewLength (O.meaning self.old.bounds) (M.disk m.old) self.old base table) self.old.log) }
+            (IsTailFault (O.meaning self.old.bounds) (M.disk m.new) self.old.log) (IsNewLength (O.meaning self.old.bounds) (M.disk m.old) self.old base table) self.old.log most) }
     {
-        let (new, out) = self.plan(m, base, &table)?;
+        let (new, out) = self.plan(m, base, &table, most)?;
         self.replace(m, base, table, new, out)?;
         Ok(())
     }

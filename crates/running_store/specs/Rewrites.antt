@@ -38,10 +38,14 @@ module _ {O : Type 0} (m : Meaning O) where
   abbrev pub trimmed_file : World O → ℕ
   trimmed_file w = trimmed w + 1
 
-  -- the log is rewritten, where all is forced and its file may be so long
+  -- the log is rewritten, where all is forced and its file has at most so many bytes
+  abbrev pub rewrite_within : ℕ → World O → ℕ → Course O
+  rewrite_within most w used =
+      if nat_lt most (trimmed_file w) then course [] used (Full used (trimmed_file w) most) else course (Header_gate (new_base w) ∷ []) (trimmed w) Through
+
+  -- it is, where its file may be as long as a log's
   abbrev pub rewrite_course : World O → ℕ → Course O
-  rewrite_course w used =
-      if nat_lt log_limit (trimmed_file w) then course [] used (Full used (trimmed_file w) log_limit) else course (Header_gate (new_base w) ∷ []) (trimmed w) Through
+  rewrite_course = rewrite_within log_limit
 
   -- a checkpoint that the world would take now, and the LSN from which a log of it is then kept
   pub record IsKeptFrom (w : World O) (base : ℕ) (table : DirtyPageTable) : Type 0 where

@@ -1,6 +1,6 @@
 -- The courses of calls beside a copy of the slots, and what they leave of it.
 use Rattle.std.proofs.Common.{◌≡◌, subst, sym, refl, ℕ, ◌+◌, Bool, true, false, List, [], ◌∷◌, ◌++◌, inl, inr, ◌⊎◌, Option, None, Some}
-use Rattle.std.specs.Prelude.{nat_lt, if◌then◌else◌}
+use Rattle.std.specs.Prelude.{max, nat_lt, if◌then◌else◌}
 use Rattle.std.specs.List.{AllByRecursion}
 use Rattle.disk_model.specs.Disk.{Disk}
 use Rattle.oper_core.specs.Cell.{Cell}
@@ -16,10 +16,11 @@ use Rattle.explain_core.specs.History.Member.{Identity}
 use Rattle.explain_core.specs.RoundGates.{Gate, gate_step, gates_of, picked}
 use Rattle.explain_core.specs.RunLaws.{Begins, allowed-append, begins-all, begins-allowed}
 use Rattle.explain_core.specs.Sound.{IsSound}
+use Rattle.explain_core.specs.TurnLaws.{run_none}
 use Rattle.explain_core.specs.World.{World, Step, step, run, AreAllowed}
 use Rattle.explain_core.specs.World.Step.{Begin}
 use Rattle.running_store.specs.Calls.{IsFailed}
-use Rattle.running_store.specs.Courses.{Course, course, force_steps, grown, is_through, room_steps}
+use Rattle.running_store.specs.Courses.{Course, and_then, course, force_steps, grown, is_through, room_steps}
 use Rattle.running_store.specs.Courses.Stop.{Through, Full}
 use Rattle.running_store.specs.Rewrites.{checkpoint_length}
 use Rattle.running_store.specs.Running.{IsRunning}
@@ -27,7 +28,9 @@ use Rattle.running_store.specs.Taking.{Ending}
 use Rattle.running_store.specs.Taking.Ending.{Done, Stopped, Short, Failed}
 use Rattle.cache_manager.specs.EachStep.{each_append, each_either, each_force, each_room, each_then}
 use Rattle.cache_manager.specs.FreeSteps.{IsFree}
-use Rattle.checkpointing.specs.Courses.{taking_course, checkpoint_steps, checkpoint_course, logged_course}
+use Rattle.cache_manager.specs.InstallCourses.{turn_course}
+use Rattle.checkpointing.specs.Courses.{taking_course, checkpoint_steps, checkpoint_course, logged_course, trim_due, turn_due, unstopped, upkeep_course}
+use Rattle.checkpointing.specs.declared.due.Due.{Due}
 use Rattle.execution.specs.Courses.{append_course, exec_course, refusal_in, unless_refused}
 use Rattle.store_engine.specs.Beside.{MayGoBeside, ShowsCopied}
 use Rattle.store_engine.specs.Engine.{EngineView, FollowsIn, ShowsIn}
@@ -158,3 +161,14 @@ module _ {O : Type 0} (meaning : Bounds → Meaning O) (stays : CopyStays meanin
     copy_course c (Stopped stop) shows is may f = inr (copy_taken c.steps c.steps shows is may (begins-all c.steps) f.1.shows)
     copy_course c Short shows is may f = inr (copy_taken c.steps f.taken shows is may f.begins f.holds)
     copy_course c Failed shows is may f = inl tt
+
+-- upkeep without a trim is its turn
+module _ {O : Type 0} (m : Meaning O) (copied : ℕ) (w : World O) (turns : (most used : ℕ) → AreBeside m copied w (turn_course m copied most w used).steps) where
+  turn_beside : (due : Option ℕ) (used : ℕ) → AreBeside m copied w (turn_due m due copied w used).steps
+  turn_beside None used = tt
+  turn_beside (Some most) used = turns (max 1 most) used
+
+  pub upkeep_beside : (due : Due) (epoch used : ℕ) → due.trim ≡ None → AreBeside m copied w (upkeep_course m due epoch copied w used).steps
+  upkeep_beside due epoch used none =
+      subst (λ (trim : Option ℕ). AreBeside m copied w (and_then m w (unstopped (trim_due m trim epoch w used)) (λ v used. unstopped (turn_due m due.turn copied v used))).steps) (sym none)
+      (subst (λ (v : World O). AreBeside m copied w (turn_due m due.turn copied v used).steps) (sym (run_none m 0 w)) (turn_beside due.turn used))

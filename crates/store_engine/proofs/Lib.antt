@@ -32,5 +32,5 @@ pub mod ListMachines
 pub mod Enlarged
 pub mod Shipped
 pub mod Judging
-pub mod ThinInstalls
+pub mod ThinTurns
 pub mod Followed

@@ -7,7 +7,9 @@ use Rattle.oper_core.specs.Meaning.{IsSmall, Meaning}
 use Rattle.oper_core.specs.declared.bounds.Bounds.{Bounds}
 use Rattle.formats.specs.Limits.{log_limit}
 use Rattle.formats.specs.Objects.{bounds_of}
+use Rattle.formats.specs.Reading.{TellsDamage}
 use Rattle.formats.specs.declared.params.Params.{Params}
+use Rattle.formats.specs.declared.read_err.ReadErr.{ReadErr}
 use Rattle.log_records.specs.Loading.{IsTailFault}
 use Rattle.log_records.specs.RecordLog.{RecordLogView}
 use Rattle.log_records.specs.declared.rewrite_err.RewriteErr.{RewriteErr}
@@ -15,7 +17,7 @@ use Rattle.dirty_cache.specs.Contents.{AreDirty, is_dirty}
 use Rattle.explain_core.specs.Turns.{count_below, dirty_in}
 use Rattle.explain_core.specs.World.{World, end_of}
 use Rattle.running_store.specs.Calls as of_store
-use Rattle.running_store.specs.Calls.{IsForce, Never, ending_of_force}
+use Rattle.running_store.specs.Calls.{IsForce, Never, ending_of_force, ending_of_read}
 use Rattle.running_store.specs.Courses.{force_course}
 use Rattle.cache_manager.specs.InstallCourses.{drain_course, install_course, removals, turn_course}
 use Rattle.running_store.specs.Kept.{HasLog, StopsAt}
@@ -30,17 +32,21 @@ use Rattle.cache_manager.specs.Upkeep.{upkeep_drain, upkeep_force, upkeep_instal
 use Rattle.cache_manager.specs.declared.install.Install.{Install}
 use Rattle.cache_manager.specs.declared.install_err.InstallErr.{InstallErr}
 use Rattle.checkpointing.specs.Left.{ending_of_checkpoint}
-use Rattle.checkpointing.specs.Courses.{checkpoint_course, trim_course}
+use Rattle.checkpointing.specs.Courses.{checkpoint_course, trim_within, upkeep_course}
 use Rattle.checkpointing.specs.Left.{DamagedBy, IsTooLong}
+use Rattle.checkpointing.specs.Told.{TellsUpkeep}
 use Rattle.checkpointing.specs.declared.checkpoint_err.CheckpointErr.{CheckpointErr}
-use Rattle.store_engine.specs.Calls.{IsTakingCheckpoint, IsDraining, IsForcing, IsInstalling, IsTending, IsTrimming}
+use Rattle.checkpointing.specs.declared.due.Due.{Due}
+use Rattle.checkpointing.specs.declared.upkeep.Upkeep.{Upkeep}
+use Rattle.store_engine.specs.Calls.{IsTakingCheckpoint, IsDraining, IsForcing, IsInstalling, IsTending, IsTrimmingWithin}
 use Rattle.store_engine.specs.Engine.{engine_of, so_far}
 use Rattle.store_engine.specs.Store.{meaning_in}
+use Rattle.store_engine.specs.Upkept.{IsKeptUp, IsModest}
 use Rattle.store_engine.proofs.Calls.{call_of, keeps_of, takes_of}
 use Rattle.store_engine.proofs.Grouped.{alone_shown}
 use Rattle.store_engine.proofs.Holding.{Stand, holds_accepted}
 use Rattle.store_engine.proofs.Keeping.{KeepsRuns, MayTake, small_shown}
-use Rattle.store_engine.proofs.PlainCourses.{upkeep_checkpoint, upkeep_trim}
+use Rattle.store_engine.proofs.PlainCourses.{upkeep_checkpoint, upkeep_trim, upkeep_upkeep}
 use Rattle.store_engine.proofs.Steps.{are_plain}
 use Rattle.store_engine.proofs.Ways.{bounded_so, damaged_by}
 
@@ -160,18 +166,40 @@ module _ {O : Type 0} (meaning : Bounds → Meaning O) (old new : Disk) (store l
   abbrev epoch : ℕ
   epoch = store.parts.log.log.header.epoch
 
-  pub trimming : {T : Type 0} (r : Result T RewriteErr) → of_store.IsCall meaning old new store later 0 (StopsAt log_limit) (ending_of_rewrite r)
-      → Takes meaning old new store.parts later.parts (λ m w used. trim_course m store.parts.log.log.header.epoch w used) (ending_of_rewrite r)
+  pub trimming : {T : Type 0} (most : ℕ) (r : Result T RewriteErr) → of_store.IsCall meaning old new store later 0 (StopsAt most) (ending_of_rewrite r)
+      → Takes meaning old new store.parts later.parts (λ m w used. trim_within m most store.parts.log.log.header.epoch w used) (ending_of_rewrite r)
       → OnOk r (later.parts.log.log.header.epoch ≡ store.parts.log.log.header.epoch + 1) → (old.tells_files → HasLog (meaning store.parts.log.bounds) old store.parts.log → IfErr r (DamagedBy (λ file place. ⊥)))
       → IfErr r (DamagedBy (IsTailFault (meaning later.parts.log.bounds) new later.parts.log.log)) → IfErr r IsTooLong → (store.parts.volatile.entries ≡ [] → OnOk r (later.parts.log.log.header.base ≡ next_of later))
-      → MayTake meaning (λ m w used. trim_course m store.parts.log.log.header.epoch w used) → IsTrimming meaning old new (engine_of store None copied) (engine_of later None copied) r
-  trimming r call takes raised undamaged damage long emptied may = record {
-    call = call_of meaning old new store later 0 (StopsAt log_limit) (ending_of_rewrite r) call log_limit None copied (λ log stop at. at);
-    takes = takes_of meaning old new store later 0 (StopsAt log_limit) (ending_of_rewrite r) call copied (λ m w used. trim_course m epoch w used) takes;
-    commands = keeps_of meaning old new store later 0 (StopsAt log_limit) (ending_of_rewrite r) call copied (λ m w used. trim_course m epoch w used) takes keeps stand may (λ m w used. are_plain (trim_course m epoch w used).steps (upkeep_trim m epoch w used));
+      → MayTake meaning (λ m w used. trim_within m most store.parts.log.log.header.epoch w used) → IsTrimmingWithin meaning old new (engine_of store None copied) (engine_of later None copied) most r
+  trimming most r call takes raised undamaged damage long emptied may = record {
+    call = call_of meaning old new store later 0 (StopsAt most) (ending_of_rewrite r) call most None copied (λ log stop at. at);
+    takes = takes_of meaning old new store later 0 (StopsAt most) (ending_of_rewrite r) call copied (λ m w used. trim_within m most epoch w used) takes;
+    commands = keeps_of meaning old new store later 0 (StopsAt most) (ending_of_rewrite r) call copied (λ m w used. trim_within m most epoch w used) takes keeps stand may (λ m w used. are_plain (trim_within m most epoch w used).steps (upkeep_trim m most epoch w used));
     epoch = raised;
     undamaged = λ told attached file place is. damaged_by (λ f n. ⊥) r file place (undamaged told (attached told).1) is;
     damage = λ file place is. damaged_by _ r file place damage is;
     long = long;
     emptied = emptied;
   }
+
+  -- ---- upkeep
+
+  pub keeping : (n : ℕ) → n ≡ so_far copied → (due : Due) (r : Result Upkeep ReadErr) → of_store.IsCall meaning old new store later (logged_since store later) Never (ending_of_read r)
+      → Takes meaning old new store.parts later.parts (λ m w used. upkeep_course m due store.parts.log.log.header.epoch n w used) (ending_of_read r)
+      → ((p : Params) (w : World O) → Shows (meaning_in meaning p) p old store.parts w → IfOk r (TellsUpkeep (meaning_in meaning p) due store.parts.log.log.header.epoch n w (log_length store)))
+      → (old.tells_files → HasLog (meaning store.parts.log.bounds) old store.parts.log → IfErr r (λ e. TellsDamage e → ⊥))
+      → MayTake meaning (λ m w used. upkeep_course m due store.parts.log.log.header.epoch (so_far copied) w used)
+      → IsModest (engine_of store None copied) due → IsKeptUp meaning old new (engine_of store None copied) (engine_of later None copied) r
+  keeping n is due r call taken telling undamaged may modest =
+      let k = so_far copied in
+      let takes = subst (λ (n : ℕ). Takes meaning old new store.parts later.parts (λ m w used. upkeep_course m due epoch n w used) (ending_of_read r)) is taken in
+      let told = subst (λ (n : ℕ). (p : Params) (w : World O) → Shows (meaning_in meaning p) p old store.parts w → IfOk r (TellsUpkeep (meaning_in meaning p) due epoch n w (log_length store))) is telling in
+      record {
+        due = due;
+        modest = modest;
+        call = call_of meaning old new store later (logged_since store later) Never (ending_of_read r) call log_limit None copied (λ log stop is. absurd is);
+        takes = takes_of meaning old new store later (logged_since store later) Never (ending_of_read r) call copied (λ m w used. upkeep_course m due epoch k w used) takes;
+        commands = keeps_of meaning old new store later (logged_since store later) Never (ending_of_read r) call copied (λ m w used. upkeep_course m due epoch k w used) takes keeps stand may (λ m w used. are_plain (upkeep_course m due epoch k w used).steps (upkeep_upkeep m due epoch k w used));
+        told = λ p w shows. told p w (alone_shown meaning p old (engine_of store None copied) w shows refl);
+        undamaged = λ told attached file place is. subst (λ (x : Result Upkeep ReadErr). IfErr x (λ e. TellsDamage e → ⊥)) is (undamaged told (attached told).1) tt;
+      }

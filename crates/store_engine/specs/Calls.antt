@@ -24,7 +24,7 @@ use Rattle.cache_manager.specs.Told.{IsInstall, TellsParts, TellsTend}
 use Rattle.cache_manager.specs.declared.install.Install.{Install}
 use Rattle.cache_manager.specs.declared.install_err.InstallErr.{InstallErr}
 use Rattle.cache_manager.specs.declared.install_err.InstallErr.TheVariants as of_install
-use Rattle.checkpointing.specs.Courses.{checkpoint_course, trim_course}
+use Rattle.checkpointing.specs.Courses.{checkpoint_course, trim_within}
 use Rattle.checkpointing.specs.Left.{IsTooLong, ending_of_checkpoint}
 use Rattle.checkpointing.specs.declared.checkpoint_err.CheckpointErr.{CheckpointErr}
 use Rattle.checkpointing.specs.declared.checkpoint_err.CheckpointErr.TheVariants as of_checkpoint
@@ -148,10 +148,10 @@ module _ {O : Type 0} (meaning : Bounds → Meaning O) (old new : Disk) (before 
     pub takes : TakesIn meaning old new before after (λ m w used. checkpoint_course m w used) (ending_of_checkpoint answer)
     pub commands : KeepsCommands meaning old new before after (ending_of_checkpoint answer)
 
-  -- the log was rewritten
-  pub record IsTrimming {T : Type 0} (answer : Result T RewriteErr) : Type 0 where
-    pub call : IsEngineCall meaning log_limit old new before after 0 (ending_of_rewrite answer)
-    pub takes : TakesIn meaning old new before after (λ m w used. trim_course m before.parts.log.log.header.epoch w used) (ending_of_rewrite answer)
+  -- the log was rewritten, in a file of at most so many bytes
+  pub record IsTrimmingWithin (most : ℕ) {T : Type 0} (answer : Result T RewriteErr) : Type 0 where
+    pub call : IsEngineCall meaning most old new before after 0 (ending_of_rewrite answer)
+    pub takes : TakesIn meaning old new before after (λ m w used. trim_within m most before.parts.log.log.header.epoch w used) (ending_of_rewrite answer)
     pub commands : KeepsCommands meaning old new before after (ending_of_rewrite answer)
     pub epoch : OnOk answer (after.parts.log.log.header.epoch ≡ before.parts.log.log.header.epoch + 1)
     pub undamaged : old.tells_files → IsAttached meaning old before → (file : FileNo) (place : ℕ) → IsErrOf answer (of_rewrite.Damaged file place) → ⊥
@@ -159,6 +159,10 @@ module _ {O : Type 0} (meaning : Bounds → Meaning O) (old new : Disk) (before 
     pub long : IfErr answer IsTooLong
     -- where all is installed the log that is left has no command and no identity write: it begins at the next LSN
     pub emptied : before.parts.volatile.entries ≡ [] → OnOk answer (after.parts.log.log.header.base ≡ after.parts.log.next)
+
+  -- it was, in a file as long as a log's may be
+  abbrev pub IsTrimming : {T : Type 0} → Result T RewriteErr → Type 0
+  IsTrimming = IsTrimmingWithin log_limit
 
   -- the log was forced, and a group is open that has no command yet; or the disk failed
   pub record IsBeginning {T : Type 0} (answer : Result T Failed) : Type 0 where

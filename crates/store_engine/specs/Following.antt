@@ -1,5 +1,5 @@
--- What an engine says of a record of another log, and of a node that is installed for which nothing is logged.
-use Rattle.std.specs.Prelude.{◌≡◌, ◌<◌, ℕ, Bool, IsTrue, if◌then◌else◌, [], length, Some, Result, IfErr, IfOk, IsErrOf, OnErr}
+-- What an engine says of a record of another log, and of nodes that are installed for which nothing is logged.
+use Rattle.std.specs.Prelude.{◌≡◌, ◌+◌, ◌≤◌, ℕ, Bool, nat_lt, max, length, Some, Result, IfErr, IfOk, IsErrOf, OnErr}
 use Rattle.disk_model.specs.Disk.{Disk}
 use Rattle.disk_model.specs.declared.machine.FileNo.{FileNo}
 use Rattle.oper_core.specs.Meaning.{Meaning}
@@ -7,8 +7,9 @@ use Rattle.oper_core.specs.declared.bounds.Bounds.{Bounds}
 use Rattle.formats.specs.Limits.{log_limit}
 use Rattle.formats.specs.declared.params.Params.{Params}
 use Rattle.formats.specs.declared.record.Record.{Record}
-use Rattle.explain_core.specs.Turns.{has_thin, thin_steps}
+use Rattle.explain_core.specs.Turns.{has_thin, thin_turn}
 use Rattle.explain_core.specs.World.{World}
+use Rattle.cache_manager.specs.InstallCourses.{removals}
 use Rattle.running_store.specs.Calls.{ending_of_store}
 use Rattle.running_store.specs.Courses.{Course, course}
 use Rattle.running_store.specs.Courses.Stop.{Through}
@@ -23,9 +24,9 @@ use Rattle.store_engine.specs.Store.{meaning_in}
 abbrev pub grouped_from : ℕ → EngineView → EngineView
 grouped_from begun engine = record engine { group = Some begun }
 
--- the thin node of the least name is installed, if there is one
-abbrev pub thin_course : {O : Type 0} → Meaning O → World O → ℕ → Course O
-thin_course m w used = course (if has_thin m w then thin_steps m w else []) used Through
+-- a turn of so many nodes at most, for which nothing is logged
+abbrev pub thin_course : {O : Type 0} → Meaning O → ℕ → World O → ℕ → Course O
+thin_course m most w used = course (thin_turn m most w) used Through
 
 module _ {O : Type 0} (meaning : Bounds → Meaning O) (old new : Disk) (before after : EngineView) where
   -- A record of another log was taken as the next one, or passed over; or it was refused, and then the log has no record more.
@@ -40,11 +41,12 @@ module _ {O : Type 0} (meaning : Bounds → Meaning O) (old new : Disk) (before 
     pub cause : IfErr result (IsFollowFailure (meaning_in meaning (params_of before)) r before.parts.log.next old new before.parts.volatile.objects)
     pub undamaged : old.tells_files → IsAttached meaning old before → (file : FileNo) (place : ℕ) → IsErrOf result (Damaged file place) → ⊥
 
-  -- a thin node was installed, or none was left
-  pub record HasInstalledThin (answer : Result Bool StoreErr) : Type 0 where
+  -- nodes were installed in such a turn, or none was left that is thin
+  pub record HasTendedThin (most : ℕ) (answer : Result ℕ StoreErr) : Type 0 where
     pub call : IsEngineCall meaning log_limit old new before after 0 (ending_of_store answer)
-    pub takes : TakesIn meaning old new before after (λ m w used. thin_course m w used) (ending_of_store answer)
+    pub takes : TakesIn meaning old new before after (λ m w used. thin_course m most w used) (ending_of_store answer)
     pub commands : KeepsCommands meaning old new before after (ending_of_store answer)
-    pub told : (p : Params) (w : World O) → ShowsIn meaning p old before w → IfOk answer (λ some. some ≡ has_thin (meaning_in meaning p) w)
+    pub told : (p : Params) (w : World O) → ShowsIn meaning p old before w
+        → IfOk answer (λ n. (nat_lt 0 n ≡ has_thin (meaning_in meaning p) w) × (n ≡ removals (thin_turn (meaning_in meaning p) most w)))
     pub log : after.parts.log ≡ before.parts.log
-    pub fewer : IfOk answer (λ some. IsTrue some → length after.parts.volatile.entries < length before.parts.volatile.entries)
+    pub few : IfOk answer (λ n. (n ≤ max 1 most) × (length after.parts.volatile.entries + n ≤ length before.parts.volatile.entries))

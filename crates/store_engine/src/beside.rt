@@ -1,5 +1,5 @@
 // The calls of an engine beside a copy of its slots.
-ghost use Rattle.std.specs.Prelude.{ℕ, IsTrue, List};
+ghost use Rattle.std.specs.Prelude.{◌≡◌, ℕ, IsTrue, List, None};
 ghost use Rattle.std.specs.Option.{is_some};
 ghost use Rattle.oper_core.specs.Cell.{Cell};
 ghost use Rattle.oper_core.specs.Meaning.{IsSmall};
@@ -11,7 +11,8 @@ ghost use Rattle.explain_core.specs.World.{IsLive, Step, World, run};
 ghost use Rattle.running_store.specs.Courses.{force_course};
 ghost use Rattle.running_store.specs.Running.{IsRunning};
 ghost use Rattle.cache_manager.specs.InstallCourses.{drain_course, install_course, turn_course};
-ghost use Rattle.checkpointing.specs.Courses.{checkpoint_course};
+ghost use Rattle.checkpointing.specs.Courses.{checkpoint_course, upkeep_course};
+ghost use Rattle.checkpointing.specs.declared.due.Due.{Due};
 ghost use Rattle.execution.specs.Courses.{exec_course};
 ghost use Rattle.store_engine.specs.Beside.{CourseKeepsCopy, MayGoBeside};
 ghost use Rattle.store_engine.specs.Calls.{begin_course, end_course};
@@ -23,8 +24,8 @@ use disk_model::Machine;
 use oper_core::Oper;
 
 /// The steps of each call but a trim may be taken beside a copy of the slots, which has the objects below a number: of a
-/// command, of a force, of an install, of a turn and of a drain that keep to it, of a checkpoint, and of the beginning and the end of a
-/// group. A fetch takes none.
+/// command, of a force, of an install, of a turn and of a drain that keep to it, of a checkpoint, of upkeep without a trim, and of the
+/// beginning and the end of a group. A fetch takes none.
 pub fn calls_go_beside_a_copy<O: Oper>()
     ensures exec { (b : Bounds) (copied limit : ℕ) (op : O) (w : World O) (used : ℕ) → IsSmall b → IsSound (O.meaning b) w → IsLive w →
         MayGoBeside (O.meaning b) copied w (exec_course (O.meaning b) (is_some w.group) limit op w used).steps }
@@ -38,6 +39,8 @@ pub fn calls_go_beside_a_copy<O: Oper>()
         MayGoBeside (O.meaning b) copied w (drain_course (O.meaning b) copied w used).steps }
     ensures checkpoint { (b : Bounds) (copied : ℕ) (w : World O) (used : ℕ) → IsSmall b → IsRunning (O.meaning b) w →
         MayGoBeside (O.meaning b) copied w (checkpoint_course (O.meaning b) w used).steps }
+    ensures upkeep { (b : Bounds) (due : Due) (epoch copied : ℕ) (w : World O) (used : ℕ) → due.trim ≡ None → IsSmall b → IsRunning (O.meaning b) w →
+        MayGoBeside (O.meaning b) copied w (upkeep_course (O.meaning b) due epoch copied w used).steps }
     ensures begin { (b : Bounds) (copied : ℕ) (w : World O) (used : ℕ) → IsSmall b → IsRunning (O.meaning b) w →
         MayGoBeside (O.meaning b) copied w (begin_course (O.meaning b) w used).steps }
     ensures end { (b : Bounds) (copied : ℕ) (w : World O) (used : ℕ) → IsTrue (is_some w.group) →
@@ -50,6 +53,7 @@ pub fn calls_go_beside_a_copy<O: Oper>()
     cache_manager::drain_may_be_taken::<O>();
     cache_manager::installs_go_beside_a_copy::<O>();
     checkpointing::checkpoint_may_be_taken::<O>();
+    checkpointing::upkeep_may_be_taken::<O>();
 }
 
 /// What was copied of a world stays a copy under all first steps of a course that may go beside it, so also where a call on an

@@ -13,7 +13,7 @@ ghost use Rattle.execution.specs.Following.{HasLsn, judge_in};
 ghost use Rattle.execution.specs.Judged.{judge_behind, may_follow};
 ghost use Rattle.running_store.specs.Parts.{ShowsVolatile};
 ghost use Rattle.store_engine.specs.Engine.{params_of};
-ghost use Rattle.store_engine.specs.Following.{HasFollowed, HasInstalledThin};
+ghost use Rattle.store_engine.specs.Following.{HasFollowed, HasTendedThin};
 ghost use Rattle.store_engine.specs.Store.{meaning_in};
 
 use crate::Engine;
@@ -56,20 +56,22 @@ impl<O: Oper> Engine<O> {
         self.store.objects().dirty_count() as u64
     }
 
-    /// Installs the minimal node of the least name that has at most one object to flush; nothing is logged. It answers whether
-    /// there is one. Nothing may wait for a force.
-    pub fn install_thin<M: Machine>(&mut self, machine: &mut M) -> Result<bool, StoreErr>
+    /// A turn for which nothing is logged: where the minimal node of the least name that has at most one object to flush has one,
+    /// that and others like it are installed together, so many at most (of 0 it is one) and with three syncs at most for all of
+    /// them; where it has none, it leaves the graph. It answers how many nodes were installed: none exactly where there is no such
+    /// node. Nothing may wait for a force.
+    pub fn tend_thin<M: Machine>(&mut self, machine: &mut M, most: usize) -> Result<u64, StoreErr>
         requires unbroken { self.old.broken ≡ false }
         requires alone { self.old.group ≡ None }
         requires uncopied { self.old.copied ≡ None }
         requires empty { self.old.parts.log.log.pending ≡ [] }
-        ensures installed { HasInstalledThin O.meaning (M.disk machine.old) (M.disk machine.new) self.old self.new result }
+        ensures tended { HasTendedThin O.meaning (M.disk machine.old) (M.disk machine.new) self.old self.new most result }
         ensures memory { IsErrOf result StoreErr.Memory → (machine.new ≡ machine.old) × (self.new ≡ self.old) }
     {
         explain_core::every_run_keeps::<O>();
-        explain_core::turns_keep::<O>();
+        explain_core::a_thin_turn_may_be_taken::<O>();
         standing::image_stands::<O>();
-        cache_manager::install_thin(&mut self.store, machine)
+        cache_manager::tend_thin(&mut self.store, machine, most)
     }
 }
 

@@ -7,6 +7,9 @@
 //! store with no fewer. Each method is a call on the [`running_store::Store`] below that takes the course, and a group of
 //! commands is known here alone.
 //!
+//! [`Engine::keep_up`] is called after each command of a caller that wants no other upkeep: it takes a bounded trim and a turn of
+//! installs, each where a [`Pace`] says that it is due.
+//!
 //! Of several commands, run one after the other, `AddsFront` of specs/Lists.antt says what they make of an engine,
 //! wherever they end: [`nothing_is_made`] begins a loop over [`Engine::exec`] and [`Engine::fetch`], [`exec_goes_on`] and
 //! [`fetch_goes_on`] keep it going, and [`calls_go_on`] does so for what holds on every machine.
@@ -18,7 +21,7 @@
 //!
 //! The log is read for whoever follows the store: [`Engine::frames`] says what its blocks have from an LSN on, a frame for
 //! each block, and [`Engine::ship`] and [`Engine::next_shipped`] do so one block at a time. [`Engine::follow`] takes a record
-//! of another log as the next one of this log, [`Engine::install_thin`] keeps few objects dirty meanwhile, and
+//! of another log as the next one of this log, [`Engine::tend_thin`] keeps few objects dirty meanwhile, and
 //! [`records_are_judged`] says what of a record is taken.
 #![tactic(auto)]
 
@@ -34,18 +37,20 @@ mod init_err;
 mod lengths;
 mod lists;
 mod making;
+mod pace;
 mod ship_err;
 mod shipping;
 mod stat;
 mod uniqueness;
 mod upgrade_err;
 mod upgrading;
+mod upkeep;
 mod work_err;
 mod working;
 
 pub use beside::{a_copied_log_is_of_the_world, a_copy_goes_on, calls_go_beside_a_copy};
 pub use cache_manager::{Install, InstallErr};
-pub use checkpointing::CheckpointErr;
+pub use checkpointing::{CheckpointErr, Outcome, Upkeep};
 pub use engine::Engine;
 pub use engine_laws::{
     a_trim_behind_a_drain_leaves_nothing, engine_stands, group_is_closed, identities_are_counted,
@@ -62,6 +67,7 @@ pub use lists::{
     nothing_is_made,
 };
 pub use log_records::{BlockReader, CopyErr};
+pub use pace::Pace;
 pub use restart::{Tuning, one_damage};
 pub use running_store::StoreErr;
 pub use ship_err::ShipErr;

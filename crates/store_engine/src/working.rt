@@ -1,17 +1,19 @@
 // The calls that no group allows.
-ghost use Rattle.std.specs.Prelude.{◌≡◌, ℕ, false, max, None, IfSome, Result};
+ghost use Rattle.std.specs.Prelude.{◌≡◌, ℕ, false, max, min, None, IfSome, Result};
 ghost use Rattle.disk_model.specs.declared.machine.Failed.{Failed as ForceFailure};
+ghost use Rattle.formats.specs.Limits.{log_limit};
 ghost use Rattle.log_records.specs.declared.rewrite_err.RewriteErr.{RewriteErr as RewriteFailure};
 ghost use Rattle.cache_manager.specs.declared.install.Install.{Install as Installs};
 ghost use Rattle.cache_manager.specs.declared.install_err.InstallErr.{InstallErr as InstallFailure};
 ghost use Rattle.checkpointing.specs.declared.checkpoint_err.CheckpointErr.{CheckpointErr as CheckpointFailure};
-ghost use Rattle.store_engine.specs.Calls.{IsBeginning, IsTakingCheckpoint, IsDraining, IsForcing, IsInstalling, IsRefused, IsRefusedBeside, IsTending, IsTrimming, refused_beside, refused_in, work_of_checkpoint, work_of_force, work_of_install, work_of_trim};
+ghost use Rattle.store_engine.specs.Calls.{IsBeginning, IsTakingCheckpoint, IsDraining, IsForcing, IsInstalling, IsRefused, IsRefusedBeside, IsTending, IsTrimming, IsTrimmingWithin, refused_beside, refused_in, work_of_checkpoint, work_of_force, work_of_install, work_of_trim};
 ghost use Rattle.store_engine.specs.Engine.{group_size, so_far};
 
 use crate::Engine;
 use crate::work_err::WorkErr;
 use cache_manager::Install;
 use disk_model::Machine;
+use formats::MAX_LOG;
 use oper_core::Oper;
 
 impl<O: Oper> Engine<O> {
@@ -37,7 +39,7 @@ impl<O: Oper> Engine<O> {
     }
 
     // How many objects are copied: none while nothing is.
-    fn copied_so_far(&self) -> u32
+    pub(crate) fn copied_so_far(&self) -> u32
         ensures { result ≡ so_far self.now.copied }
     {
         match self.copied {
@@ -156,11 +158,23 @@ impl<O: Oper> Engine<O> {
         ensures in_backup { self.old.group ≡ None → IfSome self.old.copied (λ copied. IsRefusedBeside copied machine.old machine.new self.old self.new result) }
         ensures alone { self.old.group ≡ None → self.old.copied ≡ None → (answer : Result _ RewriteFailure) × (result ≡ work_of_trim answer) × IsTrimming O.meaning (M.disk machine.old) (M.disk machine.new) self.old self.new answer }
     {
+        self.trim_within(machine, MAX_LOG)
+    }
+
+    /// A trim that leaves a log file of at most `room` bytes, or none: where the file of the new log would be longer, `LogFull` says
+    /// how long it would be, and only the force was made. All else is as of [`trim`](Self::trim).
+    pub fn trim_within<M: Machine>(&mut self, machine: &mut M, room: u64) -> Result<(), WorkErr>
+        requires unbroken { self.old.broken ≡ false }
+        ensures in_group { IfSome (group_size self.old) (λ size. IsRefused size machine.old machine.new self.old self.new result) }
+        ensures in_backup { self.old.group ≡ None → IfSome self.old.copied (λ copied. IsRefusedBeside copied machine.old machine.new self.old self.new result) }
+        ensures alone { self.old.group ≡ None → self.old.copied ≡ None → (answer : Result _ RewriteFailure) × (result ≡ work_of_trim answer) × IsTrimmingWithin O.meaning (M.disk machine.old) (M.disk machine.new) self.old self.new (min room log_limit) answer }
+    {
         explain_core::every_run_keeps::<O>();
         standing::image_stands::<O>();
         checkpointing::trim_may_be_taken::<O>();
         self.alone()?;
         self.uncopied()?;
-        Ok(checkpointing::trim(&mut self.store, machine)?)
+        let most = room.min(MAX_LOG);
+        Ok(checkpointing::trim(&mut self.store, machine, most)?)
     }
 }

@@ -3,7 +3,7 @@ use Rattle.std.specs.Option.{is_some}
 use Rattle.explain_core.specs.World.Step.{End}
 use Rattle.running_store.specs.Courses.{force_steps}
 use Rattle.cache_manager.specs.FreeSteps.{free_beside}
-use Rattle.store_engine.proofs.Besides.{begin_may, free_begin, free_checkpoint, free_exec, free_force}
+use Rattle.store_engine.proofs.Besides.{begin_may, free_begin, free_checkpoint, free_exec, free_force, upkeep_beside}
 use Rattle.store_engine.proofs.beside.calls_go_beside_a_copy.Goals as goal
 
 pub returns-clause-exec : goal.returns-clause-exec
@@ -41,3 +41,11 @@ returns-clause-begin g c = λ b copied w used small is.
 
 pub returns-clause-end : goal.returns-clause-end
 returns-clause-end g c = λ b copied w used in_one. record { allowed = (in_one, tt); beside = free_beside (g.O.Oper.meaning b) copied w (End ∷ []) (λ v. tt, tt) }
+
+pub returns-clause-upkeep : goal.returns-clause-upkeep
+returns-clause-upkeep g c = λ b due epoch copied w used none small is.
+    let m = g.O.Oper.meaning b in
+    record {
+      allowed = (c.upkeep_may_be_taken.ensures b w due epoch copied used small is).allowed;
+      beside = upkeep_beside m copied w (λ most used. c.installs_go_beside_a_copy.ensures.turn b copied most w used small is) due epoch used none;
+    }

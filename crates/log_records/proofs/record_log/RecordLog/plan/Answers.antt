@@ -27,11 +27,11 @@ returns-in_err-new-clause-cause g c =
     let now = c.args.self.now in
     let m = g.O.Oper.meaning now.bounds in
     let p = err_from_is_err_and c.from_residual.result c.from_residual.ensures.1 in
-    rw (p.1, p.2) (read_fails (Rises old.disk_faults new.disk_faults) (IsTailFault m new now.log) (IsNewLength m old now c.args.base c.args.table.now) now.log c.in_err-new.field-0.0
+    rw (p.1, p.2) (read_fails (Rises old.disk_faults new.disk_faults) (IsTailFault m new now.log) (IsNewLength m old now c.args.base c.args.table.now) now.log c.args.most c.in_err-new.field-0.0
     (omega (arith, c.if-epoch-ge-LSN_END.false, ap (λ (v : RecordLogView). v.log.header.epoch) c.self.view_is)) c.in_err-new.ensures.cause)
 
-pub returns-then-need-gt-MAX_LOG-clause-cause : goal.returns-then-need-gt-MAX_LOG-clause-cause
-returns-then-need-gt-MAX_LOG-clause-cause g c = (
+pub returns-then-need-most-clause-cause : goal.returns-then-need-most-clause-cause
+returns-then-need-most-clause-cause g c = (
   c.used.ensures ∙ ap (λ (v : RecordLogView). used_of v.log) c.self.view_is,
   λ told stable keeps.
       let b = c.args.self.now.bounds in
@@ -44,7 +44,7 @@ returns-then-need-gt-MAX_LOG-clause-cause g c = (
       let plan = is_plan m new c.args.self.now.log c.args.base c.args.table.now stable c.in_ok-new.new planned (found_stable m codes old new c.args.self.now stable [] planned.records keeps (told_agrees c.measure_new.ensures.kept told) planned.all) in
       omega (arith, plan.end, c.file_length-need.ensures, ap room_of c.deref.ensures.value),
   refl,
-  c.if-need-gt-MAX_LOG.true,
+  c.if-need-most.true,
   omega (arith, c.if-epoch-ge-LSN_END.false, ap (λ (v : RecordLogView). v.log.header.epoch) c.self.view_is),
 )
 
@@ -63,10 +63,10 @@ file_length-need-requires g c = omega (arith, c.in_ok-new.ensures.fits, ap room_
 
 pub returns-clause-may : goal.returns-clause-may
 returns-clause-may g c = record {
-  may = c.requires;
+  may = c.requires.rewritable;
   planned = c.in_ok-new.ensures.planned;
   epoch = omega (arith, c.if-epoch-ge-LSN_END.false, ap (λ (v : RecordLogView). v.log.header.epoch) c.self.view_is);
-  within = omega (arith, c.file_length-need.ensures, c.if-need-gt-MAX_LOG.false, ap room_of c.deref.ensures.value);
+  within = omega (arith, c.file_length-need.ensures, c.if-need-most.false, c.requires.most, ap room_of c.deref.ensures.value);
   out_is = c.in_ok-out.ensures.made ∙ ap (λ (v : RecordLogView). new_writer v.log) c.self.view_is;
   apart = subst (λ (v : RecordLogView). v.log.active ≢ other_of v.log.active) c.self.view_is c.writer.ensures.apart;
 }
@@ -81,4 +81,4 @@ returns-clause-within g c told stable keeps =
     let codes = has_codes m b small (g.met.O.Oper.bounded b) (g.met.O.Oper.lawful b small) in
     let planned = c.in_ok-new.ensures.planned in
     let plan = is_plan m new c.args.self.now.log c.args.base c.args.table.now stable c.in_ok-new.new planned (found_stable m codes old new c.args.self.now stable [] planned.records keeps (told_agrees c.measure_new.ensures.kept told) planned.all) in
-    omega (arith, plan.end, c.file_length-need.ensures, ap room_of c.deref.ensures.value, c.if-need-gt-MAX_LOG.false)
+    omega (arith, plan.end, c.file_length-need.ensures, ap room_of c.deref.ensures.value, c.if-need-most.false)

@@ -78,7 +78,7 @@ returns-in_err-replace-clause-cause g c =
     let now = c.args.self.now in
     let m = g.O.Oper.meaning now.bounds in
     let p = err_from_is_err_and c.from_residual-in_err-replace.result c.from_residual-in_err-replace.ensures.1 in
-    rw (p.1, p.2) (read_fails (Rises old.disk_faults new.disk_faults) (IsTailFault m new now.log) (IsNewLength m old now c.args.base c.args.table) now.log c.in_err-replace.field-0.0 c.in_ok-new.ensures.may.epoch
+    rw (p.1, p.2) (read_fails (Rises old.disk_faults new.disk_faults) (IsTailFault m new now.log) (IsNewLength m old now c.args.base c.args.table) now.log c.args.most c.in_err-replace.field-0.0 c.in_ok-new.ensures.may.epoch
     (fails_on _ _ _ _ c.in_err-replace.field-0.0 (rises_before old mid new c.plan.ensures.kept) (λ f place there. there) c.in_err-replace.ensures.cause))
 
 pub returns-clause-runs : goal.returns-clause-runs

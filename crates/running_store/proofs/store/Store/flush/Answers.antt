@@ -1,4 +1,4 @@
-use Rattle.std.proofs.Common.{◌≡◌, ◌⊎◌, ◌∙◌, ap, sym, subst, inl, inr, Bool, List, ℕ, Option, Some, None, Ok, true, false, nat_eq}
+use Rattle.std.proofs.Common.{rules, ◌≡◌, ◌⊎◌, ◌∙◌, ap, sym, subst, inl, inr, Bool, List, ℕ, Option, Some, None, Ok, true, false, nat_eq}
 use Rattle.std.specs.Prelude.{length, OnErr, OnOk, Result}
 use Rattle.std.proofs.lemmas.Bool.{both_ways, cases_eq, ne_eqb}
 use Rattle.disk_model.specs.Disk.{Disk, IsSettled, LeavesOnly}
@@ -176,31 +176,20 @@ invariant_of-self-2 g c = λ fine.
     let clean = c.mark_clean.ensures in
     (ends g (goal.at.invariant_of-self-2 g c).After-note c.in_ok-answer.field-0 c.in_ok-answer.was c.mark_clean.new.self clean.entry clean.clean clean.others).usable
 
-pub returns-clause-call : goal.returns-clause-call
-returns-clause-call g c =
+pub returns : goal.returns
+returns g c =
     let clean = c.mark_clean.ensures in
-    (ends g (goal.at.returns-clause-call g c).After-note c.in_ok-answer.field-0 c.in_ok-answer.was c.mark_clean.new.self clean.entry clean.clean clean.others).call
-
-pub returns-clause-beside : goal.returns-clause-beside
-returns-clause-beside g c =
-    let clean = c.mark_clean.ensures in
-    (ends g (goal.at.returns-clause-beside g c).After-note c.in_ok-answer.field-0 c.in_ok-answer.was c.mark_clean.new.self clean.entry clean.clean clean.others).beside
-
-pub returns-clause-shows : goal.returns-clause-shows
-returns-clause-shows g c =
-    let clean = c.mark_clean.ensures in
-    (ends g (goal.at.returns-clause-shows g c).After-note c.in_ok-answer.field-0 c.in_ok-answer.was c.mark_clean.new.self clean.entry clean.clean clean.others).shows
-
-pub returns-clause-steps : goal.returns-clause-steps
-returns-clause-steps g c = taken g (goal.at.returns-clause-steps g c).After-note
+    record {
+      call = (ends g (goal.at.returns g c).After-note c.in_ok-answer.field-0 c.in_ok-answer.was c.mark_clean.new.self clean.entry clean.clean clean.others).call;
+      beside = (ends g (goal.at.returns g c).After-note c.in_ok-answer.field-0 c.in_ok-answer.was c.mark_clean.new.self clean.entry clean.clean clean.others).beside;
+      entries = search rules;
+      dirty = still_dirty g (goal.at.returns g c).After-note c.in_ok-answer.field-0 c.in_ok-answer.was c.mark_clean.new.self clean.entry clean.clean clean.others;
+      shows = (ends g (goal.at.returns g c).After-note c.in_ok-answer.field-0 c.in_ok-answer.was c.mark_clean.new.self clean.entry clean.clean clean.others).shows;
+      steps = taken g (goal.at.returns g c).After-note;
+    }
 
 pub returns-in_default-clause-dirty : goal.returns-in_default-clause-dirty
 returns-in_default-clause-dirty g c = λ y dirty. dirty
 
 pub returns-in_default-entry-clause-dirty : goal.returns-in_default-entry-clause-dirty
 returns-in_default-entry-clause-dirty g c = λ y dirty. dirty
-
-pub returns-clause-dirty : goal.returns-clause-dirty
-returns-clause-dirty g c =
-    let clean = c.mark_clean.ensures in
-    still_dirty g (goal.at.returns-clause-dirty g c).After-note c.in_ok-answer.field-0 c.in_ok-answer.was c.mark_clean.new.self clean.entry clean.clean clean.others

@@ -1,4 +1,4 @@
-use Rattle.std.proofs.Common.{◌≡◌, ◌∙◌, ap, sym, subst, true}
+use Rattle.std.proofs.Common.{rules, ◌≡◌, ◌∙◌, ap, sym, subst, true}
 use Rattle.std.specs.Prelude.{All}
 use Rattle.log_records.specs.RecordLog.{RecordLogView}
 use Rattle.dirty_cache.specs.Contents.{is_dirty}
@@ -38,31 +38,26 @@ returns-in_err-force-clause-next g c = ap next_of c.in_err-force.ensures.forced
 pub returns-in_err-force-clause-entries : goal.returns-in_err-force-clause-entries
 returns-in_err-force-clause-entries g c = ap (λ (s : StoreView). s.parts.volatile.entries) c.in_err-force.ensures.forced
 
-pub returns-in_err-flush_together-clause-call : goal.returns-in_err-flush_together-clause-call
-returns-in_err-flush_together-clause-call g c =
+pub returns-in_err-flush_together : goal.returns-in_err-flush_together
+returns-in_err-flush_together g c =
     let d = g.M.Machine.disk c.args.machine.now in
     let mid = g.M.Machine.disk c.force.new.machine in
     let new = g.M.Machine.disk c.flush_together.new.machine in
-    subst (λ (k : Ending). IsCall g.O.Oper.meaning d new c.args.self.now c.flush_together.new.self 0 Never k) (failed_force _ c.from_residual-in_err-flush_together.result c.from_residual-in_err-flush_together.ensures.1)
-    (call_twice g.O.Oper.meaning d mid new c.args.self.now c.force.new.self c.flush_together.new.self 0 0 Never Never Failed c.in_ok-force.ensures.call c.in_err-flush_together.ensures.call)
-
-pub returns-in_err-flush_together-clause-takes : goal.returns-in_err-flush_together-clause-takes
-returns-in_err-flush_together-clause-takes g c gates fits =
-    let meaning = g.O.Oper.meaning in
-    let d = g.M.Machine.disk c.args.machine.now in
-    let mid = g.M.Machine.disk c.force.new.machine in
-    let new = g.M.Machine.disk c.flush_together.new.machine in
-    let before = c.args.self.now.parts in
-    let here = c.force.new.self.parts in
-    let after = c.flush_together.new.self.parts in
-    subst (λ (k : Ending). Takes meaning d new before after (λ m w used. gates_course m (gates m) w used) k) (failed_force _ c.from_residual-in_err-flush_together.result c.from_residual-in_err-flush_together.ensures.1)
-    (round_unopened meaning d mid before here c.args.objects.now gates fits c.in_ok-force.ensures.call.quiet c.in_ok-force.ensures.takes new after c.flush_together.ensures.steps)
-
-pub returns-in_err-flush_together-clause-next : goal.returns-in_err-flush_together-clause-next
-returns-in_err-flush_together-clause-next g c = ap (λ (l : RecordLogView). l.next) (c.flush_together.ensures.beside.objects.log ∙ c.in_ok-force.ensures.forced.0)
-
-pub returns-in_err-flush_together-clause-entries : goal.returns-in_err-flush_together-clause-entries
-returns-in_err-flush_together-clause-entries g c = c.flush_together.ensures.entries ∙ ap (λ (s : StoreView). s.parts.volatile.entries) c.in_ok-force.ensures.forced.1
+    record {
+      call =
+          subst (λ (k : Ending). IsCall g.O.Oper.meaning d new c.args.self.now c.flush_together.new.self 0 Never k) (failed_force _ c.from_residual-in_err-flush_together.result c.from_residual-in_err-flush_together.ensures.1)
+          (call_twice g.O.Oper.meaning d mid new c.args.self.now c.force.new.self c.flush_together.new.self 0 0 Never Never Failed c.in_ok-force.ensures.call c.in_err-flush_together.ensures.call);
+      takes = λ gates fits.
+          let meaning = g.O.Oper.meaning in
+          let before = c.args.self.now.parts in
+          let here = c.force.new.self.parts in
+          let after = c.flush_together.new.self.parts in
+          subst (λ (k : Ending). Takes meaning d new before after (λ m w used. gates_course m (gates m) w used) k) (failed_force _ c.from_residual-in_err-flush_together.result c.from_residual-in_err-flush_together.ensures.1)
+          (round_unopened meaning d mid before here c.args.objects.now gates fits c.in_ok-force.ensures.call.quiet c.in_ok-force.ensures.takes new after c.flush_together.ensures.steps);
+      next = ap (λ (l : RecordLogView). l.next) (c.flush_together.ensures.beside.objects.log ∙ c.in_ok-force.ensures.forced.0);
+      entries = c.flush_together.ensures.entries ∙ ap (λ (s : StoreView). s.parts.volatile.entries) c.in_ok-force.ensures.forced.1;
+      flushed = search rules;
+    }
 
 pub returns-clause-call : goal.returns-clause-call
 returns-clause-call g c =

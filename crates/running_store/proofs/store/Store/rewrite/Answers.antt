@@ -21,14 +21,14 @@ module _ (g : Over) (c : After-note g) where
   may : IsRewritable (g.O.Oper.meaning c.self.inside.log.bounds) c.self.inside.log c.args.base c.args.table
   may = subst (λ (s : StoreView). IsRewritable (g.O.Oper.meaning s.parts.log.bounds) s.parts.log c.args.base c.args.table) (sym c.self.view_is) c.requires.rewritable
 
-  ends : EndsRewrite g.O.Oper.meaning old new c.args.self.now (view_of c.rewrite-answer.new.self c.self.inside.objects c.self.inside.graph.entries c.self.inside.identities c.note.new.broken) c.args.base c.args.table c.rewrite-answer.result
+  ends : EndsRewrite g.O.Oper.meaning old new c.args.self.now (view_of c.rewrite-answer.new.self c.self.inside.objects c.self.inside.graph.entries c.self.inside.identities c.note.new.broken) c.args.base c.args.table c.args.most c.rewrite-answer.result
   ends =
       let log = c.self.inside.log in
       let objects = c.self.inside.objects in
       let entries = c.self.inside.graph.entries in
       let used = usable_before log objects entries c.self.inside.identities c.self.inside.broken c.args.self.now c.self.view_is c.self.invariant c.requires.unbroken in
       let is = c.rewrite-answer.ensures in
-      rewrite_ends g.O.Oper.meaning old new log objects entries c.self.inside.identities c.self.inside.broken c.note.new.broken c.args.self.now c.self.view_is c.requires.unbroken used c.args.base c.args.table may is.runs
+      rewrite_ends g.O.Oper.meaning old new log objects entries c.self.inside.identities c.self.inside.broken c.note.new.broken c.args.self.now c.self.view_is c.requires.unbroken used c.args.base c.args.table c.args.most may is.runs
       (subst (λ (s : StoreView). s.parts.log.log.header.epoch < 2 ^ 62) (sym c.self.view_is) c.requires.epoch) c.header_gate_keeps.ensures is.any_moment
       c.rewrite-answer.new.self c.rewrite-answer.result (IsTailFault (g.O.Oper.meaning log.bounds) new log.log) c.note.ensures is.acknowledged is.settled is.rewritten is.ends is.cause
 
@@ -55,4 +55,4 @@ pub returns-clause-cause : goal.returns-clause-cause
 returns-clause-cause g c =
     let at = (goal.at.returns-clause-cause g c).After-note in
     subst (λ (s : StoreView). IfErr c.rewrite-answer.result (RewriteFails (Rises (old g at).disk_faults (new g at).disk_faults) (IsTailFault (g.O.Oper.meaning s.parts.log.bounds) (new g at) s.parts.log.log)
-    (IsNewLength (g.O.Oper.meaning s.parts.log.bounds) (old g at) s.parts.log c.args.base c.args.table) s.parts.log.log)) c.self.view_is c.rewrite-answer.ensures.cause
+    (IsNewLength (g.O.Oper.meaning s.parts.log.bounds) (old g at) s.parts.log c.args.base c.args.table) s.parts.log.log c.args.most)) c.self.view_is c.rewrite-answer.ensures.cause
