@@ -9,8 +9,8 @@ use Rattle.oper_core.specs.State.{is_among}
 use Rattle.explain_core.specs.Backup.{AreBeside, IsIdentityAt, IsOneIdentity}
 use Rattle.explain_core.specs.History.{Member, with_lsn}
 use Rattle.explain_core.specs.History.Member.{Command, Identity}
-use Rattle.explain_core.specs.RoundGates.{Gate, gate_step, gates_of}
-use Rattle.explain_core.specs.Rounds.{object_at, round_gates}
+use Rattle.explain_core.specs.RoundGates.{Gate, gate_step, gates_of, removals_of}
+use Rattle.explain_core.specs.Turns.{object_at, round_gates}
 use Rattle.explain_core.specs.Sound.{IsSound}
 use Rattle.explain_core.specs.World.{World, Step, end_of, graph_access, node_named, step, run, work_of}
 use Rattle.explain_core.specs.World.Step.{Block_gate, Removal}
@@ -18,7 +18,7 @@ use Rattle.running_store.specs.CourseLaws.{behind_both, through_is}
 use Rattle.running_store.specs.Courses.{Course, and_then, waits, force_steps, is_identity_at, is_identity_some, removal_steps}
 use Rattle.cache_manager.specs.EachStep.{each_force, each_identities}
 use Rattle.cache_manager.specs.FreeSteps.{IsFree, free_beside}
-use Rattle.cache_manager.specs.InstallCourses.{identities, is_stale, may_flush, must_log, others, next_node, removals_of, round_limit, round_steps, work, finish_steps, install_course, drain_course, turn_course}
+use Rattle.cache_manager.specs.InstallCourses.{identities, is_stale, may_flush, must_log, others, next_node, round_limit, round_steps, work, finish_steps, install_course, drain_course, turn_course}
 use Rattle.running_store.specs.Running.{IsRunning, KeepsSound}
 use Rattle.cache_manager.proofs.Goes.{Goes}
 use Rattle.cache_manager.proofs.DueWorlds.{passes_due}

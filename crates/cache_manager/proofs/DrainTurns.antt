@@ -4,8 +4,7 @@ use Rattle.std.specs.Prelude.{IsTrue, IsFalse}
 use Rattle.std.proofs.lemmas.Bool.{both_ways, cases_Bool, cond-false, cond-true, cond_both, false_from_ne_true}
 use Rattle.oper_core.specs.Meaning.{Meaning, IsLawful}
 use Rattle.install_order.specs.NodeLaws.{some-gives}
-use Rattle.explain_core.specs.Rounds.{round_gates}
-use Rattle.explain_core.specs.Turns.{count_below, dirty_in}
+use Rattle.explain_core.specs.Turns.{count_below, dirty_in, round_gates}
 use Rattle.explain_core.specs.World.{World, end_of, run}
 use Rattle.running_store.specs.CourseLaws.{behind_both, through_is}
 use Rattle.running_store.specs.Courses.{Course, and_then, course, is_through}

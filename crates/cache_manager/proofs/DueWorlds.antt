@@ -10,9 +10,8 @@ use Rattle.install_order.specs.NodeLaws.{least-is, name-is, node-is, some-from, 
 use Rattle.install_order.specs.Order.{Access, IsMinimal, IsName, IsNode, NoEdgeInto}
 use Rattle.write_graph.specs.Graph.{IsNodeNamed}
 use Rattle.explain_core.specs.CountLaws.{count_none}
-use Rattle.explain_core.specs.Rounds.{due_from as due_gates, gate_at, is_due, object_at, round_gates}
 use Rattle.explain_core.specs.Sound.{IsSound}
-use Rattle.explain_core.specs.Turns.{count_below, has_work, is_entered}
+use Rattle.explain_core.specs.Turns.{count_below, has_work, is_entered, due_from as due_gates, gate_at, is_due, object_at, round_gates}
 use Rattle.explain_core.specs.World.{World, end_of, graph_access, node_named, work_of}
 use Rattle.running_store.specs.Courses.{is_identity_at}
 use Rattle.running_store.specs.Parts.{ShowsVolatile, Volatile}

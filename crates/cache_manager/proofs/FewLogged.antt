@@ -6,14 +6,14 @@ use Rattle.std.proofs.lemmas.Bool.{cases_eq, both_ways, or_cases, or_left, or_ri
 use Rattle.oper_core.specs.State.{is_among}
 use Rattle.oper_core.specs.Meaning.{Meaning}
 use Rattle.explain_core.specs.History.Member.{Identity}
-use Rattle.explain_core.specs.RoundGates.{Gate, gate_step, gates_of}
-use Rattle.explain_core.specs.Rounds.{round_gates}
+use Rattle.explain_core.specs.RoundGates.{Gate, gate_step, gates_of, removals_of}
+use Rattle.explain_core.specs.Turns.{round_gates}
 use Rattle.explain_core.specs.Sound.{IsSound}
 use Rattle.explain_core.specs.World.{World, Step, step, run, end_of}
 use Rattle.explain_core.specs.World.Step.{Append, Block_gate, Slot_gate, Removal}
 use Rattle.running_store.specs.Courses.{Course, course, waits, buffered, grown, force_steps, room_steps, placed, cached_length, identity_length, identity_steps, removal_steps}
 use Rattle.cache_manager.specs.EachStep.{each_identities}
-use Rattle.cache_manager.specs.InstallCourses.{logged_by, identity_course, identities, may_flush, next_node, removals_of, round_steps, work, but_longest, finish_steps, logged_in}
+use Rattle.cache_manager.specs.InstallCourses.{logged_by, identity_course, identities, may_flush, next_node, round_steps, work, but_longest, finish_steps, logged_in}
 use Rattle.running_store.specs.Courses.Stop.{Through, Full, At_end}
 use Rattle.running_store.specs.Running.{IsRunning, KeepsSound}
 use Rattle.cache_manager.proofs.Goes.{room_goes}

@@ -39,3 +39,5 @@ pub mod TurnTaken
 pub mod DueNodes
 pub mod Singles
 pub mod DueWorlds
+pub mod ThinRounds
+pub mod ThinTurns

@@ -6,7 +6,7 @@ use Rattle.std.proofs.lemmas.Bool.{and_parts, cases_Bool, both_ways, cond-false,
 use Rattle.oper_core.specs.Meaning.{Meaning, IsLawful}
 use Rattle.oper_core.specs.State.{is_among}
 use Rattle.explain_core.specs.RoundGates.{Gate}
-use Rattle.explain_core.specs.Rounds.{due_from, gate_at, is_due, round_gates}
+use Rattle.explain_core.specs.Turns.{due_from, gate_at, is_due, round_gates}
 use Rattle.explain_core.specs.Sound.{IsSound}
 use Rattle.explain_core.specs.World.{World, end_of, work_of}
 use Rattle.cache_manager.specs.InstallCourses.{is_next_due, is_stale, may_flush, must_log, next_name, next_node, work}

@@ -14,7 +14,7 @@ use Rattle.install_order.specs.Entries.{accesses}
 use Rattle.install_order.specs.Order.{NoEdgeInto}
 use Rattle.install_order.specs.declared.entry.Entry.{Entry}
 use Rattle.write_graph.specs.Graph.{IsNodeNamed, NamesMinimal}
-use Rattle.explain_core.specs.RoundGates.{Gate}
+use Rattle.explain_core.specs.RoundGates.{Gate, removals_of}
 use Rattle.explain_core.specs.World.{AreAllowed, World, run, step}
 use Rattle.explain_core.specs.World.Step.{Removal}
 use Rattle.standing.specs.Moments.{TakesSome, moments_longer, moments_twice}
@@ -28,7 +28,6 @@ use Rattle.running_store.specs.StoreView.{StoreView}
 use Rattle.running_store.specs.Stored.{run_one, stays_shown}
 use Rattle.running_store.specs.Taking.{Ending}
 use Rattle.running_store.specs.Taking.Ending.{Done, Failed}
-use Rattle.cache_manager.specs.InstallCourses.{removals_of}
 use Rattle.cache_manager.specs.RoundNodes.{AreNodesOf, AreRemoved, NameMinimal}
 use Rattle.cache_manager.proofs.DirtyLogs.{logs_none, logs_removal, logs_twice}
 use Rattle.cache_manager.proofs.LeftNodes.{still_named}

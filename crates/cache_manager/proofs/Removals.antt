@@ -4,12 +4,12 @@ use Rattle.std.specs.Prelude.{IsTrue}
 use Rattle.std.specs.List.{AllByRecursion}
 use Rattle.std.proofs.lemmas.Bool.{both_ways, cond-true, cond_both}
 use Rattle.oper_core.specs.Meaning.{Meaning}
-use Rattle.explain_core.specs.RoundGates.{Gate, gates_of}
-use Rattle.explain_core.specs.Rounds.{round_gates}
+use Rattle.explain_core.specs.RoundGates.{Gate, gates_of, removals_of}
+use Rattle.explain_core.specs.Turns.{free_gates, free_round, round_gates}
 use Rattle.explain_core.specs.World.{World, Step, run}
 use Rattle.running_store.specs.Courses.{Course, is_through, course, behind, and_then, force_steps, removal_steps}
 use Rattle.cache_manager.specs.EachStep.{each_force, each_identities}
-use Rattle.cache_manager.specs.InstallCourses.{removed_by, identities, next_node, work, others, finish_steps, may_flush, must_log, removals_of, round_steps, rounds, has_members, install_course, flushed_by, flushed_in, removals}
+use Rattle.cache_manager.specs.InstallCourses.{removed_by, identities, next_node, work, others, finish_steps, may_flush, must_log, round_steps, rounds, has_members, install_course, flushed_by, flushed_in, removals}
 use Rattle.running_store.specs.Courses.Stop.{Through}
 use Rattle.running_store.specs.CourseLaws.{behind_both}
 
@@ -119,3 +119,8 @@ module _ {O : Type 0} (m : Meaning O) where
   round_removes copied most w =
       let gates = round_gates m (may_flush m copied) most w in
       omega (arith, removals-append (force_steps m w) (gates_of gates ++ removals_of gates), removals-append {O = O} (gates_of gates) (removals_of gates), (none_force w).removed, none_gates gates, each_removed gates)
+
+  pub free_removes : (most : ℕ) (w : World O) → removals (free_round m most w) ≡ length (free_gates m most w)
+  free_removes most w =
+      let gates = free_gates m most w in
+      omega (arith, removals-append {O = O} (gates_of gates) (removals_of gates), none_gates gates, each_removed gates)

@@ -4,7 +4,7 @@ use Rattle.std.specs.Prelude.{IsTrue}
 use Rattle.std.proofs.lemmas.Bool.{both_ways, cases_Bool, cases_eq, cond-false, cond-true}
 use Rattle.oper_core.specs.Meaning.{Meaning}
 use Rattle.explain_core.specs.RoundGates.{Gate, IsGateAmong}
-use Rattle.explain_core.specs.Rounds.{due_from, gate_at, is_due, round_gates}
+use Rattle.explain_core.specs.Turns.{due_from, gate_at, is_due, round_gates}
 use Rattle.explain_core.specs.World.{World, end_of}
 
 module _ {O : Type 0} (m : Meaning O) (may : World O → ℕ → Bool) (w : World O) (n : ℕ) (due : IsTrue (is_due m may w n)) where

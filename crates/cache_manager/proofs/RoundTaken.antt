@@ -16,12 +16,12 @@ use Rattle.log_records.specs.RecordLog.{RecordLogView}
 use Rattle.install_order.specs.declared.entry.Entry.{Entry}
 use Rattle.dirty_cache.specs.Contents.{is_dirty}
 use Rattle.write_graph.specs.Graph.{IsNodeNamed}
-use Rattle.explain_core.specs.RoundGates.{Gate, gates_of}
-use Rattle.explain_core.specs.Rounds.{round_gates}
+use Rattle.explain_core.specs.RoundGates.{Gate, gates_of, removals_of}
+use Rattle.explain_core.specs.Turns.{round_gates}
+use Rattle.explain_core.specs.RoundRemovals.{nodes_removed}
 use Rattle.explain_core.specs.RunLaws.{run-append}
 use Rattle.explain_core.specs.Sound.{IsSound}
-use Rattle.explain_core.specs.World.{AreAllowed, IsLive, Step, World, run, step}
-use Rattle.explain_core.specs.World.Step.{Removal}
+use Rattle.explain_core.specs.World.{AreAllowed, IsLive, Step, World, run}
 use Rattle.standing.specs.Moments.{TakesSome, moments_longer, moments_twice}
 use Rattle.running_store.specs.Courses.{Course, course, force_steps}
 use Rattle.running_store.specs.Courses.Stop.{Through}
@@ -36,10 +36,11 @@ use Rattle.running_store.specs.Taking.{Ending, Takes}
 use Rattle.running_store.specs.Taking.Ending.{Done, Failed}
 use Rattle.running_store.specs.TakesLaws.{takes_failed}
 use Rattle.cache_manager.specs.DueNodes.{IsDueFor, IsRoundFrom, gates_at}
-use Rattle.cache_manager.specs.InstallCourses.{may_flush, removals_of, round_course, round_steps}
+use Rattle.cache_manager.specs.InstallCourses.{may_flush, round_course, round_steps}
 use Rattle.cache_manager.specs.RoundNodes.{AreNodesOf, AreRemoved, NameMinimal}
+use Rattle.cache_manager.specs.ThinShown.{by_removals, removal_live}
 use Rattle.cache_manager.proofs.DueWorlds.{chosen_is}
-use Rattle.cache_manager.proofs.RoundGoes.{MayRound, nodes_removed, round_allowed_behind, round_forced}
+use Rattle.cache_manager.proofs.RoundGoes.{MayRound, round_allowed_behind, round_forced}
 use Rattle.cache_manager.proofs.ThinWorlds.{node_is_named, store_small}
 use Rattle.cache_manager.proofs.WorkOf.{AreAlone}
 
@@ -102,26 +103,21 @@ module _ {O : Type 0} (m : Meaning O) (lawful : IsLawful m) (p : Params) (file :
       let minimal = is.1.minimal in
       (subst (λ (s : ℕ → Bool). IsNodeNamed it.entries n s) (node_is_named m lawful p file it w shows sound n minimal.0 minimal.1) minimal.1, round_nodes most (suc n) names objects is.3)
 
+-- and there are as many
+pub as_many : {O : Type 0} (m : Meaning O) (w : World O) (names : List ℕ) → length names ≡ length (gates_at m w names)
+as_many m w [] = refl
+as_many m w (n ∷ names) = let rest = as_many m w names in omega (arith, rest)
+
 -- with a log beside them the parts show the world after removals
 module _ {O : Type 0} (m : Meaning O) (p : Params) where
-  log_left : (d : Disk) (log : RecordLogView) (w : World O) (gates : List Gate) → ShowsLog m d log w → ShowsLog m d log (run m w (removals_of gates))
-  unfolding run
-  log_left d log w [] shows = shows
-  log_left d log w (g ∷ gates) shows = log_left d log (step m w (Removal g.node)) gates (log_removed m p d log w g.node shows)
-
-  live_left : (w : World O) (gates : List Gate) → IsLive w → IsLive (run m w (removals_of gates))
-  unfolding run step
-  live_left w [] live = live
-  live_left w (g ∷ gates) live = live_left (step m w (Removal g.node)) gates live
-
   left_shows : (old new : Disk) (it : Parts) (after : Volatile) (w : World O) (gates : List Gate) → Shows m p old it w → OthersStay Objects old.reads new.reads → VolatileShows m p new after (run m w (removals_of gates))
       → Shows m p new (record { log = it.log; volatile = after }) (run m w (removals_of gates))
   left_shows old new it after w gates shows others done = record {
     told = done.told;
-    running = record { sound = done.sound; live = live_left w gates shows.running.live; alone = done.alone };
+    running = record { sound = done.sound; live = by_removals m IsLive (removal_live m) w gates shows.running.live; alone = done.alone };
     bounds = shows.bounds;
     store = done.store;
-    log = log_left new it.log w gates (log_stays m p old new it.log w others done.settled shows.log);
+    log = by_removals m (λ v. ShowsLog m new it.log v) (λ v node shown. log_removed m p new it.log v node shown) w gates (log_stays m p old new it.log w others done.settled shows.log);
   }
 
 all_done : Done ≡ Done
@@ -156,11 +152,7 @@ module _ {O : Type 0} (meaning : Bounds → Meaning O) (lawful : (b : Bounds) �
     found = chosen_is m (lawful (bounds_of p) small) alone p (old.reads Objects) before.parts.volatile w shows.store shows.running.sound copied most names objects chosen
 
     pub how_many : length names ≡ length gates
-    how_many = as_many names ∙ ap (λ (l : List Gate). length l) (sym found.0)
-      where
-        as_many : (ns : List ℕ) → length ns ≡ length (gates_at m w ns)
-        as_many [] = refl
-        as_many (n ∷ ns) = let rest = as_many ns in omega (arith, rest)
+    how_many = as_many m w names ∙ ap (λ (l : List Gate). length l) (sym found.0)
 
     may_open : AreAllowed m v (gates_of gates)
     may_open = round_allowed_behind m (keep (bounds_of p) small) (rounds (bounds_of p) small) copied most w shows.running

@@ -1,5 +1,5 @@
 -- The thin node of the least name, as it is looked for.
-use Rattle.std.proofs.Common.{◌≡◌, ◌∙◌, sym, subst, ℕ, ◌+◌, ◌≤◌, Bool, true, false, List, [], ◌∷◌, length, refl, arith, inl, inr}
+use Rattle.std.proofs.Common.{◌≡◌, ◌∙◌, sym, subst, ℕ, ◌+◌, ◌≤◌, Bool, false, List, [], ◌∷◌, length, refl, arith, inl, inr}
 use Rattle.std.specs.Prelude.{All, IsTrue, ◌==◌, ◌||◌}
 use Rattle.std.specs.List.{filter}
 use Rattle.std.proofs.lemmas.Bool.{both_ways, or_cases, or_left, or_right, eqb-true, eq-eqb}
@@ -87,9 +87,3 @@ pub among_all : (P : ℕ → Type 0) (xs : List ℕ) → ((x : ℕ) → IsTrue (
 among_all P [] each = All-nil P
 among_all P (x ∷ xs) each =
     All-cons P x xs (each x (or_left (x == x) (is_among x xs) (eq-eqb x x refl))) (among_all P xs (λ y there. each y (or_right (y == x) (is_among y xs) there)))
-
--- the objects that a thin node has to flush are dirty
-pub thin_dirty : (it : Volatile) (n : ℕ) (work : List ℕ) → IsLeastThin it n work → All (λ x. is_dirty it.objects.cache x ≡ true) work
-thin_dirty it n work least =
-    let thin = least.least.0 in
-    among_all (λ x. is_dirty it.objects.cache x ≡ true) work (λ x there. (((least.is_work thin.0 thin.1.named).exactly x).0 there).1)

@@ -1,6 +1,6 @@
 -- The thin node of the least name is that of the world that the store shows.
-use Rattle.std.proofs.Common.{◌≡◌, ◌∙◌, sym, subst, ap, ℕ, zero, suc, ◌+◌, ◌<◌, ◌≤◌, Bool, true, false, not, List, [], ◌∷◌, length, refl, arith, inl, inr, if◌then◌else◌}
-use Rattle.std.specs.Prelude.{IsTrue, IsFalse, ◌==◌, ◌&&◌, nat_le}
+use Rattle.std.proofs.Common.{◌≡◌, ◌∙◌, sym, subst, ap, ℕ, zero, suc, ◌+◌, ◌<◌, ◌≤◌, Bool, false, not, List, [], ◌∷◌, refl, arith, inl, inr, if◌then◌else◌}
+use Rattle.std.specs.Prelude.{IsTrue, IsFalse, ◌==◌, ◌&&◌, nat_le, max}
 use Rattle.std.proofs.lemmas.Bool.{cases_Bool, both_ways, and_parts, and_from, or_left, eq-eqb, eqb-true, ne_eqb, cond-true, cond-false, lt-ltb, le-leb, false_from_ne_true}
 use Rattle.oper_core.specs.State.{is_among}
 use Rattle.disk_model.specs.Disk.{Disk}
@@ -12,22 +12,20 @@ use Rattle.formats.specs.declared.params.Params.{Params}
 use Rattle.install_order.specs.Order.{Access, IsNode, IsName, NoEdgeInto, flush_set_of}
 use Rattle.install_order.specs.Computed.{IsWithin, some_below, least_below}
 use Rattle.install_order.specs.NodeLaws.{some-from, some-gives, node-is, node-unique, least-is, name-is}
-use Rattle.standing.specs.Moments.{TakesSome}
 use Rattle.standing.specs.OneStable.{small_store}
 use Rattle.write_graph.specs.Graph.{IsNodeNamed}
 use Rattle.explain_core.specs.CountLaws.{count_none}
-use Rattle.explain_core.specs.ThinLaws.{is_so, ready, one_work, steps_allowed}
+use Rattle.explain_core.specs.ThinLaws.{is_so, ready, one_work, removal_allowed}
 use Rattle.explain_core.specs.Sound.{IsSound}
-use Rattle.explain_core.specs.Turns.{count_below, has_work, is_entered, is_thin, thin_name, has_thin, thin_steps}
-use Rattle.explain_core.specs.World.{World, Step, AreAllowed, run, IsAllStable, end_of, graph_access, node_named, work_of}
-use Rattle.explain_core.specs.World.Step.{Slot_gate, Removal}
+use Rattle.explain_core.specs.Turns.{count_below, has_work, is_entered, is_thin, thin_name, thin_node, thin_has_work, has_thin, thin_turn, free_round}
+use Rattle.explain_core.specs.World.{World, AreAllowed, run, IsAllStable, end_of, graph_access, node_named, work_of}
+use Rattle.explain_core.specs.World.Step.{Removal}
 use Rattle.running_store.specs.Courses.{removal_steps}
 use Rattle.running_store.specs.Joins.{dirty_shown}
 use Rattle.running_store.specs.Parts.{Volatile, ShowsVolatile, VolatileShows}
 use Rattle.cache_manager.specs.Thin.{HasToFlush, IsWork, NamesThin, IsLeastThin}
 use Rattle.cache_manager.proofs.Counts.{count_le}
 use Rattle.cache_manager.proofs.Next.{is_within, below, test_none}
-use Rattle.cache_manager.proofs.ThinNodes.{one_among}
 use Rattle.cache_manager.proofs.WorkOf.{work_from, work_gives, work_there}
 
 here : (x : ℕ) (xs : List ℕ) → IsTrue (is_among x (x ∷ xs))
@@ -138,58 +136,39 @@ module _ {O : Type 0} (m : Meaning O) (lawful : IsLawful m) (p : Params) (file :
           let low : n < end = below m lawful w sound n (member n thin.0 thin.1.named) in
           omega (arith, (least-is (is_thin m w) end).2 n low (thin_passes n thin), least.least.1 (thin_name m w) (thin_from has_one))
 
-      -- the node's last steps are those that install it
-      pub thin_steps_are : (node : ℕ → Bool) → IsNodeNamed it.entries n node → thin_steps m w ≡ removal_steps m node work
-      thin_steps_are node named =
-          let same : node_named m w (thin_name m w) ≡ node = ap (node_named m w) name_is ∙ sym (node_is_named n node named) in
-          subst (λ (s : ℕ → Bool). (if some_below m.objects (has_work m w s) then Slot_gate s (least_below m.objects (has_work m w s)) ∷ Removal s ∷ [] else Removal s ∷ []) ≡ removal_steps m node work) (sym same)
-          (by_work work (least.is_work node named) least.few)
-        where
-          by_work : (xs : List ℕ) → IsWork it node xs → length xs ≤ 1
-              → (if some_below m.objects (has_work m w node) then Slot_gate node (least_below m.objects (has_work m w node)) ∷ Removal node ∷ [] else Removal node ∷ []) ≡ removal_steps m node xs
-          by_work [] listed few =
-              let none : some_below m.objects (has_work m w node) ≡ false = false_from_ne_true _ (λ some.
-              let g = some-gives m.objects (has_work m w node) some in
-              both_ways _ refl ((listed.exactly g.0).1 (due_from node g.0 (work_from m lawful w sound node g.0 g.2)))) in
-              cond-false (some_below m.objects (has_work m w node)) _ _ none
-          by_work (x ∷ xs) listed few =
-              let due : work_of m w node x = due_gives node x ((listed.exactly x).0 (here x xs)) in
-              let passes : IsTrue (has_work m w node x) = work_gives m lawful w sound node x due in
-              let low : x < m.objects = work_there m lawful w sound node x due in
-              let l = least-is (has_work m w node) m.objects in
-              let first = least_below m.objects (has_work m w node) in
-              let there : first < m.objects = omega (arith, l.2 x low passes, low) in
-              let same : first ≡ x = one_among (x ∷ xs) first x few ((listed.exactly first).1 (due_from node first (work_from m lawful w sound node first (l.1 there)))) (here x xs) in
-              cond-true (some_below m.objects (has_work m w node)) _ _ (some-from m.objects (has_work m w node) x low passes)
-              ∙ ap (λ (z : ℕ). Slot_gate node z ∷ Removal node ∷ []) same
+      -- what the world's thin node has to flush is what the store's has
+      thin_node_is : (node : ℕ → Bool) → IsNodeNamed it.entries n node → thin_node m w ≡ node
+      thin_node_is node named = ap (node_named m w) name_is ∙ sym (node_is_named n node named)
 
-      -- and they may be taken
-      pub thin_may : (node : ℕ → Bool) → IsNodeNamed it.entries n node → AreAllowed m w (removal_steps m node work)
-      thin_may node named = subst (λ (l : List (Step O)). AreAllowed m w l) (thin_steps_are node named) (steps_allowed m lawful w sound stable has_one)
+      pub has_no_work : work ≡ [] → IsFalse (thin_has_work m w)
+      has_no_work none = false_from_ne_true _ (λ some.
+          let thin = least.least.0 in
+          let node = thin.0 in
+          let g = some-gives m.objects (has_work m w node) (subst (λ (s : ℕ → Bool). IsTrue (some_below m.objects (has_work m w s))) (thin_node_is node thin.1.named) some) in
+          let listed = subst (λ (l : List ℕ). IsWork it node l) none (least.is_work node thin.1.named) in
+          both_ways _ refl ((listed.exactly g.0).1 (due_from node g.0 (work_from m lawful w sound node g.0 g.2))))
 
--- the thin node of the least name is finished
-module _ {O : Type 0} (m : Meaning O) (lawful : IsLawful m) (p : Params) (d : Disk) (it : Volatile) (w : World O) (shows : VolatileShows m p d it w) (stable : IsAllStable w) (n : ℕ) (work : List ℕ)
-    (least : IsLeastThin it n work) where
-  abbrev node : ℕ → Bool
-  node = least.least.0.0
+      pub has_some_work : (x : ℕ) (xs : List ℕ) → work ≡ x ∷ xs → IsTrue (thin_has_work m w)
+      has_some_work x xs some =
+          let thin = least.least.0 in
+          let node = thin.0 in
+          let listed = subst (λ (l : List ℕ). IsWork it node l) some (least.is_work node thin.1.named) in
+          let due : work_of m w node x = due_gives node x ((listed.exactly x).0 (here x xs)) in
+          subst (λ (s : ℕ → Bool). IsTrue (some_below m.objects (has_work m w s))) (sym (thin_node_is node thin.1.named))
+          (some-from m.objects (has_work m w node) x (work_there m lawful w sound node x due) (work_gives m lawful w sound node x due))
 
-  steps_are : thin_steps m w ≡ removal_steps m node work
-  steps_are = thin_steps_are m lawful p (d.reads Objects) it w shows.store shows.sound stable n work least node least.least.0.1.named
+      -- where it has none, a turn takes it out of the graph
+      pub turn_removes : (most : ℕ) → work ≡ [] → (node : ℕ → Bool) → IsNodeNamed it.entries n node → thin_turn m most w ≡ removal_steps m node []
+      turn_removes most none node named =
+          cond-true (has_thin m w) _ _ has_one ∙ cond-false (thin_has_work m w) _ _ (has_no_work none) ∙ ap (λ (s : ℕ → Bool). Removal s ∷ []) (thin_node_is node named)
 
-  -- what its last steps leave is what the steps of the install leave
-  pub installed_is : (new : Disk) (after : Volatile)
-      → ((s : ℕ → Bool) → IsNodeNamed it.entries n s → AreAllowed m w (removal_steps m s work) → VolatileShows m p new after (run m w (removal_steps m s work)))
-      → (true ≡ has_thin m w) × VolatileShows m p new after (run m w (thin_steps m w))
-  installed_is new after done = (
-    sym (has_one m lawful p (d.reads Objects) it w shows.store shows.sound stable n work least),
-    subst (λ (l : List (Step O)). VolatileShows m p new after (run m w l)) (sym steps_are)
-        (done node least.least.0.1.named (thin_may m lawful p (d.reads Objects) it w shows.store shows.sound stable n work least node least.least.0.1.named)),
-  )
+      pub removal_may : work ≡ [] → (node : ℕ → Bool) → IsNodeNamed it.entries n node → AreAllowed m w (removal_steps m node [])
+      removal_may none node named =
+          subst (λ (s : ℕ → Bool). AreAllowed m w (removal_steps m s [])) (thin_node_is node named) (removal_allowed m lawful w sound stable has_one (has_no_work none))
 
-  pub installing_moments : (new : Disk) → ((s : ℕ → Bool) → TakesSome m p d new w (removal_steps m s work)) → TakesSome m p d new w (if has_thin m w then thin_steps m w else [])
-  installing_moments new each =
-      let has : IsTrue (has_thin m w) = has_one m lawful p (d.reads Objects) it w shows.store shows.sound stable n work least in
-      subst (λ (l : List (Step O)). TakesSome m p d new w l) (sym (cond-true (has_thin m w) (thin_steps m w) [] has ∙ steps_are)) (each node)
+      -- and where it has one, a turn is a round
+      pub turn_rounds : (most x : ℕ) (xs : List ℕ) → work ≡ x ∷ xs → thin_turn m most w ≡ free_round m (max 1 most) w
+      turn_rounds most x xs some = cond-true (has_thin m w) _ _ has_one ∙ cond-true (thin_has_work m w) _ _ (has_some_work x xs some)
 
 -- where the store has no thin node, the world has none
 pub no_thin : {O : Type 0} (m : Meaning O) → IsLawful m → (p : Params) (d : Disk) (it : Volatile) (w : World O) → VolatileShows m p d it w → IsAllStable w → ((n : ℕ) → NamesThin it n → ⊥) → IsFalse (has_thin m w)

@@ -10,7 +10,7 @@ use Rattle.formats.specs.Objects.{bounds_of}
 use Rattle.formats.specs.declared.params.Params.{Params}
 use Rattle.install_order.specs.NodeLaws.{some-from}
 use Rattle.write_graph.specs.Graph.{IsLeast, NamesMinimal}
-use Rattle.explain_core.specs.Rounds.{object_at}
+use Rattle.explain_core.specs.Turns.{object_at}
 use Rattle.explain_core.specs.World.{World, end_of}
 use Rattle.running_store.specs.Courses.{Course, course}
 use Rattle.running_store.specs.Courses.Stop.{Through}

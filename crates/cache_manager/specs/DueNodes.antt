@@ -3,7 +3,7 @@ use Rattle.std.specs.Prelude.{◌≡◌, ◌⊎◌, ◌<◌, ◌≤◌, ℕ, zer
 use Rattle.write_graph.specs.Graph.{IsNodeNamed, NamesMinimal}
 use Rattle.oper_core.specs.Meaning.{Meaning}
 use Rattle.explain_core.specs.RoundGates.{Gate}
-use Rattle.explain_core.specs.Rounds.{gate_at}
+use Rattle.explain_core.specs.Turns.{gate_at}
 use Rattle.explain_core.specs.World.{World}
 use Rattle.running_store.specs.Parts.{Volatile}
 use Rattle.cache_manager.specs.Beside.{IsFresh}

@@ -5,9 +5,8 @@ use Rattle.oper_core.specs.Meaning.{Meaning}
 use Rattle.install_order.specs.Computed.{some_below, least_below}
 use Rattle.identity_writes.specs.Plan.{but_kept}
 use Rattle.explain_core.specs.History.Member.{Identity}
-use Rattle.explain_core.specs.RoundGates.{Gate, gates_of}
-use Rattle.explain_core.specs.Rounds.{round_gates}
-use Rattle.explain_core.specs.Turns.{count_below, dirty_in, has_work, is_entered}
+use Rattle.explain_core.specs.RoundGates.{gates_of, removals_of}
+use Rattle.explain_core.specs.Turns.{count_below, dirty_in, has_work, is_entered, round_gates}
 use Rattle.explain_core.specs.World.{World, Step, step, end_of, node_named}
 use Rattle.explain_core.specs.World.Step.{Append, Slot_gate, Removal}
 use Rattle.running_store.specs.Courses.{Course, and_then, cached_length, course, force_steps, identity_length, identity_steps, is_identity_at, placed, removal_steps, room_steps}
@@ -35,11 +34,6 @@ not_copied copied objects = filter (λ x. nat_le copied x) objects
 -- all but the longest of those that are not copied
 abbrev pub but_longest : ℕ → (ℕ → ℕ) → List ℕ → List ℕ
 but_longest copied lengths objects = but_kept (longest_of lengths (not_copied copied objects)) objects
-
--- the nodes that the gates install are removed
-abbrev pub removals_of : {O : Type 0} → List Gate → List (Step O)
-removals_of [] = []
-removals_of (g ∷ gates) = Removal g.node ∷ removals_of gates
 
 -- so many nodes are installed in one round: as many as have objects of at most 2^20 bytes together, however long their values
 -- are, and at least 64

@@ -12,3 +12,4 @@ pub mod DueNodes
 pub mod RoundNodes
 pub mod LogsDirty
 pub mod Worked
+pub mod ThinShown

@@ -7,7 +7,7 @@ use Rattle.oper_core.specs.declared.bounds.Bounds.{Bounds}
 use Rattle.formats.specs.declared.params.Params.{Params}
 use Rattle.install_order.specs.declared.entry.Entry.{Entry}
 use Rattle.write_graph.specs.Graph.{IsNodeNamed, NamesMinimal}
-use Rattle.explain_core.specs.RoundGates.{Gate}
+use Rattle.explain_core.specs.RoundGates.{Gate, removals_of}
 use Rattle.explain_core.specs.World.{AreAllowed, World, run}
 use Rattle.standing.specs.Moments.{TakesSome}
 use Rattle.running_store.specs.Beside.{IsOnObjectsAlone}
@@ -16,7 +16,6 @@ use Rattle.running_store.specs.Parts.{VolatileShows, meaning_in}
 use Rattle.running_store.specs.StoreView.{StoreView}
 use Rattle.running_store.specs.Taking.{Ending}
 use Rattle.running_store.specs.Taking.Ending.{Done}
-use Rattle.cache_manager.specs.InstallCourses.{removals_of}
 use Rattle.cache_manager.specs.LogsDirty.{LogsDirty}
 
 -- these name minimal nodes, each once

@@ -4,13 +4,12 @@ use Rattle.std.specs.Prelude.{◌^◌, nat_lt, if◌then◌else◌}
 use Rattle.std.specs.List.{AllByRecursion}
 use Rattle.std.proofs.lemmas.Bool.{cond_both}
 use Rattle.oper_core.specs.Meaning.{Meaning}
-use Rattle.explain_core.specs.RoundGates.{Gate, gates_of}
-use Rattle.explain_core.specs.Rounds.{round_gates}
-use Rattle.explain_core.specs.Turns.{count_below, dirty_in}
+use Rattle.explain_core.specs.RoundGates.{Gate, gates_of, removals_of}
+use Rattle.explain_core.specs.Turns.{count_below, dirty_in, round_gates}
 use Rattle.explain_core.specs.World.{World, Step, run, end_of}
 use Rattle.explain_core.specs.World.Step.{Block_gate}
 use Rattle.running_store.specs.Courses.{Course, course, and_then, waits, buffered, force_steps, room_steps, removal_steps}
-use Rattle.cache_manager.specs.InstallCourses.{identities, next_node, work, must_log, others, finish_steps, rounds, has_members, install_course, removals_of, may_flush, round_steps, round_course, is_next_due, next_turn, turn_course, turns, all_turns, round_limit, drain_course}
+use Rattle.cache_manager.specs.InstallCourses.{identities, next_node, work, must_log, others, finish_steps, rounds, has_members, install_course, may_flush, round_steps, round_course, is_next_due, next_turn, turn_course, turns, all_turns, round_limit, drain_course}
 use Rattle.running_store.specs.Courses.Stop.{Through}
 use Rattle.running_store.specs.CourseLaws.{behind_both}
 use Rattle.running_store.specs.Running.{AreUpkeep, IsUpkeep}

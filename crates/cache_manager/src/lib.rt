@@ -4,8 +4,8 @@
 //! What an install, a turn and a drain do is a course, a function of a world and of the log's length; functions without
 //! parameters and with an empty body say that its steps may be taken, and what bounds them. [`install_one`], [`tend`]
 //! (one turn: a round or an install) and [`drain`] take it, or as much of it as they have memory for, and say what they did;
-//! [`install_thin`] installs the thin node of the least name, for which nothing is logged. Each is a call on a `Store` of
-//! running_store, whose words and laws say what it does.
+//! [`tend_thin`] takes a turn for which nothing is logged. Each is a call on a `Store` of running_store, whose words and laws
+//! say what it does.
 #![tactic(auto)]
 
 mod beside;
@@ -16,11 +16,11 @@ mod identities;
 mod identity;
 mod install;
 mod install_err;
-mod installing;
 mod removing;
 mod rounds;
 mod tending;
 mod thin;
+mod thinning;
 mod turning;
 mod worked;
 
@@ -32,9 +32,9 @@ pub use courses::{
 pub use draining::drain;
 pub use install::Install;
 pub use install_err::InstallErr;
-pub use installing::install_thin;
 pub use rounds::install_one;
 pub use tending::tend;
+pub use thinning::tend_thin;
 pub use worked::{
     a_swap_is_installed, nodes_of_one_object_log_nothing, the_longer_value_is_flushed,
 };

@@ -19,7 +19,7 @@ use oper_core::Oper;
 use running_store::Store;
 
 // So many, and 1 in place of 0.
-fn one_or_more(most: usize) -> usize
+pub(crate) fn one_or_more(most: usize) -> usize
     ensures { result ≡ max 1 most }
 {
     most.max(1)

@@ -2,7 +2,7 @@
 ghost use Rattle.std.specs.Prelude.{◌≡◌, ◌+◌, ◌<◌, ◌≤◌, ℕ, false, length, IsFalse, IsTrue, IfOk, OnOk};
 ghost use Rattle.formats.specs.declared.params.Params.{Params as Numbers};
 ghost use Rattle.write_graph.specs.Graph.{NamesMinimal};
-ghost use Rattle.explain_core.specs.Rounds.{round_gates};
+ghost use Rattle.explain_core.specs.Turns.{round_gates};
 ghost use Rattle.explain_core.specs.World.{World};
 ghost use Rattle.running_store.specs.Calls.{IsCall, Never};
 ghost use Rattle.running_store.specs.Kept.{StopsAt};

@@ -16,6 +16,8 @@ pub mod OneState
 pub mod Wider
 pub mod GroupLaws
 pub mod GroupRuns
+pub mod RoundMay
+pub mod ThinRuns
 pub mod TurnRuns
 pub mod CopiedSlots
 pub mod BackupRuns
@@ -25,4 +27,3 @@ pub mod Exact
 pub mod ByteCodes
 pub mod WorkedRuns
 pub mod HalfSwap
-pub mod RoundMay

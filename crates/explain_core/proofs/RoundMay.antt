@@ -11,9 +11,8 @@ use Rattle.install_order.specs.NodeLaws.{edge-end, edge-start, flushed-iff, leas
 use Rattle.explain_core.specs.RoundGates.{AreApart, Gate, IsGateAmong, gate_step, gates_of, one_node, round_allowed}
 use Rattle.explain_core.specs.GraphLaws.{graph-within}
 use Rattle.explain_core.specs.Sound.{IsSound}
-use Rattle.explain_core.specs.Turns.{count_below, has_work, is_entered}
+use Rattle.explain_core.specs.Turns.{count_below, has_work, is_entered, due_from, gate_at, is_due, object_at, round_gates}
 use Rattle.explain_core.specs.World.{AreAllowed, IsAllStable, IsAllowed, IsInstallable, World, end_of, graph_access, node_named, work_of}
-use Rattle.explain_core.specs.Rounds.{due_from, gate_at, is_due, object_at, round_gates}
 
 one_last : (a : Access) (x n k : ℕ) → IsLastWriter a x n → IsLastWriter a x k → n ≡ k
 one_last a x n k last later = elim (cases_order n k) [

@@ -1,17 +1,25 @@
 -- The turns of a redo are allowed, and keep a world sound.
-use Rattle.std.proofs.Common.{◌≡◌, ◌∙◌, sym, subst, ap, ℕ, zero, suc, List}
+use Rattle.std.proofs.Common.{◌≡◌, ◌∙◌, sym, subst, ap, ℕ, zero, suc, List, [], ◌∷◌, length, nat_le, if◌then◌else◌}
+use Rattle.std.proofs.lemmas.Bool.{cond_both, leb-true}
 use Rattle.oper_core.specs.Meaning.{Meaning, IsLawful, state_after}
 use Rattle.explain_core.specs.History.{Member, commands_of}
 use Rattle.explain_core.specs.World.{World, Step, run, AreAllowed, IsLive, IsAllStable}
+use Rattle.explain_core.specs.World.Step.{Replay}
 use Rattle.explain_core.specs.RunLaws.{allowed-append}
 use Rattle.explain_core.specs.Sound.{IsSound}
-use Rattle.explain_core.specs.Turns.{turn, turns}
+use Rattle.explain_core.specs.Turns.{must_install, thin_turn, turn, turns}
 use Rattle.explain_core.specs.TurnLaws.{turns_next, turns_none}
 use Rattle.explain_core.specs.KeptLog.{kept_stable, run_kept, quiet_turn, run_next, run_zero, turns_kept}
-use Rattle.explain_core.specs.ThinLaws.{turn_allowed}
 use Rattle.explain_core.proofs.Runs.{run_sound, sound-map}
+use Rattle.explain_core.proofs.ThinRuns.{thin_turn_allowed}
 
 module _ {O : Type 0} (m : Meaning O) (law : IsLawful m) (limit : ℕ) where
+  turn_allowed : (w : World O) → IsSound m w → IsAllStable w → AreAllowed m w (turn m limit w)
+  turn_allowed w sound stable =
+      let replay : List (Step O) = if nat_le w.next (length w.history) then Replay ∷ [] else [] in
+      cond_both (must_install m limit w) (thin_turn m limit w) replay (λ (l : List (Step O)). AreAllowed m w l) (λ must. thin_turn_allowed m law w sound stable limit)
+      (λ enough. cond_both (nat_le w.next (length w.history)) (Replay ∷ []) [] (λ (l : List (Step O)). AreAllowed m w l) (λ old. (leb-true _ _ old, tt)) (λ over. tt))
+
   pub turns-sound : (n : ℕ) (w : World O) → IsSound m w → IsAllStable w → AreAllowed m w (turns m limit n w) × IsSound m (run m w (turns m limit n w))
   turns-sound zero w sound stable = (
     subst (λ (steps : List (Step O)). AreAllowed m w steps) (sym (turns_none m limit w)) tt,
@@ -21,7 +29,7 @@ module _ {O : Type 0} (m : Meaning O) (law : IsLawful m) (limit : ℕ) where
       let t = turn m limit w in
       let v = run m w t in
       let kept = run_kept m w t (quiet_turn m limit w) in
-      let may = turn_allowed m law w sound stable limit in
+      let may = turn_allowed w sound stable in
       let rest = turns-sound n v (run_sound m law w t may sound) (kept_stable w v kept stable) in (
         subst (λ (steps : List (Step O)). AreAllowed m w steps) (sym (turns_next m limit n w)) (allowed-append m w t (turns m limit n v) may rest.0),
         subst (λ (u : World O). IsSound m u) (run_next m limit n w) rest.1,

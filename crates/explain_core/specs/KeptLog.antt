@@ -1,15 +1,14 @@
 -- What every turn of a redo keeps.
-use Rattle.std.proofs.Common.{◌≡◌, ◌∙◌, sym, ap, subst, ℕ, zero, suc, Bool, true, false, List, [], ◌∷◌, length, refl, nat_le, if◌then◌else◌}
-use Rattle.std.specs.Prelude.{⊤}
+use Rattle.std.proofs.Common.{◌≡◌, ◌∙◌, sym, ap, subst, ℕ, zero, suc, Bool, true, false, List, [], ◌∷◌, ◌++◌, length, refl, nat_le, if◌then◌else◌}
+use Rattle.std.specs.Prelude.{⊤, max}
 use Rattle.oper_core.specs.Meaning.{Meaning}
 use Rattle.explain_core.specs.History.{Member}
 use Rattle.explain_core.specs.RunLaws.{run-append}
 use Rattle.explain_core.specs.World.{IsAllStable, World, Step, step, run}
 use Rattle.explain_core.specs.World.Step.{Begin, End, Append, Block_gate, Checkpoint, Slot_gate, Removal, Header_gate, Replay, Crash}
-use Rattle.install_order.specs.Computed.{some_below, least_below}
-use Rattle.explain_core.specs.World.{node_named}
-use Rattle.explain_core.specs.Turns.{must_install, thin_steps, thin_name, has_work, turn, turns}
-use Rattle.explain_core.specs.TurnLaws.{turns_next, turns_none}
+use Rattle.explain_core.specs.RoundGates.{Gate, gates_of, removals_of}
+use Rattle.explain_core.specs.Turns.{free_gates, must_install, thin_turn, turn, turns}
+use Rattle.explain_core.specs.TurnLaws.{by_thin_turn, turns_next, turns_none}
 
 -- the log is as it was, and so is the group
 pub record IsLogKept {O : Type 0} (w v : World O) : Type 0 where
@@ -74,14 +73,26 @@ quiet_if : {O : Type 0} (b : Bool) (xs ys : List (Step O)) → AreQuiet xs → A
 quiet_if true xs ys p q = p
 quiet_if false xs ys p q = q
 
-quiet_thin : {O : Type 0} (m : Meaning O) (w : World O) → AreQuiet (thin_steps m w)
-quiet_thin {O} m w =
-    let node = node_named m w (thin_name m w) in
-    quiet_if (some_below m.objects (has_work m w node)) (Slot_gate node (least_below m.objects (has_work m w node)) ∷ Removal node ∷ []) (Removal node ∷ []) (tt, (tt, tt)) (tt, tt)
+quiet_append : {O : Type 0} (xs ys : List (Step O)) → AreQuiet xs → AreQuiet ys → AreQuiet (xs ++ ys)
+quiet_append [] ys first second = second
+quiet_append (s ∷ xs) ys first second = (first.0, quiet_append xs ys first.1 second)
+
+quiet_gates : (O : Type 0) (gates : List Gate) → AreQuiet {O = O} (gates_of gates)
+quiet_gates O [] = tt
+quiet_gates O (g ∷ gates) = (tt, quiet_gates O gates)
+
+quiet_removals : (O : Type 0) (gates : List Gate) → AreQuiet {O = O} (removals_of gates)
+quiet_removals O [] = tt
+quiet_removals O (g ∷ gates) = (tt, quiet_removals O gates)
+
+quiet_thin : {O : Type 0} (m : Meaning O) (most : ℕ) (w : World O) → AreQuiet (thin_turn m most w)
+quiet_thin {O} m most w =
+    let gates = free_gates m (max 1 most) w in
+    by_thin_turn m (λ (l : List (Step O)). AreQuiet l) most w (λ thin some. quiet_append (gates_of gates) (removals_of gates) (quiet_gates O gates) (quiet_removals O gates)) (λ thin none. (tt, tt)) (λ no_thin. tt)
 
 pub quiet_turn : {O : Type 0} (m : Meaning O) (limit : ℕ) (w : World O) → AreQuiet (turn m limit w)
 quiet_turn m limit w =
-    quiet_if (must_install m limit w) (thin_steps m w) (if nat_le w.next (length w.history) then Replay ∷ [] else []) (quiet_thin m w)
+    quiet_if (must_install m limit w) (thin_turn m limit w) (if nat_le w.next (length w.history) then Replay ∷ [] else []) (quiet_thin m limit w)
     (quiet_if (nat_le w.next (length w.history)) (Replay ∷ []) [] (tt, tt) tt)
 
 module _ {O : Type 0} (m : Meaning O) (limit : ℕ) where

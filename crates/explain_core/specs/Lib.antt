@@ -8,7 +8,6 @@ pub mod Sound
 pub mod Group
 pub mod GraphLaws
 pub mod Turns
-pub mod Rounds
 pub mod TurnLaws
 pub mod Taken
 pub mod CountLaws

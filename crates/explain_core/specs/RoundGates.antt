@@ -9,7 +9,7 @@ use Rattle.oper_core.specs.Meaning.{Meaning}
 use Rattle.install_order.specs.NodeLaws.{walk-on}
 use Rattle.install_order.specs.Order.{Access, IsLastWriter, IsNode, flush_set_of}
 use Rattle.explain_core.specs.World.{AreAllowed, IsAllowed, Step, World, graph_access, step, work_of}
-use Rattle.explain_core.specs.World.Step.{Slot_gate}
+use Rattle.explain_core.specs.World.Step.{Slot_gate, Removal}
 
 -- the gate of an object's slot, whose node is installed by it
 pub record Gate : Type 0 where
@@ -22,6 +22,11 @@ gate_step g = Slot_gate g.node g.object
 abbrev pub gates_of : {O : Type 0} → List Gate → List (Step O)
 gates_of [] = []
 gates_of (g ∷ gates) = gate_step g ∷ gates_of gates
+
+-- the nodes that the gates install leave the graph
+abbrev pub removals_of : {O : Type 0} → List Gate → List (Step O)
+removals_of [] = []
+removals_of (g ∷ gates) = Removal g.node ∷ removals_of gates
 
 -- one of the gates
 abbrev pub IsGateAmong : Gate → List Gate → Type 0

@@ -1,11 +1,17 @@
--- A minimal node leaves the graph, and another one that is minimal beside it stays so.
-use Rattle.std.proofs.Common.{◌≡◌, sym, subst, ℕ, ◌<◌, ◌≤◌, Bool, arith, inl, inr}
-use Rattle.std.specs.Prelude.{◌&&◌, IsTrue, IsFalse, not}
-use Rattle.std.proofs.lemmas.Bool.{and_from, and_parts, both_ways, cases_Bool, cases_eq, false_from_ne_true, not-true, not_from_false}
+-- Nodes leave the graph: another one that is minimal beside them stays so, and those whose gates were opened together may leave.
+use Rattle.std.proofs.Common.{◌≡◌, ◌∙◌, sym, ap, subst, ℕ, ◌<◌, ◌≤◌, Bool, List, [], ◌∷◌, refl, arith, inl, inr}
+use Rattle.std.specs.Prelude.{⊤, ◌==◌, ◌&&◌, IsTrue, IsFalse, not}
+use Rattle.std.proofs.lemmas.Bool.{and_from, and_parts, both_ways, cases_Bool, cases_eq, cond-false, cond-true, eq-eqb, false_from_ne_true, ne_eqb, not-true, not_from_false}
+use Rattle.oper_core.specs.Cell.{Cell}
+use Rattle.oper_core.specs.Meaning.{Meaning}
 use Rattle.install_order.specs.NodeLaws.{walk-on}
 use Rattle.install_order.specs.Order.{Access, Edge, IsMinimal, IsNode, NoEdgeInto, Reaches, within}
 use Rattle.install_order.specs.Order.Edge.{Read_write, Write_write, Lost_version}
 use Rattle.install_order.specs.Order.Reaches.{Here, Then}
+use Rattle.explain_core.specs.History.{accesses_of}
+use Rattle.explain_core.specs.RoundGates.{Gate, IsGateAmong, gate_step, gates_of, one_node, removals_of}
+use Rattle.explain_core.specs.World.{AreAllowed, IsAllowed, World, graph_access, run, step}
+use Rattle.explain_core.specs.World.Step.{Removal}
 
 -- the members that are left when a node leaves
 abbrev pub left_by : (ℕ → Bool) → (ℕ → Bool) → ℕ → Bool
@@ -74,3 +80,106 @@ module _ (a : Access) (g node : ℕ → Bool) (none : NoEdgeInto (within g a) no
       ),
       λ o p off on edge. is.1 o p off on (more o p edge),
     )
+
+module _ {O : Type 0} (m : Meaning O) where
+  -- after its gate a node may be removed
+  gate_removable : (w : World O) (g : Gate) → IsAllowed m w (gate_step g) → IsAllowed m (step m w (gate_step g)) (Removal g.node)
+  unfolding step
+  gate_removable w g may = (
+    may.0,
+    λ y later. elim (cases_eq y g.object) [
+      | inl here ↦ later.1 (ap (λ (c : Cell). c.lsn) (cond-true (y == g.object) (w.cache g.object) (w.slots y) (eq-eqb y g.object here)) ∙ ap (λ (z : ℕ). (w.cache z).lsn) (sym here))
+      | inr other ↦ other (may.2 y (later.0, λ same. later.1 (ap (λ (c : Cell). c.lsn) (cond-false (y == g.object) (w.cache g.object) (w.slots y) (ne_eqb y g.object other)) ∙ same)))
+    ],
+  )
+
+  -- and after that of another it still may
+  still_removable : (w : World O) (h : Gate) (node : ℕ → Bool) → IsAllowed m w (Removal node) → IsAllowed m (step m w (gate_step h)) (Removal node)
+  unfolding step
+  still_removable w h node may = (
+    may.0,
+    λ y later. elim (cases_eq y h.object) [
+      | inl here ↦ later.1 (ap (λ (c : Cell). c.lsn) (cond-true (y == h.object) (w.cache h.object) (w.slots y) (eq-eqb y h.object here)) ∙ ap (λ (z : ℕ). (w.cache z).lsn) (sym here))
+      | inr other ↦ may.1 y (later.0, λ same. later.1 (ap (λ (c : Cell). c.lsn) (cond-false (y == h.object) (w.cache h.object) (w.slots y) (ne_eqb y h.object other)) ∙ same))
+    ],
+  )
+
+  removable_along : (w : World O) (gates : List Gate) (node : ℕ → Bool) → IsAllowed m w (Removal node) → IsAllowed m (run m w (gates_of gates)) (Removal node)
+  unfolding run
+  removable_along w [] node may = may
+  removable_along w (g ∷ gates) node may = removable_along (step m w (gate_step g)) gates node (still_removable w g node may)
+
+  -- the node of each gate may be removed
+  abbrev AreRemovable : World O → List Gate → Type 0
+  AreRemovable w [] = ⊤
+  AreRemovable w (g ∷ gates) = IsAllowed m w (Removal g.node) × AreRemovable w gates
+
+  all_removable : (w : World O) (gates : List Gate) → AreAllowed m w (gates_of gates) → AreRemovable (run m w (gates_of gates)) gates
+  unfolding run
+  all_removable w [] may = tt
+  all_removable w (g ∷ gates) may =
+      let v = step m w (gate_step g) in
+      (removable_along v gates g.node (gate_removable w g may.0), all_removable v gates may.1)
+
+  -- a node that has nothing to flush has no member in common with one of which a gate may be opened
+  apart_from : (w : World O) (node : ℕ → Bool) (gates : List Gate) → IsAllowed m w (Removal node) → AreAllowed m w (gates_of gates) → (h : Gate) → IsGateAmong h gates → (n : ℕ) → IsTrue (node n) → IsTrue (h.node n) → ⊥
+  apart_from w node [] removable may h there n first second = there
+  apart_from w node (g ∷ gates) removable may h there n first second = elim there [
+    | inl here ↦
+        let a = graph_access m w in
+        let same : IsTrue (g.node n) = subst (λ (e : Gate). IsTrue (e.node n)) here second in
+        let due = may.0.1 in
+        removable.1 g.object ((due.0.0, one_node a g.node node n may.0.0.1.0 removable.0.1.0 same first due.0.0 due.0.1, due.0.2), due.1)
+    | inr later ↦ apart_from (step m w (gate_step g)) node gates (still_removable w g node removable) may.1 h later n first second
+  ]
+
+  abbrev AreDisjoint : List Gate → Type 0
+  AreDisjoint [] = ⊤
+  AreDisjoint (g ∷ gates) = ((h : Gate) → IsGateAmong h gates → (n : ℕ) → IsTrue (g.node n) → IsTrue (h.node n) → ⊥) × AreDisjoint gates
+
+  are_disjoint : (w : World O) (gates : List Gate) → AreAllowed m w (gates_of gates) → AreDisjoint gates
+  are_disjoint w [] may = tt
+  are_disjoint w (g ∷ gates) may = let v = step m w (gate_step g) in (apart_from v g.node gates (gate_removable w g may.0) may.1, are_disjoint v gates may.1)
+
+  -- where one node is removed, another one still may be
+  other_removable : (w : World O) (node other : ℕ → Bool) → IsAllowed m w (Removal node) → IsAllowed m w (Removal other) → ((n : ℕ) → IsTrue (node n) → IsTrue (other n) → ⊥) → IsAllowed m (step m w (Removal node)) (Removal other)
+  unfolding step
+  other_removable w node other first second apart =
+      let a : Access = accesses_of m w.history in
+      let none = first.0.1.1 in
+      let off : (n : ℕ) → IsTrue (other n) → IsFalse (node n) = λ n there. false_from_ne_true _ (λ on. apart n on there) in
+      let inside : (n : ℕ) → IsTrue (other n) → IsTrue (w.graph n && not (node n)) = λ n there. and_from (w.graph n) _ (second.0.0 n there) (not_from_false _ (off n there)) in (
+        (inside, stays_minimal a w.graph node none other second.0.1 inside, second.0.2),
+        λ y later.
+            let q = later.0.0 in
+            let wrote = and_parts (w.graph q && not (node q)) _ later.0.2.0 in
+            let writes : IsTrue (w.graph q && a.writes q y) = and_from (w.graph q) _ (and_parts (w.graph q) _ wrote.0).0 wrote.1 in
+            second.1 y (
+              (
+                q,
+                later.0.1,
+                (
+                  writes,
+                  λ k after. false_from_ne_true _ (λ also.
+                      let u = and_parts (w.graph k) _ also in
+                      elim (cases_Bool (node k)) [
+                        | inl on ↦ none q k (off q later.0.1) on (Write_write y after writes also)
+                        | inr out ↦ both_ways _ (later.0.2.1 k after) (and_from (w.graph k && not (node k)) _ (and_from (w.graph k) _ u.0 (not_from_false _ out)) u.1)
+                      ]),
+                ),
+              ),
+              later.1,
+            ),
+      )
+
+  others_removable : (w : World O) (node : ℕ → Bool) (gates : List Gate) → IsAllowed m w (Removal node) → AreRemovable w gates → ((h : Gate) → IsGateAmong h gates → (n : ℕ) → IsTrue (node n) → IsTrue (h.node n) → ⊥) → AreRemovable (step m w (Removal node)) gates
+  others_removable w node [] first are apart = tt
+  others_removable w node (g ∷ gates) first are apart = (other_removable w node g.node first are.0 (apart g (inl refl)), others_removable w node gates first are.1 (λ h there. apart h (inr there)))
+
+  removals_allowed : (w : World O) (gates : List Gate) → AreRemovable w gates → AreDisjoint gates → AreAllowed m w (removals_of gates)
+  removals_allowed w [] are apart = tt
+  removals_allowed w (g ∷ gates) are apart = (are.0, removals_allowed (step m w (Removal g.node)) gates (others_removable w g.node gates are.0 are.1 apart.0) apart.1)
+
+  -- behind the gates their nodes may be removed
+  pub nodes_removed : (w : World O) (gates : List Gate) → AreAllowed m w (gates_of gates) → AreAllowed m (run m w (gates_of gates)) (removals_of gates)
+  nodes_removed w gates may = removals_allowed (run m w (gates_of gates)) gates (all_removable w gates may) (are_disjoint w gates may)

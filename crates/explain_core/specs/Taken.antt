@@ -4,7 +4,7 @@ use Rattle.std.specs.Prelude.{IsTrue}
 use Rattle.oper_core.specs.Meaning.{Meaning}
 use Rattle.explain_core.specs.World.{World, Step, run}
 use Rattle.explain_core.specs.RunLaws.{Begins, begins-none, begins-all, begins-longer, begins-behind, run-append}
-use Rattle.explain_core.specs.Turns.{must_install, thin_steps, turns}
+use Rattle.explain_core.specs.Turns.{must_install, thin_turn, turns}
 use Rattle.explain_core.specs.TurnLaws.{one_turn, install_turn}
 
 -- after some first steps of the list, none or all among them, the world has P
@@ -35,6 +35,6 @@ module _ {O : Type 0} (m : Meaning O) (P : World O → Type 0) (w : World O) whe
     holds = subst P (sym (run-append m w xs is.taken)) is.holds;
   }
 
-  -- some steps of the install of a thin node, where a redo makes one, are some of a turn
-  pub after_install : (limit : ℕ) → IsTrue (must_install m limit w) → IsAfterSome m P w (thin_steps m w) → IsAfterSome m P w (turns m limit 1 w)
+  -- some steps of a turn that logs nothing, where a redo takes one, are some of its own
+  pub after_install : (limit : ℕ) → IsTrue (must_install m limit w) → IsAfterSome m P w (thin_turn m limit w) → IsAfterSome m P w (turns m limit 1 w)
   after_install limit must is = subst (λ (l : List (Step O)). IsAfterSome m P w l) (sym (one_turn m limit w ∙ install_turn m limit w must)) is

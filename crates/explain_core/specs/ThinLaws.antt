@@ -1,7 +1,7 @@
--- The steps that install a thin node are allowed.
-use Rattle.std.proofs.Common.{◌≡◌, ◌∙◌, sym, ap, subst, ℕ, zero, suc, ◌+◌, ◌<◌, ◌≤◌, ◌==◌, Bool, true, not, ◌&&◌, List, [], ◌∷◌, length, arith, inl, inr, if◌then◌else◌, nat_lt, nat_le}
-use Rattle.std.specs.Prelude.{IsTrue}
-use Rattle.std.proofs.lemmas.Bool.{cases_Bool, cases_eq, both_ways, and_parts, and_from, leb-true, ltb-true, not-true, not_from_false, eq-eqb, ne_eqb, cond-true, cond-false}
+-- A thin node is minimal, and may leave the graph where it has nothing to flush.
+use Rattle.std.proofs.Common.{◌≡◌, ◌∙◌, sym, ap, ℕ, zero, suc, ◌+◌, ◌<◌, ◌≤◌, ◌==◌, Bool, true, not, ◌&&◌, [], ◌∷◌, arith, inl, inr, if◌then◌else◌, nat_le}
+use Rattle.std.specs.Prelude.{IsTrue, IsFalse}
+use Rattle.std.proofs.lemmas.Bool.{cases_Bool, cases_eq, both_ways, and_parts, and_from, leb-true, ltb-true, not-true, not_from_false, eq-eqb, ne_eqb}
 use Rattle.oper_core.specs.Meaning.{Meaning, IsLawful}
 use Rattle.install_order.specs.Order.{Access, within, Edge, Reaches, NoEdgeInto}
 use Rattle.install_order.specs.Order.Edge.{Read_write, Write_write, Lost_version}
@@ -9,12 +9,11 @@ use Rattle.install_order.specs.Order.Reaches.{Here, Then}
 use Rattle.install_order.specs.Computed.{IsWithin, some_below, least_below, edge_test, reach, is_flushed}
 use Rattle.install_order.specs.NodeLaws.{some-from, some-gives, test-gives, test-from, edge-start, edge-end, reach-gives, node-is, least-is, flushed-iff}
 use Rattle.explain_core.specs.History.{accesses_of}
-use Rattle.oper_core.specs.Cell.{Cell}
-use Rattle.explain_core.specs.World.{World, Step, step, AreAllowed, IsInstallable, IsAllStable, work_of, end_of, graph_access, node_named}
-use Rattle.explain_core.specs.World.Step.{Slot_gate, Removal}
+use Rattle.explain_core.specs.World.{World, AreAllowed, IsInstallable, IsAllStable, work_of, end_of, graph_access, node_named}
+use Rattle.explain_core.specs.World.Step.{Removal}
 use Rattle.explain_core.specs.Sound.{IsSound}
 use Rattle.explain_core.specs.GraphLaws.{graph-within}
-use Rattle.explain_core.specs.Turns.{count_below, has_work, is_entered, is_thin, thin_name, has_thin, thin_steps, must_install, turn}
+use Rattle.explain_core.specs.Turns.{count_below, has_work, is_entered, is_thin, thin_name, has_thin}
 
 chosen_end : (g : ℕ → Bool) (a : Access) (o p : ℕ) → Edge (within g a) o p → IsTrue (g p)
 chosen_end g a o p (Read_write x lt r w) = (and_parts (g p) _ w).0
@@ -26,7 +25,7 @@ chosen_walk g a o p there Here = there
 chosen_walk g a o p there (Then m q walk edge) = chosen_end g a m q edge
 
 -- a count above none
-count_some : (n : ℕ) (p : ℕ → Bool) (x : ℕ) → x < n → IsTrue (p x) → 1 ≤ count_below n p
+pub count_some : (n : ℕ) (p : ℕ → Bool) (x : ℕ) → x < n → IsTrue (p x) → 1 ≤ count_below n p
 count_some zero p x lt is = absurd (omega arith)
 count_some (suc n) p x lt is = elim (cases_eq x n) [
   | inl here ↦
@@ -120,44 +119,6 @@ module _ {O : Type 0} (m : Meaning O) (lawful : IsLawful m) (w : World O) (sound
     pub one_work : (x y : ℕ) → work_of m w node x → work_of m w node y → y ≡ x
     one_work x y wx wy = count_one m.objects (has_work m w node) few x y (work_there node x wx) (work_there node y wy) (work_gives node x wx) (work_gives node y wy)
 
-    -- after the slot gate nothing is left to flush
-    then_removed : (x : ℕ) → work_of m w node x → AreAllowed m (step m w (Slot_gate node x)) (Removal node ∷ [])
-    unfolding step
-    then_removed x work = (
-      (
-        ready,
-        λ y later. elim (cases_eq y x) [
-          | inl here ↦ later.1 (ap (λ (c : Cell). c.lsn) (cond-true (y == x) (w.cache x) (w.slots y) (eq-eqb y x here)) ∙ ap (λ (z : ℕ). (w.cache z).lsn) (sym here))
-          | inr other ↦ other (one_work x y work (later.0, λ same. later.1 (ap (λ (c : Cell). c.lsn) (cond-false (y == x) (w.cache x) (w.slots y) (ne_eqb y x other)) ∙ same)))
-        ],
-      ),
-      tt,
-    )
-
-    pub steps_allowed : AreAllowed m w (thin_steps m w)
-    steps_allowed = elim (cases_Bool (some_below m.objects (has_work m w node))) [
-      | inl some ↦
-          let g = some-gives m.objects (has_work m w node) some in
-          let l = least-is (has_work m w node) m.objects in
-          let x = least_below m.objects (has_work m w node) in
-          let low : x < m.objects = omega (arith, l.2 g.0 g.1 g.2, g.1) in
-          let work : work_of m w node x = work_from node x (l.1 low) in
-          subst (λ (steps : List (Step O)). AreAllowed m w steps) (sym (cond-true (some_below m.objects (has_work m w node)) _ _ some))
-          ((ready, work, λ y other. one_work x y work other), then_removed x work)
-      | inr none ↦
-          subst (λ (steps : List (Step O)). AreAllowed m w steps) (sym (cond-false (some_below m.objects (has_work m w node)) _ _ none))
-          ((ready, λ y work. both_ways _ none (some-from m.objects (has_work m w node) y (work_there node y work) (work_gives node y work))), tt)
-    ]
-
-  pub thin_allowed : (limit : ℕ) → IsTrue (must_install m limit w) → AreAllowed m w (thin_steps m w)
-  thin_allowed limit must = steps_allowed (and_parts (nat_lt limit _) (has_thin m w) must).1
-
-  -- and so is every turn
-  pub turn_allowed : (limit : ℕ) → AreAllowed m w (turn m limit w)
-  turn_allowed limit = elim (cases_Bool (must_install m limit w)) [
-    | inl must ↦ subst (λ (steps : List (Step O)). AreAllowed m w steps) (sym (cond-true (must_install m limit w) _ _ must)) (thin_allowed limit must)
-    | inr none ↦ elim (cases_Bool (nat_le w.next (length w.history))) [
-      | inl old ↦ subst (λ (steps : List (Step O)). AreAllowed m w steps) (sym (cond-false (must_install m limit w) _ _ none ∙ cond-true (nat_le w.next (length w.history)) _ _ old)) (leb-true _ _ old, tt)
-      | inr over ↦ subst (λ (steps : List (Step O)). AreAllowed m w steps) (sym (cond-false (must_install m limit w) _ _ none ∙ cond-false (nat_le w.next (length w.history)) _ _ over)) tt
-    ]
-  ]
+    -- where it has nothing to flush, it may leave the graph
+    pub removal_allowed : IsFalse (some_below m.objects (has_work m w node)) → AreAllowed m w (Removal node ∷ [])
+    removal_allowed none = ((ready, λ y work. both_ways _ none (some-from m.objects (has_work m w node) y (work_there node y work) (work_gives node y work))), tt)

@@ -1,13 +1,22 @@
 -- Turns one after the other.
-use Rattle.std.proofs.Common.{◌≡◌, ◌∙◌, sym, ap, ℕ, zero, suc, ◌+◌, ◌≤◌, List, [], ◌∷◌, ◌++◌, length, refl, arith, nat_le}
-use Rattle.std.specs.Prelude.{IsTrue, IsFalse}
-use Rattle.std.proofs.lemmas.Bool.{cond-true, cond-false, le-leb}
+use Rattle.std.proofs.Common.{◌≡◌, ◌∙◌, sym, ap, ℕ, zero, suc, ◌+◌, ◌≤◌, List, [], ◌∷◌, ◌++◌, length, refl, arith, nat_le, if◌then◌else◌}
+use Rattle.std.specs.Prelude.{IsTrue, IsFalse, max}
+use Rattle.std.proofs.lemmas.Bool.{cond_both, cond-true, cond-false, le-leb}
 use Rattle.std.proofs.lemmas.List.{append-nil, append_assoc}
 use Rattle.oper_core.specs.Meaning.{Meaning}
 use Rattle.explain_core.specs.RunLaws.{run-append}
 use Rattle.explain_core.specs.World.{World, Step, step, run}
-use Rattle.explain_core.specs.World.Step.{Replay}
-use Rattle.explain_core.specs.Turns.{must_install, thin_steps, turn, turns}
+use Rattle.explain_core.specs.World.Step.{Removal, Replay}
+use Rattle.explain_core.specs.Turns.{free_round, has_thin, must_install, thin_has_work, thin_node, thin_turn, turn, turns}
+
+-- what holds of a round where the thin node has work, of its removal where it has none, and of no step where no node is thin, holds
+-- of a turn that logs nothing
+pub by_thin_turn : {O : Type 0} (m : Meaning O) (P : List (Step O) → Type 0) (most : ℕ) (w : World O) → (IsTrue (has_thin m w) → IsTrue (thin_has_work m w) → P (free_round m (max 1 most) w))
+    → (IsTrue (has_thin m w) → IsFalse (thin_has_work m w) → P (Removal (thin_node m w) ∷ [])) → (IsFalse (has_thin m w) → P []) → P (thin_turn m most w)
+by_thin_turn {O} m P most w round removal nothing =
+    let gated : List (Step O) = free_round m (max 1 most) w in
+    let alone : List (Step O) = Removal (thin_node m w) ∷ [] in
+    cond_both (has_thin m w) (if thin_has_work m w then gated else alone) [] P (λ thin. cond_both (thin_has_work m w) gated alone P (λ some. round thin some) (λ none. removal thin none)) nothing
 
 module _ {O : Type 0} (m : Meaning O) (limit : ℕ) where
   -- a turn, and those after it
@@ -51,12 +60,12 @@ module _ {O : Type 0} (m : Meaning O) (limit : ℕ) where
   pub replay_turn : (w : World O) → IsFalse (must_install m limit w) → w.next ≤ length w.history → turn m limit w ≡ Replay ∷ []
   replay_turn w none old = cond-false (must_install m limit w) _ _ none ∙ cond-true (nat_le w.next (length w.history)) _ _ (le-leb _ _ old)
 
-  pub install_turn : (w : World O) → IsTrue (must_install m limit w) → turn m limit w ≡ thin_steps m w
+  pub install_turn : (w : World O) → IsTrue (must_install m limit w) → turn m limit w ≡ thin_turn m limit w
   install_turn w must = cond-true (must_install m limit w) _ _ must
 
   pub run_replay : (w : World O) → IsFalse (must_install m limit w) → w.next ≤ length w.history → run m w (turns m limit 1 w) ≡ step m w Replay
   unfolding run
   run_replay w none old = ap (run m w) (one_turn w ∙ replay_turn w none old)
 
-  pub run_install : (w : World O) → IsTrue (must_install m limit w) → run m w (turns m limit 1 w) ≡ run m w (thin_steps m w)
+  pub run_install : (w : World O) → IsTrue (must_install m limit w) → run m w (turns m limit 1 w) ≡ run m w (thin_turn m limit w)
   run_install w must = ap (run m w) (one_turn w ∙ install_turn w must)

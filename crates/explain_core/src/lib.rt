@@ -24,7 +24,9 @@ pub use recovery::{
     one_state, redo_gives_the_map, stable_parts_stand, turns_end, turns_keep,
     wider_bounds_keep_stable_parts,
 };
-pub use rounds::{a_round_may_be_taken, any_gates_may_open, minimal_nodes_stay};
+pub use rounds::{
+    a_round_may_be_taken, a_thin_turn_may_be_taken, any_gates_may_open, minimal_nodes_stay,
+};
 pub use steps::{
     append_keeps, begin_keeps, block_gate_keeps, checkpoint_keeps, crash_keeps, end_keeps,
     every_run_keeps, header_gate_keeps, removal_keeps, replay_keeps, slot_gate_keeps,

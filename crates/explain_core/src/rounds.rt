@@ -6,7 +6,7 @@ ghost use Rattle.explain_core.specs.RoundGates.{AreApart, Gate, IsGateAmong, gat
 ghost use Rattle.install_order.specs.Order.{Access, IsMinimal, NoEdgeInto, within};
 ghost use Rattle.explain_core.specs.RoundRemovals.{left_by};
 ghost use Rattle.explain_core.specs.RunLaws.{Begins};
-ghost use Rattle.explain_core.specs.Rounds.{round_gates};
+ghost use Rattle.explain_core.specs.Turns.{round_gates, thin_turn};
 ghost use Rattle.explain_core.specs.Sound.{IsSound};
 ghost use Rattle.explain_core.specs.World.{AreAllowed, IsAllowed, IsAllStable, Step, World, run, step};
 
@@ -41,4 +41,11 @@ pub fn minimal_nodes_stay()
 pub fn a_round_may_be_taken<O: Oper>()
     ensures { (b : Bounds) (may : World O → ℕ → Bool) (most : ℕ) (w : World O) → IsSmall b → IsSound (O.meaning b) w → IsAllStable w →
         AreAllowed (O.meaning b) w (gates_of (round_gates (O.meaning b) may most w)) }
+{}
+
+/// A turn that logs nothing may be taken in every sound world whose members are all stable: a round, or the removal of the thin node
+/// of the least name, where that has nothing to flush.
+pub fn a_thin_turn_may_be_taken<O: Oper>()
+    ensures { (b : Bounds) (most : ℕ) (w : World O) → IsSmall b → IsSound (O.meaning b) w → IsAllStable w →
+        AreAllowed (O.meaning b) w (thin_turn (O.meaning b) most w) }
 {}

@@ -1,7 +1,7 @@
 -- A redo that has no records left, and nothing to install, is over.
-use Rattle.std.proofs.Common.{◌≡◌, ◌∙◌, sym, ap, subst, ℕ, ◌+◌, ◌-◌, ◌<◌, Bool, true, false, if◌then◌else◌, List, [], ◌∷◌, ◌++◌, length, arith, inl, inr}
-use Rattle.std.specs.Prelude.{◌*◌, nat_le}
-use Rattle.std.proofs.lemmas.Bool.{cases_Bool, cond-false, cond-true, leb-false, lt-leb}
+use Rattle.std.proofs.Common.{◌≡◌, ◌∙◌, sym, ap, subst, ℕ, ◌+◌, ◌-◌, ◌<◌, false, if◌then◌else◌, List, [], ◌∷◌, ◌++◌, length, arith, inl, inr}
+use Rattle.std.specs.Prelude.{◌*◌, nat_le, nat_lt}
+use Rattle.std.proofs.lemmas.Bool.{and_parts, cases_Bool, cond-false, cond-true, leb-false, lt-leb}
 use Rattle.std.proofs.lemmas.List.{append-nil}
 use Rattle.disk_model.specs.Disk.{Files}
 use Rattle.disk_model.specs.declared.machine.FileNo.TheVariants.{Objects}
@@ -9,12 +9,11 @@ use Rattle.oper_core.specs.Meaning.{Meaning, state_after}
 use Rattle.formats.specs.declared.params.Params.{Params}
 use Rattle.explain_core.specs.History.{Member, commands_of}
 use Rattle.explain_core.specs.KeptLog.{turns_kept}
-use Rattle.explain_core.specs.TurnBound.{turns_stay, redo_over}
+use Rattle.explain_core.specs.TurnBound.{thin_some, turns_stay, redo_over}
 use Rattle.explain_core.specs.TurnLaws.{turns_join}
-use Rattle.install_order.specs.Computed.{least_below, some_below}
-use Rattle.explain_core.specs.Turns.{has_work, must_install, thin_name, thin_steps, turn, turns}
-use Rattle.explain_core.specs.World.{World, Step, run, end_of, IsLive, node_named}
-use Rattle.explain_core.specs.World.Step.{Slot_gate, Removal, Replay}
+use Rattle.explain_core.specs.Turns.{dirty_in, has_thin, must_install, thin_turn, turn, turns}
+use Rattle.explain_core.specs.World.{World, Step, run, end_of, IsLive}
+use Rattle.explain_core.specs.World.Step.{Replay}
 use Rattle.standing.specs.Standing.{FilesShow}
 use Rattle.running_store.specs.Parts.{Volatile, ShowsVolatile}
 use Rattle.redo_pass.specs.Progress.{SoFar}
@@ -59,20 +58,15 @@ module _ {O : Type 0} (m : Meaning O) (limit : ℕ) (w : World O) where
   over_live v over =
       let replay : List (Step O) = if nat_le v.next (length v.history) then Replay ∷ [] else [] in
       elim (cases_Bool (must_install m limit v)) [
-        | inl must ↦ absurd (some_steps (node_named m v (thin_name m v)) (least_below m.objects (has_work m v (node_named m v (thin_name m v)))) (some_below m.objects (has_work m v (node_named m v (thin_name m v))))
-            (sym (cond-true (must_install m limit v) (thin_steps m v) replay must) ∙ over))
+        | inl must ↦ absurd (thin_some m limit limit v (and_parts (nat_lt limit (dirty_in m v)) (has_thin m v) must).1 (sym (cond-true (must_install m limit v) (thin_turn m limit v) replay must) ∙ over))
         | inr enough ↦ elim (cases_Bool (nat_le v.next (length v.history))) [
-          | inl left ↦ absurd (one_step (sym (cond-false (must_install m limit v) (thin_steps m v) replay enough ∙ cond-true (nat_le v.next (length v.history)) (Replay ∷ []) [] left) ∙ over))
+          | inl left ↦ absurd (one_step (sym (cond-false (must_install m limit v) (thin_turn m limit v) replay enough ∙ cond-true (nat_le v.next (length v.history)) (Replay ∷ []) [] left) ∙ over))
           | inr past ↦ leb-false v.next (length v.history) past
         ]
       ]
     where
       one_step : AreNone (Replay ∷ []) → ⊥
       one_step is = cc
-
-      some_steps : (node : ℕ → Bool) (x : ℕ) (b : Bool) → AreNone (if b then Slot_gate node x ∷ Removal node ∷ [] else Removal node ∷ []) → ⊥
-      some_steps node x true is = cc
-      some_steps node x false is = cc
 
   -- so has the world after all turns
   pub redone_live : ((n : ℕ) → w.graph n ≡ false) → IsLive (redone_world m limit w)

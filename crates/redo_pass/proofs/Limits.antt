@@ -1,7 +1,7 @@
--- The installs of thin nodes after a record, one after the other.
-use Rattle.std.proofs.Common.{◌≡◌, ◌∙◌, sym, ap, subst, ℕ, ◌+◌, ◌<◌, ◌≤◌, Bool, true, false, ◌&&◌, nat_lt, if◌then◌else◌, List, [], ◌∷◌, length, refl, inl, inr, ⊎_elim}
+-- The turns that log nothing after a record, one after the other.
+use Rattle.std.proofs.Common.{◌≡◌, ◌∙◌, sym, ap, subst, ℕ, ◌+◌, ◌<◌, ◌≤◌, Bool, true, false, ◌&&◌, nat_lt, List, [], length, refl, arith, inl, inr, ⊎_elim}
 use Rattle.std.specs.Prelude.{IsTrue}
-use Rattle.std.proofs.lemmas.Bool.{cases_Bool, and_from, cond-true, cond-false, lt-ltb, le-ltb}
+use Rattle.std.proofs.lemmas.Bool.{cases_Bool, and_from, cond-false, lt-ltb, le-ltb}
 use Rattle.disk_model.specs.Disk.{Files, Disk, IsDisk, IsSettled}
 use Rattle.disk_model.specs.Moments.{started}
 use Rattle.disk_model.specs.declared.machine.FileNo.TheVariants.{Objects}
@@ -10,13 +10,13 @@ use Rattle.oper_core.specs.Meaning.{IsSmall, Meaning}
 use Rattle.oper_core.specs.declared.bounds.Bounds.{Bounds}
 use Rattle.formats.specs.Objects.{bounds_of}
 use Rattle.formats.specs.declared.params.Params.{Params}
-use Rattle.install_order.specs.Computed.{some_below, least_below}
+use Rattle.explain_core.specs.RoundGates.{Gate, gate_step}
 use Rattle.explain_core.specs.KeptLog.{kept_stable, run_zero, turns_kept}
 use Rattle.explain_core.specs.TurnLaws.{run_join, run_install, turns_none}
-use Rattle.explain_core.specs.Turns.{dirty_in, has_thin, has_work, thin_name, thin_steps, must_install, turns}
+use Rattle.explain_core.specs.Turns.{dirty_in, has_thin, thin_turn, must_install, turns}
 use Rattle.explain_core.specs.Sound.{IsSound}
-use Rattle.explain_core.specs.World.{World, Step, step, run, node_named, IsAllStable}
-use Rattle.explain_core.specs.World.Step.{Slot_gate, Removal}
+use Rattle.explain_core.specs.World.{World, Step, step, run, IsAllStable}
+use Rattle.explain_core.specs.World.Step.{Removal}
 use Rattle.standing.specs.Moments.{TakesSome, moments_none, moments_install, moments_turns}
 use Rattle.standing.specs.OneStable.{small_store}
 use Rattle.standing.specs.Standing.{FilesShow}
@@ -26,18 +26,21 @@ use Rattle.running_store.specs.Laid.{Laid}
 use Rattle.running_store.specs.Parts.{Volatile, ShowsVolatile, VolatileShows}
 use Rattle.running_store.specs.StoreView.{StoreView}
 use Rattle.running_store.specs.Taking.Ending.{Done}
+use Rattle.cache_manager.specs.InstallCourses.{removals}
+use Rattle.cache_manager.specs.ThinShown.{by_turn}
 use Rattle.redo_pass.specs.Progress.{IsLimiting, IsLimited}
 use Rattle.redo_pass.proofs.Ends.{at}
 
-next_if : {O : Type 0} (m : Meaning O) (v : World O) (b : Bool) (node : ℕ → Bool) (x : ℕ) → (run m v (if b then Slot_gate node x ∷ Removal node ∷ [] else Removal node ∷ [])).next ≡ v.next
-unfolding run step
-next_if m v true node x = refl
-next_if m v false node x = refl
+gate_next : {O : Type 0} (m : Meaning O) (w : World O) (g : Gate) → (step m w (gate_step g)).next ≡ w.next
+unfolding step
+gate_next m w g = refl
 
-thin_next : {O : Type 0} (m : Meaning O) (v : World O) → (run m v (thin_steps m v)).next ≡ v.next
-thin_next m v =
-    let node = node_named m v (thin_name m v) in
-    next_if m v (some_below m.objects (has_work m v node)) node (least_below m.objects (has_work m v node))
+removal_next : {O : Type 0} (m : Meaning O) (w : World O) (node : ℕ → Bool) → (step m w (Removal node)).next ≡ w.next
+unfolding step
+removal_next m w node = refl
+
+thin_next : {O : Type 0} (m : Meaning O) (most : ℕ) (v : World O) → (run m v (thin_turn m most v)).next ≡ v.next
+thin_next m most v = by_turn m (λ u. u.next ≡ v.next) (λ u g same. gate_next m u g ∙ same) (λ u node same. removal_next m u node ∙ same) most v refl
 
 never : (b : Bool) → (b && false) ≡ false
 never true = refl
@@ -56,15 +59,15 @@ must : {O : Type 0} (m : Meaning O) (limit : ℕ) (v : World O) → limit < dirt
 must m limit v many thin = and_from (nat_lt limit (dirty_in m v)) (has_thin m v) (lt-ltb limit (dirty_in m v) many) thin
 
 module _ {O : Type 0} (m : Meaning O) (p : Params) (limit : ℕ) where
-  -- what a crash leaves of an install is what it leaves of one turn
-  pub one_moments : (mid new : Disk) (v : World O) → limit < dirty_in m v → has_thin m v ≡ true → TakesSome m p mid new v (if has_thin m v then thin_steps m v else []) → TakesSome m p mid new v (turns m limit 1 v)
-  one_moments mid new v many thin some = moments_install m p mid new v limit (must m limit v many thin) (subst (λ (l : List (Step O)). TakesSome m p mid new v l) (cond-true (has_thin m v) (thin_steps m v) [] thin) some)
+  -- what a crash leaves of a turn that logs nothing is what it leaves of one turn of the redo
+  pub one_moments : (mid new : Disk) (v : World O) → limit < dirty_in m v → has_thin m v ≡ true → TakesSome m p mid new v (thin_turn m limit v) → TakesSome m p mid new v (turns m limit 1 v)
+  one_moments mid new v many thin some = moments_install m p mid new v limit (must m limit v many thin) some
 
-  -- what a crash leaves of one call is what it leaves of some turns
-  pub thin_moments : (mid new : Disk) (v : World O) → limit < dirty_in m v → TakesSome m p mid new v (if has_thin m v then thin_steps m v else []) → (c : ℕ) × TakesSome m p mid new v (turns m limit c v)
+  -- and where no node is thin, it is what it leaves of none
+  pub thin_moments : (mid new : Disk) (v : World O) → limit < dirty_in m v → TakesSome m p mid new v (thin_turn m limit v) → (c : ℕ) × TakesSome m p mid new v (turns m limit c v)
   thin_moments mid new v many some = elim (cases_Bool (has_thin m v)) [
     | inl thin ↦ (1, one_moments mid new v many thin some)
-    | inr none ↦ (0, subst (λ (l : List (Step O)). TakesSome m p mid new v l) (cond-false (has_thin m v) (thin_steps m v) [] none ∙ sym (turns_none m limit v)) some)
+    | inr none ↦ (0, subst (λ (l : List (Step O)). TakesSome m p mid new v l) (cond-false (has_thin m v) _ [] none ∙ sym (turns_none m limit v)) some)
   ]
 
   module _ (w : World O) where
@@ -97,7 +100,7 @@ pub dirty_is : {O : Type 0} (meaning : Bounds → Meaning O) (mid : Disk) (objec
 dirty_is meaning mid objects it count counts same listed p w shows =
     counts p (mid.reads Objects) it w listed.0 shows (subst (λ (l : Laid). AreDirty l.cache listed.0) same listed.1) ∙ sym listed.2
 
--- Thin nodes were installed, one after the other: some turns of the redo of each world that was shown.
+-- Such turns were taken, one after the other: some turns of the redo of each world that was shown.
 pub record HasLimited {O : Type 0} (meaning : Bounds → Meaning O) (limit : ℕ) (old mid : Disk) (before now : StoreView) : Type 0 where
   pub call : IsCall meaning old mid before now 0 Never Done
   pub beside : IsOnObjectsAlone old mid before now
@@ -130,7 +133,7 @@ module _ {O : Type 0} {meaning : Bounds → Meaning O} {limit : ℕ} {old : Disk
         (sound (bounds_of p) w limit so.turned (small_store p (old.reads Objects) shows.files.objects) shows.sound stable) (stable_at p w so.turned stable) so.shown.files_show so.shown.store_shows
 
     module _ {new : Disk} (thin : mid.tells_moments → (p : Params) (w : World O) → VolatileShows (meaning (bounds_of p)) p mid now.parts.volatile w → IsAllStable w
-        → TakesSome (meaning (bounds_of p)) p mid new w (if has_thin (meaning (bounds_of p)) w then thin_steps (meaning (bounds_of p)) w else [])) where
+        → TakesSome (meaning (bounds_of p)) p mid new w (thin_turn (meaning (bounds_of p)) limit w)) where
       -- what a crash leaves of one more call
       pub limited_moments : old.tells_moments → (p : Params) (w : World O) → VolatileShows (meaning (bounds_of p)) p old before.parts.volatile w → IsAllStable w
           → (turned : ℕ) × TakesSome (meaning (bounds_of p)) p old new w (turns (meaning (bounds_of p)) limit turned w)
@@ -142,31 +145,35 @@ module _ {O : Type 0} {meaning : Bounds → Meaning O} {limit : ℕ} {old : Disk
           let more = thin_moments m p limit mid new v (many p v so.shown.store_shows) (thin (so_far.call.quiet.time.moments_told.0 told) p v (shown_at p w shows stable so) (stable_at p w so.turned stable)) in
           (so.turned + more.0, moments_turns m p old mid new w limit so.turned more.0 (so_far.call.quiet.said shows.told) (first.1 told) more.1)
 
-      module _ {found : Bool} (after : StoreView) (finds : (p : Params) (w : World O) → VolatileShows (meaning (bounds_of p)) p mid now.parts.volatile w → IsAllStable w → (found ≡ has_thin (meaning (bounds_of p)) w)
-          × VolatileShows (meaning (bounds_of p)) p new after.parts.volatile (run (meaning (bounds_of p)) w (if found then thin_steps (meaning (bounds_of p)) w else []))) where
-        installed : (b : Bool) → found ≡ b → (p : Params) (w : World O) → VolatileShows (meaning (bounds_of p)) p old before.parts.volatile w → IsAllStable w → (so : IsLimiting (meaning (bounds_of p)) p mid.reads now.parts.volatile limit w)
-            → (b ≡ has_thin (meaning (bounds_of p)) (at (meaning (bounds_of p)) limit w so.turned))
-            × VolatileShows (meaning (bounds_of p)) p new after.parts.volatile (run (meaning (bounds_of p)) (at (meaning (bounds_of p)) limit w so.turned) (if b then thin_steps (meaning (bounds_of p)) (at (meaning (bounds_of p)) limit w so.turned) else []))
-        installed b is p w shows stable so =
-            let m = meaning (bounds_of p) in
-            let v = at m limit w so.turned in
-            subst (λ (f : Bool). (f ≡ has_thin m v) × VolatileShows m p new after.parts.volatile (run m v (if f then thin_steps m v else []))) is (finds p v (shown_at p w shows stable so) (stable_at p w so.turned stable))
+      module _ (n : ℕ) (after : StoreView) (counts : (p : Params) (w : World O) → VolatileShows (meaning (bounds_of p)) p mid now.parts.volatile w → IsAllStable w → (nat_lt 0 n ≡ has_thin (meaning (bounds_of p)) w)
+          × (n ≡ removals (thin_turn (meaning (bounds_of p)) limit w)))
+          (leaves : (p : Params) (w : World O) → VolatileShows (meaning (bounds_of p)) p mid now.parts.volatile w → IsAllStable w → VolatileShows (meaning (bounds_of p)) p new after.parts.volatile (run (meaning (bounds_of p)) w (thin_turn (meaning (bounds_of p)) limit w))) where
+        -- whether a node was thin, and the world after the turn
+        tended : (p : Params) (w : World O) → VolatileShows (meaning (bounds_of p)) p old before.parts.volatile w → IsAllStable w → (so : IsLimiting (meaning (bounds_of p)) p mid.reads now.parts.volatile limit w)
+            → (nat_lt 0 n ≡ has_thin (meaning (bounds_of p)) (at (meaning (bounds_of p)) limit w so.turned))
+            × VolatileShows (meaning (bounds_of p)) p new after.parts.volatile (run (meaning (bounds_of p)) (at (meaning (bounds_of p)) limit w so.turned) (thin_turn (meaning (bounds_of p)) limit (at (meaning (bounds_of p)) limit w so.turned)))
+        tended p w shows stable so =
+            let v = at (meaning (bounds_of p)) limit w so.turned in
+            let here = shown_at p w shows stable so in
+            let all = stable_at p w so.turned stable in
+            ((counts p v here all).0, leaves p v here all)
 
         -- there was none
-        pub limited_last : found ≡ false → (p : Params) (w : World O) → VolatileShows (meaning (bounds_of p)) p old before.parts.volatile w → IsAllStable w → IsLimited (meaning (bounds_of p)) p new.reads after.parts.volatile limit w
+        pub limited_last : n ≡ 0 → (p : Params) (w : World O) → VolatileShows (meaning (bounds_of p)) p old before.parts.volatile w → IsAllStable w → IsLimited (meaning (bounds_of p)) p new.reads after.parts.volatile limit w
         limited_last none p w shows stable =
             let m = meaning (bounds_of p) in
             let so = (so_far.shown p w shows stable).0 in
             let v = at m limit w so.turned in
-            let is = installed false none p w shows stable so in
-            let here = subst (λ (u : World O). VolatileShows m p new after.parts.volatile u) (run_none m v) is.1 in
+            let is = tended p w shows stable so in
+            let off : has_thin m v ≡ false = sym is.0 ∙ le-ltb 0 n (omega (arith, none)) in
+            let here = subst (λ (u : World O). VolatileShows m p new after.parts.volatile u) (ap (run m v) (cond-false (has_thin m v) _ [] off) ∙ run_none m v) is.1 in
             record {
               limiting = record { turned = so.turned; shown = record { files_show = here.files; store_shows = here.store }; next = so.next };
-              enough = ap (λ (b : Bool). nat_lt limit (dirty_in m v) && b) (sym is.0) ∙ never (nat_lt limit (dirty_in m v));
+              enough = ap (λ (b : Bool). nat_lt limit (dirty_in m v) && b) off ∙ never (nat_lt limit (dirty_in m v));
             }
 
-        -- or one was installed: that is one turn more
-        pub limited_more : found ≡ true → IsCall meaning mid new now after 0 Never Done → IsOnObjectsAlone mid new now after → HasLimited meaning limit old new before after
+        -- or some were installed: that is one turn more
+        pub limited_more : 0 < n → IsCall meaning mid new now after 0 Never Done → IsOnObjectsAlone mid new now after → HasLimited meaning limit old new before after
         limited_more some call beside = record {
           call = call_twice meaning old mid new before now after 0 0 Never Never Done so_far.call call;
           beside = beside_twice old mid new before now after (λ set. so_far.call.broken.0 set) so_far.beside beside;
@@ -176,15 +183,16 @@ module _ {O : Type 0} {meaning : Bounds → Meaning O} {limit : ℕ} {old : Disk
               let so = first.0 in
               let v = at m limit w so.turned in
               let dirty = many p v so.shown.store_shows in
-              let is = installed true some p w shows stable so in
-              let same : run m v (thin_steps m v) ≡ at m limit w (so.turned + 1) = sym (run_install m limit v (must m limit v dirty (sym is.0))) ∙ sym (run_join m limit so.turned 1 w) in
+              let is = tended p w shows stable so in
+              let thin_there : has_thin m v ≡ true = sym is.0 ∙ lt-ltb 0 n some in
+              let same : run m v (thin_turn m limit v) ≡ at m limit w (so.turned + 1) = sym (run_install m limit v (must m limit v dirty thin_there)) ∙ sym (run_join m limit so.turned 1 w) in
               let here = subst (λ (u : World O). VolatileShows m p new after.parts.volatile u) same is.1 in (
                 record {
                   turned = so.turned + 1;
                   shown = record { files_show = here.files; store_shows = here.store };
-                  next = ap (λ (u : World O). u.next) (sym same) ∙ thin_next m v ∙ so.next;
+                  next = ap (λ (u : World O). u.next) (sym same) ∙ thin_next m limit v ∙ so.next;
                 },
                 λ told. moments_turns m p old mid new w limit so.turned 1 (so_far.call.quiet.said shows.told) (first.1 told)
-                    (one_moments m p limit mid new v dirty (sym is.0) (thin (so_far.call.quiet.time.moments_told.0 told) p v (shown_at p w shows stable so) (stable_at p w so.turned stable))),
+                    (one_moments m p limit mid new v dirty thin_there (thin (so_far.call.quiet.time.moments_told.0 told) p v (shown_at p w shows stable so) (stable_at p w so.turned stable))),
               );
         }

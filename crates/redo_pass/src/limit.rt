@@ -10,12 +10,12 @@ ghost use Rattle.running_store.specs.Calls.{IsCall, Never, ending_of_store};
 ghost use Rattle.running_store.specs.Parts.{VolatileShows};
 ghost use Rattle.redo_pass.specs.Progress.{IsLimited};
 
-use cache_manager::install_thin;
+use cache_manager::tend_thin;
 use disk_model::Machine;
 use oper_core::Oper;
 use running_store::{Store, StoreErr, dirty_objects_are_counted};
 
-/// While more objects than this are dirty and a node is thin, installs it.
+/// While more objects than this are dirty and a node is thin, takes a turn that logs nothing, of as many nodes at most.
 pub(crate) fn limit_dirty<O: Oper, M: Machine>(
     store: &mut Store<O>,
     machine: &mut M,
@@ -36,7 +36,7 @@ pub(crate) fn limit_dirty<O: Oper, M: Machine>(
     dirty_objects_are_counted::<O>();
     explain_core::turns_keep::<O>();
     while store.objects().dirty_count() > limit {
-        if !install_thin(store, machine)? {
+        if tend_thin(store, machine, limit)? == 0 {
             return Ok(());
         }
     }

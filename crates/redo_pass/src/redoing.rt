@@ -23,8 +23,8 @@ use running_store::Store;
 /// Does the log's commands and identity writes from the plan's start on again, in a store whose files are read: nothing is
 /// cached, and the graph is empty. They are read one after the other, and one is in memory at a time. Each is applied to the
 /// objects that it writes whose LSN is below its own and whose redo start is not above it; where it is applied to
-/// some, it enters the graph. After each record, while more than `limit` objects are dirty and a node is thin, that node
-/// is installed; nothing is logged.
+/// some, it enters the graph. After each record, while more than `limit` objects are dirty and a node is thin, a turn is
+/// taken that logs nothing, of as many nodes at most.
 pub fn redo<O: Oper, M: Machine>(
     plan: &Plan,
     store: &mut Store<O>,

@@ -111,8 +111,9 @@ fn leaves(alloc: Global, machine: &mut MemMachine, bytes: usize, left: u64) -> b
     }
 }
 
-// How many bytes a redo may hold, and how many of the three objects it leaves dirty: it installs the others.
-const LEFT: [(usize, u64); 5] = [(0, 1), (39_999, 1), (40_000, 2), (59_999, 2), (60_000, 3)];
+// How many bytes a redo may hold, and how many of the three objects it leaves dirty: where they are one too many it installs as
+// many as it may hold.
+const LEFT: [(usize, u64); 5] = [(0, 1), (39_999, 1), (40_000, 1), (59_999, 1), (60_000, 3)];
 
 #[test]
 fn a_redo_installs_where_dirty_values_have_too_many_bytes(rt: HostRuntime) -> Result<(), Fail> {

@@ -1,7 +1,7 @@
--- The end of a frame that was followed: it is forced, thin nodes are installed, and it is passed.
-use Rattle.std.proofs.Common.{◌≡◌, ◌∙◌, sym, subst, ap, ℕ, ◌+◌, ◌-◌, ◌≤◌, Bool, true, false, List, [], ◌∷◌, ◌++◌, length, drop, refl, arith, inl, inr, ◌⊎◌, ⊎_elim, length-drop, Some}
+-- The end of a frame that was followed: it is forced, thin nodes are installed turn by turn, and it is passed.
+use Rattle.std.proofs.Common.{◌≡◌, ◌∙◌, sym, subst, ap, ℕ, zero, suc, ◌+◌, ◌-◌, ◌<◌, ◌≤◌, Bool, true, false, List, [], ◌∷◌, ◌++◌, length, drop, refl, arith, inl, inr, ◌⊎◌, ⊎_elim, length-drop, Some}
 use Rattle.std.specs.Prelude.{◌↔◌, ◌&&◌, ◌||◌, nat_lt, ⊤, Result, Ok, Err, IsErrOf, OnOk}
-use Rattle.std.proofs.lemmas.Bool.{both_ways, cond-false, cond-true, false_from_ne_true, lt-ltb, ltb-true, or_cases, or_left, or_right}
+use Rattle.std.proofs.lemmas.Bool.{both_ways, cond-false, false_from_ne_true, lt-ltb, ltb-true, or_cases, or_left, or_right}
 use Rattle.std.proofs.lemmas.List.{append-nil}
 use Rattle.disk_model.specs.Disk.{Disk, IsDisk, LeavesOnly}
 use Rattle.disk_model.specs.Moments.{weaker}
@@ -20,7 +20,7 @@ use Rattle.log_records.specs.RecordLog.{RecordLogView}
 use Rattle.explain_core.specs.History.{Member, commands_of}
 use Rattle.explain_core.specs.History.Member.{Command, Identity}
 use Rattle.explain_core.specs.Sound.{IsSound}
-use Rattle.explain_core.specs.Turns.{has_thin, thin_steps}
+use Rattle.explain_core.specs.Turns.{has_thin, thin_turn}
 use Rattle.explain_core.specs.World.{Step, World, run}
 use Rattle.execution.specs.Judged.{first_refused, follows}
 use Rattle.running_store.specs.Buffered.{buffered_shown}
@@ -32,7 +32,7 @@ use Rattle.running_store.specs.declared.store_err.StoreErr.TheVariants as of_sto
 use Rattle.store_engine.specs.Calls.{IsForcing}
 use Rattle.store_engine.specs.Counts.{commands-fewer}
 use Rattle.store_engine.specs.Engine.{Between, EngineView, Holds, IsStat, ShowsIn, accepted_in, forced_in, used_in}
-use Rattle.store_engine.specs.Following.{HasInstalledThin, thin_course}
+use Rattle.store_engine.specs.Following.{HasTendedThin, thin_course}
 use Rattle.store_engine.specs.Grouping.{ungrouped, ungrouped_alone}
 use Rattle.store_engine.specs.Store.{meaning_in}
 use Rattle.store_engine.specs.declared.stat.Stat.{Stat}
@@ -110,57 +110,57 @@ module _ {O : Type 0} (meaning : Bounds → Meaning O) (p : Params) (first : Lis
   pub settled_here : before.engine.parts.log.log.pending ≡ [] → IsSettledAt w.history w
   settled_here none = record { history = refl; forced = all_stable none; none = f.no_checkpoint }
 
--- ---- a thin node is installed
+-- ---- thin nodes are installed
 
--- in each world that is shown a thin node may be installed
+-- in each world that is shown thin nodes may be installed
 abbrev pub IsOverIn : {O : Type 0} → (Bounds → Meaning O) → Disk → EngineView → Type 0
 IsOverIn {O} meaning d engine = (p : Params) (w : World O) → ShowsIn meaning p d engine w → is_over (meaning_in meaning p) low_mark w ≡ true
 
--- the answer of the step that an install of a thin node is
-abbrev pub thin_result : Result Bool StoreErr → Result (Unit {0}) FollowErr
+-- the answer of the step that a turn is
+abbrev pub thin_result : Result ℕ StoreErr → Result (Unit {0}) FollowErr
 thin_result (Ok some) = Ok tt
 thin_result (Err e) = Err (follow_from_store e)
 
 -- the world that it leaves
-abbrev pub LeftThin : {O : Type 0} → Result Bool StoreErr → Meaning O → World O → Type 0
-LeftThin (Ok true) m w = ⊤
-LeftThin (Ok false) m w = must_relieve m w ≡ false
+abbrev pub LeftThin : {O : Type 0} → Result ℕ StoreErr → Meaning O → World O → Type 0
+LeftThin (Ok zero) m w = must_relieve m w ≡ false
+LeftThin (Ok (suc n)) m w = ⊤
 LeftThin (Err e) m w = ⊤
 
 no_error : {T E : Type 0} (value : T) (e : E) → Ok value ≡ Err e → ⊥
 no_error value e same = cc
 
-memory_is_no_fault : IsErrOf {T = Bool} (Err of_store.Memory) of_store.DiskFault → ⊥
+memory_is_no_fault : IsErrOf {T = ℕ} (Err of_store.Memory) of_store.DiskFault → ⊥
 memory_is_no_fault same = cc
 
 module _ {O : Type 0} (meaning : Bounds → Meaning O) (old new : Disk) (before : StandbyView) (after : EngineView) where
   abbrev pub with_engine : StandbyView
   with_engine = record before { engine = after }
 
-  -- a node is installed where all is stable
+  -- a turn is taken where all is stable
   pub installed_following : (p : Params) (first : List (Member O)) (bytes : List ℕ) (f : IsFollowing meaning p first bytes old before) → MayBeForced meaning p first bytes old before f → before.engine.parts.log.log.pending ≡ []
-      → (answer : Result Bool StoreErr) → HasInstalledThin meaning old new before.engine after answer → IsErrOf answer of_store.DiskFault ⊎ IsFollowing meaning p first bytes new with_engine
-  installed_following p first bytes f may none (Ok some) it =
+      → (most : ℕ) (answer : Result ℕ StoreErr) → HasTendedThin meaning old new before.engine after most answer → IsErrOf answer of_store.DiskFault ⊎ IsFollowing meaning p first bytes new with_engine
+  installed_following p first bytes f may none most (Ok some) it =
       let m = meaning_in meaning p in
-      let steps = (thin_course m f.world (used_in before.engine)).steps in
+      let steps = (thin_course m most f.world (used_in before.engine)).steps in
       inr (settled_world meaning p first bytes old before f new after (run m f.world steps) may (it.takes.follows p f.world f.shows).1.shows
-      (run_settled m f.world.history f.world steps (thin_course_calm m f.world (used_in before.engine)) (settled_here meaning p first bytes old before f none)))
-  installed_following p first bytes f may none (Err of_store.DiskFault) it = inl refl
-  installed_following p first bytes f may none (Err of_store.Memory) it =
+      (run_settled m f.world.history f.world steps (thin_course_calm m most f.world (used_in before.engine)) (settled_here meaning p first bytes old before f none)))
+  installed_following p first bytes f may none most (Err of_store.DiskFault) it = inl refl
+  installed_following p first bytes f may none most (Err of_store.Memory) it =
       let m = meaning_in meaning p in
-      let steps = (thin_course m f.world (used_in before.engine)).steps in
+      let steps = (thin_course m most f.world (used_in before.engine)).steps in
       let is = it.takes.follows p f.world f.shows in
       inr (settled_world meaning p first bytes old before f new after (run m f.world is.taken) may is.holds
-      (run_settled m f.world.history f.world is.taken (calm_front steps is.taken is.begins (thin_course_calm m f.world (used_in before.engine))) (settled_here meaning p first bytes old before f none)))
+      (run_settled m f.world.history f.world is.taken (calm_front steps is.taken is.begins (thin_course_calm m most f.world (used_in before.engine))) (settled_here meaning p first bytes old before f none)))
 
   -- where none was left none must be installed
-  pub none_left : (p : Params) (first : List (Member O)) (bytes : List ℕ) (f : IsFollowing meaning p first bytes old before) → HasInstalledThin meaning old new before.engine after (Ok false)
+  pub none_left : (p : Params) (first : List (Member O)) (bytes : List ℕ) (f : IsFollowing meaning p first bytes old before) → HasTendedThin meaning old new before.engine after dirty_limit (Ok zero)
       → (g : IsFollowing meaning p first bytes new with_engine) × (must_relieve (meaning_in meaning p) g.world ≡ false)
   unfolding run
   none_left p first bytes f it =
       let m = meaning_in meaning p in
-      let none : has_thin m f.world ≡ false = sym (it.told p f.world f.shows) in
-      let no_steps : (thin_course m f.world (used_in before.engine)).steps ≡ [] = cond-false (has_thin m f.world) (thin_steps m f.world) [] none in
+      let none : has_thin m f.world ≡ false = sym (it.told p f.world f.shows).0 in
+      let no_steps : thin_turn m dirty_limit f.world ≡ [] = cond-false (has_thin m f.world) _ [] none in
       let there : ShowsIn meaning p new after f.world = subst (λ (l : List (Step O)). ShowsIn meaning p new after (run m f.world l)) no_steps (it.takes.follows p f.world f.shows).1.shows in
       (same_world meaning p first bytes old new before after f there, no_need (is_over m waiting_limit f.world) (has_thin m f.world) none)
     where
@@ -168,22 +168,22 @@ module _ {O : Type 0} (meaning : Bounds → Meaning O) (old new : Disk) (before 
       no_need true b is = is
       no_need false b is = refl
 
-  thin_failed : (answer : Result Bool StoreErr) → IsFailed (ending_of_store answer) ↔ IsErrOf (thin_result answer) DiskFault
+  thin_failed : (answer : Result ℕ StoreErr) → IsFailed (ending_of_store answer) ↔ IsErrOf (thin_result answer) DiskFault
   thin_failed (Ok some) = (λ failed. absurd failed, λ same. cc)
   thin_failed (Err of_store.DiskFault) = (λ failed. refl, λ same. tt)
   thin_failed (Err of_store.Memory) = (λ failed. absurd failed, λ same. cc)
 
-  thin_undamaged : (answer : Result Bool StoreErr) (file : FileNo) (place : ℕ) → IsErrOf (thin_result answer) (Damaged file place) → ⊥
+  thin_undamaged : (answer : Result ℕ StoreErr) (file : FileNo) (place : ℕ) → IsErrOf (thin_result answer) (Damaged file place) → ⊥
   thin_undamaged (Ok some) file place same = cc
   thin_undamaged (Err of_store.DiskFault) file place same = cc
   thin_undamaged (Err of_store.Memory) file place same = cc
 
-  thin_follows : (p : Params) (first : List (Member O)) (bytes : List ℕ) (f : IsFollowing meaning p first bytes old before) → MayBeForced meaning p first bytes old before f → before.engine.parts.log.log.pending ≡ [] → (answer : Result Bool StoreErr) → HasInstalledThin meaning old new before.engine after answer
+  thin_follows : (p : Params) (first : List (Member O)) (bytes : List ℕ) (f : IsFollowing meaning p first bytes old before) → MayBeForced meaning p first bytes old before f → before.engine.parts.log.log.pending ≡ [] → (answer : Result ℕ StoreErr) → HasTendedThin meaning old new before.engine after dirty_limit answer
       → FollowsStep meaning (LeftThin answer) p first bytes new with_engine (thin_result answer)
-  thin_follows p first bytes f may none (Ok true) it = ⊎_elim (λ same. absurd (no_error true of_store.DiskFault same)) (λ (is : IsFollowing meaning p first bytes new with_engine). (is, tt)) (installed_following p first bytes f may none (Ok true) it)
-  thin_follows p first bytes f may none (Ok false) it = none_left p first bytes f it
+  thin_follows p first bytes f may none (Ok (suc n)) it = ⊎_elim (λ same. absurd (no_error (suc n) of_store.DiskFault same)) (λ (is : IsFollowing meaning p first bytes new with_engine). (is, tt)) (installed_following p first bytes f may none dirty_limit (Ok (suc n)) it)
+  thin_follows p first bytes f may none (Ok zero) it = none_left p first bytes f it
   thin_follows p first bytes f may none (Err of_store.DiskFault) it = tt
-  thin_follows p first bytes f may none (Err of_store.Memory) it = ⊎_elim (λ same. absurd (memory_is_no_fault same)) (λ (is : IsFollowing meaning p first bytes new with_engine). is) (installed_following p first bytes f may none (Err of_store.Memory) it)
+  thin_follows p first bytes f may none (Err of_store.Memory) it = ⊎_elim (λ same. absurd (memory_is_no_fault same)) (λ (is : IsFollowing meaning p first bytes new with_engine). is) (installed_following p first bytes f may none dirty_limit (Err of_store.Memory) it)
 
   -- the frame in hand was followed to its end, so an image stands for a frame's end
   abbrev pub IsThrough : Type 0
@@ -196,22 +196,21 @@ module _ {O : Type 0} (meaning : Bounds → Meaning O) (old new : Disk) (before 
       weaker old new (Between meaning p old before.engine.group (forced_in before.engine) (accepted_in before.engine) (commands_of f.world.history)) (IsAtFrameEnd meaning p old (forced_in before.engine) first bytes) leaves
       (λ files said is. between_end meaning p first bytes old before f whole before.engine.group files said is)
 
-  -- the world that was shown leads to the one that is, since a thin node might be installed in it
-  thin_led : IsOverIn meaning old before.engine → (answer : Result Bool StoreErr) → HasInstalledThin meaning old new before.engine after answer → FeedsThrough meaning old new before.engine after (thin_result answer)
+  -- the world that was shown leads to the one that is, since thin nodes might be installed in it
+  thin_led : IsOverIn meaning old before.engine → (answer : Result ℕ StoreErr) → HasTendedThin meaning old new before.engine after dirty_limit answer → FeedsThrough meaning old new before.engine after (thin_result answer)
   unfolding run
-  thin_led over (Ok true) it p w shown =
+  thin_led over (Ok zero) it p w shown =
       let m = meaning_in meaning p in
-      let some : has_thin m w ≡ true = sym (it.told p w shown) in
-      let may : may_relieve m w ≡ true = λ i. over p w shown i && some i in
-      let steps : (thin_course m w (used_in before.engine)).steps ≡ thin_steps m w = cond-true (has_thin m w) (thin_steps m w) [] some in
-      (run m w (thin_steps m w), subst (λ (l : List (Step O)). ShowsIn meaning p new after (run m w l)) steps (it.takes.follows p w shown).1.shows, FeedsTo.Relieved w may FeedsTo.Nothing)
-  thin_led over (Ok false) it p w shown =
-      let m = meaning_in meaning p in
-      let no_steps : (thin_course m w (used_in before.engine)).steps ≡ [] = cond-false (has_thin m w) (thin_steps m w) [] (sym (it.told p w shown)) in
+      let no_steps : thin_turn m dirty_limit w ≡ [] = cond-false (has_thin m w) _ [] (sym (it.told p w shown).0) in
       (w, subst (λ (l : List (Step O)). ShowsIn meaning p new after (run m w l)) no_steps (it.takes.follows p w shown).1.shows, FeedsTo.Nothing)
+  thin_led over (Ok (suc n)) it p w shown =
+      let m = meaning_in meaning p in
+      let some : has_thin m w ≡ true = sym (it.told p w shown).0 ∙ lt-ltb 0 (suc n) (omega arith) in
+      let may : may_relieve m w ≡ true = λ i. over p w shown i && some i in
+      (run m w (thin_turn m dirty_limit w), (it.takes.follows p w shown).1.shows, FeedsTo.Relieved w may FeedsTo.Nothing)
   thin_led over (Err e) it p w shown = tt
 
-  pub thin_goes : IsThrough → before.engine.parts.log.log.pending ≡ [] → Stand meaning → IsOverIn meaning old before.engine → (answer : Result Bool StoreErr) → HasInstalledThin meaning old new before.engine after answer
+  pub thin_goes : IsThrough → before.engine.parts.log.log.pending ≡ [] → Stand meaning → IsOverIn meaning old before.engine → (answer : Result ℕ StoreErr) → HasTendedThin meaning old new before.engine after dirty_limit answer
       → GoesOn meaning old new before with_engine (IsForcedIn before with_engine) (LeftThin answer) (thin_result answer)
   thin_goes through none stand over answer it = record {
     time = it.call.time;
@@ -295,12 +294,12 @@ limits_begin meaning d lawful now parts same alone unbroken through none stand =
       (goes_nowhere meaning d lawful now unbroken stand _ AnyWorld (Ok tt) (λ failed. not_failed failed) (λ file place failed. not_failed failed) (refl, refl, none) (λ p first bytes f. (f, tt)));
 }
 
--- a node more was installed, or none, or the call failed
+-- nodes more were installed, or none, or the call failed
 module _ {O : Type 0} (meaning : Bounds → Meaning O) (old mid new : Disk) (begins : IsDisk old) (lawful : IsDisk new) (before here : StandbyView) (so_far : LimitsSo meaning old mid before here) (over : IsOverIn meaning mid here.engine) (after : EngineView) (stand : Stand meaning) where
   abbrev next : StandbyView
   next = record here { engine = after }
 
-  pub installed_then : (answer : Result Bool StoreErr) (Left : Meaning O → World O → Type 0) → OnOk (thin_result answer) ((m : Meaning O) (w : World O) → LeftThin answer m w → Left m w) → HasInstalledThin meaning mid new here.engine after answer
+  pub installed_then : (answer : Result ℕ StoreErr) (Left : Meaning O → World O → Type 0) → OnOk (thin_result answer) ((m : Meaning O) (w : World O) → LeftThin answer m w → Left m w) → HasTendedThin meaning mid new here.engine after dirty_limit answer
       → GoesOn meaning old new before next (IsForcedIn before next) Left (thin_result answer)
   installed_then answer Left so it =
       goes_twice meaning old mid new begins lawful before here next (IsForcedIn before here) (IsForcedIn here next) (IsForcedIn before next) AnyWorld (LeftThin answer) Left (thin_result answer)
@@ -310,11 +309,12 @@ module _ {O : Type 0} (meaning : Bounds → Meaning O) (old mid new : Disk) (beg
       joined (Ok done) start reached = (reached.0 ∙ start.0, reached.1 ∙ start.1, reached.2)
       joined (Err e) start reached = tt
 
-  pub alone_then : (answer : Result Bool StoreErr) → HasInstalledThin meaning mid new here.engine after answer → IsAlone after
+  pub alone_then : (answer : Result ℕ StoreErr) → HasTendedThin meaning mid new here.engine after dirty_limit answer → IsAlone after
   alone_then answer it = record { group = it.call.group ∙ so_far.alone.group; copied = it.call.copied ∙ so_far.alone.copied }
 
-  pub limits_more : HasInstalledThin meaning mid new here.engine after (Ok true) → LimitsSo meaning old new before next
-  limits_more it = record { alone = alone_then (Ok true) it; through = so_far.through; goes = installed_then (Ok true) AnyWorld (λ m w any. any) it }
+  pub limits_more : (n : ℕ) → 0 < n → HasTendedThin meaning mid new here.engine after dirty_limit (Ok n) → LimitsSo meaning old new before next
+  limits_more zero some it = absurd (omega (arith, some))
+  limits_more (suc n) some it = record { alone = alone_then (Ok (suc n)) it; through = so_far.through; goes = installed_then (Ok (suc n)) AnyWorld (λ m w any. any) it }
 
 -- where little is left, or no node is thin, it has gone on to the end
 pub relieved_by : {O : Type 0} (meaning : Bounds → Meaning O) (old now : Disk) (before here : StandbyView) → LimitsSo meaning old now before here

@@ -1,5 +1,5 @@
 -- A standby is kept up between two frames, and goes on.
-use Rattle.std.proofs.Common.{◌≡◌, ◌∙◌, sym, ap, ℕ, ◌≤◌, Bool, true, false, List, [], ◌++◌, length, refl, inl, inr, ◌⊎◌, ⊎_elim, Some}
+use Rattle.std.proofs.Common.{◌≡◌, ◌∙◌, sym, ap, ℕ, ◌≤◌, true, false, List, [], ◌++◌, length, refl, inl, inr, ◌⊎◌, ⊎_elim, Some}
 use Rattle.std.specs.Prelude.{Result, Ok, Err, IsErrOf, is_err}
 use Rattle.std.specs.Result.{result_err}
 use Rattle.std.proofs.lemmas.Bool.{both_ways}
@@ -22,7 +22,7 @@ use Rattle.running_store.specs.declared.store_err.StoreErr.{StoreErr}
 use Rattle.running_store.specs.declared.store_err.StoreErr.TheVariants as of_store
 use Rattle.store_engine.specs.Calls.{IsTakingCheckpoint, IsForcing, IsTrimming, work_of_checkpoint, work_of_force, work_of_trim}
 use Rattle.store_engine.specs.Engine.{EngineView, ShowsIn, used_in}
-use Rattle.store_engine.specs.Following.{HasInstalledThin}
+use Rattle.store_engine.specs.Following.{HasTendedThin}
 use Rattle.store_engine.specs.Store.{meaning_in}
 use Rattle.store_engine.specs.declared.work_err.WorkErr.{WorkErr}
 use Rattle.store_engine.specs.declared.work_err.WorkErr.TheVariants.{DiskFault, Memory}
@@ -102,11 +102,11 @@ module _ {O : Type 0} (meaning : Bounds → Meaning O) (p : Params) (first : Lis
   trimmed_following new after (Err (of_rewrite.Damaged file place)) it = let some = it.takes.follows p f.world f.shows in inr (trimmed_on new after some.taken some.begins some.holds)
   trimmed_following new after (Err of_rewrite.Memory) it = let some = it.takes.follows p f.world f.shows in inr (trimmed_on new after some.taken some.begins some.holds)
 
--- after a force a thin node is installed
+-- after a force a turn is taken for which nothing is logged
 pub thinned_following : {O : Type 0} (meaning : Bounds → Meaning O) (p : Params) (first : List (Member O)) (bytes : List ℕ) (old mid new : Disk) (before : StandbyView) → before.frames.kept ≡ [] → IsFollowing meaning p first bytes old before
-    → (here after : EngineView) (n : ℕ) → IsForcing meaning old mid before.engine here (Ok n) → (answer : Result Bool StoreErr) → HasInstalledThin meaning mid new here after answer
+    → (here after : EngineView) (n : ℕ) → IsForcing meaning old mid before.engine here (Ok n) → (most : ℕ) (answer : Result ℕ StoreErr) → HasTendedThin meaning mid new here after most answer
     → IsErrOf answer of_store.DiskFault ⊎ IsFollowing meaning p first bytes new (record before { engine = after })
-thinned_following meaning p first bytes old mid new before between f here after n forced answer it =
+thinned_following meaning p first bytes old mid new before between f here after n forced most answer it =
     let g = forced_following meaning old mid before here p first bytes f (may_be_forced meaning p first bytes old before between f) n forced in
     let then : StandbyView = record before { engine = here } in
-    installed_following meaning mid new then after p first bytes g (may_be_forced meaning p first bytes mid then between g) forced.empty answer it
+    installed_following meaning mid new then after p first bytes g (may_be_forced meaning p first bytes mid then between g) forced.empty most answer it

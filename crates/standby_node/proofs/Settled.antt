@@ -1,14 +1,15 @@
 -- Worlds of which all members are stable and no checkpoint waits, and the calls that leave such ones.
-use Rattle.std.proofs.Common.{◌≡◌, sym, subst, ap, ℕ, zero, suc, ◌≤◌, Bool, false, ◌+◌, List, [], ◌∷◌, ◌++◌, length, take, refl, arith, length-take}
-use Rattle.std.specs.Prelude.{⊤, ◌^◌, nat_lt, nat_le, if◌then◌else◌}
+use Rattle.std.proofs.Common.{◌≡◌, sym, subst, ap, ℕ, zero, suc, ◌≤◌, false, ◌+◌, List, [], ◌∷◌, ◌++◌, length, take, refl, arith, length-take}
+use Rattle.std.specs.Prelude.{⊤, ◌^◌, max, nat_lt, nat_le, if◌then◌else◌}
 use Rattle.std.proofs.lemmas.Bool.{cond_both, ltb-false, or_parts}
 use Rattle.oper_core.specs.Meaning.{Meaning}
 use Rattle.formats.specs.Limits.{log_limit, lsn_end}
-use Rattle.install_order.specs.Computed.{least_below, some_below}
 use Rattle.explain_core.specs.History.{Member}
+use Rattle.explain_core.specs.RoundGates.{Gate, gates_of, removals_of}
 use Rattle.explain_core.specs.RunLaws.{Begins, begins-each, run-append}
-use Rattle.explain_core.specs.Turns.{has_thin, has_work, must_install, thin_name, thin_steps, turn, turns}
-use Rattle.explain_core.specs.World.{Starts, Step, World, node_named, run, step}
+use Rattle.explain_core.specs.TurnLaws.{by_thin_turn}
+use Rattle.explain_core.specs.Turns.{free_gates, must_install, thin_turn, turn, turns}
+use Rattle.explain_core.specs.World.{Starts, Step, World, run, step}
 use Rattle.explain_core.specs.World.Step.{Begin, End, Append, Block_gate, Checkpoint, Slot_gate, Removal, Header_gate, Replay, Crash}
 use Rattle.running_store.specs.Courses.{Course, buffered, course, force_steps, grown, is_through, room_steps, waits}
 use Rattle.running_store.specs.Courses.Stop.{Full, Through, Worn}
@@ -68,16 +69,23 @@ module _ {O : Type 0} (m : Meaning O) where
   run_settled h w [] are is = is
   run_settled h w (s ∷ steps) are is = run_settled h (step m w s) steps are.1 (step_settled h w s are.0 is)
 
-  -- ---- a thin node, and a force
+  -- ---- a turn for which nothing is logged, and a force
 
-  thin_calm : (w : World O) → AreCalm (thin_steps m w)
-  thin_calm w =
-      let node = node_named m w (thin_name m w) in
-      let some : Bool = some_below m.objects (has_work m w node) in
-      cond_both some (Slot_gate node (least_below m.objects (has_work m w node)) ∷ Removal node ∷ []) (Removal node ∷ []) (λ (l : List (Step O)). AreCalm l) (λ is. (tt, (tt, tt))) (λ is. (tt, tt))
+  calm_gates : (gates : List Gate) → AreCalm {O = O} (gates_of gates)
+  calm_gates [] = tt
+  calm_gates (g ∷ gates) = (tt, calm_gates gates)
 
-  pub thin_course_calm : (w : World O) (used : ℕ) → AreCalm (thin_course m w used).steps
-  thin_course_calm w used = cond_both (has_thin m w) (thin_steps m w) [] (λ (l : List (Step O)). AreCalm l) (λ is. thin_calm w) (λ is. tt)
+  calm_removals : (gates : List Gate) → AreCalm {O = O} (removals_of gates)
+  calm_removals [] = tt
+  calm_removals (g ∷ gates) = (tt, calm_removals gates)
+
+  turn_is_calm : (most : ℕ) (w : World O) → AreCalm (thin_turn m most w)
+  turn_is_calm most w =
+      let gates = free_gates m (max 1 most) w in
+      by_thin_turn m (λ (l : List (Step O)). AreCalm l) most w (λ thin some. calm_append (gates_of gates) (removals_of gates) (calm_gates gates) (calm_removals gates)) (λ thin none. (tt, tt)) (λ no_thin. tt)
+
+  pub thin_course_calm : (most : ℕ) (w : World O) (used : ℕ) → AreCalm (thin_course m most w used).steps
+  thin_course_calm most w used = turn_is_calm most w
 
   pub force_calm : (w : World O) → AreCalm (force_steps m w)
   force_calm w = cond_both (waits m w) (Block_gate ∷ []) [] (λ (l : List (Step O)). AreCalm l) (λ is. (tt, tt)) (λ is. tt)
@@ -136,7 +144,7 @@ module _ {O : Type 0} (m : Meaning O) where
 
   turn_calm : (limit : ℕ) (w : World O) → AreCalm (turn m limit w)
   turn_calm limit w =
-      cond_both (must_install m limit w) (thin_steps m w) (if nat_le w.next (length w.history) then Replay ∷ [] else []) (λ (l : List (Step O)). AreCalm l) (λ is. thin_calm w)
+      cond_both (must_install m limit w) (thin_turn m limit w) (if nat_le w.next (length w.history) then Replay ∷ [] else []) (λ (l : List (Step O)). AreCalm l) (λ is. turn_is_calm limit w)
       (λ is. cond_both (nat_le w.next (length w.history)) (Replay ∷ []) [] (λ (l : List (Step O)). AreCalm l) (λ more. (tt, tt)) (λ done. tt))
 
   turns_calm : (limit n : ℕ) (w : World O) → AreCalm (turns m limit n w)

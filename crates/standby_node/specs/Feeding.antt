@@ -15,7 +15,7 @@ use Rattle.frame_stream.specs.FrameBuffer.{taken_by}
 use Rattle.log_blocks.specs.LogView.{growth_of}
 use Rattle.log_records.specs.Codec.{StartsWithRecord}
 use Rattle.explain_core.specs.History.{Member, commands_of}
-use Rattle.explain_core.specs.Turns.{count_below, dirty_in, has_thin, thin_steps}
+use Rattle.explain_core.specs.Turns.{count_below, dirty_in, has_thin, thin_turn}
 use Rattle.explain_core.specs.World.{World, end_of, run}
 use Rattle.execution.specs.Following.{HasLsn, follow_course}
 use Rattle.execution.specs.Judged.{Judged, first_refused, follows, judge_behind}
@@ -27,7 +27,8 @@ use Rattle.standby_node.specs.Standby.{AreFramesOf, IsBetweenPieces, IsFollowing
 use Rattle.standby_node.specs.declared.follow_err.FollowErr.{FollowErr}
 use Rattle.standby_node.specs.declared.follow_err.FollowErr.TheVariants.{BadFrame, Gap, Differs, LogFull, DiskFault, Damaged, Memory, Stopped}
 
--- at a frame's end no more objects are left dirty than so many, unless each node has two or more to flush
+-- at a frame's end no more objects are left dirty than so many, unless each node has two or more to flush; and as many nodes at
+-- most are installed together
 abbrev pub dirty_limit : ℕ
 dirty_limit = 64
 
@@ -55,13 +56,13 @@ must_relieve m w = is_over m waiting_limit w && has_thin m w
 abbrev pub may_relieve : {O : Type 0} → Meaning O → World O → Bool
 may_relieve m w = is_over m low_mark w && has_thin m w
 
--- The worlds that a standby may come to from this one: a record of a stream is followed, what waits is forced, and a thin node is
--- installed where one may be. No checkpoint is taken, and no log is trimmed.
+-- The worlds that a standby may come to from this one: a record of a stream is followed, what waits is forced, and a turn is taken
+-- for which nothing is logged, where a thin node may be installed. No checkpoint is taken, and no log is trimmed.
 pub data FeedsTo {O : Type 0} (m : Meaning O) (w : World O) : World O → Type 0 where
   Nothing : FeedsTo m w w
   Followed : (v : World O) (r : Record O) (used : ℕ) → FeedsTo m w v → FeedsTo m w (run m v (follow_course m r v used).steps)
   Forced : (v : World O) → FeedsTo m w v → FeedsTo m w (run m v (force_steps m v))
-  Relieved : (v : World O) → may_relieve m v ≡ true → FeedsTo m w v → FeedsTo m w (run m v (thin_steps m v))
+  Relieved : (v : World O) → may_relieve m v ≡ true → FeedsTo m w v → FeedsTo m w (run m v (thin_turn m dirty_limit v))
 
 -- a world leads on to where one leads to which it leads
 pub feeds_on : {O : Type 0} (m : Meaning O) (u v w : World O) → FeedsTo m u v → FeedsTo m v w → FeedsTo m u w

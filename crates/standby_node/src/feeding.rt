@@ -21,7 +21,7 @@ use store_engine::Stat;
 // A frame's payload stands behind so many bytes.
 const HEAD: usize = 4;
 
-// At a frame's end thin nodes are installed while more objects than this are dirty,
+// At a frame's end thin nodes are installed while more objects than this are dirty, as many at most together,
 const DIRTY: u64 = 64;
 
 // and, where more records than this wait for their install,
@@ -142,8 +142,8 @@ impl<O: Oper> Standby<O> {
         }
     }
 
-    // Installs thin nodes while too many objects are dirty or too many records wait, at the end of a frame that was followed and
-    // forced.
+    // Installs thin nodes, turn by turn, while too many objects are dirty or too many records wait, at the end of a frame that was
+    // followed and forced.
     fn relieve<M: Machine>(&mut self, machine: &mut M) -> Result<(), FollowErr>
         requires unbroken { self.old.engine.broken ≡ false }
         requires through { HasWholeFrame self.old self.old.done }
@@ -153,7 +153,7 @@ impl<O: Oper> Standby<O> {
         standing::image_stands::<O>();
         let most = self.most_left();
         while is_over(self.engine.stat(), most) {
-            if !self.engine.install_thin(machine)? {
+            if self.engine.tend_thin(machine, DIRTY as usize)? == 0 {
                 return Ok(());
             }
         }

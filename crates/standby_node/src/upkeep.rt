@@ -4,7 +4,7 @@ ghost use Rattle.log_records.specs.declared.rewrite_err.RewriteErr.{RewriteErr a
 ghost use Rattle.checkpointing.specs.declared.checkpoint_err.CheckpointErr.{CheckpointErr as CheckpointFailure};
 ghost use Rattle.store_engine.specs.Calls.{IsTakingCheckpoint, IsTrimming, work_of_checkpoint, work_of_trim};
 ghost use Rattle.standby_node.specs.Standby.{MayBeKeptUp, StillFollows};
-ghost use Rattle.standby_node.specs.Upkeep.{HasForcedAndInstalled};
+ghost use Rattle.standby_node.specs.Upkeep.{HasForcedAndTended};
 
 use crate::Standby;
 use disk_model::Machine;
@@ -12,18 +12,18 @@ use oper_core::Oper;
 use store_engine::{StoreErr, WorkErr};
 
 impl<O: Oper> Standby<O> {
-    /// Installs the minimal node of the least name that has at most one object to flush; nothing is logged. It answers whether
-    /// there is one.
-    pub fn install_thin<M: Machine>(&mut self, machine: &mut M) -> Result<bool, StoreErr>
+    /// Forces what waits, and takes a turn for which nothing is logged, of so many nodes at most, as
+    /// [`store_engine::Engine::tend_thin`] does. It answers how many nodes were installed.
+    pub fn tend_thin<M: Machine>(&mut self, machine: &mut M, most: usize) -> Result<u64, StoreErr>
         requires ready { MayBeKeptUp self.old }
-        ensures installed { HasForcedAndInstalled O.meaning M.disk machine.old machine.new self.old.engine self.new.engine result }
+        ensures tended { HasForcedAndTended O.meaning M.disk machine.old machine.new self.old.engine self.new.engine most result }
         ensures rest { self.new ≡ record self.old { engine = self.new.engine } }
         ensures kept { StillFollows O.meaning (M.disk machine.old) (M.disk machine.new) self.old self.new (IsErrOf result StoreErr.DiskFault) }
     {
         if self.engine.force(machine).is_err() {
             return Err(StoreErr::DiskFault);
         }
-        self.engine.install_thin(machine)
+        self.engine.tend_thin(machine, most)
     }
 
     /// Takes a checkpoint of where a redo begins now, and forces it, as [`store_engine::Engine::checkpoint`] does. After `Memory` the

@@ -132,7 +132,7 @@ pub record SaysRefusal (p : Params) (first : List (Member Command)) (bytes : Lis
   pub said : new.said ≡ old.said ++ notice_of cause
 
 -- the files show a world to which this one leads by what a standby does with a stream: records are followed, what waits is forced,
--- and thin nodes are installed; no check is logged, and no log is trimmed
+-- and thin nodes are installed together; no check is logged, and no log is trimmed
 abbrev pub ShowLed : Params → World Command → Files → Type 0
 ShowLed p w files = (v : World Command) × FilesShow (meaning_in p) p files v × FeedsTo (meaning_in p) w v
 

@@ -7,7 +7,7 @@ use Rattle.oper_core.specs.Meaning.{Meaning}
 use Rattle.formats.specs.declared.params.Params.{Params}
 use Rattle.explain_core.specs.Taken.{IsAfterSome, after_none, after_all, after_longer, after_behind, after_install}
 use Rattle.explain_core.specs.TurnLaws.{turns_join}
-use Rattle.explain_core.specs.Turns.{must_install, thin_steps, turns}
+use Rattle.explain_core.specs.Turns.{must_install, thin_turn, turns}
 use Rattle.explain_core.specs.World.{World, Step, step, run}
 use Rattle.standing.specs.Standing.{FilesShow}
 
@@ -47,10 +47,10 @@ module _ {O : Type 0} (m : Meaning O) (p : Params) where
       silent_twice old mid new (ShowsSome m p w xs) (ShowsSome m p (run m w xs) ys) (ShowsSome m p w (xs ++ ys)) quiet
       (λ files is. after_longer m (FilesShow m p files) w xs ys is) (λ files is. after_behind m (FilesShow m p files) w xs ys is) first second
 
-  -- an install of a thin node, where a redo makes one, takes some steps of a turn
-  pub moments_install : (old new : Disk) (w : World O) (limit : ℕ) → IsTrue (must_install m limit w) → TakesSome m p old new w (thin_steps m w) → TakesSome m p old new w (turns m limit 1 w)
+  -- a turn that logs nothing, where a redo takes one, takes some steps of its own
+  pub moments_install : (old new : Disk) (w : World O) (limit : ℕ) → IsTrue (must_install m limit w) → TakesSome m p old new w (thin_turn m limit w) → TakesSome m p old new w (turns m limit 1 w)
   moments_install old new w limit must install =
-      silent_weaker old new (ShowsSome m p w (thin_steps m w)) (ShowsSome m p w (turns m limit 1 w)) (λ files is. after_install m (FilesShow m p files) w limit must is) install
+      silent_weaker old new (ShowsSome m p w (thin_turn m limit w)) (ShowsSome m p w (turns m limit 1 w)) (λ files is. after_install m (FilesShow m p files) w limit must is) install
 
   -- two parts of a redo, each of some turns
   pub moments_turns : (old mid new : Disk) (w : World O) (limit a b : ℕ) → mid.said ≡ old.said → TakesSome m p old mid w (turns m limit a w)

@@ -1,4 +1,4 @@
-use Rattle.std.proofs.Common.{Bool, false, subst, arith}
+use Rattle.std.proofs.Common.{ℕ, false, subst, arith}
 use Rattle.std.specs.Prelude.{Err}
 use Rattle.std.proofs.lemmas.Bool.{false_from_ne_true}
 use Rattle.formats.specs.Objects.{bounds_of}
@@ -16,52 +16,52 @@ use Rattle.redo_pass.proofs.limit.limit_dirty.Goals as goal
 pub loop-store-init : goal.loop-store-init
 loop-store-init g c = limited_start (g.met.M.Machine.lawful c.args.machine.now) c.requires.unbroken
 
-pub install_thin-requires : goal.install_thin-requires
-install_thin-requires g c = record { unbroken = false_from_ne_true c.loop-store.store.broken (λ set. c.loop-store.invariant.call.broken.0 set) }
+pub tend_thin-requires : goal.tend_thin-requires
+tend_thin-requires g c = record { unbroken = false_from_ne_true c.loop-store.store.broken (λ set. c.loop-store.invariant.call.broken.0 set) }
 
-pub returns-in_err-install_thin-clause-call : goal.returns-in_err-install_thin-clause-call
-returns-in_err-install_thin-clause-call g c =
+pub returns-in_err-tend_thin-clause-call : goal.returns-in_err-tend_thin-clause-call
+returns-in_err-tend_thin-clause-call g c =
     let old = g.M.Machine.disk c.args.machine.now in
-    let new = g.M.Machine.disk c.install_thin.new.machine in
-    let why = c.in_err-install_thin.field-0.0 in
-    let all = call_twice g.O.Oper.meaning old (g.M.Machine.disk c.loop-store.machine) new c.args.store.now c.loop-store.store c.install_thin.new.store 0 0 Never Never (ending_of_store {T = Bool} (Err why)) c.loop-store.invariant.call
-    c.in_err-install_thin.ensures.call in
-    as_error (λ r. IsCall g.O.Oper.meaning old new c.args.store.now c.install_thin.new.store 0 Never (ending_of_store r)) c.from_residual.result why c.from_residual.ensures.1
-    (subst (λ (e : Ending). IsCall g.O.Oper.meaning old new c.args.store.now c.install_thin.new.store 0 Never e) (thin_same Bool (Unit {0}) why) all)
+    let new = g.M.Machine.disk c.tend_thin.new.machine in
+    let why = c.in_err-tend_thin.field-0.0 in
+    let all = call_twice g.O.Oper.meaning old (g.M.Machine.disk c.loop-store.machine) new c.args.store.now c.loop-store.store c.tend_thin.new.store 0 0 Never Never (ending_of_store {T = ℕ} (Err why)) c.loop-store.invariant.call
+    c.in_err-tend_thin.ensures.call in
+    as_error (λ r. IsCall g.O.Oper.meaning old new c.args.store.now c.tend_thin.new.store 0 Never (ending_of_store r)) c.from_residual.result why c.from_residual.ensures.1
+    (subst (λ (e : Ending). IsCall g.O.Oper.meaning old new c.args.store.now c.tend_thin.new.store 0 Never e) (thin_same ℕ (Unit {0}) why) all)
 
-pub returns-in_err-install_thin-clause-beside : goal.returns-in_err-install_thin-clause-beside
-returns-in_err-install_thin-clause-beside g c =
-    beside_twice (g.M.Machine.disk c.args.machine.now) (g.M.Machine.disk c.loop-store.machine) (g.M.Machine.disk c.install_thin.new.machine) c.args.store.now c.loop-store.store c.install_thin.new.store
-    (λ set. c.loop-store.invariant.call.broken.0 set) c.loop-store.invariant.beside c.install_thin.ensures.beside
+pub returns-in_err-tend_thin-clause-beside : goal.returns-in_err-tend_thin-clause-beside
+returns-in_err-tend_thin-clause-beside g c =
+    beside_twice (g.M.Machine.disk c.args.machine.now) (g.M.Machine.disk c.loop-store.machine) (g.M.Machine.disk c.tend_thin.new.machine) c.args.store.now c.loop-store.store c.tend_thin.new.store
+    (λ set. c.loop-store.invariant.call.broken.0 set) c.loop-store.invariant.beside c.tend_thin.ensures.beside
 
-pub returns-in_err-install_thin-clause-steps : goal.returns-in_err-install_thin-clause-steps
-returns-in_err-install_thin-clause-steps g c =
+pub returns-in_err-tend_thin-clause-steps : goal.returns-in_err-tend_thin-clause-steps
+returns-in_err-tend_thin-clause-steps g c =
     let count = dirty_is g.O.Oper.meaning (g.M.Machine.disk c.loop-store.machine) c.objects.result.now c.loop-store.store.parts.volatile c.dirty_count.result c.dirty_objects_are_counted.ensures c.objects.ensures c.dirty_count.ensures in
-    limited_moments c.loop-store.invariant c.turns_keep.ensures.sound (λ p w shows. omega (arith, c.loop-store-test.true, count p w shows)) c.install_thin.ensures.steps
+    limited_moments c.loop-store.invariant c.turns_keep.ensures.sound (λ p w shows. omega (arith, c.loop-store-test.true, count p w shows)) c.tend_thin.ensures.steps
 
-pub returns-then-not-branch-clause-call : goal.returns-then-not-branch-clause-call
-returns-then-not-branch-clause-call g c =
-    call_twice g.O.Oper.meaning (g.M.Machine.disk c.args.machine.now) (g.M.Machine.disk c.loop-store.machine) (g.M.Machine.disk c.install_thin.new.machine) c.args.store.now c.loop-store.store c.install_thin.new.store 0 0 Never Never Done c.loop-store.invariant.call c.in_ok-install_thin.ensures.call
+pub returns-then-branch-eq0-clause-call : goal.returns-then-branch-eq0-clause-call
+returns-then-branch-eq0-clause-call g c =
+    call_twice g.O.Oper.meaning (g.M.Machine.disk c.args.machine.now) (g.M.Machine.disk c.loop-store.machine) (g.M.Machine.disk c.tend_thin.new.machine) c.args.store.now c.loop-store.store c.tend_thin.new.store 0 0 Never Never Done c.loop-store.invariant.call c.in_ok-tend_thin.ensures.call
 
-pub returns-then-not-branch-clause-beside : goal.returns-then-not-branch-clause-beside
-returns-then-not-branch-clause-beside g c =
-    beside_twice (g.M.Machine.disk c.args.machine.now) (g.M.Machine.disk c.loop-store.machine) (g.M.Machine.disk c.install_thin.new.machine) c.args.store.now c.loop-store.store c.install_thin.new.store
-    (λ set. c.loop-store.invariant.call.broken.0 set) c.loop-store.invariant.beside c.install_thin.ensures.beside
+pub returns-then-branch-eq0-clause-beside : goal.returns-then-branch-eq0-clause-beside
+returns-then-branch-eq0-clause-beside g c =
+    beside_twice (g.M.Machine.disk c.args.machine.now) (g.M.Machine.disk c.loop-store.machine) (g.M.Machine.disk c.tend_thin.new.machine) c.args.store.now c.loop-store.store c.tend_thin.new.store
+    (λ set. c.loop-store.invariant.call.broken.0 set) c.loop-store.invariant.beside c.tend_thin.ensures.beside
 
-pub returns-then-not-branch-clause-limited : goal.returns-then-not-branch-clause-limited
-returns-then-not-branch-clause-limited g c =
+pub returns-then-branch-eq0-clause-limited : goal.returns-then-branch-eq0-clause-limited
+returns-then-branch-eq0-clause-limited g c =
     let count = dirty_is g.O.Oper.meaning (g.M.Machine.disk c.loop-store.machine) c.objects.result.now c.loop-store.store.parts.volatile c.dirty_count.result c.dirty_objects_are_counted.ensures c.objects.ensures c.dirty_count.ensures in
-    limited_last c.loop-store.invariant c.turns_keep.ensures.sound (λ p w shows. omega (arith, c.loop-store-test.true, count p w shows)) c.install_thin.ensures.steps c.install_thin.new.store c.in_ok-install_thin.ensures.shows c.if-not-branch.true
+    limited_last c.loop-store.invariant c.turns_keep.ensures.sound (λ p w shows. omega (arith, c.loop-store-test.true, count p w shows)) c.tend_thin.ensures.steps c.in_ok-tend_thin.field-0 c.tend_thin.new.store c.in_ok-tend_thin.ensures.count c.in_ok-tend_thin.ensures.shows c.if-branch-eq0.true
 
-pub returns-then-not-branch-clause-steps : goal.returns-then-not-branch-clause-steps
-returns-then-not-branch-clause-steps g c =
+pub returns-then-branch-eq0-clause-steps : goal.returns-then-branch-eq0-clause-steps
+returns-then-branch-eq0-clause-steps g c =
     let count = dirty_is g.O.Oper.meaning (g.M.Machine.disk c.loop-store.machine) c.objects.result.now c.loop-store.store.parts.volatile c.dirty_count.result c.dirty_objects_are_counted.ensures c.objects.ensures c.dirty_count.ensures in
-    limited_moments c.loop-store.invariant c.turns_keep.ensures.sound (λ p w shows. omega (arith, c.loop-store-test.true, count p w shows)) c.install_thin.ensures.steps
+    limited_moments c.loop-store.invariant c.turns_keep.ensures.sound (λ p w shows. omega (arith, c.loop-store-test.true, count p w shows)) c.tend_thin.ensures.steps
 
 pub loop-store-preserved : goal.loop-store-preserved
 loop-store-preserved g c =
     let count = dirty_is g.O.Oper.meaning (g.M.Machine.disk c.loop-store.machine) c.objects.result.now c.loop-store.store.parts.volatile c.dirty_count.result c.dirty_objects_are_counted.ensures c.objects.ensures c.dirty_count.ensures in
-    limited_more c.loop-store.invariant c.turns_keep.ensures.sound (λ p w shows. omega (arith, c.loop-store-test.true, count p w shows)) c.install_thin.ensures.steps c.install_thin.new.store c.in_ok-install_thin.ensures.shows c.if-not-branch.false c.in_ok-install_thin.ensures.call c.install_thin.ensures.beside
+    limited_more c.loop-store.invariant c.turns_keep.ensures.sound (λ p w shows. omega (arith, c.loop-store-test.true, count p w shows)) c.tend_thin.ensures.steps c.in_ok-tend_thin.field-0 c.tend_thin.new.store c.in_ok-tend_thin.ensures.count c.in_ok-tend_thin.ensures.shows (omega (arith, c.if-branch-eq0.false)) c.in_ok-tend_thin.ensures.call c.tend_thin.ensures.beside
 
 pub returns-clause-call : goal.returns-clause-call
 returns-clause-call g c = c.loop-store.invariant.call
