@@ -1,20 +1,16 @@
 -- The parts of a page are its cells, and what is built of them is a page.
-use Rattle.std.proofs.Common.{◌≡◌, ℕ, suc, ◌+◌, ◌*◌, ◌-◌, ◌<◌, ◌≤◌, ◌==◌, Bool, true, false, ◌&&◌, if◌then◌else◌, Err, List, [], ◌∷◌, ◌++◌, length, take, drop, inl, inr, refl, sym, ap, ◌∙◌, subst, arith, append_assoc, length-append}
+use Rattle.std.proofs.Common.{◌≡◌, ℕ, suc, ◌+◌, ◌*◌, ◌-◌, ◌<◌, ◌==◌, true, false, ◌&&◌, List, [], ◌∷◌, ◌++◌, length, take, drop, drop_at, drop-drop, refl, sym, ap, ◌∙◌, subst, arith, append_assoc, length-append}
 use Rattle.std.specs.Prelude.{IsTrue, nat_le, nat_lt, flat_map}
 use Rattle.std.proofs.Math.Seq.{drop-append_seam}
 use Rattle.std.proofs.lemmas.List.{take_at, append-nil}
 use Rattle.std.proofs.lemmas.Grind.{flat_map-append}
-use Rattle.std.proofs.lemmas.Bool.Decides.{eqb_tells}
 use Rattle.std.proofs.lemmas.Bool.{le-leb, lt-ltb, cond-true, cond-false, le-ltb}
 use Rattle.byteorder.specs.Endian.{little_bytes, little_number}
 use Rattle.oper_core.specs.LittleEndian.{little_number-little_bytes}
-use Rattle.page_ops.specs.Page.{Cell, cell_code, cells_code, places_from, page_of, AreShort}
-use Rattle.page_ops.specs.Reading.{count_in, places_at, places_in, place_of, between, opens, is_leaf, cell_bytes, has_key, has_cell, key_of, goes_in}
-use Rattle.oper_core.specs.declared.refusal.Refusal.TheVariants.{BadPlace, NotNode}
+use Rattle.page_ops.specs.Page.{Cell, Page, cell_code, cells_code, places_from, page_code, page_of, AreShort}
+use Rattle.page_ops.specs.Reading.{beside_of, count_in, places_at, places_in, place_of, between, opens, cell_bytes, has_key, has_cell, key_of}
 use Rattle.key_entries.specs.EntryLaws.{true_both}
-use Rattle.page_ops.specs.Layout.{Cells, numbers_in, part_of, no_cells, moved, built}
-use Rattle.page_ops.specs.Effects.{Made, page, where_kind, where_places, put_made, set_made, delete_made, part_made, absorb_made, are_alike}
-use Rattle.page_ops.specs.Operation.{value_made}
+use Rattle.page_ops.specs.Layout.{Cells, numbers_in, part_of, moved, built}
 
 -- ---- lists
 
@@ -87,6 +83,13 @@ moved_to from at cells =
 
 -- ---- a page
 
+page_size : (level : ℕ) (cells : List Cell) → length (page_of level cells) ≡ 4 + length (cells_code cells) + 2 * length cells
+page_size level cells = omega (arith, length-append (cells_code cells) (twos (places_from 4 cells)), places_size 4 cells)
+
+-- a page that is short enough has places that fit
+pub short_page : (page : Page) → length (page_code page) < 65536 → AreShort page.cells
+short_page page short = omega (arith, page_size page.level page.cells, short)
+
 module _ (level : ℕ) (cells : List Cell) (short : AreShort cells) where
   abbrev places : List ℕ
   places = twos (places_from 4 cells)
@@ -97,11 +100,8 @@ module _ (level : ℕ) (cells : List Cell) (short : AreShort cells) where
   pub count_is : count_in (page_of level cells) ≡ length cells
   count_is = little_number-little_bytes 2 (length cells) (cells_code cells ++ places) (omega (arith, short))
 
-  pub page_size : length (page_of level cells) ≡ 4 + length (cells_code cells) + 2 * length cells
-  page_size = omega (arith, length-append (cells_code cells) places, places_size 4 cells)
-
   pub places_at_is : places_at (page_of level cells) ≡ 4 + length (cells_code cells)
-  places_at_is = omega (arith, page_size, count_is)
+  places_at_is = omega (arith, page_size level cells, count_is)
 
   pub places_in_is : places_in (page_of level cells) ≡ places
   places_in_is = rest_is (head ++ cells_code cells) places (page_of level cells) (places_at (page_of level cells)) refl (omega (arith, places_at_is))
@@ -216,16 +216,16 @@ built_is level a b left new right =
     (λ i. 5 ∷ level ∷ (little_bytes 2 (count i) ++ (cells i ++ places i)))
 
 -- new cells in the place of others
-pub spliced : (level : ℕ) (cells left mid new right : List Cell) (i j n : ℕ) → cells ≡ left ++ (mid ++ right) → AreShort cells → i ≡ length left → j ≡ length left + length mid → n ≡ length cells
-    → built (record { level = level; front = part_of (page_of level cells) 0 i; new = new; back = part_of (page_of level cells) j n }) ≡ page_of level (left ++ (new ++ right))
-spliced level cells left mid new right i j n is short from to whole =
+pub spliced : (level made : ℕ) (cells left mid new right : List Cell) (i j n : ℕ) → cells ≡ left ++ (mid ++ right) → AreShort cells → i ≡ length left → j ≡ length left + length mid → n ≡ length cells
+    → built (record { level = made; front = part_of (page_of level cells) 0 i; new = new; back = part_of (page_of level cells) j n }) ≡ page_of made (left ++ (new ++ right))
+spliced level made cells left mid new right i j n is short from to whole =
     let front = part_at level cells [] left (mid ++ right) 0 i is short refl (omega (arith, from)) in
     let same : left ++ (mid ++ right) ≡ (left ++ mid) ++ (right ++ []) =
     sym (append_assoc left mid right) ∙ ap (λ (l : List Cell). (left ++ mid) ++ l) (sym (append-nil right)) in
     let size = ap (λ (l : List Cell). length l) is in
     let back = part_at level cells (left ++ mid) right [] j n (is ∙ same) short (omega (arith, to, length-append left mid))
     (omega (arith, whole, size, length-append left (mid ++ right), length-append mid right, length-append left mid)) in
-    (λ k. built (record { level = level; front = front k; new = new; back = back k })) ∙ built_is level 4 (4 + length (cells_code (left ++ mid))) left new right
+    (λ k. built (record { level = made; front = front k; new = new; back = back k })) ∙ built_is made 4 (4 + length (cells_code (left ++ mid))) left new right
 
 -- ---- one cell
 
@@ -250,6 +250,9 @@ module _ (level : ℕ) (left : List Cell) (c : Cell) (right : List Cell) (short 
   pub key_is : key_of bytes (length left) ≡ c.0
   key_is = (λ i. take (key_length i) (drop 2 (cell_is i))) ∙ take_at c.0 c.1 (length c.0) refl
 
+  pub beside_is : beside_of bytes (length left) ≡ c.1
+  beside_is = (λ i. drop (2 + key_length i) (cell_is i)) ∙ sym (drop-drop (length c.0) 2 (cell_code c)) ∙ drop_at c.0 c.1 (length c.0) refl
+
   pub cell_there : IsTrue (has_cell bytes (length left))
   cell_there =
       let inside : length left < count_in bytes = omega (arith, count_is level (left ++ c ∷ right) short, length-append left (c ∷ right)) in
@@ -270,7 +273,7 @@ module _ (level : ℕ) (left : List Cell) (c : Cell) (right : List Cell) (short 
 pub page_opens : (level : ℕ) (cells : List Cell) → AreShort cells → IsTrue (opens (page_of level cells))
 page_opens level cells short =
     let bytes : List ℕ = page_of level cells in
-    let size = page_size level cells short in
+    let size = page_size level cells in
     let count = count_is level cells short in
     let first : (place_of bytes 0 == 4) ≡ true = ap (λ (x : ℕ). x == 4) (place_is level [] cells short) in
     let room : nat_le (4 + 2 * count_in bytes) (length bytes) ≡ true = le-leb (4 + 2 * count_in bytes) (length bytes) (omega (arith, size, count)) in
@@ -279,63 +282,3 @@ page_opens level cells short =
     true_both (nat_le 4 (length bytes)) (nat_lt (length bytes) 65536 && (true && (nat_le (4 + 2 * count_in bytes) (length bytes) && (place_of bytes 0 == 4)))) head
     (true_both (nat_lt (length bytes) 65536) (true && (nat_le (4 + 2 * count_in bytes) (length bytes) && (place_of bytes 0 == 4))) few
     (true_both (nat_le (4 + 2 * count_in bytes) (length bytes)) (place_of bytes 0 == 4) room first))
-
--- ---- the operations
-
-refl_number : (n : ℕ) → IsTrue (n == n)
-refl_number n = elim (eqb_tells n n) [ inl e ↦ e.0 | inr e ↦ absurd (e.1 refl) ]
-
-both_tests : (kind places : Bool) (made : Made) → IsTrue kind → IsTrue places → where_kind kind (where_places places made) ≡ made
-both_tests kind places made one two = ap (λ (t : Bool). if t then where_places places made else Err NotNode) one ∙ ap (λ (t : Bool). if t then made else Err BadPlace) two
-
-leaf_opens : (cells : List Cell) → AreShort cells → IsTrue (is_leaf (page_of 0 cells))
-leaf_opens cells short = true_both (opens (page_of 0 cells)) true (page_opens 0 cells short) refl
-
-pub put_on_cells : (left right : List Cell) (c : Cell) → AreShort (left ++ right) → IsTrue (goes_in (page_of 0 (left ++ right)) (length left) c.0)
-    → value_made (put_made (length left) c.0 c.1 (page_of 0 (left ++ right))) ≡ page_of 0 (left ++ c ∷ right)
-put_on_cells left right c short goes =
-    let bytes : List ℕ = page_of 0 (left ++ right) in
-    ap value_made (both_tests (is_leaf bytes) (goes_in bytes (length left) c.0) (page 0 (part_of bytes 0 (length left)) (c ∷ []) (part_of bytes (length left) (count_in bytes))) (leaf_opens (left ++ right) short) goes)
-    ∙ spliced 0 (left ++ right) left [] (c ∷ []) right (length left) (length left) (count_in bytes) refl short refl (omega arith) (count_is 0 (left ++ right) short)
-
-pub set_on_cells : (left right : List Cell) (c : Cell) (value : List ℕ) → AreShort (left ++ c ∷ right)
-    → value_made (set_made (length left) value (page_of 0 (left ++ c ∷ right))) ≡ page_of 0 (left ++ (c.0, value) ∷ right)
-set_on_cells left right c value short =
-    let bytes : List ℕ = page_of 0 (left ++ c ∷ right) in
-    ap value_made (both_tests (is_leaf bytes) (has_cell bytes (length left)) (page 0 (part_of bytes 0 (length left)) ((key_of bytes (length left), value) ∷ []) (part_of bytes (length left + 1) (count_in bytes))) (leaf_opens (left ++ c ∷ right) short) (cell_there 0 left c right short))
-    ∙ spliced 0 (left ++ c ∷ right) left (c ∷ []) ((key_of bytes (length left), value) ∷ []) right (length left) (length left + 1) (count_in bytes) refl short refl (omega arith) (count_is 0 (left ++ c ∷ right) short)
-    ∙ ap (λ (key : List ℕ). page_of 0 (left ++ (key, value) ∷ right)) (key_is 0 left c right short)
-
-pub delete_on_cells : (left right : List Cell) (c : Cell) → AreShort (left ++ c ∷ right)
-    → value_made (delete_made (length left) (page_of 0 (left ++ c ∷ right))) ≡ page_of 0 (left ++ right)
-delete_on_cells left right c short =
-    let bytes : List ℕ = page_of 0 (left ++ c ∷ right) in
-    ap value_made (both_tests (is_leaf bytes) (has_cell bytes (length left)) (page 0 (part_of bytes 0 (length left)) [] (part_of bytes (length left + 1) (count_in bytes))) (leaf_opens (left ++ c ∷ right) short) (cell_there 0 left c right short))
-    ∙ spliced 0 (left ++ c ∷ right) left (c ∷ []) [] right (length left) (length left + 1) (count_in bytes) refl short refl (omega arith) (count_is 0 (left ++ c ∷ right) short)
-
-pub part_on_cells : (level : ℕ) (left mid right : List Cell) → AreShort (left ++ (mid ++ right))
-    → value_made (part_made (length left) (length left + length mid) (page_of level (left ++ (mid ++ right)))) ≡ page_of level mid
-part_on_cells level left mid right short =
-    let bytes : List ℕ = page_of level (left ++ (mid ++ right)) in
-    let i : ℕ = length left in
-    let j : ℕ = length left + length mid in
-    let within : j ≤ count_in bytes = omega (arith, count_is level (left ++ (mid ++ right)) short, length-append left (mid ++ right), length-append mid right) in
-    ap value_made (both_tests (opens bytes) (nat_le i j && nat_le j (count_in bytes)) (page level (part_of bytes i j) [] no_cells) (page_opens level (left ++ (mid ++ right)) short)
-    (true_both (nat_le i j) (nat_le j (count_in bytes)) (le-leb i j (omega arith)) (le-leb j (count_in bytes) within)))
-    ∙ ap (λ (p : Cells). built (record { level = level; front = p; new = []; back = no_cells })) (part_is level left mid right short)
-    ∙ built_is level (4 + length (cells_code left)) 0 mid [] [] ∙ ap (λ (l : List Cell). page_of level l) (append-nil mid)
-
-pub absorb_on_cells : (level : ℕ) (cells taken left : List Cell) → AreShort cells → AreShort (taken ++ left)
-    → value_made (absorb_made (length taken) (page_of level cells) (page_of level (taken ++ left))) ≡ page_of level (cells ++ taken)
-absorb_on_cells level cells taken left short also =
-    let bytes : List ℕ = page_of level cells in
-    let other : List ℕ = page_of level (taken ++ left) in
-    let t : ℕ = length taken in
-    let within : t ≤ count_in other = omega (arith, count_is level (taken ++ left) also, length-append taken left) in
-    let same : IsTrue (level == level) = refl_number level in
-    let all = part_at level cells [] cells [] 0 (count_in bytes) (sym (append-nil cells)) short refl (omega (arith, count_is level cells short)) in
-    let some = part_at level (taken ++ left) [] taken left 0 t refl also refl (omega arith) in
-    ap value_made (both_tests (are_alike bytes other) (nat_le t (count_in other)) (page level (part_of bytes 0 (count_in bytes)) [] (part_of other 0 t))
-    (true_both (opens bytes) (opens other && (level == level)) (page_opens level cells short) (true_both (opens other) (level == level) (page_opens level (taken ++ left) also) same))
-    (le-leb t (count_in other) within))
-    ∙ (λ k. built (record { level = level; front = all k; new = []; back = some k })) ∙ built_is level 4 4 cells [] taken

@@ -4,7 +4,7 @@ use Rattle.oper_core.specs.declared.refusal.Refusal.{Refusal}
 use Rattle.oper_core.specs.declared.refusal.Refusal.TheVariants.{BadPlace, NotNode, TooLarge}
 use Rattle.page_ops.specs.Page.{Cell}
 use Rattle.page_ops.specs.Reading.{level_in, count_in, opens, is_leaf, is_inner, has_cell, key_of, stands_below, ends_before, goes_in}
-use Rattle.page_ops.specs.Layout.{Cells, Layout, part_of, no_cells, size}
+use Rattle.page_ops.specs.Layout.{Cells, Layout, part_of, no_cells, size, value_of}
 use Rattle.page_ops.specs.Seen.{child_cell}
 use Rattle.page_ops.specs.declared.page_op.PageOp.{PageOp}
 use Rattle.page_ops.specs.declared.page_op.PageOp.TheVariants.{Put, Set, Delete, Part, Absorb, Join, Keep, Turn, TurnTwo, Root, Free}
@@ -17,11 +17,11 @@ abbrev pub page : ℕ → Cells → List Cell → Cells → Made
 page level front new back = Ok (Some (record { level = level; front = front; new = new; back = back }))
 
 -- what is made where the bytes are a page of the kind that is asked for
-abbrev pub where_kind : Bool → Made → Made
+abbrev pub where_kind : {A : Type 0} → Bool → Result A Refusal → Result A Refusal
 where_kind kind made = if kind then made else Err NotNode
 
 -- and where the cells are at the places that are named
-abbrev pub where_places : Bool → Made → Made
+abbrev pub where_places : {A : Type 0} → Bool → Result A Refusal → Result A Refusal
 where_places places made = if places then made else Err BadPlace
 
 -- the empty value counts as a leaf without cells where a cell is put
@@ -135,3 +135,12 @@ abbrev pub where_short : ℕ → Made → Made
 where_short cap (Ok (Some layout)) = if is_short cap layout then Ok (Some layout) else Err TooLarge
 where_short cap (Ok None) = Ok None
 where_short cap (Err r) = Err r
+
+-- the bytes of what is made
+abbrev pub bytes_of : Made → Result (List ℕ) Refusal
+bytes_of (Ok made) = Ok (value_of made)
+bytes_of (Err r) = Err r
+
+-- those that are made in a store of this CAP
+abbrev pub bytes_made : ℕ → Made → Result (List ℕ) Refusal
+bytes_made cap made = bytes_of (where_short cap made)

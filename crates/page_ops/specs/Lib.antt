@@ -3,6 +3,8 @@ pub mod Reading
 pub mod Layout
 pub mod Seen
 pub mod Effects
+pub mod OnCells
+pub mod Search
 pub mod Formats
 pub mod FormatLaws
 pub mod Operation

@@ -1,7 +1,7 @@
 -- How an operation reads a page: no more than the places that it needs. Of bytes that are no page it is said what they read as, too,
 -- so that each operation is a function of all bytes; that they are a page is a matter of the maps, not of the operations.
-use Rattle.std.specs.Prelude.{ℕ, zero, suc, ◌+◌, ◌*◌, ◌-◌, ◌/◌, ◌==◌, Bool, ◌&&◌, ◌||◌, not, Option, None, Some, List, length, take, drop, slice_index, nat_le, nat_lt, if◌then◌else◌}
-use Rattle.std.specs.Ordering.{is_lt}
+use Rattle.std.specs.Prelude.{ℕ, zero, suc, ◌+◌, ◌*◌, ◌-◌, ◌/◌, ◌==◌, Bool, ◌&&◌, ◌||◌, not, Option, None, Some, List, length, take, drop, slice_index, nat_le, nat_lt, if◌then◌else◌, option_map, option_and_then}
+use Rattle.std.specs.Ordering.{is_eq, is_lt}
 use Rattle.byteorder.specs.Endian.{little_number}
 use Rattle.key_entries.specs.Entries.{byte_order}
 
@@ -33,9 +33,9 @@ is_leaf bytes = opens bytes && (level_in bytes == 0)
 abbrev pub is_inner : List ℕ → Bool
 is_inner bytes = opens bytes && not (level_in bytes == 0)
 
--- the bytes from one place up to another
-abbrev pub between : ℕ → ℕ → List ℕ → List ℕ
-between from to bytes = take (to - from) (drop from bytes)
+-- the bytes, or the cells, from one place up to another
+abbrev pub between : {A : Type 0} → ℕ → ℕ → List A → List A
+between from to items = take (to - from) (drop from items)
 
 abbrev pub cell_bytes : List ℕ → ℕ → List ℕ
 cell_bytes bytes i = between (place_of bytes i) (place_of bytes (suc i)) bytes
@@ -47,6 +47,10 @@ has_key cell = nat_le (2 + little_number 2 cell) (length cell)
 abbrev pub key_in : List ℕ → List ℕ
 key_in cell = take (little_number 2 cell) (drop 2 cell)
 
+-- what is beside the key
+abbrev pub beside_in : List ℕ → List ℕ
+beside_in cell = drop (2 + little_number 2 cell) cell
+
 -- the cell is there, and has its key
 abbrev pub has_cell : List ℕ → ℕ → Bool
 has_cell bytes i =
@@ -56,17 +60,20 @@ abbrev pub key_of : List ℕ → ℕ → List ℕ
 key_of bytes i = key_in (cell_bytes bytes i)
 
 abbrev pub beside_of : List ℕ → ℕ → List ℕ
-beside_of bytes i = drop (2 + little_number 2 (cell_bytes bytes i)) (cell_bytes bytes i)
+beside_of bytes i = beside_in (cell_bytes bytes i)
 
 abbrev pub child_of : List ℕ → ℕ → ℕ
 child_of bytes i = little_number 4 (beside_of bytes i)
 
--- the key of the cell is below another, where there is such a cell
+-- the key of the cell is below another, or above it, or is it, where there is such a cell
 abbrev pub stands_below : List ℕ → ℕ → List ℕ → Bool
 stands_below bytes i key = has_cell bytes i && is_lt (byte_order (key_of bytes i) key)
 
 abbrev pub stands_above : List ℕ → ℕ → List ℕ → Bool
 stands_above bytes i key = has_cell bytes i && is_lt (byte_order key (key_of bytes i))
+
+abbrev pub stands_at : List ℕ → ℕ → List ℕ → Bool
+stands_at bytes i key = has_cell bytes i && is_eq (byte_order (key_of bytes i) key)
 
 -- the key is below that of the cell i, or there is none behind
 abbrev pub ends_before : List ℕ → ℕ → List ℕ → Bool
@@ -85,3 +92,17 @@ seek_from (suc n) bytes key lo hi =
 
 abbrev pub seek : List ℕ → List ℕ → Option ℕ
 seek bytes key = seek_from (count_in bytes) bytes key 0 (count_in bytes)
+
+-- what a leaf has at a key, if it is there
+abbrev pub at_place : List ℕ → List ℕ → ℕ → Option (List ℕ)
+at_place bytes key i = if stands_at bytes i key then Some (beside_of bytes i) else None
+
+abbrev pub found_in : List ℕ → List ℕ → Option (Option (List ℕ))
+found_in bytes key = option_map (at_place bytes key) (seek bytes key)
+
+-- the last cell whose key is not above a key
+abbrev pub under_place : List ℕ → List ℕ → ℕ → Option ℕ
+under_place bytes key i = if stands_at bytes i key then Some i else (if i == 0 then None else Some (i - 1))
+
+abbrev pub under : List ℕ → List ℕ → Option ℕ
+under bytes key = option_and_then (under_place bytes key) (seek bytes key)

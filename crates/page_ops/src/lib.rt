@@ -1,10 +1,11 @@
 //! Wide pages of a map as values of objects, and the logged operations on them.
 //!
 //! An operation names a page and places in it, and reads no more of the page than these, so it is a function of all bytes; it
-//! writes one object. The one contract is that of the trait `Oper`, at the meaning that specs/ gives. On the bytes of pages a
-//! put, a set, a delete, a part and an absorb are those on their cells; of the others that is not said yet. No store has these
-//! operations. The crate depends on key_entries for the order of keys and the first refusals, on oper_core, and on byteorder
-//! for the numbers in pages and codes.
+//! writes one object. The one contract is that of the trait `Oper`, at the meaning that specs/ gives. On the bytes of pages each
+//! operation is the one on their cells, and refused for the same cause (`operations_are_on_cells`); a search in a page finds the
+//! place of a key, or where it would stand, and takes no memory (`a_search_finds_the_place`). No store has these operations.
+//! The crate depends on key_entries for the order of keys and the first refusals, on oper_core, and on byteorder for the numbers
+//! in pages and codes.
 #![tactic(auto)]
 
 mod effects;
@@ -18,7 +19,7 @@ mod text;
 mod worked;
 mod writing;
 
-pub use laws::{a_change_is_on_cells, pages_are_cut_and_joined};
+pub use laws::{a_search_finds_the_place, operations_are_on_cells};
 pub use page::Page;
 pub use page_op::PageOp;
 pub use text::Text;

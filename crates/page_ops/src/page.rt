@@ -1,8 +1,8 @@
 ghost use Rattle.std.specs.Prelude.{◌≡◌, ◌+◌, ◌<◌, ◌≤◌, ◌^◌, IfSome, is_some, length};
-ghost use Rattle.std.specs.Ordering.{is_lt};
+ghost use Rattle.std.specs.Ordering.{is_eq, is_lt};
 ghost use Rattle.key_entries.specs.Entries.{byte_order};
 ghost use Rattle.page_ops.specs.Reading as reading;
-ghost use Rattle.page_ops.specs.Reading.{between, count_in, ends_before, goes_in, has_cell, has_key, key_of, level_in, opens, place_of, stands_below};
+ghost use Rattle.page_ops.specs.Reading.{beside_in, beside_of, between, count_in, ends_before, goes_in, has_cell, has_key, key_in, key_of, level_in, opens, place_of, stands_at, stands_below};
 ghost use Rattle.page_ops.specs.Layout.{part_of};
 ghost use Rattle.page_ops.specs.Seen.{cells_seen};
 
@@ -75,10 +75,11 @@ impl<'a> Page<'a> {
         place_in(self.bytes, self.count(), i)
     }
 
-    /// The key of a cell, where there is such a cell and its key fits.
-    pub fn key(&self, i: usize) -> Option<&'a [u8]>
+    /// The key of a cell and what is beside it, where there is such a cell and its key fits.
+    pub fn cell(&self, i: usize) -> Option<(&'a [u8], &'a [u8])>
         ensures there { is_some result ≡ has_cell self.now i }
-        ensures key { IfSome result (λ key. key.now ≡ key_of self.now i) }
+        ensures key { IfSome result (λ cell. cell.0.now ≡ key_of self.now i) }
+        ensures beside { IfSome result (λ cell. cell.1.now ≡ beside_of self.now i) }
     {
         let count = self.count();
         if i >= count {
@@ -88,7 +89,56 @@ impl<'a> Page<'a> {
         if from < HEAD_BYTES || to > self.bytes.len() - 2 * count {
             return None;
         }
-        key_in(cut(self.bytes, from, to))
+        parts_of(cut(self.bytes, from, to))
+    }
+
+    /// The key of a cell, where there is such a cell and its key fits.
+    pub fn key(&self, i: usize) -> Option<&'a [u8]>
+        ensures there { is_some result ≡ has_cell self.now i }
+        ensures key { IfSome result (λ key. key.now ≡ key_of self.now i) }
+    {
+        let (key, _beside) = self.cell(i)?;
+        Some(key)
+    }
+
+    /// The place of a key: that of the first cell whose key is not below it. None where a cell that is asked does not fit.
+    pub fn seek(&self, key: &[u8]) -> Option<usize>
+        ensures { result ≡ reading.seek self.now key.now }
+    {
+        let (mut low, mut high) = (0, self.count());
+        while low < high {
+            let middle = (low + high) / 2;
+            if is_below(self.key(middle)?, key) {
+                low = middle + 1;
+            } else {
+                high = middle;
+            }
+        }
+        Some(low)
+    }
+
+    /// Whether a cell has this key.
+    pub fn stands_at(&self, i: usize, key: &[u8]) -> bool
+        ensures { result ≡ stands_at self.now i key.now }
+    {
+        match self.key(i) {
+            Some(there) => is_same(there, key),
+            None => false,
+        }
+    }
+
+    /// The last cell whose key is not above a key. None where there is none, or a cell that is asked does not fit.
+    pub fn under(&self, key: &[u8]) -> Option<usize>
+        ensures { result ≡ reading.under self.now key.now }
+    {
+        let place = self.seek(key)?;
+        if self.stands_at(place, key) {
+            return Some(place);
+        }
+        if place == 0 {
+            return None;
+        }
+        Some(place - 1)
     }
 
     /// Whether the key of a cell is below another.
@@ -170,10 +220,11 @@ fn cut(bytes: &[u8], from: usize, to: usize) -> &[u8]
     &bytes[from..to]
 }
 
-// The key in the bytes of a cell, where it is there.
-fn key_in(cell: &[u8]) -> Option<&[u8]>
+// The key in the bytes of a cell, where it is there, and what is behind it.
+fn parts_of(cell: &[u8]) -> Option<(&[u8], &[u8])>
     ensures there { is_some result ≡ has_key cell.now }
-    ensures key { IfSome result (λ key. key.now ≡ reading.key_in cell.now) }
+    ensures key { IfSome result (λ parts. parts.0.now ≡ key_in cell.now) }
+    ensures beside { IfSome result (λ parts. parts.1.now ≡ beside_in cell.now) }
 {
     if cell.len() < 2 {
         return None;
@@ -182,7 +233,7 @@ fn key_in(cell: &[u8]) -> Option<&[u8]>
     if cell.len() < 2 + length {
         return None;
     }
-    Some(&cell[2..2 + length])
+    Some((&cell[2..2 + length], &cell[2 + length..]))
 }
 
 // Whether a key is below another.
@@ -192,5 +243,15 @@ fn is_below(key: &[u8], other: &[u8]) -> bool
     match key.cmp(other) {
         Ordering::Less => true,
         Ordering::Equal | Ordering::Greater => false,
+    }
+}
+
+// Whether a key is another.
+fn is_same(key: &[u8], other: &[u8]) -> bool
+    ensures { result ≡ is_eq (byte_order key.now other.now) }
+{
+    match key.cmp(other) {
+        Ordering::Equal => true,
+        Ordering::Less | Ordering::Greater => false,
     }
 }

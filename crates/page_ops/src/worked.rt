@@ -3,9 +3,9 @@
 ghost use Rattle.std.specs.Prelude.{◌≡◌, Ok, Err, Some, None, [], ◌∷◌};
 ghost use Rattle.oper_core.specs.declared.refusal.Refusal.TheVariants.{BadPlace, NotNode, TooLarge};
 ghost use Rattle.page_ops.specs.Reading.{seek};
-ghost use Rattle.page_ops.specs.Effects.{to_fill, put_made, set_made, delete_made, part_made, absorb_made, join_made, turn_made, turn_two_made, root_made};
+ghost use Rattle.page_ops.specs.Effects.{bytes_made, to_fill, put_made, set_made, delete_made, part_made, absorb_made, join_made, turn_made, turn_two_made, root_made};
 ghost use Rattle.page_ops.specs.Operation.{op_code};
-ghost use Rattle.page_ops.specs.Worked.{bytes_made, leaf_of, inner_of, a, b, c, d, child};
+ghost use Rattle.page_ops.specs.Worked.{leaf_of, inner_of, a, b, c, d, child};
 ghost use Rattle.page_ops.specs.declared.page_op.PageOp.TheVariants.{Put, Set, Delete, Part, Absorb, Join, Keep, Turn, TurnTwo, Root, Free};
 
 /// A put, a set and a delete on the bytes are those on the cells.

@@ -1,0 +1,26 @@
+use Rattle.page_map.proofs.MapLemmas.{Searches}
+use Rattle.page_map.proofs.ChangeLemmas.{Changes, set_makes, delete_makes}
+use Rattle.page_map.proofs.laws.changes_are_those_of_the_map.Goals as goal
+
+pub returns : goal.returns
+returns c =
+    let search = c.a_search_finds_the_place.ensures in
+    let acts = c.operations_are_on_cells.ensures in
+    let searches : Searches = record { opens = search.opens; under = search.under; beside = λ page i short inside. (search.cell page i short inside).2; got = search.got } in
+    let changes : Changes = record {
+      place = search.place;
+      there = search.there;
+      set = search.set;
+      delete = search.delete;
+      put_new = search.put;
+      goes = search.goes;
+      short = acts.short;
+      check = acts.check;
+      effect = acts.effect;
+      empty_check = λ b x i key value. (acts.empty b x i key value).0;
+      empty_effect = λ b x i key value. (acts.empty b x i key value).1;
+    } in
+    record {
+      set = λ b lo hi s key value small is. set_makes searches changes lo hi small b s key is value;
+      delete = λ b lo hi s key small is. delete_makes searches changes lo hi small b s key is;
+    }
