@@ -6,6 +6,8 @@ _redo() {
     mapfile -t COMPREPLY < <(compgen -d -- "$word")
   elif [ "$COMP_CWORD" = "$at" ]; then
     mapfile -t COMPREPLY < <(compgen -W "init run dump demo upgrade ship follow backup shell help --version --help -C" -- "$word")
+  elif [ "${COMP_WORDS[at]}" = run ]; then
+    mapfile -t COMPREPLY < <(compgen -W "--tend --help" -- "$word")
   elif [ "${COMP_WORDS[at]}" = demo ]; then
     mapfile -t COMPREPLY < <(compgen -W "--seed --steps --help" -- "$word")
   fi

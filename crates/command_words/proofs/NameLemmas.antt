@@ -7,7 +7,7 @@ use Rattle.command_words.specs.Words.{IsFor}
 
 -- the name of the subcommand for this
 abbrev pub name_for : Asked → Text
-name_for Run = codes "run"
+name_for (Run tend) = codes "run"
 name_for Dump = codes "dump"
 name_for (Init p) = codes "init"
 name_for (Upgrade p) = codes "upgrade"
@@ -16,7 +16,7 @@ name_for (Ship from) = codes "ship"
 name_for Follow = codes "follow"
 
 pub named_for : (asked : Asked) (name : Text) (rows : List Row) → IsFor asked name rows → name ≡ name_for asked
-named_for Run name rows is = is
+named_for (Run tend) name rows is = is.0
 named_for Dump name rows is = is
 named_for (Init p) name rows is = is.0
 named_for (Upgrade p) name rows is = is.0

@@ -1,11 +1,11 @@
 -- Words ask one thing.
-use Rattle.std.proofs.Common.{◌≡◌, ◌∙◌, ℕ, List, Option, Some, None, [], refl, sym, ap, subst, arith, codes}
+use Rattle.std.proofs.Common.{◌≡◌, ◌∙◌, ℕ, Bool, true, false, List, Option, Some, None, [], refl, sym, ap, subst, arith, codes}
 use Rattle.std.specs.Str.Parse.{digits_value, without_leading_plus}
 use Rattle.clap.specs.Words.{Row, Text}
 use Rattle.command_words.specs.declared.asked.Asked.{Asked}
 use Rattle.command_words.specs.declared.asked.Asked.TheVariants.{Init, Run, Dump, Demo, Upgrade, Ship, Follow}
 use Rattle.formats.specs.declared.params.Params.{Params}
-use Rattle.command_words.specs.Words.{Asks, Gives, GivesParams, IsFor}
+use Rattle.command_words.specs.Words.{Asks, Gives, GivesParams, IsFor, IsGiven}
 use Rattle.command_words.proofs.NameLemmas.{same_mark, one_name, one_rows}
 
 abbrev text_in : Option Text → Text
@@ -27,9 +27,16 @@ one_params rows p q x y =
     let more : p.more ≡ q.more = x.3 ∙ sym y.3 in
     λ i. record { objects = a i; cap = b i; limit = c i; more = more i }
 
+-- a flag is there or is not
+one_flag : (rows : List Row) (id : Text) (a b : Bool) → IsGiven rows id a → IsGiven rows id b → a ≡ b
+one_flag rows id true true x y = refl
+one_flag rows id true false x y = absurd (y x)
+one_flag rows id false true x y = absurd (x y)
+one_flag rows id false false x y = refl
+
 -- a subcommand of one name is for one thing
 for_one : (name : Text) (rows : List Row) (a b : Asked) → IsFor a name rows → IsFor b name rows → a ≡ b
-for_one name rows Run Run x y = refl
+for_one name rows (Run a) (Run b) x y = ap Run (one_flag rows (codes "tend") a b x.1 y.1)
 for_one name rows Dump Dump x y = refl
 for_one name rows (Init p) (Init q) x y = ap Init (one_params rows p q x.1 y.1)
 for_one name rows (Upgrade p) (Upgrade q) x y = ap Upgrade (one_params rows p q x.1 y.1)

@@ -67,9 +67,13 @@ level_end s w faults = or_else faults (or_else [] (or_else (settle_fault s.rules
 
 -- ---- run, dump and follow
 
-pub run_asks : (program : Text) → Asks (program ∷ codes "run" ∷ []) Run
+pub run_asks : (program : Text) → Asks (program ∷ codes "run" ∷ []) (Run false)
 unfolding clap_on_literals
-run_asks program = record { faultless = refl; named = record { name = codes "run"; rows = []; is = refl; for = refl; allowed = tt } }
+run_asks program = record { faultless = refl; named = record { name = codes "run"; rows = _; is = refl; for = (refl, λ given. cc given); allowed = tt } }
+
+pub tend_asks : (program : Text) → Asks (program ∷ codes "run" ∷ codes "--tend" ∷ []) (Run true)
+unfolding clap_on_literals
+tend_asks program = record { faultless = refl; named = record { name = codes "run"; rows = _; is = refl; for = (refl, refl); allowed = tt } }
 
 pub dump_asks : (program : Text) → Asks (program ∷ codes "dump" ∷ []) Dump
 unfolding clap_on_literals

@@ -2,6 +2,7 @@
 use Rattle.std.specs.Prelude.{ℕ, [], ◌∷◌, Some, true, false, pos, codes}
 use Rattle.clap.specs.Words.{App, Rule, Shape, Text, new_rule}
 use Rattle.clap.specs.Simple.{new_shape}
+use Rattle.clap.specs.declared.builder.action.ArgAction.TheVariants.{SetTrue}
 use Rattle.clap.specs.declared.builder.value_parser.ValueParser.{ValueParser}
 use Rattle.clap.specs.declared.builder.value_parser.ValueParser.TheVariants.{Signed, Unsigned}
 
@@ -12,6 +13,10 @@ number id values = record (new_rule id) { required = true; parser = Some values 
 -- the same after an option of this name
 abbrev pub option : Text → ValueParser → Rule
 option id values = record (number id values) { long = Some id }
+
+-- an option of this name without a value
+abbrev pub flag : Text → Rule
+flag id = record (new_rule id) { long = Some id; action = Some SetTrue }
 
 -- the numbers in this range, and those of 64 bits
 abbrev pub between : ℕ → ℕ → ValueParser
@@ -31,6 +36,9 @@ demo = record (new_shape (codes "demo")) {
   rules = option (codes "seed") any ∷ option (codes "steps") (between 0 1000000) ∷ [];
 }
 
+abbrev pub run : Shape
+run = record (new_shape (codes "run")) { rules = flag (codes "tend") ∷ [] }
+
 -- the numbers that a record may have
 abbrev pub numbers_from_one : ValueParser
 numbers_from_one = Unsigned 1 4611686018427387903
@@ -42,5 +50,5 @@ ship = record (new_shape (codes "ship")) { rules = number (codes "FROM") numbers
 abbrev pub redo : App
 redo = record {
   top = record (new_shape (codes "redo")) { is_leaf = false; subcommand_required = true; arg_required_else_help = true };
-  subs = sized (codes "init") ∷ new_shape (codes "run") ∷ new_shape (codes "dump") ∷ demo ∷ sized (codes "upgrade") ∷ ship ∷ new_shape (codes "follow") ∷ [];
+  subs = sized (codes "init") ∷ run ∷ new_shape (codes "dump") ∷ demo ∷ sized (codes "upgrade") ∷ ship ∷ new_shape (codes "follow") ∷ [];
 }

@@ -1,5 +1,5 @@
 -- What the words of the command line ask.
-use Rattle.std.specs.Prelude.{◌≡◌, ⊤, ℕ, ◌<◌, ◌≤◌, ◌^◌, false, List, [], Option, Some, codes}
+use Rattle.std.specs.Prelude.{◌≡◌, ◌≢◌, ⊤, ℕ, ◌<◌, ◌≤◌, ◌^◌, Bool, true, false, List, [], Option, Some, codes}
 use Rattle.std.specs.Str.Parse.{IsNumeral, digits_value, without_leading_plus}
 use Rattle.formats.specs.Objects.{IsInRange}
 use Rattle.clap.specs.Words.{Row, Text, fault_of, one_of, subcommand_of}
@@ -15,6 +15,11 @@ pub record Gives (rows : List Row) (id : Text) (n : ℕ) : Type 0 where
   pub numeral : IsNumeral 10 (without_leading_plus text)
   pub number : digits_value 10 (without_leading_plus text) ≡ n
 
+-- the flag of this name is among the words, or is not
+abbrev pub IsGiven : List Row → Text → Bool → Type 0
+IsGiven rows id true = one_of id rows ≡ Some (codes "true")
+IsGiven rows id false = one_of id rows ≢ Some (codes "true")
+
 -- the values are the numbers of a store, or those of a script
 abbrev pub GivesParams : List Row → Params → Type 0
 GivesParams rows p = Gives rows (codes "N") p.objects × Gives rows (codes "CAP") p.cap × Gives rows (codes "LIMIT") p.limit × (p.more ≡ false)
@@ -24,7 +29,7 @@ GivesDemo rows seed steps = Gives rows (codes "seed") seed × Gives rows (codes 
 
 -- the subcommand of this name, with these values, is for this
 abbrev pub IsFor : Asked → Text → List Row → Type 0
-IsFor Run name rows = name ≡ codes "run"
+IsFor (Run tend) name rows = (name ≡ codes "run") × IsGiven rows (codes "tend") tend
 IsFor Dump name rows = name ≡ codes "dump"
 IsFor (Init params) name rows = (name ≡ codes "init") × GivesParams rows params
 IsFor (Upgrade params) name rows = (name ≡ codes "upgrade") × GivesParams rows params
@@ -34,7 +39,7 @@ IsFor Follow name rows = name ≡ codes "follow"
 
 -- the numbers are in their ranges
 abbrev pub IsAllowed : Asked → Type 0
-IsAllowed Run = ⊤
+IsAllowed (Run tend) = ⊤
 IsAllowed Dump = ⊤
 IsAllowed (Init params) = IsInRange params
 IsAllowed (Upgrade params) = IsInRange params

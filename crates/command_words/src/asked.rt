@@ -5,8 +5,8 @@ use formats::Params;
 pub enum Asked {
     /// `init N CAP LIMIT`: a new store with these limits.
     Init(Params),
-    /// `run`: a script is answered.
-    Run,
+    /// `run`, or `run --tend`: a script is answered, and the store is tended before each line is read, or is not.
+    Run { tend: bool },
     /// `dump`: the objects that are not empty are reported, and the number of commands.
     Dump,
     /// `demo --seed S --steps T`: a script of so many steps is made from the seed and answered, in memory.

@@ -2,10 +2,10 @@
 ghost use Rattle.std.specs.Prelude.{◌≡◌, IfOk, false};
 ghost use Rattle.clap.specs.Words.{app_of, rule_of, shape_of};
 ghost use Rattle.clap.specs.declared.builder.command.Command.TheViews.{out-Command};
-ghost use Rattle.command_words.specs.Commands.{number, option, sized, demo, ship, redo};
+ghost use Rattle.command_words.specs.Commands.{number, option, flag, sized, demo, ship, run, redo};
 
 use clap::builder::ValueParser;
-use clap::{Arg, Command, value_parser};
+use clap::{Arg, ArgAction, Command, value_parser};
 use std::alloc::{AllocError, Global};
 
 // What help says after the words of `redo`, and of `redo run`.
@@ -67,6 +67,14 @@ fn option<'a>(alloc: Global, id: &'a str, values: ValueParser<'a>) -> Arg<'a>
     number(alloc, id, values).long(id)
 }
 
+// An option without a value.
+fn flag<'a>(alloc: Global, id: &'a str) -> Arg<'a>
+    ensures rule { rule_of result ≡ flag id.entry.now }
+    ensures local { result.global ≡ false }
+{
+    Arg::new(alloc, id).long(id).action(ArgAction::SetTrue)
+}
+
 /// `init N CAP LIMIT`, or another command with the three numbers of a store.
 fn sized<'a>(alloc: Global, name: &'a str, about: &'a str) -> Result<Command<'a>, AllocError>
     ensures { IfOk result (λ c. (shape_of c ≡ sized name.entry.now) × ((out-Command c).has_globals ≡ false)) }
@@ -118,13 +126,23 @@ fn ship<'a>(alloc: Global) -> Result<Command<'a>, AllocError>
         .arg(from)
 }
 
+/// `run`, with `--tend` or without.
+fn run<'a>(alloc: Global) -> Result<Command<'a>, AllocError>
+    ensures { IfOk result (λ c. (shape_of c ≡ run) × ((out-Command c).has_globals ≡ false)) }
+{
+    let tend = flag(alloc, "tend").help(
+        "Does what upkeep is due before each line, in bounded pieces",
+    );
+    Command::new(alloc, "run")
+        .after_help(LINES)
+        .about("Answers the lines of standard input")
+        .arg(tend)
+}
+
 /// The command set.
 pub fn redo<'a>(alloc: Global) -> Result<Command<'a>, AllocError>
     ensures { IfOk result (λ c. app_of c ≡ redo) }
 {
-    let run = Command::new(alloc, "run")
-        .after_help(LINES)
-        .about("Answers the lines of standard input");
     let dump = Command::new(alloc, "dump").about("Reports the objects that are not empty");
     let follow = Command::new(alloc, "follow").about("Takes in the records that `ship` wrote");
     let init = sized(alloc, "init", "Makes a new store in this folder")?;
@@ -140,7 +158,7 @@ pub fn redo<'a>(alloc: Global) -> Result<Command<'a>, AllocError>
         .subcommand_required(true)
         .arg_required_else_help(true)
         .subcommand(init)?
-        .subcommand(run)?
+        .subcommand(run(alloc)?)?
         .subcommand(dump)?
         .subcommand(demo(alloc)?)?
         .subcommand(upgrade)?

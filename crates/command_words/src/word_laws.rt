@@ -1,4 +1,4 @@
-ghost use Rattle.std.specs.Prelude.{◌≡◌, ℕ, false, ◌<◌, ◌≤◌, ◌^◌, List, [], ◌∷◌, codes};
+ghost use Rattle.std.specs.Prelude.{◌≡◌, ℕ, true, false, ◌<◌, ◌≤◌, ◌^◌, List, [], ◌∷◌, codes};
 ghost use Rattle.std.specs.Fmt.{decimal};
 ghost use Rattle.command_words.specs.declared.asked.Asked.TheVariants.{Init, Run, Dump, Demo, Upgrade, Ship, Follow};
 ghost use Rattle.command_words.specs.declared.asked.Asked.{Asked};
@@ -13,7 +13,8 @@ pub fn words_ask_one_thing()
 
 /// The plain forms are taken: the program's name, the form and its numbers, in digits.
 pub fn plain_words_are_taken()
-    ensures run { (program : List ℕ) → Asks (program ∷ codes "run" ∷ []) Run }
+    ensures run { (program : List ℕ) → Asks (program ∷ codes "run" ∷ []) (Run false) }
+    ensures tend { (program : List ℕ) → Asks (program ∷ codes "run" ∷ codes "--tend" ∷ []) (Run true) }
     ensures dump { (program : List ℕ) → Asks (program ∷ codes "dump" ∷ []) Dump }
     ensures init { (program : List ℕ) (p : Params) → IsInRange p → p.more ≡ false → Asks (program ∷ codes "init" ∷ decimal p.objects ∷ decimal p.cap ∷ decimal p.limit ∷ []) (Init p) }
     ensures upgrade { (program : List ℕ) (p : Params) → IsInRange p → p.more ≡ false → Asks (program ∷ codes "upgrade" ∷ decimal p.objects ∷ decimal p.cap ∷ decimal p.limit ∷ []) (Upgrade p) }

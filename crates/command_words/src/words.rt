@@ -4,7 +4,7 @@ ghost use Rattle.clap.specs.Words.{found_of, kind_of, rows_of, subcommand_rows_o
 ghost use Rattle.command_words.specs.declared.asked.Asked.{Asked};
 ghost use Rattle.formats.specs.declared.params.Params.{Params};
 ghost use Rattle.formats.specs.Objects.{IsInRange};
-ghost use Rattle.command_words.specs.Words.{Asks, Gives, GivesParams, GivesDemo, NamesForm};
+ghost use Rattle.command_words.specs.Words.{Asks, Gives, GivesParams, GivesDemo, IsGiven, NamesForm};
 ghost use Rattle.command_words.specs.Refusals.{IsRefusal};
 
 use crate::asked::Asked;
@@ -38,6 +38,13 @@ fn long(matches: &ArgMatches<'_>, id: &str) -> Option<u64>
     ensures none { IfNone result ((n : ℕ) → n < 2 ^ 64 → Gives (rows_of (found_of matches.now)) id.now n → ⊥) }
 {
     matches.get_one::<u64>(id)
+}
+
+// Whether the flag of this name is among the words.
+fn flag(matches: &ArgMatches<'_>, id: &str) -> bool
+    ensures { IsGiven (rows_of (found_of matches.now)) id.now result }
+{
+    matches.get_one::<bool>(id).unwrap_or(false)
 }
 
 /// The numbers of a store, by the values of the three arguments.
@@ -94,7 +101,9 @@ fn asked(matches: &ArgMatches<'_>) -> Option<Asked>
     let (name, values) = matches.subcommand()?;
     match name {
         "init" => Some(Asked::Init(params(values)?)),
-        "run" => Some(Asked::Run),
+        "run" => Some(Asked::Run {
+            tend: flag(values, "tend"),
+        }),
         "dump" => Some(Asked::Dump),
         "demo" => {
             let (seed, steps) = demo(values)?;

@@ -26,6 +26,8 @@ use Rattle.script_run.specs.Answers.{Moment}
 use Rattle.script_run.specs.RunCalls.{IsRunOn}
 use Rattle.script_run.specs.Courses.{RunMoment}
 use Rattle.script_run.specs.Run.{MomentSoFar}
+use Rattle.script_run.specs.Tended.{tending_of}
+use Rattle.script_run.specs.declared.tending.Tending.{Tending}
 use Rattle.script_run.specs.StartLaws.{complete_from, opens_still, says_from, start_so_far, AreFew}
 use Rattle.redo_shell.specs.Calls.{IsCallFor}
 use Rattle.redo_shell.specs.Twice.{IsCallTwice, IsRunTwice, StepsTwice}
@@ -33,7 +35,7 @@ use Rattle.redo_shell.specs.Twice.{IsCallTwice, IsRunTwice, StepsTwice}
 -- a call whose restart was refused memory leaves files that stand for the commands as they did
 pub refused_still : (budget : Budget) (asked : Asked) (told : Type 0) (left rest : List ℕ) (p : Params) (commands : List Command) (old mid : Disk) → old.tells_moments → Opens p old commands
     → IsCallFor budget asked told left rest old mid RestartMemory → StandsStill p commands old mid
-refused_still budget Run told left rest p commands old mid tells opens call = ((call.untold.1 p commands opens).unopened tells refl).still
+refused_still budget (Run tend) told left rest p commands old mid tells opens call = ((call.untold.1 p commands opens).unopened tells refl).still
 refused_still budget Dump told left rest p commands old mid tells opens call = ((call.table p commands opens).unopened tells refl).still
 refused_still budget (Init q) told left rest p commands old mid tells opens call = absurd call.ends
 refused_still budget (Demo seed steps) told left rest p commands old mid tells opens call = absurd call.ends
@@ -74,8 +76,8 @@ module _ {p : Params} {commands : List Command} {old mid : Disk} (lawful : IsDis
   }
 
   -- a run
-  run_twice : AreFew → IsStartRefused Usual p commands old mid → (script : List (List ℕ)) (status : Status) → IsRunOn Least p commands script mid new status → IsRunTwice p commands old mid new script status
-  run_twice few refused script status second =
+  run_twice : (tending : Tending) → AreFew → IsStartRefused Usual p commands old mid → (script : List (List ℕ)) (status : Status) → IsRunOn tending Least p commands script mid new status → IsRunTwice p commands old mid new tending script status
+  run_twice tending few refused script status second =
       let tells_mid = time.moments_told.0 tells in
       let images : LeavesOnly old new (OrAtStart old (Moment p commands script old.said))
       = images_twice (Moment p commands script old.said) (λ files stands. (start_so_far few old script files stands).is)
@@ -92,7 +94,7 @@ module _ {p : Params} {commands : List Command} {old mid : Disk} (lawful : IsDis
         unclosed_now = λ cut memory. subst (λ (l : List ℕ). InEachImage new (λ files. MomentSoFar p commands script l files new.said)) still.quiet (second.unclosed_now tells_mid cut memory);
         first = second.first;
         answers = λ first is. says_from lawful (opens_still still) time still.quiet (second.answers first is);
-        steps = steps_twice (λ again here. RunMoment Least p commands mid again here script) refused (second.steps tells_mid);
+        steps = steps_twice (λ again here. RunMoment tending Least p commands mid again here script) refused (second.steps tells_mid);
         complete = λ first is done. complete_from still.quiet (second.complete first is done);
         unopened = λ is. still_twice (second.unopened tells_mid is).still;
         store = second.store;
@@ -108,10 +110,10 @@ module _ {p : Params} {commands : List Command} {old mid : Disk} (lawful : IsDis
 
   pub call_twice : AreFew → (asked : Asked) (told : Type 0) (left rest : List ℕ) (status : Status) → IsCallFor Usual asked told left left old mid RestartMemory → IsCallFor Least asked told left rest mid new status
       → IsCallTwice asked p commands told left old mid new status
-  call_twice few Run told left rest status first second =
+  call_twice few (Run tend) told left rest status first second =
       let refused = (first.untold.1 p commands opens).unopened tells refl in (
-        λ is. run_twice few refused (lines_of left) status (second.script p commands still.opens is),
-        (second.untold.0, run_twice few refused second.untold.0 status (second.untold.1 p commands still.opens)),
+        λ is. run_twice (tending_of tend) few refused (lines_of left) status (second.script p commands still.opens is),
+        (second.untold.0, run_twice (tending_of tend) few refused second.untold.0 status (second.untold.1 p commands still.opens)),
       )
   call_twice few Dump told left rest status first second =
       let on = second.table p commands still.opens in (

@@ -1,5 +1,5 @@
 -- What holds of a call for any words, from what holds of one that was asked one thing.
-use Rattle.std.proofs.Common.{◌≡◌, ◌≢◌, ◌⊎◌, ◌^◌, ⊎_elim, List, [], ℕ, inl, inr, refl, subst}
+use Rattle.std.proofs.Common.{Bool, ◌≡◌, ◌≢◌, ◌⊎◌, ◌^◌, ⊎_elim, List, [], ℕ, inl, inr, refl, subst}
 use Rattle.std.specs.Prelude.{⊤}
 use Rattle.disk_model.specs.Disk.{Disk, IsDisk, LeavesOnly, Passes, Rises}
 use Rattle.disk_model.specs.Moments.{passes_none}
@@ -44,7 +44,7 @@ module _ (budget : Budget) (told : Type 0) (left rest : List ℕ) (old new : Dis
   call_for is call = subst (λ (a : Asked). IsCallFor budget a told left rest old new status) is call
 
   not_usage : (asked : Asked) → IsCallFor budget asked told left rest old new status → status ≡ Usage → ⊥
-  not_usage Run call is = subst IsOfRun is call.ends
+  not_usage (Run tend) call is = subst IsOfRun is call.ends
   not_usage Dump call is = subst IsOfDump is call.ends
   not_usage (Init p) call is = subst IsOfInit is call.ends
   not_usage (Demo seed steps) call is = subst IsOfDemo is call.ends
@@ -57,7 +57,7 @@ module _ (budget : Budget) (told : Type 0) (left rest : List ℕ) (old new : Dis
   no_store_judged judged is = ⊎_elim (λ (files : JudgesFiles old new status). files.no_store is) (λ (cut : (status ≡ Damaged) × SaysCut old new). absurd (cc (cut.0, is))) judged
 
   no_store_said : (asked : Asked) → IsCallFor budget asked told left rest old new status → old.tells_files → status ≡ NotAStore → SaysNoStore old new
-  no_store_said Run call files is = (call.judged files).no_store is
+  no_store_said (Run tend) call files is = (call.judged files).no_store is
   no_store_said Dump call files is = (call.judged files).no_store is
   no_store_said (Init p) call files is = absurd (subst IsOfInit is call.ends)
   no_store_said (Demo seed steps) call files is = absurd (subst IsOfDemo is call.ends)
@@ -66,7 +66,7 @@ module _ (budget : Budget) (told : Type 0) (left rest : List ℕ) (old new : Dis
   no_store_said Follow call files is = (call.judged files).no_store is
 
   damage_said : (words : List (List ℕ)) (asked : Asked) → Asks words asked → IsCallFor budget asked told left rest old new status → old.tells_files → status ≡ Damaged → SaysDamage old new ⊎ IsCutUpgrade words old new
-  damage_said words Run asks call files is = inl ((call.judged files).damaged is)
+  damage_said words (Run tend) asks call files is = inl ((call.judged files).damaged is)
   damage_said words Dump asks call files is = inl ((call.judged files).damaged is)
   damage_said words (Init p) asks call files is = absurd (subst IsOfInit is call.ends)
   damage_said words (Demo seed steps) asks call files is = absurd (subst IsOfDemo is call.ends)
@@ -75,7 +75,7 @@ module _ (budget : Budget) (told : Type 0) (left rest : List ℕ) (old new : Dis
   damage_said words Follow asks call files is = inl ((call.judged files).damaged is)
 
   store_said : (asked : Asked) → IsCallFor budget asked told left rest old new status → old.tells_files → status ≡ AlreadyStore → SaysStore old new
-  store_said Run call files is = absurd (subst IsOfRun is call.ends)
+  store_said (Run tend) call files is = absurd (subst IsOfRun is call.ends)
   store_said Dump call files is = absurd (subst IsOfDump is call.ends)
   store_said (Init p) call files is = call.already files is
   store_said (Demo seed steps) call files is = absurd (subst IsOfDemo is call.ends)
@@ -85,7 +85,7 @@ module _ (budget : Budget) (told : Type 0) (left rest : List ℕ) (old new : Dis
 
   -- the statuses of a shipment and of the following of a stream come of these alone
   gone_asked : (words : List (List ℕ)) (asked : Asked) → Asks words asked → IsCallFor budget asked told left rest old new status → status ≡ Gone → (from : ℕ) × Asks words (Ship from)
-  gone_asked words Run asks call is = absurd (subst IsOfRun is call.ends)
+  gone_asked words (Run tend) asks call is = absurd (subst IsOfRun is call.ends)
   gone_asked words Dump asks call is = absurd (subst IsOfDump is call.ends)
   gone_asked words (Init p) asks call is = absurd (subst IsOfInit is call.ends)
   gone_asked words (Demo seed steps) asks call is = absurd (subst IsOfDemo is call.ends)
@@ -100,8 +100,8 @@ module _ (budget : Budget) (told : Type 0) (left rest : List ℕ) (old new : Dis
   IsOfFrames status = ⊥
 
   stream_asked : (words : List (List ℕ)) (asked : Asked) (is_of : Status) → IsOfFrames is_of → Asks words asked → IsCallFor budget asked told left rest old new status → status ≡ is_of → Asks words Follow
-  stream_asked words Run BadStream of asks call is = absurd (subst IsOfRun is call.ends)
-  stream_asked words Run StandbyFull of asks call is = absurd (subst IsOfRun is call.ends)
+  stream_asked words (Run tend) BadStream of asks call is = absurd (subst IsOfRun is call.ends)
+  stream_asked words (Run tend) StandbyFull of asks call is = absurd (subst IsOfRun is call.ends)
   stream_asked words Dump BadStream of asks call is = absurd (subst IsOfDump is call.ends)
   stream_asked words Dump StandbyFull of asks call is = absurd (subst IsOfDump is call.ends)
   stream_asked words (Init p) BadStream of asks call is = absurd (subst IsOfInit is call.ends)
@@ -160,11 +160,11 @@ module _ (budget : Budget) {words : List (List ℕ)} {told : Type 0} {left rest 
       → ComesExactly words told left old new status
   call_exactly asks one damage format faultless = record {
     usage = λ memory. (λ is. absurd (not_usage budget told left rest old new status asked call is), λ none. absurd (none asked asks));
-    run = λ is files.
-        let it = call_for budget told left rest old new status (one Run is) call in
+    run = λ tend is files.
+        let it = call_for budget told left rest old new status (one (Run tend) is) call in
         inl (opens_exactly status (calm_run status faultless it.ends faults read_fault beside.fault) damage (it.judged files));
-    runs = λ is memory.
-        let it = call_for budget told left rest old new status (one Run is) call in
+    runs = λ tend is memory.
+        let it = call_for budget told left rest old new status (one (Run tend) is) call in
         runs_exactly status (calm_run status faultless it.ends faults read_fault beside.fault) memory it too_long format;
     dump = λ is files.
         let it = call_for budget told left rest old new status (one Dump is) call in
@@ -200,10 +200,10 @@ pub call_goes_on : {T : Type 0} {budget : Budget} (disk : T → Disk) {words : L
     → ((other : Asked) → Asks words other → IsCallFor budget other told left rest (disk old) (disk new) status) → GoesOn disk words told left rest old new
 call_goes_on disk {words} {told} {left} old new lawful time call = record {
   time = time;
-  run = λ first next sizes runs bytes asks told begins before follows.
-      run old new next (record { script = lines_of left; bytes = bytes }) before begins (λ p commands opens. ((call Run asks).script p commands opens told).images) follows;
-  run_untold = λ asks.
-      let (script, each) = (call Run asks).untold in (
+  run = λ tend first next sizes runs bytes asks told begins before follows.
+      run old new next (record { script = lines_of left; bytes = bytes }) before begins (λ p commands opens. ((call (Run tend) asks).script p commands opens told).images) follows;
+  run_untold = λ tend asks.
+      let (script, each) = (call (Run tend) asks).untold in (
         script,
         λ first next sizes runs bytes begins before follows. run old new next (record { script = script; bytes = bytes }) before begins (λ p commands opens. (each p commands opens).images) follows,
       );
@@ -240,7 +240,7 @@ alone p commands {old} {new} still = or_weaker old new (λ files said. Stands p 
 -- one whose restart was refused memory adds nothing to them
 pub call_adds_nothing : {T : Type 0} (disk : T → Disk) (budget : Budget) (told : Type 0) (left rest : List ℕ) {status : Status} (old new : T) (asked : Asked) → IsDisk (disk old) → IsCallFor budget asked told left rest (disk old) (disk new) status
     → status ≡ RestartMemory → AddsNothing disk old new
-call_adds_nothing disk budget told left rest old new Run lawful call is = λ first next sizes runs said before follows.
+call_adds_nothing disk budget told left rest old new (Run tend) lawful call is = λ first next sizes runs said before follows.
     reads old new next said before (λ none telling. (call.judged (lawful.telling telling)).keeps (λ image. none (image_begins image)))
     (λ p commands opens telling. alone p commands ((call.untold.1 p commands opens).unopened telling is).still) follows
 call_adds_nothing disk budget told left rest old new Dump lawful call is = λ first next sizes runs said before follows.
@@ -263,9 +263,9 @@ pub unread_goes_on : {T : Type 0} (disk : T → Disk) {words : List (List ℕ)} 
     → GoesOn disk words told left left old new
 unread_goes_on disk {words} {left = left} old new unread = record {
   time = unread.stays.time;
-  run = λ first next sizes runs bytes asks told begins before follows.
+  run = λ tend first next sizes runs bytes asks told begins before follows.
       run old new next (record { script = lines_of left; bytes = bytes }) before begins (λ p commands opens telling. at_start (disk old) (disk new) _ unread.stays telling) follows;
-  run_untold = λ asks. (
+  run_untold = λ tend asks. (
     [],
     λ first next sizes runs bytes begins before follows. run old new next (record { script = []; bytes = bytes }) before begins (λ p commands opens telling. at_start (disk old) (disk new) _ unread.stays telling) follows,
   );
@@ -290,8 +290,8 @@ module _ {T : Type 0} (budget : Budget) (disk : T → Disk) (told : Type 0) (scr
   pub backup_for : {asked other : Asked} → asked ≡ other → IsBackupFor budget disk asked told script old new before after → IsBackupFor budget disk other told script old new before after
   backup_for is here = subst (λ (a : Asked). IsBackupFor budget disk a told script old new before after) is here
 
-  unless_run : {words : List (List ℕ)} (asked : Asked) → Asks words asked → IsBackupFor budget disk asked told script old new before after → (Asks words Run → ⊥) → after ≡ before
-  unless_run Run asks here other = absurd (other asks)
+  unless_run : {words : List (List ℕ)} (asked : Asked) → Asks words asked → IsBackupFor budget disk asked told script old new before after → ((tend : Bool) → Asks words (Run tend) → ⊥) → after ≡ before
+  unless_run (Run tend) asks here other = absurd (other tend asks)
   unless_run Dump asks here other = here
   unless_run (Init p) asks here other = here
   unless_run (Demo seed steps) asks here other = here
@@ -303,19 +303,19 @@ module _ {T : Type 0} (budget : Budget) (disk : T → Disk) (told : Type 0) (scr
       → IsBackupCall budget disk words told script old new before after
   backup_called asked asks one beside here = record {
     time = beside.time;
-    run = λ is. backup_for (one Run is) here;
+    run = λ tend is. backup_for (one (Run tend) is) here;
     other = unless_run asked asks here;
   }
 
 -- nothing is done with it
-pub backup_idle : {T : Type 0} {budget : Budget} (disk : T → Disk) {words script : List (List ℕ)} {told : Type 0} {old new : Disk} (backup : T) → (Asks words Run → ⊥) → IsBackupCall budget disk words told script old new backup backup
-backup_idle disk backup none = record { time = passes_none (disk backup); run = λ is. absurd (none is); other = λ none. refl }
+pub backup_idle : {T : Type 0} {budget : Budget} (disk : T → Disk) {words script : List (List ℕ)} {told : Type 0} {old new : Disk} (backup : T) → ((tend : Bool) → Asks words (Run tend) → ⊥) → IsBackupCall budget disk words told script old new backup backup
+backup_idle disk backup none = record { time = passes_none (disk backup); run = λ tend is. absurd (none tend is); other = λ none. refl }
 
 -- where there was no memory to read the words, nothing at all is done
 pub backup_unread : AreFew → {T : Type 0} {budget : Budget} (disk : T → Disk) {words script : List (List ℕ)} {told : Type 0} (old : Disk) (backup : T) → IsBackupCall budget disk words told script old old backup backup
 backup_unread few disk old backup = record {
   time = passes_none (disk backup);
-  run = λ asks. record {
+  run = λ tend asks. record {
     opened = λ p commands opens tells first is. printed_backed few disk (none_backed disk first (passes_none old) refl);
     untold = ([], λ p commands opens first is. printed_backed few disk (none_backed disk first (passes_none old) refl));
     kept = λ p commands opens tells begins. keeps_none (disk backup);

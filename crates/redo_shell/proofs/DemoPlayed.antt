@@ -12,10 +12,11 @@ use Rattle.shell_base.specs.declared.status.Status.{Status}
 use Rattle.shell_base.specs.declared.status.Status.TheVariants.{Done, DoneWithRefusals, SayFault, Memory}
 use Rattle.shell_base.specs.KeepLaws.{keeps_once}
 use Rattle.script_run.specs.RunCalls.{IsRunCall}
+use Rattle.script_run.specs.declared.tending.Tending.TheVariants.{ByHand}
 use Rattle.redo_shell.specs.Demo.{demo_params, IsPlayed, SaysTotals, IsOfDemo, IsDemo}
 
 -- what was said and added by a run that answered the whole script
-pub played : {told : Type 0} {left rest : List ℕ} {new : Disk} {status : Status} (machine : GrowMem) (last : Disk) (accepted : ℕ) → IsRunCall Usual told left rest (disk_of machine) new status → told → IsNewStore demo_params (disk_of machine).reads → (disk_of machine).said ≡ []
+pub played : {told : Type 0} {left rest : List ℕ} {new : Disk} {status : Status} (machine : GrowMem) (last : Disk) (accepted : ℕ) → IsRunCall ByHand Usual told left rest (disk_of machine) new status → told → IsNewStore demo_params (disk_of machine).reads → (disk_of machine).said ≡ []
     → (status ≡ Done) ⊎ (status ≡ DoneWithRefusals) → new.tells_files → ((commands : List Command) → Opens demo_params new commands → (last.said ≡ new.said) × (accepted ≡ length commands)) → IsPlayed (lines_of left) last.said accepted
 played machine last accepted call tells fresh none done files counted =
     let on = call.script demo_params [] (record { told = tt; stands = fresh.stands }) tells in

@@ -16,6 +16,7 @@ use Rattle.store_words.specs.Making.{IsMaking}
 use Rattle.standby_words.specs.Following.{IsFollowEnd}
 use Rattle.standby_words.specs.Shipping.{IsShipEnd}
 use Rattle.script_run.specs.RunCalls.{IsRunCall}
+use Rattle.script_run.specs.declared.tending.Tending.{Tending}
 use Rattle.redo_shell.specs.Exactly.{IsFaultless, OpensExactly, MakesExactly, RunsExactly}
 use Rattle.redo_shell.proofs.DamageLemmas.{HasOneDamage, first_said}
 
@@ -188,7 +189,7 @@ opens_exactly {old} {new} status calm one judged =
       said = λ memory. first_said old new status one (broken memory) judged.damaged;
     }
 
-pub runs_exactly : {budget : Budget} {told : Type 0} {left rest : List ℕ} {old new : Disk} (status : Status) → IsCalm status → (LacksMemory status → ⊥) → IsRunCall budget told left rest old new status → (told → status ≡ TooLong → ReadsOn left rest 0 (2 ^ 40))
+pub runs_exactly : {tending : Tending} {budget : Budget} {told : Type 0} {left rest : List ℕ} {old new : Disk} (status : Status) → IsCalm status → (LacksMemory status → ⊥) → IsRunCall tending budget told left rest old new status → (told → status ≡ TooLong → ReadsOn left rest 0 (2 ^ 40))
     → ((p : Params) (commands : List Command) → Opens p old commands → IsWellFormed old.reads) → RunsExactly told left old status
 runs_exactly status calm memory call taken image = record {
   succeeds = λ p commands opens told few. ⊎_elim (λ e. absurd (not_so_few few (enough_taken (taken told e)))) (λ e. e) (whole_run status calm call.ends memory ((call.judged opens.told).store (image p commands opens)));

@@ -20,6 +20,7 @@ use Rattle.script_run.specs.Answers.{Answers}
 use Rattle.script_run.specs.Groups.{Account, account_of}
 use Rattle.script_run.specs.Printed.{texts_of}
 use Rattle.script_run.specs.Stages.{AllGoBy}
+use Rattle.script_run.specs.declared.tending.Tending.TheVariants.{ByHand}
 
 -- the numbers of its store
 abbrev pub demo_params : Params
@@ -38,7 +39,7 @@ pub record IsAnsweredAnew (script : List (List ℕ)) (replies : List Reply) (add
   pub first : Stage
   pub is_first : IsFirst Usual demo_params [] (disk_of machine) first
   pub last : Stage
-  pub goes : AllGoBy demo_params first script replies last
+  pub goes : AllGoBy ByHand demo_params first script replies last
 
 -- A script of these lines was answered on a new store: these bytes were said, and so many commands accepted.
 pub record IsPlayed (script : List (List ℕ)) (said : List ℕ) (accepted : ℕ) : Type 0 where

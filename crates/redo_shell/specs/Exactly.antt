@@ -1,5 +1,5 @@
 -- When each status comes exactly where its cause holds.
-use Rattle.std.specs.Prelude.{◌≡◌, ◌≢◌, ◌⊎◌, ◌↔◌, ◌<◌, ◌≤◌, ◌^◌, ◌++◌, ℕ, List, length}
+use Rattle.std.specs.Prelude.{◌≡◌, ◌≢◌, ◌⊎◌, ◌↔◌, ◌<◌, ◌≤◌, ◌^◌, ◌++◌, ℕ, Bool, List, length}
 use Rattle.disk_model.specs.Disk.{Disk, Rises}
 use Rattle.disk_model.specs.declared.machine.FileNo.{FileNo}
 use Rattle.disk_model.specs.declared.machine.FileNo.TheVariants.{Objects}
@@ -52,8 +52,8 @@ IsUpgradeEnd status = (status ≡ Done) ⊎ ((status ≡ AlreadyTwo) ⊎ ((statu
 -- Where no count of faults rises, each status comes exactly where its cause holds.
 pub record ComesExactly (words : List (List ℕ)) (told : Type 0) (left : List ℕ) (old new : Disk) (status : Status) : Type 0 where
   pub usage : (LacksMemory status → ⊥) → (status ≡ Usage) ↔ AsksNothing words
-  pub run : Asks words Run → old.tells_files → OrUnread (OpensExactly old new status) old new status
-  pub runs : Asks words Run → (LacksMemory status → ⊥) → RunsExactly told left old status
+  pub run : (tend : Bool) → Asks words (Run tend) → old.tells_files → OrUnread (OpensExactly old new status) old new status
+  pub runs : (tend : Bool) → Asks words (Run tend) → (LacksMemory status → ⊥) → RunsExactly told left old status
   pub dump : Asks words Dump → old.tells_files → OrUnread (OpensExactly old new status) old new status
   pub dumps : Asks words Dump → (LacksMemory status → ⊥) → (p : Params) (commands : List Command) → Opens p old commands → status ≡ Done
   pub init : (p : Params) → Asks words (Init p) → old.tells_files → OrUnread (MakesExactly old status) old new status

@@ -21,6 +21,8 @@ use Rattle.standby_words.specs.Shipping.{ShipMoment}
 use Rattle.script_run.specs.Answers.{Moment, SaysTruly}
 use Rattle.script_run.specs.Courses.{RunMoment}
 use Rattle.script_run.specs.Run.{IsComplete, MomentSoFar}
+use Rattle.script_run.specs.Tended.{tending_of}
+use Rattle.script_run.specs.declared.tending.Tending.{Tending}
 
 module _ (p : Params) (commands : List Command) (old mid new : Disk) where
   -- By the courses of both, from each stage that the first restart may make of the files and each that the second one may make of
@@ -32,7 +34,7 @@ module _ (p : Params) (commands : List Command) (old mid new : Disk) where
 
   -- A run of a script of these lines, begun on `old`. Its restart was refused memory, which left `mid`; begun again it ends with
   -- this status.
-  pub record IsRunTwice (script : List (List ℕ)) (status : Status) : Type 0 where
+  pub record IsRunTwice (tending : Tending) (script : List (List ℕ)) (status : Status) : Type 0 where
     -- what a crash at any moment of either leaves is what a crash at the start could leave, or it stands for these commands and a
     -- beginning of those that the script has added, and what was said is the answers to the script's lines
     pub images : LeavesOnly old new (OrAtStart old (Moment p commands script old.said))
@@ -43,9 +45,9 @@ module _ (p : Params) (commands : List Command) (old mid new : Disk) where
     pub unclosed_now : IsCut status → status ≢ RestartMemory → InEachImage new (λ files. MomentSoFar p commands script old.said files new.said)
     -- what was said is the answers to the script's lines, from each stage that the second restart may make of the files
     pub first : (first : Stage) × IsFirst Least p commands mid first
-    pub answers : (first : Stage) → IsFirst Least p commands mid first → SaysTruly p first commands script old new
-    pub steps : StepsTwice (λ again here. RunMoment Least p commands mid again here script)
-    pub complete : (first : Stage) → IsFirst Least p commands mid first → (status ≡ Done) ⊎ (status ≡ DoneWithRefusals) → IsComplete p first old new commands script status
+    pub answers : (first : Stage) → IsFirst Least p commands mid first → SaysTruly tending p first commands script old new
+    pub steps : StepsTwice (λ again here. RunMoment tending Least p commands mid again here script)
+    pub complete : (first : Stage) → IsFirst Least p commands mid first → (status ≡ Done) ⊎ (status ≡ DoneWithRefusals) → IsComplete tending p first old new commands script status
     -- where the second restart was refused memory too, the files stand for these commands still
     pub unopened : status ≡ RestartMemory → StandsStill p commands old new
     pub store : (status ≢ NotAStore) × (status ≢ Damaged)
@@ -54,7 +56,7 @@ module _ (p : Params) (commands : List Command) (old mid new : Disk) where
 -- crash at the start could leave, or what one call leaves. The input had `left` at the start, where its source reports that; of one
 -- that does not the same holds of some script.
 abbrev pub IsCallTwice : Asked → Params → List Command → Type 0 → List ℕ → Disk → Disk → Disk → Status → Type 0
-IsCallTwice Run p commands told left old mid new status = (told → IsRunTwice p commands old mid new (lines_of left) status) × ((script : List (List ℕ)) × IsRunTwice p commands old mid new script status)
+IsCallTwice (Run tend) p commands told left old mid new status = (told → IsRunTwice p commands old mid new (tending_of tend) (lines_of left) status) × ((script : List (List ℕ)) × IsRunTwice p commands old mid new (tending_of tend) script status)
 IsCallTwice Dump p commands told left old mid new status = LeavesOnly old new (OrAtStart old (DumpMoment p commands old.said)) × (status ≡ Done → new.said ≡ old.said ++ dump_of p commands)
     × StepsTwice p commands old mid new (λ again here. TableMoment Least p commands mid again here)
 IsCallTwice (Upgrade q) p commands told left old mid new status = LeavesOnly old new (OrAtStart old (UpgradeMoment p q commands mid.reads old.said))

@@ -13,7 +13,7 @@ use disk_model::{GrowMem, Machine, MemSource};
 use formats::Params;
 use oper_core::Memory;
 use script_lines::{Answer, Totals, answer_line, demo_script};
-use script_run::{Notes, run};
+use script_run::{Notes, Tending, run};
 use shell_base::{Budget, Status, end_with, open_store};
 use std::alloc::Global;
 use store_words::init;
@@ -63,6 +63,7 @@ fn play(alloc: Global, script: Vec<u8>) -> Result<(GrowMem, u64), Memory>
     match run(
         alloc,
         Budget::Usual,
+        Tending::ByHand,
         &mut machine,
         &mut backup,
         &mut input,

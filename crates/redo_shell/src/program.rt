@@ -17,7 +17,7 @@ use crate::demo::demo;
 use command_words::{Asked, Unread, read_words, words_ask_one_thing};
 use disk_model::{Machine, Source};
 use op_codec::AllOps;
-use script_run::{Notes, run};
+use script_run::{Notes, Tending, run};
 use shell_base::{Budget, Status, end_with};
 use standby_words::{follow, ship};
 use std::alloc::Global;
@@ -26,7 +26,7 @@ use store_words::{dump, init, upgrade};
 
 /// What is printed where the words ask nothing.
 const USAGE: &[u8] =
-    b"usage: redo init N CAP LIMIT | run | dump | demo --seed S --steps T | upgrade N CAP LIMIT | ship FROM | follow\n";
+    b"usage: redo init N CAP LIMIT | run [--tend] | dump | demo --seed S --steps T | upgrade N CAP LIMIT | ship FROM | follow\n";
 
 /// Does what was asked, with the files of the machine, its output, and the script that the source gives, of which a run takes
 /// notes.
@@ -52,7 +52,15 @@ fn serve<M: Machine, T: Machine, S: Source>(
     ensures too_long { S.tells input.old → result ≡ Status.TooLong → ReadsOn (S.left input.old) (S.left input.new) 0 (2 ^ 40) }
 {
     match asked {
-        Asked::Run => run(alloc, budget, machine, backup, input, notes),
+        Asked::Run { tend } => run(
+            alloc,
+            budget,
+            Tending::of(tend),
+            machine,
+            backup,
+            input,
+            notes,
+        ),
         Asked::Dump => dump(alloc, budget, machine),
         Asked::Init(params) => init(machine, params),
         Asked::Demo { seed, steps } => demo(alloc, machine, seed, steps),

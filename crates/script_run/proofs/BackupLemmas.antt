@@ -13,12 +13,13 @@ use Rattle.backup_copy.specs.Copies.{Copies}
 use Rattle.shell_base.specs.First.{Stage, stage_of}
 use Rattle.shell_base.specs.Store.{Between, Command, Holds}
 use Rattle.shell_base.specs.declared.stop.Stop.{Stop}
+use Rattle.script_run.specs.declared.tending.Tending.{Tending}
 use Rattle.script_run.specs.Answers.{with_begun}
 use Rattle.script_run.specs.Run.{Answering, Going, IsAnswered, IsPartly}
 use Rattle.script_run.specs.Saving.{AnsweringBeside, AsksBackup, AsksFinish, BackupGoesOn, BackupGoing, BackupIsSaid, BackupStays, IsBackedUp, PassesBy, SaysOfBackup}
 use Rattle.script_run.proofs.GroupLemmas.{AsksOnce}
 use Rattle.script_run.specs.StartLaws.{AreFew, same_passes, says_none}
-use Rattle.script_run.proofs.RunLemmas.{IsTold, gone_on, opened, told_begun, told_finish, told_here, told_quiet, with_next}
+use Rattle.script_run.proofs.RunLemmas.{IsFresh, IsTold, gone_on, opened, told_begun, told_finish, told_here, told_quiet, with_next}
 use Rattle.script_run.proofs.SavingLemmas.{says_next}
 
 -- an answer beside a backup is an answer
@@ -46,24 +47,28 @@ passes_on [] line before mid after same goes = (after, λ other. goes other ∙ 
 passes_on (l ∷ lines) line before mid after passes goes = (passes.0, passes.1, passes_on lines line passes.0 mid after passes.2 goes)
 
 -- the same lines
-passes_as : {T : Type 0} {lines others : List (List ℕ)} (before after : T) → lines ≡ others → PassesBy lines before after → PassesBy others before after
+pub passes_as : {T : Type 0} {lines others : List (List ℕ)} (before after : T) → lines ≡ others → PassesBy lines before after → PassesBy others before after
 passes_as before after same passes = subst (λ (l : List (List ℕ)). PassesBy l before after) same passes
 
 -- A run so far, and what it has made of the backup, which was in the one state as it began and is in the other now.
-pub record GoingBeside {T : Type 0} (disk : T → Disk) (before mid : T) (p : Params) (first : Stage) (start now : Disk) (engine : EngineView) (commands : List Command) (script todo : List (List ℕ)) (refusing : Bool) : Type 0 where
-  pub going : Going p first start now engine commands script todo refusing
+pub record GoingBeside {T : Type 0} (tending : Tending) (disk : T → Disk) (before mid : T) (p : Params) (first : Stage) (start now : Disk) (engine : EngineView) (commands : List Command) (script todo : List (List ℕ)) (refusing : Bool) : Type 0 where
+  pub going : Going tending p first start now engine commands script todo refusing
   pub passes : PassesBy going.lines before mid
   pub backup : (disk before).tells_files → BackupGoing p (disk before) going.lines going.replies going.account.commands now engine going.holds.world (disk mid)
 
-none_made : {p : Params} {d : Disk} {engine : EngineView} {w : World Command} (commands : List Command) (start : Disk) → engine.copied ≡ None → BackupGoing p start [] [] commands d engine w start
+pub none_made : {p : Params} {d : Disk} {engine : EngineView} {w : World Command} (commands : List Command) (start : Disk) → engine.copied ≡ None → BackupGoing p start [] [] commands d engine w start
 none_made {p} {d} {engine} {w} commands start none = record {
   says = says_none p [] commands start;
   store = (λ is. is, λ is. is);
   copying = subst (λ (o : Option ℕ). IfSome o (λ n. Copies all_meaning p d engine w start)) (sym none) tt;
 }
 
+-- behind whose last answer no upkeep was done yet
+abbrev pub FreshBeside : {T : Type 0} → Tending → (T → Disk) → T → T → Params → Stage → Disk → Disk → EngineView → List Command → List (List ℕ) → List (List ℕ) → Bool → Type 0
+FreshBeside tending disk before mid p first start now engine commands script todo refusing = (b : GoingBeside tending disk before mid p first start now engine commands script todo refusing) × IsFresh b.going
+
 -- the line that it came to next
-next_of : {p : Params} {first : Stage} {start new : Disk} {commands : List Command} {script lines : List (List ℕ)} {replies : List Reply} {every : List Command} {next : List (List ℕ)} (told : IsTold p first commands script start new lines replies every next)
+next_of : {tending : Tending} {p : Params} {first : Stage} {start new : Disk} {commands : List Command} {script lines : List (List ℕ)} {replies : List Reply} {every : List Command} {next : List (List ℕ)} (told : IsTold tending p first commands script start new lines replies every next)
     → take 1 told.truly.says.story.todo ≡ next ++ told.rest
 next_of {lines = lines} {next = next} told =
     let rest = take 1 told.truly.says.story.todo in
@@ -73,10 +78,10 @@ finish_among : (next rest : List (List ℕ)) → AsksFinish next → AsksFinish 
 finish_among next rest (line, has, asks) = (line, Contains-append_left next rest line has, asks)
 
 -- what a run says of the backup
-backed_up : {T : Type 0} (disk : T → Disk) {before later : T} {p : Params} {first : Stage} {start new : Disk} {commands : List Command} {script lines : List (List ℕ)} {replies : List Reply} {every : List Command} {next : List (List ℕ)}
-    → IsTold p first commands script start new lines replies every next → PassesBy (lines ++ next) before later → ((disk before).tells_files → SaysOfBackup p (disk before) lines replies next every (disk later))
-    → IsBackedUp disk p first commands script start new before later
-backed_up disk {before} {later} {p} {lines = lines} {replies} {every} {next} told passes says = record {
+pub backed_up : {T : Type 0} (disk : T → Disk) {before later : T} {tending : Tending} {p : Params} {first : Stage} {start new : Disk} {commands : List Command} {script lines : List (List ℕ)} {replies : List Reply} {every : List Command} {next : List (List ℕ)}
+    → IsTold tending p first commands script start new lines replies every next → PassesBy (lines ++ next) before later → ((disk before).tells_files → SaysOfBackup p (disk before) lines replies next every (disk later))
+    → IsBackedUp tending disk p first commands script start new before later
+backed_up disk {before} {later} {tending} {p} {lines = lines} {replies} {every} {next} told passes says = record {
   truly = told.truly;
   passes = passes_as before later (sym told.taken_are) (passes_more (lines ++ next) told.rest before later passes);
   says = λ tells.
@@ -89,16 +94,16 @@ backed_up disk {before} {later} {p} {lines = lines} {replies} {every} {next} tol
 }
 
 -- a store is open, of which no backup is made yet
-pub opened_beside : {T : Type 0} (disk : T → Disk) (before : T) → AreFew → {p : Params} {start : Disk} {engine : EngineView} {commands : List Command} (script : List (List ℕ)) → IsDisk start → (holds : Holds p start engine commands)
-    → forced_in engine ≡ length commands → engine.group ≡ None → engine.copied ≡ None → GoingBeside disk before before p (stage_of engine holds.world) start start engine commands script script false
+abbrev pub opened_beside : {T : Type 0} (disk : T → Disk) (before : T) → AreFew → {tending : Tending} {p : Params} {start : Disk} {engine : EngineView} {commands : List Command} (script : List (List ℕ)) → IsDisk start → (holds : Holds p start engine commands)
+    → forced_in engine ≡ length commands → engine.group ≡ None → engine.copied ≡ None → GoingBeside tending disk before before p (stage_of engine holds.world) start start engine commands script script false
 opened_beside disk before few {commands = commands} script lawful holds all alone none = record {
   going = opened few script lawful holds all alone;
   passes = refl;
   backup = λ tells. none_made commands (disk before) none;
 }
 
-module _ {T : Type 0} (disk : T → Disk) {before mid later : T} {p : Params} {first : Stage} {start now new : Disk} {engine after : EngineView} {commands : List Command} {script todo : List (List ℕ)} {refusing : Bool} {result : Result Bool Stop}
-    (few : AreFew) (line : List ℕ) (b : GoingBeside disk before mid p first start now engine commands script (line ∷ todo) refusing) (time : Passes start now) (backup_time : Passes (disk before) (disk mid))
+module _ {T : Type 0} (disk : T → Disk) {before mid later : T} {tending : Tending} {p : Params} {first : Stage} {start now new : Disk} {engine after : EngineView} {commands : List Command} {script todo : List (List ℕ)} {refusing : Bool} {result : Result Bool Stop}
+    (few : AreFew) (line : List ℕ) (b : GoingBeside tending disk before mid p first start now engine commands script (line ∷ todo) refusing) (time : Passes start now) (backup_time : Passes (disk before) (disk mid))
     (a : AnsweringBeside p (disk before) now new engine after b.going.holds.world b.going.account.commands line (disk mid) (disk later) result) (idle : (AsksBackup line → ⊥) → later ≡ mid) where
   -- only a line of a backup did anything with it
   still_passes : PassesBy (b.going.lines ++ line ∷ []) before later
@@ -110,22 +115,24 @@ module _ {T : Type 0} (disk : T → Disk) {before mid later : T} {p : Params} {f
       × BackupGoesOn p (disk before) now new engine after b.going.holds.world b.going.account.commands line (disk mid) (disk later) whole.reply whole.added whole.kept.holds.world
 
   -- the run goes on
-  pub goes_on_beside : {kind : Bool} → AsksOnce → result ≡ Ok kind → GoingBeside disk before later p first start new after commands script todo (refusing || kind)
+  pub goes_on_beside : {kind : Bool} → AsksOnce → result ≡ Ok kind → FreshBeside tending disk before later p first start new after commands script todo (refusing || kind)
   goes_on_beside {kind} once is =
       let g = b.going in
       let both : Whole kind = subst (λ (r : Result Bool Stop). IfOk r Whole) is a.whole in
       let whole = both.0 in
-      let on = gone_on few once line g time (answering_of result a) whole in
-      record {
-        going = on.later;
-        passes = passes_as before later (sym on.lines_are) still_passes;
-        backup = λ tells.
-            subst (λ (l : List (List ℕ)). BackupGoing p (disk before) l on.later.replies on.later.account.commands new after on.later.holds.world (disk later)) (sym on.lines_are)
-            (subst (λ (r : List Reply). BackupGoing p (disk before) (g.lines ++ line ∷ []) r on.later.account.commands new after on.later.holds.world (disk later)) (sym on.replies_are)
-            (subst (λ (c : List Command). BackupGoing p (disk before) (g.lines ++ line ∷ []) (g.replies ++ whole.reply ∷ []) c new after on.later.holds.world (disk later)) (sym on.commands_are)
-            (subst (λ (v : World Command). BackupGoing p (disk before) (g.lines ++ line ∷ []) (g.replies ++ whole.reply ∷ []) (g.account.commands ++ whole.added) new after v (disk later)) (sym on.world_is)
-            (both.1 (backup_time.files_told.0 tells) g.lines g.replies (b.backup tells)))));
-      }
+      let on = gone_on few once line g time (answering_of result a) whole in (
+        record {
+          going = on.later;
+          passes = passes_as before later (sym on.lines_are) still_passes;
+          backup = λ tells.
+              subst (λ (l : List (List ℕ)). BackupGoing p (disk before) l on.later.replies on.later.account.commands new after on.later.holds.world (disk later)) (sym on.lines_are)
+              (subst (λ (r : List Reply). BackupGoing p (disk before) (g.lines ++ line ∷ []) r on.later.account.commands new after on.later.holds.world (disk later)) (sym on.replies_are)
+              (subst (λ (c : List Command). BackupGoing p (disk before) (g.lines ++ line ∷ []) (g.replies ++ whole.reply ∷ []) c new after on.later.holds.world (disk later)) (sym on.commands_are)
+              (subst (λ (v : World Command). BackupGoing p (disk before) (g.lines ++ line ∷ []) (g.replies ++ whole.reply ∷ []) (g.account.commands ++ whole.added) new after v (disk later)) (sym on.world_is)
+              (both.1 (backup_time.files_told.0 tells) g.lines g.replies (b.backup tells)))));
+        },
+        on.fresh,
+      )
 
   abbrev Quiet : Type 0
   Quiet = (new.said ≡ now.said) × BackupStays p (disk before) now new engine after b.going.holds.world b.going.account.commands line (disk mid) (disk later)
@@ -135,7 +142,7 @@ module _ {T : Type 0} (disk : T → Disk) {before mid later : T} {p : Params} {f
       × BackupIsSaid p (disk before) now new engine after b.going.holds.world b.going.account.commands line (disk mid) (disk later) part.reply part.added
 
   -- or it ends while the line is answered
-  pub ends_in_line_beside : {stop : Stop} → result ≡ Err stop → IsBackedUp disk p first commands script start new before later
+  pub ends_in_line_beside : {stop : Stop} → result ≡ Err stop → IsBackedUp tending disk p first commands script start new before later
   ends_in_line_beside is = ⊎_elim
       (λ (quiet : Quiet). backed_up disk (told_quiet line b.going time (answering_of result a) quiet.0) still_passes (λ tells. quiet.1 (backup_time.files_told.0 tells) b.going.lines b.going.replies (b.backup tells)))
       (λ (part : Begun). backed_up disk (told_begun line b.going time (answering_of result a) part.0)
@@ -144,18 +151,18 @@ module _ {T : Type 0} (disk : T → Disk) {before mid later : T} {p : Params} {f
       (subst (λ (r : Result Bool Stop). OnErr r (Quiet ⊎ Begun)) is a.partly)
 
 -- a run that ends between two lines, or in the last force
-module _ {T : Type 0} (disk : T → Disk) {before mid : T} {p : Params} {first : Stage} {start now : Disk} {engine : EngineView} {commands : List Command} {script : List (List ℕ)} {refusing : Bool} where
-  pub ends_here_beside : {todo : List (List ℕ)} → GoingBeside disk before mid p first start now engine commands script todo refusing → IsBackedUp disk p first commands script start now before mid
+module _ {T : Type 0} (disk : T → Disk) {before mid : T} {tending : Tending} {p : Params} {first : Stage} {start now : Disk} {engine : EngineView} {commands : List Command} {script : List (List ℕ)} {refusing : Bool} where
+  pub ends_here_beside : {todo : List (List ℕ)} → GoingBeside tending disk before mid p first start now engine commands script todo refusing → IsBackedUp tending disk p first commands script start now before mid
   ends_here_beside b = backed_up disk (told_here b.going) (passes_as before mid (sym (append-nil b.going.lines)) b.passes) (λ tells. (b.backup tells).says)
 
-  pub ends_in_finish_beside : {new : Disk} (b : GoingBeside disk before mid p first start now engine commands script [] refusing) → Passes start now → new.said ≡ now.said
-      → (now.tells_moments → LeavesOnly now new (Between p now None (forced_in engine) (length b.going.account.commands) b.going.account.commands)) → IsBackedUp disk p first commands script start new before mid
+  pub ends_in_finish_beside : {new : Disk} (b : GoingBeside tending disk before mid p first start now engine commands script [] refusing) → Passes start now → new.said ≡ now.said
+      → (now.tells_moments → LeavesOnly now new (Between p now None (forced_in engine) (length b.going.account.commands) b.going.account.commands)) → IsBackedUp tending disk p first commands script start new before mid
   ends_in_finish_beside b time quiet images = backed_up disk (told_finish b.going time quiet images) (passes_as before mid (sym (append-nil b.going.lines)) b.passes) (λ tells. (b.backup tells).says)
 
   -- the lines that are left
-  pub goes_to_beside : {todo : List (List ℕ)} (rest : List (List ℕ)) → GoingBeside disk before mid p first start now engine commands script todo refusing → todo ≡ rest → GoingBeside disk before mid p first start now engine commands script rest refusing
-  goes_to_beside rest b is = subst (λ (l : List (List ℕ)). GoingBeside disk before mid p first start now engine commands script l refusing) is b
+  pub goes_to_beside : {todo : List (List ℕ)} (rest : List (List ℕ)) → GoingBeside tending disk before mid p first start now engine commands script todo refusing → todo ≡ rest → GoingBeside tending disk before mid p first start now engine commands script rest refusing
+  goes_to_beside rest b is = subst (λ (l : List (List ℕ)). GoingBeside tending disk before mid p first start now engine commands script l refusing) is b
 
   -- a run that has answered all its lines has one more
-  pub next_beside : (line : List ℕ) → GoingBeside disk before mid p first start now engine commands script [] refusing → GoingBeside disk before mid p first start now engine commands (script ++ line ∷ []) (line ∷ []) refusing
+  pub next_beside : (line : List ℕ) → GoingBeside tending disk before mid p first start now engine commands script [] refusing → GoingBeside tending disk before mid p first start now engine commands (script ++ line ∷ []) (line ∷ []) refusing
   next_beside line b = record { going = with_next line b.going; passes = b.passes; backup = b.backup }

@@ -1,6 +1,6 @@
 -- The courses of installs, drains, checkpoints and trims: what may stop them, what they log, and that they add no command.
-use Rattle.std.proofs.Common.{◌≡◌, ◌∙◌, ap, refl, ℕ, zero, suc, ◌+◌, ◌<◌, arith, Bool, true, false, List, [], ◌∷◌, ◌++◌}
-use Rattle.std.specs.Prelude.{◌^◌, ◌&&◌, nat_lt, nat_le, if◌then◌else◌}
+use Rattle.std.proofs.Common.{◌≡◌, ◌∙◌, ap, refl, ℕ, zero, suc, ◌+◌, ◌<◌, arith, Bool, true, false, List, [], ◌∷◌, ◌++◌, Option, None, Some}
+use Rattle.std.specs.Prelude.{◌^◌, ◌&&◌, max, nat_lt, nat_le, if◌then◌else◌}
 use Rattle.std.proofs.lemmas.Bool.{cond_both}
 use Rattle.std.proofs.lemmas.Bool.Decides.{nat_tests}
 use Rattle.oper_core.specs.Meaning.{Meaning}
@@ -13,11 +13,12 @@ use Rattle.cache_manager.specs.InstallCourses.{identity_course, identities, must
 use Rattle.running_store.specs.Courses.Stop.{Through, Full, At_end}
 use Rattle.running_store.specs.CourseLaws.{behind_both}
 use Rattle.running_store.specs.Running.{AreUpkeep}
-use Rattle.running_store.specs.Rewrites.{checkpoint_length, new_base, rewrite_course, trimmed, trimmed_file}
+use Rattle.running_store.specs.Rewrites.{checkpoint_length, new_base, rewrite_course, rewrite_within, trimmed, trimmed_file}
 use Rattle.running_store.specs.Commands.{command_length}
-use Rattle.cache_manager.specs.Upkeep.{upkeep_append, upkeep_either, upkeep_then, upkeep_force, upkeep_room, upkeep_install, upkeep_drain}
+use Rattle.cache_manager.specs.Upkeep.{upkeep_append, upkeep_either, upkeep_then, upkeep_force, upkeep_room, upkeep_install, upkeep_turn, upkeep_drain}
 use Rattle.formats.specs.Limits.{lsn_end}
-use Rattle.checkpointing.specs.Courses.{taking_course, checkpoint_steps, checkpoint_course, logged_course, trim_course}
+use Rattle.checkpointing.specs.Courses.{taking_course, checkpoint_steps, checkpoint_course, logged_course, trim_course, trim_due, trim_within, turn_due, unstopped, upkeep_course as tending_course}
+use Rattle.checkpointing.specs.declared.due.Due.{Due}
 use Rattle.execution.specs.Courses.{append_course, needed, unplaced_steps}
 use Rattle.script_lines.specs.Grammar.{Request}
 use Rattle.script_lines.specs.declared.line.Line.TheVariants.{Keep}
@@ -120,18 +121,31 @@ module _ (m : Meaning Command) where
       upkeep_either m (is_through c.stop) c (course (c.steps ++ force_steps m (run m w c.steps)) c.used c.stop) (upkeep_taking w used)
       (upkeep_append m c.steps (force_steps m (run m w c.steps)) (upkeep_taking w used) (upkeep_force m (run m w c.steps)))
 
-  upkeep_trim : (epoch : ℕ) (w : World Command) (used : ℕ) → AreUpkeep (trim_course m epoch w used).steps
-  upkeep_trim epoch w used =
+  upkeep_trim : (most epoch : ℕ) (w : World Command) (used : ℕ) → AreUpkeep (trim_within m most epoch w used).steps
+  upkeep_trim most epoch w used =
       cond_both (nat_le lsn_end epoch) _ _ (λ (c : Course Command). AreUpkeep c.steps) (λ worn. tt)
-      (λ left. upkeep_then m w (force_course m w used) (rewrite_course m) (upkeep_force m w)
-      (λ v used. upkeep_either m (nat_lt (2 ^ 48) (trimmed_file m v)) (course [] used (Full used (trimmed_file m v) (2 ^ 48))) (course (Header_gate (new_base m v) ∷ []) (trimmed m v) Through) tt (tt, tt)))
+      (λ left. upkeep_then m w (force_course m w used) (rewrite_within m most) (upkeep_force m w)
+      (λ v used. upkeep_either m (nat_lt most (trimmed_file m v)) (course [] used (Full used (trimmed_file m v) most)) (course (Header_gate (new_base m v) ∷ []) (trimmed m v) Through) tt (tt, tt)))
+
+  -- nor does what is due before a line is read
+  upkeep_trim_due : (due : Option ℕ) (epoch : ℕ) (w : World Command) (used : ℕ) → AreUpkeep (trim_due m due epoch w used).steps
+  upkeep_trim_due None epoch w used = tt
+  upkeep_trim_due (Some most) epoch w used = upkeep_trim most epoch w used
+
+  upkeep_turn_due : (due : Option ℕ) (copies : ℕ) (w : World Command) (used : ℕ) → AreUpkeep (turn_due m due copies w used).steps
+  upkeep_turn_due None copies w used = tt
+  upkeep_turn_due (Some most) copies w used = upkeep_turn m copies (max 1 most) w used
+
+  pub upkeep_due : (due : Due) (epoch copies : ℕ) (w : World Command) (used : ℕ) → AreUpkeep (tending_course m due epoch copies w used).steps
+  upkeep_due due epoch copies w used =
+      upkeep_then m w (unstopped (trim_due m due.trim epoch w used)) (λ v n. unstopped (turn_due m due.turn copies v n)) (upkeep_trim_due due.trim epoch w used) (λ v n. upkeep_turn_due due.turn copies v n)
 
   -- it adds no command
   pub are_upkeep : (epoch copies : ℕ) (r : Request) → IsUpkeep r → (w : World Command) (used : ℕ) → AreUpkeep (upkeep_course epoch copies r m w used).steps
   are_upkeep epoch copies (Keep install) is w used = upkeep_install m copies w used
   are_upkeep epoch copies (Keep drain) is w used = upkeep_drain m copies w used
   are_upkeep epoch copies (Keep checkpoint) is w used = upkeep_checkpoint w used
-  are_upkeep epoch copies (Keep trim) is w used = upkeep_trim epoch w used
+  are_upkeep epoch copies (Keep trim) is w used = upkeep_trim (2 ^ 48) epoch w used
   are_upkeep epoch copies r is w used = absurd is
 
   -- steps that log no identity write

@@ -3,6 +3,7 @@ pub mod MomentLemmas
 pub mod RunLemmas
 pub mod SavingLemmas
 pub mod BackupLemmas
+pub mod TendedRuns
 pub mod SavingCalls
 pub mod SavingDone
 pub mod SavingSaid
@@ -24,6 +25,7 @@ pub mod RangeLemmas
 pub mod HashLemmas
 pub mod DoneLemmas
 pub mod UpkeepLemmas
+pub mod TendLemmas
 pub mod GroupsOfLists
 pub mod GroupLemmas
 pub mod OpenGroups

@@ -32,9 +32,11 @@ use Rattle.shell_base.specs.HoldLaws.{holds_as, holds_stays, holds_between, told
 use Rattle.script_run.specs.Groups.{AreWhole, Regroups, account_of, open_in, waiting}
 use Rattle.script_run.specs.Made.{IsFront}
 use Rattle.script_run.specs.Replies.{Replies, IsTrueIn, is_refusing}
-use Rattle.script_run.specs.Stages.{IsQuestion, Ends, GoesBy, Leads, AllGoBy, finish_course}
+use Rattle.script_run.specs.Stages.{IsKeptUp, IsQuestion, Ends, GoesBy, Leads, AllGoBy, finish_course}
+use Rattle.script_run.specs.declared.tending.Tending.{Tending}
+use Rattle.script_run.specs.declared.tending.Tending.TheVariants.{ByHand, ByLine}
 use Rattle.script_run.specs.Answers.{IsSilent, Moment, TrueWithin, SaysTruly, with_begun, with_line}
-use Rattle.script_run.specs.Courses.{IsAtWork, StageMoment, Works}
+use Rattle.script_run.specs.Courses.{IsAtWork, IsBehind, IsBetween, StageMoment, Works}
 use Rattle.script_run.specs.Run.{IsTrueSaying, IsTrueSoFar, IsAnswered, IsPartly, Working, During, LineMoment, LineStage, StageSoFar, MomentSoFar, Going, IsComplete, IsAnswerFound, Answering, IsRun}
 use Rattle.script_run.proofs.GroupLemmas.{AsksOnce, after_whole, none_open, whole_ended, whole_late}
 use Rattle.script_run.proofs.MomentLemmas.{found_steps, images_show, worked_none, works_line}
@@ -42,48 +44,75 @@ use Rattle.script_run.proofs.TrueLemmas.{truly_on, truly_quiet, line_behind, fou
 use Rattle.script_run.specs.StoryLaws.{AreEven, after_commands, after_within, answers_even, ended_whole, next_in, goes_by_more, told_goes, told_truly, said_longer, Story, story_more, story_end, said_more, spoken_more, told_whole, told_silent, told_partly}
 use Rattle.script_run.specs.StartLaws.{AreFew, moment_of, moment_at, first_moment}
 
+-- no upkeep is done
+pub none_kept : (tending : Tending) (p : Params) (s : Stage) → IsKeptUp tending p s s
+none_kept ByHand p s = refl
+none_kept ByLine p s = inl refl
+
+pub nothing_between : (tending : Tending) (p : Params) (s : Stage) (files : Files) → FilesShow (meaning_in p) p files s.world → IsBetween tending p s files
+nothing_between ByHand p s files shows = shows
+nothing_between ByLine p s files shows = inl shows
+
+-- none was done behind the last answer
+abbrev pub IsFresh : {tending : Tending} {p : Params} {first : Stage} {start now : Disk} {engine : EngineView} {commands : List Command} {script todo : List (List ℕ)} {refusing : Bool} → Going tending p first start now engine commands script todo refusing → Type 0
+IsFresh {engine = engine} g = g.stage ≡ stage_of engine g.holds.world
+
+-- such a run
+abbrev pub FreshGoing : Tending → Params → Stage → Disk → Disk → EngineView → List Command → List (List ℕ) → List (List ℕ) → Bool → Type 0
+FreshGoing tending p first start now engine commands script todo refusing = (g : Going tending p first start now engine commands script todo refusing) × IsFresh g
+
 -- the story so far
-abbrev story_of : {p : Params} {first : Stage} {start now : Disk} {engine : EngineView} {commands : List Command} {script todo : List (List ℕ)} {refusing : Bool}
-    → (g : Going p first start now engine commands script todo refusing) → Story p commands script todo g.replies g.waits g.account
+abbrev story_of : {tending : Tending} {p : Params} {first : Stage} {start now : Disk} {engine : EngineView} {commands : List Command} {script todo : List (List ℕ)} {refusing : Bool}
+    → (g : Going tending p first start now engine commands script todo refusing) → Story p commands script todo g.replies g.waits g.account
 story_of g = record { lines = g.lines; script_is = g.script_is; answers = g.answers }
 
 -- what a moment between these has of the account splits no group
-whole_at : {p : Params} {first : Stage} {start now : Disk} {engine : EngineView} {commands : List Command} {script todo : List (List ℕ)} {refusing : Bool} (g : Going p first start now engine commands script todo refusing) (kept : ℕ)
+pub whole_at : {tending : Tending} {p : Params} {first : Stage} {start now : Disk} {engine : EngineView} {commands : List Command} {script todo : List (List ℕ)} {refusing : Bool} (g : Going tending p first start now engine commands script todo refusing) (kept : ℕ)
     → (kept ≡ forced_in engine) ⊎ ((engine.group ≡ None) × (length g.account.commands ≤ kept)) → AreWhole kept g.account
 whole_at {engine = engine} g kept which = ⊎_elim
     (λ (same : kept ≡ forced_in engine). subst (λ (k : ℕ). AreWhole k g.account) (sym same) g.whole)
     (λ (late : (engine.group ≡ None) × (length g.account.commands ≤ kept)). whole_late kept g.account late.1 g.ends_within (g.group ∙ none_open g.holds.shows late.0))
     which
 
--- while the engine works, the story is that of the lines before, with some first commands of the next
-working_moment : AreFew → {p : Params} {first : Stage} {start now : Disk} {engine : EngineView} {commands : List Command} {script todo : List (List ℕ)} {refusing : Bool} (line : List ℕ)
-    (g : Going p first start now engine commands script (line ∷ todo) refusing) → (f : Files) (s : List ℕ) → Working p now engine g.account.commands line f s → MomentSoFar p commands script start.said f s
-working_moment few {p} {first} {start} {now} {engine} {commands} {script} {todo} line g f s w =
-    let b = w.between in
-    let c = g.account.commands in
-    let silent : IsSilent p c (line ∷ todo) w.added = ⊎_elim (λ (none : w.added ≡ []). inl none) (λ (front : IsFront p c line w.added). inr (line, todo, refl, front)) w.front in
-    moment_of few start.said (flat_map said_line g.replies) f s b.kept (told_silent (IsTrueIn p f) w.added (story_of g) silent) (b.quiet ∙ g.said_is) (omega (arith, g.all_before, b.enough))
+-- while nothing is said, the story is that of the lines before, with some first commands of the next
+silent_moment : AreFew → {tending : Tending} {p : Params} {first : Stage} {start now : Disk} {engine : EngineView} {commands : List Command} {script todo : List (List ℕ)} {refusing : Bool}
+    (g : Going tending p first start now engine commands script todo refusing) (added : List Command) → IsSilent p g.account.commands todo added → (f : Files) (s : List ℕ)
+    → Between p now engine.group (forced_in engine) (length g.account.commands) (g.account.commands ++ added) f s → MomentSoFar p commands script start.said f s
+silent_moment few {tending} {p} {start = start} g added silent f s b =
+    moment_of few start.said (flat_map said_line g.replies) f s b.kept (told_silent (IsTrueIn p f) added (story_of g) silent) (b.quiet ∙ g.said_is) (omega (arith, g.all_before, b.enough))
     b.within (whole_at g b.kept b.which) b.stands (λ n has. omega (arith, g.acked n has, b.enough))
 
+working_moment : AreFew → {tending : Tending} {p : Params} {first : Stage} {start now : Disk} {engine : EngineView} {commands : List Command} {script todo : List (List ℕ)} {refusing : Bool} (line : List ℕ)
+    (g : Going tending p first start now engine commands script (line ∷ todo) refusing) → (f : Files) (s : List ℕ) → Working p now engine g.account.commands line f s → MomentSoFar p commands script start.said f s
+working_moment few {tending} {p} {todo = todo} line g f s w =
+    silent_moment few g w.added (⊎_elim (λ (none : w.added ≡ []). inl none) (λ (front : IsFront p g.account.commands line w.added). inr (line, todo, refl, front)) w.front) f s w.between
+
+-- so it is while the store is tended
+pub tending_moment : AreFew → {tending : Tending} {p : Params} {first : Stage} {start now : Disk} {engine : EngineView} {commands : List Command} {script todo : List (List ℕ)} {refusing : Bool}
+    (g : Going tending p first start now engine commands script todo refusing) → (f : Files) (s : List ℕ) → Between p now engine.group (forced_in engine) (length g.account.commands) g.account.commands f s → MomentSoFar p commands script start.said f s
+tending_moment few {tending} {p} {now = now} {engine = engine} g f s b =
+    let c = g.account.commands in
+    silent_moment few g [] (inl refl) f s (subst (λ (l : List Command). Between p now engine.group (forced_in engine) (length c) l f s) (sym (append-nil c)) b)
+
 -- while an answer is said, it has begun, or is whole
-during_moment : AreFew → {p : Params} {first : Stage} {start now : Disk} {engine : EngineView} {commands : List Command} {script todo : List (List ℕ)} {refusing : Bool} (line : List ℕ)
-    (g : Going p first start now engine commands script (line ∷ todo) refusing) → (f : Files) (s : List ℕ) → During p now engine g.account.group g.account.commands line f s → MomentSoFar p commands script start.said f s
-during_moment few {p} {first} {start} {now} {engine} {commands} {script} line g f s d =
+during_moment : AreFew → {tending : Tending} {p : Params} {first : Stage} {start now : Disk} {engine : EngineView} {commands : List Command} {script todo : List (List ℕ)} {refusing : Bool} (line : List ℕ)
+    (g : Going tending p first start now engine commands script (line ∷ todo) refusing) → (f : Files) (s : List ℕ) → During p now engine g.account.group g.account.commands line f s → MomentSoFar p commands script start.said f s
+during_moment few {tending} {p} {first} {start} {now} {engine} {commands} {script} line g f s d =
     moment_of few start.said (flat_map said_line g.replies ++ take d.count (said_line d.reply)) f s d.kept
     (told_partly (IsTrueIn p f) line d.reply d.added d.count (story_of g) d.replies d.tied)
     (d.said_is ∙ ap (λ (l : List ℕ). l ++ take d.count (said_line d.reply)) g.said_is ∙ append_assoc start.said (flat_map said_line g.replies) _)
     (omega (arith, g.all_before, d.enough)) d.within (whole_at g d.kept d.which) d.stands
     (λ n has. ⊎_elim (λ (h : Contains g.replies (forced n)). omega (arith, g.acked n h, d.enough)) (λ (h : d.reply ≡ forced n). d.acked n h) (spoken_more g.replies d.reply n has))
 
-line_moment : AreFew → {p : Params} {first : Stage} {start now : Disk} {engine : EngineView} {commands : List Command} {script todo : List (List ℕ)} {refusing : Bool} (line : List ℕ)
-    (g : Going p first start now engine commands script (line ∷ todo) refusing) → (f : Files) (s : List ℕ) → LineMoment p now engine (open_in g.holds.world) g.account.commands line f s → MomentSoFar p commands script start.said f s
-line_moment few {p} {now = now} {engine = engine} line g f s here = ⊎_elim (working_moment few line g f s)
+line_moment : AreFew → {tending : Tending} {p : Params} {first : Stage} {start now : Disk} {engine : EngineView} {commands : List Command} {script todo : List (List ℕ)} {refusing : Bool} (line : List ℕ)
+    (g : Going tending p first start now engine commands script (line ∷ todo) refusing) → (f : Files) (s : List ℕ) → LineMoment p now engine (open_in g.holds.world) g.account.commands line f s → MomentSoFar p commands script start.said f s
+line_moment few {tending} {p} {now = now} {engine = engine} line g f s here = ⊎_elim (working_moment few line g f s)
     (λ (d : During p now engine (open_in g.holds.world) g.account.commands line f s). during_moment few line g f s (subst (λ (o : Option ℕ). During p now engine o g.account.commands line f s) (sym g.group) d)) here
 
 -- while the group is closed and the log forced, the story is that of all lines
-finish_moment : AreFew → {p : Params} {first : Stage} {start now : Disk} {engine : EngineView} {commands : List Command} {script : List (List ℕ)} {refusing : Bool}
-    (g : Going p first start now engine commands script [] refusing) → (f : Files) (s : List ℕ) → Between p now None (forced_in engine) (length g.account.commands) g.account.commands f s → Moment p commands script start.said f s
-finish_moment few {p} {first} {start} {now} {engine} {commands} {script} g f s b =
+finish_moment : AreFew → {tending : Tending} {p : Params} {first : Stage} {start now : Disk} {engine : EngineView} {commands : List Command} {script : List (List ℕ)} {refusing : Bool}
+    (g : Going tending p first start now engine commands script [] refusing) → (f : Files) (s : List ℕ) → Between p now None (forced_in engine) (length g.account.commands) g.account.commands f s → Moment p commands script start.said f s
+finish_moment few {tending} {p} {first} {start} {now} {engine} {commands} {script} g f s b =
     let c = g.account.commands in
     let all : c ++ [] ≡ c = append-nil c in
     moment_at few start.said (flat_map said_line g.replies) f s b.kept (record {
@@ -107,67 +136,67 @@ some_left : (line : List ℕ) (todo : List (List ℕ)) → line ∷ todo ≡ [] 
 some_left line todo none = cc
 
 -- what is done while a line is answered is a moment of the stages
-stage_line : {p : Params} {first : Stage} {start now : Disk} {engine : EngineView} {commands : List Command} {script todo : List (List ℕ)} {refusing : Bool} (line : List ℕ)
-    (g : Going p first start now engine commands script (line ∷ todo) refusing) → (f : Files) (s : List ℕ) → LineStage p (stage_of engine g.holds.world) now.said line f s → StageSoFar p first script start.said f s
-stage_line {p} {first} {start} {now} {engine} {commands} {script} {todo} line g f s (inl b) = record {
+stage_line : {tending : Tending} {p : Params} {first : Stage} {start now : Disk} {engine : EngineView} {commands : List Command} {script todo : List (List ℕ)} {refusing : Bool} (line : List ℕ)
+    (g : Going tending p first start now engine commands script (line ∷ todo) refusing) → (f : Files) (s : List ℕ) → LineStage p (stage_of engine g.holds.world) now.said line f s → StageSoFar tending p first script start.said f s
+stage_line {tending} {p} {first} {start} {now} {engine} {commands} {script} {todo} line g f s (inl b) = record {
   is = record {
     lines = g.lines;
     todo = line ∷ todo;
     replies = g.replies;
     part = [];
-    stage = stage_of engine g.holds.world;
+    stage = g.stage;
     script_is = g.script_is;
     said_is = b.silent ∙ g.said_is ∙ sym (append-nil (start.said ++ flat_map said_line g.replies));
     goes = g.goes;
-    work = inl (refl, record { its = b.holds.its; due = b.holds.due; shows = b.holds.shows });
+    work = inr (stage_of engine g.holds.world, g.kept, inl (refl, record { its = b.holds.its; due = b.holds.due; shows = b.holds.shows }));
   };
   waiting = λ none. absurd (some_left line todo none);
 }
-stage_line {p} {first} {start} {now} {engine} {commands} {script} {todo} line g f s (inr b) = record {
+stage_line {tending} {p} {first} {start} {now} {engine} {commands} {script} {todo} line g f s (inr b) = record {
   is = record {
     lines = g.lines;
     todo = line ∷ todo;
     replies = g.replies;
     part = b.0;
-    stage = stage_of engine g.holds.world;
+    stage = g.stage;
     script_is = g.script_is;
     said_is = b.1 ∙ ap (λ (l : List ℕ). l ++ b.0) g.said_is;
     goes = g.goes;
-    work = inr (line, todo, refl, b.2);
+    work = inr (stage_of engine g.holds.world, g.kept, inr (line, todo, refl, b.2));
   };
   waiting = λ none. absurd (some_left line todo none);
 }
 
-courses_more : {p : Params} {first : Stage} {start now new : Disk} {engine after : EngineView} {commands : List Command} {script todo : List (List ℕ)} {refusing : Bool} {result : Result Bool Stop} (line : List ℕ)
-    (g : Going p first start now engine commands script (line ∷ todo) refusing) → Passes start now → Answering p now new engine after g.holds.world g.account.commands line result
-    → start.tells_moments → LeavesOnly start new (StageSoFar p first script start.said)
-courses_more {p} {first} {start} {now} {new} {engine} {after} {commands} {script} {todo} {refusing} {result} line g time a told =
-    runs_on start now new (StageSoFar p first script start.said) (g.steps told)
-    (weaker now new (LineStage p (stage_of engine g.holds.world) now.said line) (StageSoFar p first script start.said) (a.steps (time.moments_told.0 told)) (stage_line line g))
+courses_more : {tending : Tending} {p : Params} {first : Stage} {start now new : Disk} {engine after : EngineView} {commands : List Command} {script todo : List (List ℕ)} {refusing : Bool} {result : Result Bool Stop} (line : List ℕ)
+    (g : Going tending p first start now engine commands script (line ∷ todo) refusing) → Passes start now → Answering p now new engine after g.holds.world g.account.commands line result
+    → start.tells_moments → LeavesOnly start new (StageSoFar tending p first script start.said)
+courses_more {tending} {p} {first} {start} {now} {new} {engine} {after} {commands} {script} {todo} {refusing} {result} line g time a told =
+    runs_on start now new (StageSoFar tending p first script start.said) (g.steps told)
+    (weaker now new (LineStage p (stage_of engine g.holds.world) now.said line) (StageSoFar tending p first script start.said) (a.steps (time.moments_told.0 told)) (stage_line line g))
 
 -- so far is a moment
-told_so_far : {p : Params} {first : Stage} {start now : Disk} {script : List (List ℕ)} → LeavesOnly start now (StageSoFar p first script start.said) → LeavesOnly start now (StageMoment p first script start.said)
-told_so_far {p} {first} {start} {now} {script} leaves = weaker start now (StageSoFar p first script start.said) (StageMoment p first script start.said) leaves (λ f s m. m.is)
+pub told_so_far : {tending : Tending} {p : Params} {first : Stage} {start now : Disk} {script : List (List ℕ)} → LeavesOnly start now (StageSoFar tending p first script start.said) → LeavesOnly start now (StageMoment tending p first script start.said)
+told_so_far {tending} {p} {first} {start} {now} {script} leaves = weaker start now (StageSoFar tending p first script start.said) (StageMoment tending p first script start.said) leaves (λ f s m. m.is)
 
 -- the end of an open group and the force after the last line
-stage_finish : {p : Params} {first : Stage} {start now : Disk} {engine : EngineView} {commands : List Command} {script : List (List ℕ)} {refusing : Bool} (g : Going p first start now engine commands script [] refusing)
-    → (f : Files) (s : List ℕ) → IsQuiet (ShowsSome (meaning_in p) p g.holds.world (finish_course (meaning_in p) g.holds.world (used_in engine)).steps) now.said f s → StageMoment p first script start.said f s
-stage_finish {p} {first} {start} {now} {engine} {commands} {script} g f s b = record {
+stage_finish : {tending : Tending} {p : Params} {first : Stage} {start now : Disk} {engine : EngineView} {commands : List Command} {script : List (List ℕ)} {refusing : Bool} (g : Going tending p first start now engine commands script [] refusing)
+    → (f : Files) (s : List ℕ) → IsQuiet (ShowsSome (meaning_in p) p g.holds.world (finish_course (meaning_in p) g.holds.world (used_in engine)).steps) now.said f s → StageMoment tending p first script start.said f s
+stage_finish {tending} {p} {first} {start} {now} {engine} {commands} {script} g f s b = record {
   lines = g.lines;
   todo = [];
   replies = g.replies;
   part = [];
-  stage = stage_of engine g.holds.world;
+  stage = g.stage;
   script_is = g.script_is;
   said_is = b.silent ∙ g.said_is ∙ sym (append-nil (start.said ++ flat_map said_line g.replies));
   goes = g.goes;
-  work = inl (refl, record { its = finish_course (meaning_in p) g.holds.world (used_in engine); due = refl; shows = b.holds });
+  work = inr (stage_of engine g.holds.world, g.kept, inl (refl, record { its = finish_course (meaning_in p) g.holds.world (used_in engine); due = refl; shows = b.holds }));
 }
 
 -- at the start nothing is done
-abbrev pub stage_start : {p : Params} {start : Disk} {engine : EngineView} {commands : List Command} (script : List (List ℕ)) → IsDisk start → (holds : Holds p start engine commands) → start.tells_moments → (f : Files) (s : List ℕ) → start.left_since start.clock f s
-    → StageSoFar p (stage_of engine holds.world) script start.said f s
-stage_start {p} {start} {engine} {commands} script lawful holds told f s left =
+abbrev pub stage_start : {tending : Tending} {p : Params} {start : Disk} {engine : EngineView} {commands : List Command} (script : List (List ℕ)) → IsDisk start → (holds : Holds p start engine commands) → start.tells_moments → (f : Files) (s : List ℕ) → start.left_since start.clock f s
+    → StageSoFar tending p (stage_of engine holds.world) script start.said f s
+stage_start {tending} {p} {start} {engine} {commands} script lawful holds told f s left =
     let shows : FilesShow (meaning_in p) p f holds.world = images_show holds.shows told f s left in
     record {
       is = record {
@@ -179,19 +208,23 @@ stage_start {p} {start} {engine} {commands} script lawful holds told f s left =
         script_is = refl;
         said_is = lawful.said_now told f s left ∙ sym (append-nil start.said) ∙ sym (append-nil (start.said ++ []));
         goes = refl;
-        work = inl (refl, worked_none p (stage_of engine holds.world) script f shows);
+        work = inl (refl, nothing_between tending p (stage_of engine holds.world) f shows);
       };
-      waiting = λ none. (refl, shows);
+      waiting = λ none. (refl, nothing_between tending p (stage_of engine holds.world) f shows);
     }
 
 -- one line more is to come
-work_longer : (p : Params) (stage : Stage) (line part : List ℕ) (f : Files) (todo : List (List ℕ)) → (todo ≡ [] → (part ≡ []) × FilesShow (meaning_in p) p f stage.world) → IsAtWork p stage todo part f → IsAtWork p stage (todo ++ line ∷ []) part f
-work_longer p stage line part f [] waits work = inl ((waits refl).0, worked_none p stage (line ∷ []) f (waits refl).1)
-work_longer p stage line part f (next ∷ rest) waits (inl work) = inl (work.0, record { its = work.1.its; due = work.1.due; shows = work.1.shows })
-work_longer p stage line part f (next ∷ rest) waits (inr work) = inr (work.0, work.1 ++ line ∷ [], ap (λ (l : List (List ℕ)). l ++ line ∷ []) work.2, work.3)
+line_longer : (p : Params) (stage : Stage) (line next part : List ℕ) (f : Files) (rest : List (List ℕ)) → IsAtWork p stage (next ∷ rest) part f → IsAtWork p stage ((next ∷ rest) ++ line ∷ []) part f
+line_longer p stage line next part f rest (inl work) = inl (work.0, record { its = work.1.its; due = work.1.due; shows = work.1.shows })
+line_longer p stage line next part f rest (inr work) = inr (work.0, work.1 ++ line ∷ [], ap (λ (l : List (List ℕ)). l ++ line ∷ []) work.2, work.3)
 
-pub stage_longer : {p : Params} {first : Stage} {script : List (List ℕ)} {before : List ℕ} (line : List ℕ) (f : Files) (s : List ℕ) → StageSoFar p first script before f s → StageSoFar p first (script ++ line ∷ []) before f s
-stage_longer {p} line f s m = record {
+work_longer : (tending : Tending) (p : Params) (stage : Stage) (line part : List ℕ) (f : Files) (todo : List (List ℕ)) → (todo ≡ [] → (part ≡ []) × IsBetween tending p stage f) → IsBehind tending p stage todo part f → IsBehind tending p stage (todo ++ line ∷ []) part f
+work_longer tending p stage line part f [] waits work = inl (waits refl)
+work_longer tending p stage line part f (next ∷ rest) waits (inl between) = inl between
+work_longer tending p stage line part f (next ∷ rest) waits (inr (kept, upkept, work)) = inr (kept, upkept, line_longer p kept line next part f rest work)
+
+pub stage_longer : {tending : Tending} {p : Params} {first : Stage} {script : List (List ℕ)} {before : List ℕ} (line : List ℕ) (f : Files) (s : List ℕ) → StageSoFar tending p first script before f s → StageSoFar tending p first (script ++ line ∷ []) before f s
+stage_longer {tending} {p} line f s m = record {
   is = record {
     lines = m.is.lines;
     todo = m.is.todo ++ line ∷ [];
@@ -201,21 +234,21 @@ stage_longer {p} line f s m = record {
     script_is = ap (λ (l : List (List ℕ)). l ++ line ∷ []) m.is.script_is ∙ append_assoc m.is.lines m.is.todo (line ∷ []);
     said_is = m.is.said_is;
     goes = m.is.goes;
-    work = work_longer p m.is.stage line m.is.part f m.is.todo m.waiting m.is.work;
+    work = work_longer tending p m.is.stage line m.is.part f m.is.todo m.waiting m.is.work;
   };
   waiting = λ none. absurd (omega (arith, ap (λ (l : List (List ℕ)). length l) none, length-append m.is.todo (line ∷ [])));
 }
 
 -- the moments of a run, one line further
-moments_more : AreFew → {p : Params} {first : Stage} {start now new : Disk} {engine after : EngineView} {commands : List Command} {script todo : List (List ℕ)} {refusing : Bool} {result : Result Bool Stop} (line : List ℕ)
-    (g : Going p first start now engine commands script (line ∷ todo) refusing) → Passes start now → Answering p now new engine after g.holds.world g.account.commands line result
+moments_more : AreFew → {tending : Tending} {p : Params} {first : Stage} {start now new : Disk} {engine after : EngineView} {commands : List Command} {script todo : List (List ℕ)} {refusing : Bool} {result : Result Bool Stop} (line : List ℕ)
+    (g : Going tending p first start now engine commands script (line ∷ todo) refusing) → Passes start now → Answering p now new engine after g.holds.world g.account.commands line result
     → start.tells_moments → LeavesOnly start new (MomentSoFar p commands script start.said)
-moments_more few {p} {first} {start} {now} {new} {engine} {after} {commands} {script} {todo} {refusing} {result} line g time a told =
+moments_more few {tending} {p} {first} {start} {now} {new} {engine} {after} {commands} {script} {todo} {refusing} {result} line g time a told =
     runs_on start now new (MomentSoFar p commands script start.said) (g.images told)
     (weaker now new (LineMoment p now engine (open_in g.holds.world) g.account.commands line) (MomentSoFar p commands script start.said) (a.images (time.moments_told.0 told)) (line_moment few line g))
 
 -- a moment so far is a moment
-moments_so_far : {p : Params} {start now : Disk} {commands : List Command} {script : List (List ℕ)} → LeavesOnly start now (MomentSoFar p commands script start.said) → LeavesOnly start now (Moment p commands script start.said)
+pub moments_so_far : {p : Params} {start now : Disk} {commands : List Command} {script : List (List ℕ)} → LeavesOnly start now (MomentSoFar p commands script start.said) → LeavesOnly start now (Moment p commands script start.said)
 moments_so_far {p} {start} {now} {commands} {script} leaves = weaker start now (MomentSoFar p commands script start.said) (Moment p commands script start.said) leaves (λ f s m. m.is)
 
 acked_more : (replies : List Reply) (reply : Reply) (least kept : ℕ) → ((n : ℕ) → Contains replies (forced n) → n ≤ least) → least ≤ kept
@@ -227,32 +260,33 @@ kind_more : (refusing kind : Bool) (replies : List Reply) (reply : Reply) → re
 kind_more refusing kind replies reply before here = grind (arith, before, here, list_any-append is_refusing replies (reply ∷ []))
 
 -- there are as many answers as lines
-even_of : {p : Params} {first : Stage} {start now : Disk} {engine : EngineView} {commands : List Command} {script todo : List (List ℕ)} {refusing : Bool}
-    (g : Going p first start now engine commands script todo refusing) → AreEven g.lines g.replies g.waits
-even_of {p} {commands = commands} g = answers_even p (account_of commands) g.lines g.replies g.waits g.account g.answers
+pub even_of : {tending : Tending} {p : Params} {first : Stage} {start now : Disk} {engine : EngineView} {commands : List Command} {script todo : List (List ℕ)} {refusing : Bool}
+    (g : Going tending p first start now engine commands script todo refusing) → AreEven g.lines g.replies g.waits
+even_of {tending} {p} {commands = commands} g = answers_even p (account_of commands) g.lines g.replies g.waits g.account g.answers
 
 -- what is replied, by the group of the account
-abbrev replies_in : {p : Params} {first : Stage} {start now : Disk} {engine : EngineView} {commands : List Command} {script todo : List (List ℕ)} {refusing : Bool} (g : Going p first start now engine commands script todo refusing) (line : List ℕ) (reply : Reply) (added : List Command)
+abbrev replies_in : {tending : Tending} {p : Params} {first : Stage} {start now : Disk} {engine : EngineView} {commands : List Command} {script todo : List (List ℕ)} {refusing : Bool} (g : Going tending p first start now engine commands script todo refusing) (line : List ℕ) (reply : Reply) (added : List Command)
     → Replies p (open_in g.holds.world) g.account.commands line reply added → Replies p g.account.group g.account.commands line reply added
-replies_in {p} g line reply added replies = subst (λ (o : Option ℕ). Replies p o g.account.commands line reply added) (sym g.group) replies
+replies_in {tending} {p} g line reply added replies = subst (λ (o : Option ℕ). Replies p o g.account.commands line reply added) (sym g.group) replies
 
-abbrev truly_in : {p : Params} {first : Stage} {start now : Disk} {engine : EngineView} {commands : List Command} {script todo : List (List ℕ)} {refusing : Bool} (g : Going p first start now engine commands script todo refusing) (old new : Disk) (line : List ℕ) (reply : Reply) (added : List Command)
+abbrev truly_in : {tending : Tending} {p : Params} {first : Stage} {start now : Disk} {engine : EngineView} {commands : List Command} {script todo : List (List ℕ)} {refusing : Bool} (g : Going tending p first start now engine commands script todo refusing) (old new : Disk) (line : List ℕ) (reply : Reply) (added : List Command)
     → LeavesOnly old new (IsTrueSaying p old.said (waiting (open_in g.holds.world) (g.account.commands ++ added)) line reply) → LeavesOnly old new (IsTrueSaying p old.said (waiting g.account.group (g.account.commands ++ added)) line reply)
-truly_in {p} g old new line reply added truly = subst (λ (o : Option ℕ). LeavesOnly old new (IsTrueSaying p old.said (waiting o (g.account.commands ++ added)) line reply)) (sym g.group) truly
+truly_in {tending} {p} g old new line reply added truly = subst (λ (o : Option ℕ). LeavesOnly old new (IsTrueSaying p old.said (waiting o (g.account.commands ++ added)) line reply)) (sym g.group) truly
 
 -- The run is one line further, which was answered.
-pub record GoneOn {p : Params} {first : Stage} {start now new : Disk} {engine after : EngineView} {commands : List Command} {script todo : List (List ℕ)} {refusing kind : Bool} (line : List ℕ) (g : Going p first start now engine commands script (line ∷ todo) refusing)
+pub record GoneOn {tending : Tending} {p : Params} {first : Stage} {start now new : Disk} {engine after : EngineView} {commands : List Command} {script todo : List (List ℕ)} {refusing kind : Bool} (line : List ℕ) (g : Going tending p first start now engine commands script (line ∷ todo) refusing)
     (whole : IsAnswered p now new engine after g.holds.world g.account.commands line kind) : Type 0 where
-  pub later : Going p first start new after commands script todo (refusing || kind)
+  pub later : Going tending p first start new after commands script todo (refusing || kind)
   pub lines_are : later.lines ≡ g.lines ++ line ∷ []
   pub replies_are : later.replies ≡ g.replies ++ whole.reply ∷ []
   pub commands_are : later.account.commands ≡ g.account.commands ++ whole.added
   pub world_is : later.holds.world ≡ whole.kept.holds.world
+  pub fresh : IsFresh later
 
-pub gone_on : AreFew → AsksOnce → {p : Params} {first : Stage} {start now new : Disk} {engine after : EngineView} {commands : List Command} {script todo : List (List ℕ)} {refusing kind : Bool} {result : Result Bool Stop} (line : List ℕ)
-    (g : Going p first start now engine commands script (line ∷ todo) refusing) → Passes start now → Answering p now new engine after g.holds.world g.account.commands line result
+pub gone_on : AreFew → AsksOnce → {tending : Tending} {p : Params} {first : Stage} {start now new : Disk} {engine after : EngineView} {commands : List Command} {script todo : List (List ℕ)} {refusing kind : Bool} {result : Result Bool Stop} (line : List ℕ)
+    (g : Going tending p first start now engine commands script (line ∷ todo) refusing) → Passes start now → Answering p now new engine after g.holds.world g.account.commands line result
     → (whole : IsAnswered p now new engine after g.holds.world g.account.commands line kind) → GoneOn line g whole
-gone_on few once {p} {first} {start} {now} {new} {engine} {after} {commands} {script} {todo} {refusing} {kind} {result} line g time a whole =
+gone_on few once {tending} {p} {first} {start} {now} {new} {engine} {after} {commands} {script} {todo} {refusing} {kind} {result} line g time a whole =
     let a0 = g.account in
     let reply = whole.reply in
     let added = whole.added in
@@ -284,25 +318,29 @@ gone_on few once {p} {first} {start} {now} {new} {engine} {after} {commands} {sc
         images = moments_more few line g time a;
         truly = λ told. subst (λ (l : List ℕ). LeavesOnly start new (IsTrueSoFar p start.said story.lines (g.replies ++ reply ∷ []) (g.waits ++ ops ∷ []) l)) (sym whole.said)
             (truly_on ops line reply (even_of g) (g.truly told) g.said_is (truly_in g now new line reply added (whole.truly (time.moments_told.0 told))));
-        goes = goes_by_more p first (stage_of engine g.holds.world) (stage_of after whole.kept.holds.world) g.lines g.replies line reply g.goes whole.leads;
+        stage = stage_of after whole.kept.holds.world;
+        goes = goes_by_more tending p first g.stage (stage_of after whole.kept.holds.world) g.lines g.replies line reply g.goes (stage_of engine g.holds.world, g.kept, whole.leads);
+        kept = none_kept tending p (stage_of after whole.kept.holds.world);
         steps = courses_more line g time a;
       };
       lines_are = refl;
       replies_are = refl;
       commands_are = commands_are;
       world_is = refl;
+      fresh = refl;
     }
 
-pub goes_on : AreFew → AsksOnce → {p : Params} {first : Stage} {start now new : Disk} {engine after : EngineView} {commands : List Command} {script todo : List (List ℕ)} {refusing kind : Bool} {result : Result Bool Stop} (line : List ℕ)
-    (g : Going p first start now engine commands script (line ∷ todo) refusing) → Passes start now → result ≡ Ok kind → Answering p now new engine after g.holds.world g.account.commands line result
-    → Going p first start new after commands script todo (refusing || kind)
-goes_on few once {p} {first} {start} {now} {new} {engine} {after} line g time is a =
-    (gone_on few once line g time a (subst (λ (r : Result Bool Stop). IfOk r (IsAnswered p now new engine after g.holds.world g.account.commands line)) is a.whole)).later
+pub goes_on : AreFew → AsksOnce → {tending : Tending} {p : Params} {first : Stage} {start now new : Disk} {engine after : EngineView} {commands : List Command} {script todo : List (List ℕ)} {refusing kind : Bool} {result : Result Bool Stop} (line : List ℕ)
+    (g : Going tending p first start now engine commands script (line ∷ todo) refusing) → Passes start now → result ≡ Ok kind → Answering p now new engine after g.holds.world g.account.commands line result
+    → FreshGoing tending p first start new after commands script todo (refusing || kind)
+goes_on few once {tending} {p} {first} {start} {now} {new} {engine} {after} line g time is a =
+    let on = gone_on few once line g time a (subst (λ (r : Result Bool Stop). IfOk r (IsAnswered p now new engine after g.holds.world g.account.commands line)) is a.whole) in
+    (on.later, on.fresh)
 
 -- a store is open: nothing is said, and the whole script is still to be answered
-abbrev pub opened : AreFew → {p : Params} {start : Disk} {engine : EngineView} {commands : List Command} (script : List (List ℕ)) → IsDisk start → (holds : Holds p start engine commands)
-    → forced_in engine ≡ length commands → engine.group ≡ None → Going p (stage_of engine holds.world) start start engine commands script script false
-opened few {p} {start} {engine} {commands} script lawful holds all alone = record {
+abbrev pub opened : AreFew → {tending : Tending} {p : Params} {start : Disk} {engine : EngineView} {commands : List Command} (script : List (List ℕ)) → IsDisk start → (holds : Holds p start engine commands)
+    → forced_in engine ≡ length commands → engine.group ≡ None → Going tending p (stage_of engine holds.world) start start engine commands script script false
+opened few {tending} {p} {start} {engine} {commands} script lawful holds all alone = record {
   lines = [];
   replies = [];
   waits = [];
@@ -321,14 +359,16 @@ opened few {p} {start} {engine} {commands} script lawful holds all alone = recor
       (λ f s b. first_moment few script f s (subst (λ (n : ℕ). Between p start engine.group n (length commands) commands f s) all b));
   truly = λ told. weaker start start (Between p start engine.group (forced_in engine) (length commands) commands) (IsTrueSoFar p start.said [] [] [] start.said) (holds_between lawful holds told)
       (λ f s b. record { true_within = tt; no_longer = omega (arith, ap length b.quiet) });
+  stage = stage_of engine holds.world;
   goes = refl;
-  steps = λ told. started start (StageSoFar p (stage_of engine holds.world) script start.said) (stage_start script lawful holds told);
+  kept = none_kept tending p (stage_of engine holds.world);
+  steps = λ told. started start (StageSoFar tending p (stage_of engine holds.world) script start.said) (stage_start script lawful holds told);
 }
 
 -- What a run said is the answers to these lines, the last one begun or whole, with these commands after them all; the lines that
 -- were taken begin with these and the next ones.
-pub record IsTold (p : Params) (first : Stage) (commands : List Command) (script : List (List ℕ)) (start new : Disk) (lines : List (List ℕ)) (replies : List Reply) (every : List Command) (next : List (List ℕ)) : Type 0 where
-  pub truly : SaysTruly p first commands script start new
+pub record IsTold (tending : Tending) (p : Params) (first : Stage) (commands : List Command) (script : List (List ℕ)) (start new : Disk) (lines : List (List ℕ)) (replies : List Reply) (every : List Command) (next : List (List ℕ)) : Type 0 where
+  pub truly : SaysTruly tending p first commands script start new
   pub lines_are : with_line truly.says.story.lines truly.says.story.work ≡ lines
   pub replies_are : with_begun truly.says.story.replies truly.says.story.work ≡ replies
   pub all : truly.says.story.account.commands ++ truly.says.story.added ≡ every
@@ -336,15 +376,15 @@ pub record IsTold (p : Params) (first : Stage) (commands : List Command) (script
   pub taken_are : with_line truly.says.story.lines truly.says.story.work ++ take 1 truly.says.story.todo ≡ (lines ++ next) ++ rest
 
 -- what a run says that ends between two lines
-told_so_far_by : {p : Params} {first : Stage} {start now : Disk} {engine : EngineView} {commands : List Command} {script todo : List (List ℕ)} {refusing : Bool} {new : Disk} (next rest : List (List ℕ)) → take 1 todo ≡ next ++ rest
-    → (g : Going p first start now engine commands script todo refusing) → new.said ≡ now.said → (start.tells_moments → LeavesOnly start new (TrueWithin p start.said g.lines g.replies g.waits))
-    → IsTold p first commands script start new g.lines g.replies g.account.commands next
-told_so_far_by {p} {first} {start} {now} {engine} {new = new} next rest is g quiet truly = let all = told_whole (λ ops line reply. ⊤) (story_of g) in record {
+pub told_so_far_by : {tending : Tending} {p : Params} {first : Stage} {start now : Disk} {engine : EngineView} {commands : List Command} {script todo : List (List ℕ)} {refusing : Bool} {new : Disk} (next rest : List (List ℕ)) → take 1 todo ≡ next ++ rest
+    → (g : Going tending p first start now engine commands script todo refusing) → new.said ≡ now.said → (start.tells_moments → LeavesOnly start new (TrueWithin p start.said g.lines g.replies g.waits))
+    → IsTold tending p first commands script start new g.lines g.replies g.account.commands next
+told_so_far_by {tending} {p} {first} {start} {now} {engine} {new = new} next rest is g quiet truly = let all = told_whole (λ ops line reply. ⊤) (story_of g) in record {
   truly = record {
     says = record { bytes = flat_map said_line g.replies; since = quiet ∙ g.said_is; story = all.story };
     truly = λ told. told_truly start new start.said all (truly told);
-    last = stage_of engine g.holds.world;
-    goes = told_goes first (stage_of engine g.holds.world) all g.goes;
+    last = g.stage;
+    goes = told_goes tending first g.stage all g.goes;
   };
   lines_are = all.lines_are;
   replies_are = all.with_last;
@@ -353,14 +393,14 @@ told_so_far_by {p} {first} {start} {now} {engine} {new = new} next rest is g qui
   taken_are = ap (λ (l : List (List ℕ)). g.lines ++ l) is ∙ sym (append_assoc g.lines next rest);
 }
 
-pub told_here : {p : Params} {first : Stage} {start now : Disk} {engine : EngineView} {commands : List Command} {script todo : List (List ℕ)} {refusing : Bool}
-    → (g : Going p first start now engine commands script todo refusing) → IsTold p first commands script start now g.lines g.replies g.account.commands []
-told_here {p} {start = start} {now = now} {todo = todo} g =
+pub told_here : {tending : Tending} {p : Params} {first : Stage} {start now : Disk} {engine : EngineView} {commands : List Command} {script todo : List (List ℕ)} {refusing : Bool}
+    → (g : Going tending p first start now engine commands script todo refusing) → IsTold tending p first commands script start now g.lines g.replies g.account.commands []
+told_here {tending} {p} {start = start} {now = now} {todo = todo} g =
     told_so_far_by [] (take 1 todo) refl g refl (λ told. weaker start now (IsTrueSoFar p start.said g.lines g.replies g.waits now.said) (TrueWithin p start.said g.lines g.replies g.waits) (g.truly told) (λ files said t. t.true_within))
 
 -- a run that ends between two lines
-pub ends_here : {p : Params} {first : Stage} {start now : Disk} {engine : EngineView} {commands : List Command} {script todo : List (List ℕ)} {refusing : Bool} {status : Status}
-    → Going p first start now engine commands script todo refusing → IsRun p first start now commands script status
+pub ends_here : {tending : Tending} {p : Params} {first : Stage} {start now : Disk} {engine : EngineView} {commands : List Command} {script todo : List (List ℕ)} {refusing : Bool} {status : Status}
+    → Going tending p first start now engine commands script todo refusing → IsRun tending p first start now commands script status
 ends_here g = record {
   says = (told_here g).truly;
   images = λ told. moments_so_far (g.images told);
@@ -369,12 +409,12 @@ ends_here g = record {
 }
 
 -- one that ends while a line is answered, of which nothing is said, or a beginning of its answer
-module _ {p : Params} {first : Stage} {start now new : Disk} {engine after : EngineView} {commands : List Command} {script todo : List (List ℕ)} {refusing : Bool} {result : Result Bool Stop} (line : List ℕ)
-    (g : Going p first start now engine commands script (line ∷ todo) refusing) (time : Passes start now) (a : Answering p now new engine after g.holds.world g.account.commands line result) where
-  pub told_quiet : new.said ≡ now.said → IsTold p first commands script start new g.lines g.replies g.account.commands (line ∷ [])
+module _ {tending : Tending} {p : Params} {first : Stage} {start now new : Disk} {engine after : EngineView} {commands : List Command} {script todo : List (List ℕ)} {refusing : Bool} {result : Result Bool Stop} (line : List ℕ)
+    (g : Going tending p first start now engine commands script (line ∷ todo) refusing) (time : Passes start now) (a : Answering p now new engine after g.holds.world g.account.commands line result) where
+  pub told_quiet : new.said ≡ now.said → IsTold tending p first commands script start new g.lines g.replies g.account.commands (line ∷ [])
   told_quiet quiet = told_so_far_by (line ∷ []) [] refl g quiet (λ told. truly_quiet (even_of g) (g.truly told) g.said_is (a.images (time.moments_told.0 told)) line_behind)
 
-  pub told_begun : (part : IsPartly p now new (stage_of engine g.holds.world) g.account.commands line) → IsTold p first commands script start new (g.lines ++ line ∷ []) (g.replies ++ part.reply ∷ []) (g.account.commands ++ part.added) []
+  pub told_begun : (part : IsPartly p now new (stage_of engine g.holds.world) g.account.commands line) → IsTold tending p first commands script start new (g.lines ++ line ∷ []) (g.replies ++ part.reply ∷ []) (g.account.commands ++ part.added) []
   told_begun part =
       let a0 = g.account in
       let ops = waiting a0.group (a0.commands ++ part.added) in
@@ -391,7 +431,7 @@ module _ {p : Params} {first : Stage} {start now new : Disk} {engine after : Eng
               (TrueWithin p start.said (g.lines ++ line ∷ []) (g.replies ++ part.reply ∷ []) (g.waits ++ ops ∷ []))
               (truly_on ops line part.reply (even_of g) (g.truly told) g.said_is (truly_in g now new line part.reply part.added (part.truly (time.moments_told.0 told)))) (λ files said t. t.true_within));
           last = part.after;
-          goes = told_goes first part.after told_part (goes_by_more p first (stage_of engine g.holds.world) part.after g.lines g.replies line part.reply g.goes part.leads);
+          goes = told_goes tending first part.after told_part (goes_by_more tending p first g.stage part.after g.lines g.replies line part.reply g.goes (stage_of engine g.holds.world, g.kept, part.leads));
         };
         lines_are = told_part.lines_are;
         replies_are = told_part.with_last;
@@ -400,9 +440,9 @@ module _ {p : Params} {first : Stage} {start now new : Disk} {engine after : Eng
         taken_are = ap (λ (l : List (List ℕ)). l ++ take 1 told_part.story.todo) (told_part.lines_are ∙ sym (append-nil (g.lines ++ line ∷ [])));
       }
 
-pub ends_in_line : AreFew → {p : Params} {first : Stage} {start now new : Disk} {engine after : EngineView} {commands : List Command} {script todo : List (List ℕ)} {refusing : Bool} {result : Result Bool Stop} {stop : Stop} {status : Status} (line : List ℕ)
-    (g : Going p first start now engine commands script (line ∷ todo) refusing) → Passes start now → result ≡ Err stop → Answering p now new engine after g.holds.world g.account.commands line result → IsRun p first start new commands script status
-ends_in_line few {p} {first} {start} {now} {new} {engine} {after} {commands} {script} {todo} {refusing} {result} {stop} line g time is a = record {
+pub ends_in_line : AreFew → {tending : Tending} {p : Params} {first : Stage} {start now new : Disk} {engine after : EngineView} {commands : List Command} {script todo : List (List ℕ)} {refusing : Bool} {result : Result Bool Stop} {stop : Stop} {status : Status} (line : List ℕ)
+    (g : Going tending p first start now engine commands script (line ∷ todo) refusing) → Passes start now → result ≡ Err stop → Answering p now new engine after g.holds.world g.account.commands line result → IsRun tending p first start new commands script status
+ends_in_line few {tending} {p} {first} {start} {now} {new} {engine} {after} {commands} {script} {todo} {refusing} {result} {stop} line g time is a = record {
   says = ⊎_elim
       (λ (quiet : new.said ≡ now.said). (told_quiet line g time a quiet).truly)
       (λ (part : IsPartly p now new (stage_of engine g.holds.world) g.account.commands line). (told_begun line g time a part).truly)
@@ -413,20 +453,20 @@ ends_in_line few {p} {first} {start} {now} {new} {engine} {after} {commands} {sc
 }
 
 -- one that ends in the last force, or after it
-pub told_finish : {p : Params} {first : Stage} {start now new : Disk} {engine : EngineView} {commands : List Command} {script : List (List ℕ)} {refusing : Bool} (g : Going p first start now engine commands script [] refusing) → Passes start now → new.said ≡ now.said
-    → (now.tells_moments → LeavesOnly now new (Between p now None (forced_in engine) (length g.account.commands) g.account.commands)) → IsTold p first commands script start new g.lines g.replies g.account.commands []
+pub told_finish : {tending : Tending} {p : Params} {first : Stage} {start now new : Disk} {engine : EngineView} {commands : List Command} {script : List (List ℕ)} {refusing : Bool} (g : Going tending p first start now engine commands script [] refusing) → Passes start now → new.said ≡ now.said
+    → (now.tells_moments → LeavesOnly now new (Between p now None (forced_in engine) (length g.account.commands) g.account.commands)) → IsTold tending p first commands script start new g.lines g.replies g.account.commands []
 told_finish g time quiet images = told_so_far_by [] [] refl g quiet (λ told. truly_quiet (even_of g) (g.truly told) g.said_is (images (time.moments_told.0 told)) (λ files said b. omega (arith, ap length b.quiet)))
 
-pub ends_in_finish : AreFew → {p : Params} {first : Stage} {start now new : Disk} {engine : EngineView} {commands : List Command} {script : List (List ℕ)} {refusing : Bool} {status : Status} → (IsCut status → ⊥)
-    → (g : Going p first start now engine commands script [] refusing) → Passes start now → new.said ≡ now.said
+pub ends_in_finish : AreFew → {tending : Tending} {p : Params} {first : Stage} {start now new : Disk} {engine : EngineView} {commands : List Command} {script : List (List ℕ)} {refusing : Bool} {status : Status} → (IsCut status → ⊥)
+    → (g : Going tending p first start now engine commands script [] refusing) → Passes start now → new.said ≡ now.said
     → (now.tells_moments → LeavesOnly now new (Between p now None (forced_in engine) (length g.account.commands) g.account.commands))
-    → (now.tells_moments → TakesSome (meaning_in p) p now new g.holds.world (finish_course (meaning_in p) g.holds.world (used_in engine)).steps) → IsRun p first start new commands script status
-ends_in_finish few {p} {first} {start} {now} {new} {engine} {commands} {script} uncut g time quiet images takes = record {
+    → (now.tells_moments → TakesSome (meaning_in p) p now new g.holds.world (finish_course (meaning_in p) g.holds.world (used_in engine)).steps) → IsRun tending p first start new commands script status
+ends_in_finish few {tending} {p} {first} {start} {now} {new} {engine} {commands} {script} uncut g time quiet images takes = record {
   says = (told_finish g time quiet images).truly;
   images = λ told. runs_on start now new (Moment p commands script start.said) (moments_so_far (g.images told))
       (weaker now new (Between p now None (forced_in engine) (length g.account.commands) g.account.commands) (Moment p commands script start.said) (images (time.moments_told.0 told)) (finish_moment few g));
-  steps = λ told. runs_on start now new (StageMoment p first script start.said) (told_so_far (g.steps told))
-      (weaker now new (IsQuiet (ShowsSome (meaning_in p) p g.holds.world (finish_course (meaning_in p) g.holds.world (used_in engine)).steps) now.said) (StageMoment p first script start.said) (takes (time.moments_told.0 told)) (stage_finish g));
+  steps = λ told. runs_on start now new (StageMoment tending p first script start.said) (told_so_far (g.steps told))
+      (weaker now new (IsQuiet (ShowsSome (meaning_in p) p g.holds.world (finish_course (meaning_in p) g.holds.world (used_in engine)).steps) now.said) (StageMoment tending p first script start.said) (takes (time.moments_told.0 told)) (stage_finish g));
   unclosed = λ cut told. absurd (uncut cut);
 }
 
@@ -435,11 +475,11 @@ tells true any is = (λ e. sym is, λ e. refl)
 tells false any is = (λ e. cc, λ e. cc (e, is))
 
 -- the end of a whole run
-pub completes : {p : Params} {first : Stage} {start now new : Disk} {engine after : EngineView} {commands : List Command} {script : List (List ℕ)} {refusing : Bool}
-    (g : Going p first start now engine commands script [] refusing) → new.said ≡ now.said → forced_in after ≡ length g.account.commands → Holds p new after g.account.commands
+pub completes : {tending : Tending} {p : Params} {first : Stage} {start now new : Disk} {engine after : EngineView} {commands : List Command} {script : List (List ℕ)} {refusing : Bool}
+    (g : Going tending p first start now engine commands script [] refusing) → new.said ≡ now.said → forced_in after ≡ length g.account.commands → Holds p new after g.account.commands
     → after.parts.log.log.pending ≡ [] → IsAfterIn all_meaning p new after g.holds.world (finish_course (meaning_in p) g.holds.world (used_in engine))
-    → IsComplete p first start new commands script (status_after (Ok refusing))
-completes {p} {first} {start} {now} {new} {engine} {after} {commands} {script} {refusing} g quiet all holds emptied taken =
+    → IsComplete tending p first start new commands script (status_after (Ok refusing))
+completes {tending} {p} {first} {start} {now} {new} {engine} {after} {commands} {script} {refusing} g quiet all holds emptied taken =
     let c = g.account.commands in
     let whole : take (forced_in after) c ≡ c = take_all (forced_in after) c (omega (arith, all)) in
     let images = holds.says.images in
@@ -455,16 +495,18 @@ completes {p} {first} {start} {now} {new} {engine} {after} {commands} {script} {
       );
       settled = holds.shows.shows.log.keeps.settled;
       refusals = tells refusing (list_any is_refusing g.replies) g.kind;
-      last = stage_of engine g.holds.world;
+      last = g.stage;
+      kept = stage_of engine g.holds.world;
+      upkept = g.kept;
       shows = files_shown (meaning_in p) p new after.parts (ungrouped (run (meaning_in p) g.holds.world (finish_course (meaning_in p) g.holds.world (used_in engine)).steps)) taken.shows.shows;
       ends_last = subst (λ (n : ℕ). EndsAt new.reads n) taken.used (holds.says.none_waits emptied).1.0;
-      goes = subst (λ (l : List (List ℕ)). AllGoBy p first l g.replies (stage_of engine g.holds.world)) (sym (g.script_is ∙ append-nil g.lines)) g.goes;
+      goes = subst (λ (l : List (List ℕ)). AllGoBy tending p first l g.replies g.stage) (sym (g.script_is ∙ append-nil g.lines)) g.goes;
     }
 
 -- the lines that are left
-pub goes_to : {p : Params} {first : Stage} {start now : Disk} {engine : EngineView} {commands : List Command} {script todo : List (List ℕ)} {refusing : Bool} (rest : List (List ℕ))
-    → Going p first start now engine commands script todo refusing → todo ≡ rest → Going p first start now engine commands script rest refusing
-goes_to {p} {first} {start} {now} {engine} {commands} {script} {todo} {refusing} rest g is = subst (λ (l : List (List ℕ)). Going p first start now engine commands script l refusing) is g
+pub goes_to : {tending : Tending} {p : Params} {first : Stage} {start now : Disk} {engine : EngineView} {commands : List Command} {script todo : List (List ℕ)} {refusing : Bool} (rest : List (List ℕ))
+    → Going tending p first start now engine commands script todo refusing → todo ≡ rest → Going tending p first start now engine commands script rest refusing
+goes_to {tending} {p} {first} {start} {now} {engine} {commands} {script} {todo} {refusing} rest g is = subst (λ (l : List (List ℕ)). Going tending p first start now engine commands script l refusing) is g
 
 -- a moment at which no command was added
 abbrev pub works_quietly : {p : Params} {old : Disk} {before : EngineView} {commands : List Command} {line : List ℕ} {f : Files} {s : List ℕ} → Between p old before.group (forced_in before) (length commands) commands f s
@@ -608,9 +650,9 @@ moment_longer more f s so_far = let m = so_far.is in record {
 }
 
 -- a run that has answered all its lines has one more
-abbrev pub with_next : {p : Params} {first : Stage} {start now : Disk} {engine : EngineView} {commands : List Command} {script : List (List ℕ)} {refusing : Bool} (line : List ℕ)
-    → Going p first start now engine commands script [] refusing → Going p first start now engine commands (script ++ line ∷ []) (line ∷ []) refusing
-with_next {p} {first} {start} {now} {engine} {commands} {script} line g = record {
+abbrev pub with_next : {tending : Tending} {p : Params} {first : Stage} {start now : Disk} {engine : EngineView} {commands : List Command} {script : List (List ℕ)} {refusing : Bool} (line : List ℕ)
+    → Going tending p first start now engine commands script [] refusing → Going tending p first start now engine commands (script ++ line ∷ []) (line ∷ []) refusing
+with_next {tending} {p} {first} {start} {now} {engine} {commands} {script} line g = record {
   lines = g.lines;
   replies = g.replies;
   waits = g.waits;
@@ -627,6 +669,8 @@ with_next {p} {first} {start} {now} {engine} {commands} {script} line g = record
   kind = g.kind;
   images = λ told. weaker start now (MomentSoFar p commands script start.said) (MomentSoFar p commands (script ++ line ∷ []) start.said) (g.images told) (moment_longer (line ∷ []));
   truly = g.truly;
+  stage = g.stage;
   goes = g.goes;
-  steps = λ told. weaker start now (StageSoFar p first script start.said) (StageSoFar p first (script ++ line ∷ []) start.said) (g.steps told) (stage_longer line);
+  kept = g.kept;
+  steps = λ told. weaker start now (StageSoFar tending p first script start.said) (StageSoFar tending p first (script ++ line ∷ []) start.said) (g.steps told) (stage_longer line);
 }

@@ -72,7 +72,7 @@ group_some w None is = is
 group_some w (Some n) is = refl
 
 -- the numbers of a store that is shown are small
-small_in : {p : Params} {d : Disk} {engine : EngineView} {w : World Command} → ShowsIn p d engine w → IsSmall (bounds_of p)
+pub small_in : {p : Params} {d : Disk} {engine : EngineView} {w : World Command} → ShowsIn p d engine w → IsSmall (bounds_of p)
 small_in {p} {d} shows =
     let store = shows.shows.store in
     small_store p (d.reads Objects) (subst (λ (q : Params). IsObjectsFile q (d.reads Objects)) store.params store.laid.slots.whole)

@@ -13,7 +13,7 @@ use Rattle.script_lines.specs.declared.read_error.ReadError.TheVariants.{ReadFau
 use Rattle.shell_base.specs.declared.stop.Stop.{Stop}
 use Rattle.shell_base.specs.declared.stop.Stop.TheVariants.{DiskFault, Damaged, ReadFault, SayFault, BackupFault, Memory, TooLong}
 use Rattle.shell_base.specs.Status.{IsCut, IsOfRun, status_after, status_of, stop_of_input, IsOfOpened}
-use Rattle.shell_base.specs.Stops.{IsUndamaged}
+use Rattle.shell_base.specs.Stops.{IsCaused, IsUndamaged}
 use Rattle.shell_base.specs.Judging.{CountsFaults}
 use Rattle.shell_base.specs.declared.status.Status.{Status}
 use Rattle.shell_base.specs.declared.status.Status.TheVariants.{BackupFault as BackupFailed}
@@ -70,6 +70,31 @@ module _ {old mid backup copy : Disk} (new backed : Disk) (before now : ℕ) (ti
   line_stops (Err stop) answered why is was cause =
       let here = subst (λ (r : Result Bool Stop). IfErr r (λ s. IsCausedBeside s mid new copy backed)) was cause in
       subst (λ (s : Stop). StopsWith s old new before now backup backed) (sym is) (stopped_line why here)
+
+-- or the store could not be tended
+module _ {old mid : Disk} (new : Disk) (before now : ℕ) (backup backed : Disk) (time : Passes old mid) where
+  stopped_tending : (stop : Stop) → IsCaused stop mid new → StopsWith stop old new before now backup backed
+  stopped_tending DiskFault cause = rises_within old.disk_faults mid.disk_faults new.disk_faults new.disk_faults time.disk_faults (omega arith) cause
+  stopped_tending (Damaged file place) cause = tt
+  stopped_tending ReadFault cause = absurd cause
+  stopped_tending SayFault cause = rises_within old.say_faults mid.say_faults new.say_faults new.say_faults time.say_faults (omega arith) cause
+  stopped_tending BackupFault cause = absurd cause
+  stopped_tending Memory cause = tt
+  stopped_tending TooLong cause = absurd cause
+
+  pub tending_stops : (result : Result Bool Stop) (why : Stop) → IsErrAnd result (λ stop. stop ≡ why) → IsCaused why mid new → IfErr result (λ stop. StopsWith stop old new before now backup backed)
+  tending_stops (Ok refusing) why is cause = tt
+  tending_stops (Err stop) why is cause = subst (λ (s : Stop). StopsWith s old new before now backup backed) (sym is) (stopped_tending why cause)
+
+pub tending_undamaged : (result : Result Bool Stop) (why : Stop) → IsErrAnd result (λ stop. stop ≡ why) → IsUndamaged why → IfErr result IsUndamaged
+tending_undamaged (Ok refusing) why is none = tt
+tending_undamaged (Err stop) why is none = subst IsUndamaged (sym is) none
+
+pub tending_not_long : (mid new : Disk) (result : Result Bool Stop) (why : Stop) → IsErrAnd result (λ stop. stop ≡ why) → IsCaused why mid new → IsErrOf result TooLong → ⊥
+tending_not_long mid new (Ok refusing) why is cause long = cc
+tending_not_long mid new (Err stop) why is cause long =
+    let same : why ≡ TooLong = cc (sym is, long) in
+    subst (λ (s : Stop). IsCaused s mid new) same cause
 
 -- a whole run was not cut short
 pub whole_uncut : (refusing : Bool) → IsCut (status_after (Ok refusing)) → ⊥

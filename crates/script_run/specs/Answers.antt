@@ -12,6 +12,7 @@ use Rattle.script_run.specs.Made.{IsFront}
 use Rattle.script_run.specs.Replies.{Replies, IsTrueIn}
 use Rattle.script_run.specs.Printed.{SaysForced}
 use Rattle.script_run.specs.Stages.{AllGoBy}
+use Rattle.script_run.specs.declared.tending.Tending.{Tending}
 
 -- The lines get these answers, one after the other, and make the second account of the first. While each is said these
 -- commands of the open group wait.
@@ -105,8 +106,8 @@ with_waits {account = account} {added = added} waits (inr begun) = waits ++ wait
 -- What was said in a run is answers to the lines of a script, and each of them, the last one begun too, is true of every
 -- image of each moment at which the bytes said end inside it. They go by the stages from the first on, so `full` comes
 -- exactly where what is asked for does not fit, however the run ends.
-pub record SaysTruly (p : Params) (first : Stage) (commands : List Command) (script : List (List ℕ)) (old new : Disk) : Type 0 where
+pub record SaysTruly (tending : Tending) (p : Params) (first : Stage) (commands : List Command) (script : List (List ℕ)) (old new : Disk) : Type 0 where
   pub says : SaysAnswers p commands script old.said new.said
   pub truly : old.tells_moments → LeavesOnly old new (TrueWithin p old.said (with_line says.story.lines says.story.work) (with_begun says.story.replies says.story.work) (with_waits says.story.waits says.story.work))
   pub last : Stage
-  pub goes : AllGoBy p first (with_line says.story.lines says.story.work) (with_begun says.story.replies says.story.work) last
+  pub goes : AllGoBy tending p first (with_line says.story.lines says.story.work) (with_begun says.story.replies says.story.work) last

@@ -15,7 +15,9 @@ use Rattle.script_lines.specs.Replies.{Reply, said_line}
 use Rattle.shell_base.specs.declared.budget.Budget.{Budget}
 use Rattle.shell_base.specs.Store.{Command, meaning_in}
 use Rattle.shell_base.specs.First.{Stage, IsFirst, OpeningMoment}
-use Rattle.script_run.specs.Stages.{HasCourse, Leads, AllGoBy, finish_course}
+use Rattle.script_run.specs.Stages.{HasCourse, IsKeptUp, IsUpkeep, Leads, AllGoBy, finish_course}
+use Rattle.script_run.specs.declared.tending.Tending.{Tending}
+use Rattle.script_run.specs.declared.tending.Tending.TheVariants.{ByHand, ByLine}
 
 -- the log is forced for such a request
 abbrev pub IsForcing : Request → Type 0
@@ -54,10 +56,19 @@ pub record IsBeingSaid (p : Params) (s : Stage) (line part : List ℕ) (files : 
 abbrev pub IsAtWork : Params → Stage → List (List ℕ) → List ℕ → Files → Type 0
 IsAtWork p s todo part files = ((part ≡ []) × IsWorkedOn p s todo files) ⊎ ((line : List ℕ) × (rest : List (List ℕ)) × (todo ≡ line ∷ rest) × IsBeingSaid p s line part files)
 
+-- the image shows the world of the stage, or, where the store is tended by line, the one after some first steps of upkeep
+abbrev pub IsBetween : Tending → Params → Stage → Files → Type 0
+IsBetween ByHand p s files = FilesShow (meaning_in p) p files s.world
+IsBetween ByLine p s files = FilesShow (meaning_in p) p files s.world ⊎ ((c : Course Command) × IsUpkeep p s c × ShowsSome (meaning_in p) p s.world c.steps files)
+
+-- after the last answer, which led to this stage: upkeep may be done, or it was, and the next line is at work
+abbrev pub IsBehind : Tending → Params → Stage → List (List ℕ) → List ℕ → Files → Type 0
+IsBehind tending p s todo part files = ((part ≡ []) × IsBetween tending p s files) ⊎ ((kept : Stage) × IsKeptUp tending p s kept × IsAtWork p kept todo part files)
+
 -- The bytes said after `before` are whole answers to the first lines of the script, by which the stages go from the first
--- on, and perhaps a part of the next answer. Before its first byte the image shows the world after some first steps of what
--- is due for the next line, from then on the world that the answer leads to.
-pub record StageMoment (p : Params) (first : Stage) (script : List (List ℕ)) (before : List ℕ) (files : Files) (said : List ℕ) : Type 0 where
+-- on, and perhaps a part of the next answer. Before its first byte the image shows the world after some first steps of upkeep
+-- or, behind it, of what is due for the next line, from then on the world that the answer leads to.
+pub record StageMoment (tending : Tending) (p : Params) (first : Stage) (script : List (List ℕ)) (before : List ℕ) (files : Files) (said : List ℕ) : Type 0 where
   pub lines : List (List ℕ)
   pub todo : List (List ℕ)
   pub replies : List Reply
@@ -65,10 +76,10 @@ pub record StageMoment (p : Params) (first : Stage) (script : List (List ℕ)) (
   pub stage : Stage
   pub script_is : script ≡ lines ++ todo
   pub said_is : said ≡ before ++ flat_map said_line replies ++ part
-  pub goes : AllGoBy p first lines replies stage
-  pub work : IsAtWork p stage todo part files
+  pub goes : AllGoBy tending p first lines replies stage
+  pub work : IsBehind tending p stage todo part files
 
-module _ (budget : Budget) (p : Params) (commands : List Command) (old : Disk) (first : Stage) (is : IsFirst budget p commands old first) where
+module _ (tending : Tending) (budget : Budget) (p : Params) (commands : List Command) (old : Disk) (first : Stage) (is : IsFirst budget p commands old first) where
   -- a moment of a run of a script
   abbrev pub RunMoment : List (List ℕ) → Files → List ℕ → Type 0
-  RunMoment script files said = OpeningMoment budget p commands old first is files said ⊎ StageMoment p first script old.said files said
+  RunMoment script files said = OpeningMoment budget p commands old first is files said ⊎ StageMoment tending p first script old.said files said

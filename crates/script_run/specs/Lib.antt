@@ -9,6 +9,7 @@ pub mod Answers
 pub mod Found
 pub mod Run
 pub mod Saving
+pub mod Tended
 pub mod Finding
 pub mod PrintedLaws
 pub mod RunCalls

@@ -21,8 +21,9 @@ use Rattle.script_run.specs.Groups.{Account, AreWhole, Regroups, account_of, ope
 use Rattle.script_run.specs.Made.{IsFront}
 use Rattle.script_run.specs.Replies.{Replies, IsTrueIn, is_refusing}
 use Rattle.script_run.specs.Answers.{Answers, Moment, EndsInside, TrueWithin, SaysTruly}
-use Rattle.script_run.specs.Stages.{Leads, AllGoBy, finish_course}
-use Rattle.script_run.specs.Courses.{IsWorkedOn, IsBeingSaid, StageMoment}
+use Rattle.script_run.specs.Stages.{IsKeptUp, Leads, AllGoBy, finish_course}
+use Rattle.script_run.specs.Courses.{IsBeingSaid, IsBetween, IsWorkedOn, StageMoment}
+use Rattle.script_run.specs.declared.tending.Tending.{Tending}
 
 -- a moment while this answer to a line is found and said after these bytes: it is true where the bytes said end inside it,
 -- with these commands of the open group waiting
@@ -91,18 +92,18 @@ abbrev pub LineStage : Params → Stage → List ℕ → List ℕ → Files → 
 LineStage p s before line files said =
     IsSilent (IsWorkedOn p s (line ∷ [])) before files said ⊎ ((part : List ℕ) × (said ≡ before ++ part) × IsBeingSaid p s line part files)
 
--- a moment of a run so far: after the lines that it was given nothing is done
-pub record StageSoFar (p : Params) (first : Stage) (script : List (List ℕ)) (before : List ℕ) (files : Files) (said : List ℕ) : Type 0 where
-  pub is : StageMoment p first script before files said
-  pub waiting : is.todo ≡ [] → (is.part ≡ []) × FilesShow (meaning_in p) p files is.stage.world
+-- a moment of a run so far: after the lines that it was given no more than upkeep is done
+pub record StageSoFar (tending : Tending) (p : Params) (first : Stage) (script : List (List ℕ)) (before : List ℕ) (files : Files) (said : List ℕ) : Type 0 where
+  pub is : StageMoment tending p first script before files said
+  pub waiting : is.todo ≡ [] → (is.part ≡ []) × IsBetween tending p is.stage files
 
 -- a moment of a run so far: nothing of an open group is stable
 pub record MomentSoFar (p : Params) (commands : List Command) (script : List (List ℕ)) (before : List ℕ) (files : Files) (said : List ℕ) : Type 0 where
   pub is : Moment p commands script before files said
   pub unclosed : AreWhole is.kept is.story.account
 
--- a run so far, from a start with these commands and this stage: the answers to the lines that were taken
-pub record Going (p : Params) (first : Stage) (start now : Disk) (engine : EngineView) (commands : List Command) (script todo : List (List ℕ)) (refusing : Bool) : Type 0 where
+-- a run so far, from a start with these commands and this stage: the answers to the lines that were taken, and perhaps upkeep
+pub record Going (tending : Tending) (p : Params) (first : Stage) (start now : Disk) (engine : EngineView) (commands : List Command) (script todo : List (List ℕ)) (refusing : Bool) : Type 0 where
   pub lines : List (List ℕ)
   pub replies : List Reply
   pub waits : List (List Command)
@@ -120,13 +121,15 @@ pub record Going (p : Params) (first : Stage) (start now : Disk) (engine : Engin
   pub kind : refusing ≡ list_any is_refusing replies
   pub images : start.tells_moments → LeavesOnly start now (MomentSoFar p commands script start.said)
   pub truly : start.tells_moments → LeavesOnly start now (IsTrueSoFar p start.said lines replies waits now.said)
-  pub goes : AllGoBy p first lines replies (stage_of engine holds.world)
-  pub steps : start.tells_moments → LeavesOnly start now (StageSoFar p first script start.said)
+  pub stage : Stage
+  pub goes : AllGoBy tending p first lines replies stage
+  pub kept : IsKeptUp tending p stage (stage_of engine holds.world)
+  pub steps : start.tells_moments → LeavesOnly start now (StageSoFar tending p first script start.said)
 
 -- A whole run: each line is answered, the files stand for all that was added, and the status reports refusals. The
--- stages go from the first on, with each answer; an open group is closed, and the files show the world of the last after a
--- force, and the log in them ends where the last has its length.
-pub record IsComplete (p : Params) (first : Stage) (start now : Disk) (commands : List Command) (script : List (List ℕ)) (status : Status) : Type 0 where
+-- stages go from the first on, with each answer; behind the last one, and perhaps upkeep, an open group is closed, and the files
+-- show the world after a force, and the log in them ends where the stage had its length.
+pub record IsComplete (tending : Tending) (p : Params) (first : Stage) (start now : Disk) (commands : List Command) (script : List (List ℕ)) (status : Status) : Type 0 where
   pub replies : List Reply
   pub waits : List (List Command)
   pub account : Account
@@ -136,9 +139,11 @@ pub record IsComplete (p : Params) (first : Stage) (start now : Disk) (commands 
   pub settled : IsSettled now
   pub refusals : (status ≡ DoneWithRefusals) ↔ (list_any is_refusing replies ≡ true)
   pub last : Stage
-  pub goes : AllGoBy p first script replies last
-  pub shows : FilesShow (meaning_in p) p now.reads (run (meaning_in p) last.world (finish_course (meaning_in p) last.world last.used).steps)
-  pub ends_last : EndsAt now.reads last.used
+  pub goes : AllGoBy tending p first script replies last
+  pub kept : Stage
+  pub upkept : IsKeptUp tending p last kept
+  pub shows : FilesShow (meaning_in p) p now.reads (run (meaning_in p) kept.world (finish_course (meaning_in p) kept.world kept.used).steps)
+  pub ends_last : EndsAt now.reads kept.used
 
 -- the answer to a line is found and not said yet: what it adds is done, and it is true in each image
 pub record IsAnswerFound (p : Params) (old now : Disk) (before after : EngineView) (w : World Command) (commands : List Command) (line : List ℕ) (reply : Reply) : Type 0 where
@@ -174,9 +179,9 @@ pub record Answering (p : Params) (old new : Disk) (before after : EngineView) (
   pub steps : old.tells_moments → LeavesOnly old new (LineStage p (stage_of before w) old.said line)
 
 -- a script was answered, or a beginning of it, and the run ended with this status
-pub record IsRun (p : Params) (first : Stage) (start now : Disk) (commands : List Command) (script : List (List ℕ)) (status : Status) : Type 0 where
-  pub says : SaysTruly p first commands script start now
+pub record IsRun (tending : Tending) (p : Params) (first : Stage) (start now : Disk) (commands : List Command) (script : List (List ℕ)) (status : Status) : Type 0 where
+  pub says : SaysTruly tending p first commands script start now
   pub images : start.tells_moments → LeavesOnly start now (Moment p commands script start.said)
-  pub steps : start.tells_moments → LeavesOnly start now (StageMoment p first script start.said)
+  pub steps : start.tells_moments → LeavesOnly start now (StageMoment tending p first script start.said)
   -- where it was cut short an open group was neither closed nor forced
   pub unclosed : IsCut status → start.tells_moments → LeavesOnly start now (MomentSoFar p commands script start.said)

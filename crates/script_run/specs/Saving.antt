@@ -35,6 +35,7 @@ use Rattle.script_run.specs.Replies.{IsOfBackup}
 use Rattle.script_run.specs.Answers.{SaysTruly, with_begun, with_line}
 use Rattle.script_run.specs.Found.{IsDone}
 use Rattle.script_run.specs.Printed.{SaysSaved}
+use Rattle.script_run.specs.declared.tending.Tending.{Tending}
 use Rattle.script_run.specs.Run.{IsAnswered, IsCausedBeside, IsPartly, LineMoment, LineStage}
 
 -- the line starts a backup, goes on with it or ends it
@@ -176,8 +177,8 @@ PassesBy [] before after = after ≡ before
 PassesBy {T} (line ∷ lines) before after = (mid : T) × ((AsksBackup line → ⊥) → mid ≡ before) × PassesBy lines mid after
 
 -- What a run makes of the backup, and what its answers say of it.
-pub record IsBackedUp {T : Type 0} (disk : T → Disk) (p : Params) (first : Stage) (commands : List Command) (script : List (List ℕ)) (old new : Disk) (before after : T) : Type 0 where
-  pub truly : SaysTruly p first commands script old new
+pub record IsBackedUp {T : Type 0} (tending : Tending) (disk : T → Disk) (p : Params) (first : Stage) (commands : List Command) (script : List (List ℕ)) (old new : Disk) (before after : T) : Type 0 where
+  pub truly : SaysTruly tending p first commands script old new
   -- of the lines that were answered, and the next one, only those of a backup do anything with its files
   pub passes : PassesBy (with_line truly.says.story.lines truly.says.story.work ++ take 1 truly.says.story.todo) before after
   pub says : (disk before).tells_files → SaysOfBackup p (disk before) (with_line truly.says.story.lines truly.says.story.work) (with_begun truly.says.story.replies truly.says.story.work)
@@ -185,17 +186,17 @@ pub record IsBackedUp {T : Type 0} (disk : T → Disk) (p : Params) (first : Sta
 
 -- So it is of what was printed: where a whole line says that n commands are saved, one of the answers does, and each image
 -- stands for the first n.
-pub record IsSavedAsSaid {T : Type 0} (disk : T → Disk) (p : Params) (first : Stage) (commands : List Command) (script : List (List ℕ)) (old new : Disk) (before after : T) : Type 0 where
-  pub backed : IsBackedUp disk p first commands script old new before after
+pub record IsSavedAsSaid {T : Type 0} (tending : Tending) (disk : T → Disk) (p : Params) (first : Stage) (commands : List Command) (script : List (List ℕ)) (old new : Disk) (before after : T) : Type 0 where
+  pub backed : IsBackedUp tending disk p first commands script old new before after
   pub printed : (disk before).tells_files → (n : ℕ) → SaysSaved backed.truly.says.bytes n → Contains (with_begun backed.truly.says.story.replies backed.truly.says.story.work) (saved n)
       × (n ≤ length (backed.truly.says.story.account.commands ++ backed.truly.says.story.added))
       × InEachImage (disk after) (λ files. Stands p files (take n (backed.truly.says.story.account.commands ++ backed.truly.says.story.added)))
 
 -- What a run makes of the backup, where the source reports that it has this script.
-pub record IsBackupOfRun {T : Type 0} (budget : Budget) (disk : T → Disk) (told : Type 0) (script : List (List ℕ)) (old new : Disk) (before after : T) : Type 0 where
-  pub opened : (p : Params) (commands : List Command) → Opens p old commands → told → (first : Stage) → IsFirst budget p commands old first → IsSavedAsSaid disk p first commands script old new before after
+pub record IsBackupOfRun {T : Type 0} (tending : Tending) (budget : Budget) (disk : T → Disk) (told : Type 0) (script : List (List ℕ)) (old new : Disk) (before after : T) : Type 0 where
+  pub opened : (p : Params) (commands : List Command) → Opens p old commands → told → (first : Stage) → IsFirst budget p commands old first → IsSavedAsSaid tending disk p first commands script old new before after
   -- of a source that reports nothing the same holds with some script
-  pub untold : (some : List (List ℕ)) × ((p : Params) (commands : List Command) → Opens p old commands → (first : Stage) → IsFirst budget p commands old first → IsSavedAsSaid disk p first commands some old new before after)
+  pub untold : (some : List (List ℕ)) × ((p : Params) (commands : List Command) → Opens p old commands → (first : Stage) → IsFirst budget p commands old first → IsSavedAsSaid tending disk p first commands some old new before after)
   -- on files that stand for commands a store that was there as the run began is left as it is, whatever the source
   pub kept : (p : Params) (commands : List Command) → Opens p old commands → (disk before).tells_files → BeginsStore ((disk before).reads Objects) → KeepsAll (disk before) (disk after)
   -- no store is opened in files that break their format, and then nothing is done with the backup

@@ -1,5 +1,5 @@
 -- What the answers of a run go by: the world that engine and files show, the length of the log, and how far a backup is.
-use Rattle.std.specs.Prelude.{◌≡◌, ◌⊎◌, ◌+◌, ◌^◌, ◌++◌, ◌<◌, ◌≤◌, ⊤, ℕ, IsTrue, List, [], ◌∷◌, length, min, take, Option, None, Some}
+use Rattle.std.specs.Prelude.{◌≡◌, ◌⊎◌, ◌+◌, ◌^◌, ◌++◌, ◌<◌, ◌≤◌, ◌/◌, ⊤, ℕ, IsTrue, List, [], ◌∷◌, length, min, take, Option, None, Some, IfSome}
 use Rattle.std.specs.Option.{is_some}
 use Rattle.oper_core.specs.Meaning.{Meaning}
 use Rattle.formats.specs.declared.params.Params.{Params}
@@ -20,7 +20,9 @@ use Rattle.script_lines.specs.Replies.{Reply, ok, ran, forced, refused, bad_tree
 use Rattle.script_lines.specs.declared.backup_denial.BackupDenial.{BackupDenial}
 use Rattle.script_lines.specs.declared.backup_denial.BackupDenial.TheVariants.{InBackup, NoBackup, AlreadyStore, NotCopied}
 use Rattle.script_lines.specs.declared.answer.StatLine.{StatLine}
-use Rattle.checkpointing.specs.Courses.{checkpoint_course, trim_course}
+use Rattle.checkpointing.specs.Courses.{checkpoint_course, trim_course, upkeep_course as tending_course}
+use Rattle.checkpointing.specs.declared.due.Due.{Due}
+use Rattle.running_store.specs.Limits.{objects_within}
 use Rattle.store_engine.specs.Calls.{begin_course, end_course}
 use Rattle.store_engine.specs.Engine.{is_name, so_far}
 use Rattle.backup_copy.specs.Length.{backup_length}
@@ -30,6 +32,8 @@ use Rattle.shell_base.specs.First.{Stage}
 use Rattle.script_run.specs.Made.{Made, AsksMade}
 use Rattle.script_run.specs.Groups.{open_in}
 use Rattle.script_run.specs.Replies.{Replies, IsGranted}
+use Rattle.script_run.specs.declared.tending.Tending.{Tending}
+use Rattle.script_run.specs.declared.tending.Tending.TheVariants.{ByHand, ByLine}
 
 -- the stage after a course
 abbrev pub stage_after : Params → Stage → Course Command → Stage
@@ -150,9 +154,34 @@ pub record Leads (p : Params) (old : Stage) (line : List ℕ) (reply : Reply) (n
   pub commands_are : commands_of new.world.history ≡ commands_of old.world.history ++ added
   pub goes : GoesBy p old line reply new
 
+-- Upkeep that may be done in a stage: no more than a trim to 2^20 bytes and to half of what the log has, of which none is done beside
+-- a backup, and a turn of a full round.
+pub record IsModest (p : Params) (s : Stage) (due : Due) : Type 0 where
+  pub trim : IfSome due.trim (λ most. most ≤ min (2 ^ 20) (s.used / 2))
+  pub turn : IfSome due.turn (λ most. most ≤ objects_within 64 (2 ^ 20) p)
+  pub beside : IfSome s.copied (λ copied. due.trim ≡ None)
+
+-- This is the course of such upkeep, where no group is open: first the trim, and, though that may be stopped, then the turn.
+pub record IsUpkeep (p : Params) (s : Stage) (c : Course Command) : Type 0 where
+  pub due : Due
+  pub epoch : ℕ
+  pub modest : IsModest p s due
+  pub alone : s.world.group ≡ None
+  pub course_is : c ≡ tending_course (meaning_in p) due epoch (so_far s.copied) s.world s.used
+
+-- The stage in which a line is asked: that after the line before, or, where the store is tended by line, that after some upkeep,
+-- whatever stopped it.
+abbrev pub IsKeptUp : Tending → Params → Stage → Stage → Type 0
+IsKeptUp ByHand p old new = new ≡ old
+IsKeptUp ByLine p old new = (new ≡ old) ⊎ ((c : Course Command) × IsUpkeep p old c × (new ≡ stage_after p old c))
+
+-- a line that is asked after the old stage leads to the new one by this answer
+abbrev pub LeadsOn : Tending → Params → Stage → List ℕ → Reply → Stage → Type 0
+LeadsOn tending p old line reply new = (kept : Stage) × IsKeptUp tending p old kept × Leads p kept line reply new
+
 -- the answers to all these lines, one after the other, from the first stage to the last
-abbrev pub AllGoBy : Params → Stage → List (List ℕ) → List Reply → Stage → Type 0
-AllGoBy p first [] [] last = last ≡ first
-AllGoBy p first (line ∷ lines) (reply ∷ replies) last = (mid : Stage) × Leads p first line reply mid × AllGoBy p mid lines replies last
-AllGoBy p first [] (reply ∷ replies) last = ⊥
-AllGoBy p first (line ∷ lines) [] last = ⊥
+abbrev pub AllGoBy : Tending → Params → Stage → List (List ℕ) → List Reply → Stage → Type 0
+AllGoBy tending p first [] [] last = last ≡ first
+AllGoBy tending p first (line ∷ lines) (reply ∷ replies) last = (mid : Stage) × LeadsOn tending p first line reply mid × AllGoBy tending p mid lines replies last
+AllGoBy tending p first [] (reply ∷ replies) last = ⊥
+AllGoBy tending p first (line ∷ lines) [] last = ⊥

@@ -16,6 +16,7 @@ use Rattle.shell_base.specs.Again.{StandsStill}
 use Rattle.shell_base.specs.declared.status.Status.{Status}
 use Rattle.shell_base.specs.declared.status.Status.TheVariants.{BackupFault}
 use Rattle.shell_base.specs.OpeningLaws.{OpensSo}
+use Rattle.script_run.specs.declared.tending.Tending.{Tending}
 use Rattle.script_run.specs.Groups.{Account, account_of, waiting, AreWhole, account_before}
 use Rattle.script_run.specs.Answers.{Begun, TrueWithin, with_begun, with_line, with_waits, SaysTruly, EndsInside, Moment, Said}
 use Rattle.script_run.specs.Run.{IsComplete, MomentSoFar}
@@ -25,7 +26,7 @@ use Rattle.script_run.specs.Replies.{IsTrueIn}
 use Rattle.script_run.specs.PrintedLaws.{printed_acked, printed_saved}
 use Rattle.script_run.specs.Noted.{Noted, NotesFront, none_noted}
 
-pub complete_from : {p : Params} {first : Stage} {start mid new : Disk} {commands : List Command} {script : List (List ℕ)} {status : Status} → mid.said ≡ start.said → IsComplete p first mid new commands script status → IsComplete p first start new commands script status
+pub complete_from : {tending : Tending} {p : Params} {first : Stage} {start mid new : Disk} {commands : List Command} {script : List (List ℕ)} {status : Status} → mid.said ≡ start.said → IsComplete tending p first mid new commands script status → IsComplete tending p first start new commands script status
 complete_from quiet all = record {
   replies = all.replies;
   waits = all.waits;
@@ -37,6 +38,8 @@ complete_from quiet all = record {
   refusals = all.refusals;
   last = all.last;
   goes = all.goes;
+  kept = all.kept;
+  upkept = all.upkept;
   shows = all.shows;
   ends_last = all.ends_last;
 }
@@ -91,10 +94,10 @@ none_begun p before (line ∷ lines) (reply ∷ replies) (ops ∷ waits) files s
 none_begun p before lines replies waits files said even short = absurd (omega (arith, even.0, even.1))
 
 -- what was said is true of each moment also from before the store was opened
-pub says_truly : {p : Params} {first : Stage} {start mid new : Disk} {commands : List Command} {script : List (List ℕ)} → IsDisk start → OpensSo p start mid commands → Passes start mid → mid.said ≡ start.said
-    → (truth : SaysTruly p first commands script mid new) → start.tells_moments
+pub says_truly : {tending : Tending} {p : Params} {first : Stage} {start mid new : Disk} {commands : List Command} {script : List (List ℕ)} → IsDisk start → OpensSo p start mid commands → Passes start mid → mid.said ≡ start.said
+    → (truth : SaysTruly tending p first commands script mid new) → start.tells_moments
     → LeavesOnly start new (TrueWithin p start.said (with_line truth.says.story.lines truth.says.story.work) (with_begun truth.says.story.replies truth.says.story.work) (with_waits truth.says.story.waits truth.says.story.work))
-says_truly {p} {first} {start} {mid} {new} {commands} lawful opening time quiet truth told =
+says_truly {tending} {p} {first} {start} {mid} {new} {commands} lawful opening time quiet truth told =
     let story = truth.says.story in
     let replies = with_begun story.replies story.work in
     let lines = with_line story.lines story.work in
@@ -105,8 +108,8 @@ says_truly {p} {first} {start} {mid} {new} {commands} lawful opening time quiet 
     (λ f s here. none_begun p start.said lines replies waits f s even (omega (arith, ap length (opening_says p start commands lawful told f s here)))))
     (subst (λ (s : List ℕ). LeavesOnly mid new (TrueWithin p s lines replies waits)) quiet (truth.truly (time.moments_told.0 told)))
 
-abbrev pub says_from : {p : Params} {first : Stage} {start mid new : Disk} {commands : List Command} {script : List (List ℕ)} → IsDisk start → OpensSo p start mid commands → Passes start mid → mid.said ≡ start.said
-    → SaysTruly p first commands script mid new → SaysTruly p first commands script start new
+abbrev pub says_from : {tending : Tending} {p : Params} {first : Stage} {start mid new : Disk} {commands : List Command} {script : List (List ℕ)} → IsDisk start → OpensSo p start mid commands → Passes start mid → mid.said ≡ start.said
+    → SaysTruly tending p first commands script mid new → SaysTruly tending p first commands script start new
 says_from lawful opening time quiet truth = record {
   says = record { bytes = truth.says.bytes; since = truth.says.since ∙ ap (λ (l : List ℕ). l ++ truth.says.bytes) quiet; story = truth.says.story };
   truly = says_truly lawful opening time quiet truth;
@@ -160,12 +163,12 @@ first_moment few {p} {start} {commands} script f s b =
 pub start_so_far : AreFew → {p : Params} (start : Disk) {commands : List Command} (script : List (List ℕ)) (files : Files) → Stands p files commands → MomentSoFar p commands script start.said files start.said
 start_so_far few {p} start {commands} script files stands = first_moment few {p = p} {start = start} {commands = commands} script files start.said (stands_between start files stands)
 
-abbrev pub says_nothing : {p : Params} {first : Stage} {commands : List Command} (script : List (List ℕ)) {old new : Disk} → Passes old new → new.said ≡ old.said → SaysTruly p first commands script old new
-says_nothing {p} {first} {commands} script {old} {new} time quiet =
+abbrev pub says_nothing : {tending : Tending} {p : Params} {first : Stage} {commands : List Command} (script : List (List ℕ)) {old new : Disk} → Passes old new → new.said ≡ old.said → SaysTruly tending p first commands script old new
+says_nothing {tending} {p} {first} {commands} script {old} {new} time quiet =
     let none = told_whole (λ ops line reply. ⊤) (story_start p commands script) in
     record {
       last = first;
-      goes = told_goes first first none refl;
+      goes = told_goes tending first first none refl;
       says = record { bytes = []; since = quiet ∙ sym (append-nil old.said); story = none.story };
       truly = λ told. told_truly old new old.said none (first_call old new (TrueWithin p old.said [] [] []) told time (λ files said left. tt));
     }
@@ -190,8 +193,8 @@ says_none p next commands start = record {
 }
 
 -- where no store was opened, or nothing was done
-pub none_backed : {T : Type 0} (disk : T → Disk) {backup : T} {p : Params} (first : Stage) {commands : List Command} {script : List (List ℕ)} {old new : Disk} → Passes old new → new.said ≡ old.said → IsBackedUp disk p first commands script old new backup backup
-none_backed disk {backup} {p} first {commands} {script} time quiet = record {
+pub none_backed : {T : Type 0} (disk : T → Disk) {backup : T} {tending : Tending} {p : Params} (first : Stage) {commands : List Command} {script : List (List ℕ)} {old new : Disk} → Passes old new → new.said ≡ old.said → IsBackedUp tending disk p first commands script old new backup backup
+none_backed disk {backup} {tending} {p} first {commands} {script} time quiet = record {
   truly = says_nothing {first = first} script time quiet;
   passes = same_passes _ backup;
   says = λ tells. says_none p _ (commands ++ []) (disk backup);
@@ -206,9 +209,9 @@ begun_has replies (inr begun) reply has = Contains-append_left replies (begun.re
 few_saved : AreFew → (p : Params) (d : Disk) (every : List Command) (n : ℕ) → (n ≤ length every) × InEachImage d (λ files. Stands p files (take n every)) → n < 2 ^ 64
 few_saved few p d every n here = omega (arith, few p d.reads (take n every) here.1.0, length-take-le n every here.0)
 
-pub printed_backed : AreFew → {T : Type 0} (disk : T → Disk) {before after : T} {p : Params} {first : Stage} {commands : List Command} {script : List (List ℕ)} {old new : Disk} → IsBackedUp disk p first commands script old new before after
-    → IsSavedAsSaid disk p first commands script old new before after
-printed_backed few disk {before} {after} {p} b = record {
+pub printed_backed : AreFew → {T : Type 0} (disk : T → Disk) {before after : T} {tending : Tending} {p : Params} {first : Stage} {commands : List Command} {script : List (List ℕ)} {old new : Disk} → IsBackedUp tending disk p first commands script old new before after
+    → IsSavedAsSaid tending disk p first commands script old new before after
+printed_backed few disk {before} {after} {tending} {p} b = record {
   backed = b;
   printed = λ tells n says.
       let s = b.truly.says.story in

@@ -6,9 +6,10 @@
 //! number that was printed to be forced. The answers go by the stages of the store, from the world that a restart finds in the
 //! files: `full`, `end` and the counts follow from the course that each line takes. A line may make several commands, a beginning
 //! of which stays where the log, memory or the disk ends them. A group that is open at the end of a script is closed, and where the
-//! input or the output fails nothing of it stays. Laws say which answer a line gets ([`a_line_gets_the_answer_of_its_cause`],
-//! [`a_backup_line_gets_the_answer_of_its_cause`]), and that what was printed tells the answers
-//! ([`the_lines_said_are_the_answers`]).
+//! input or the output fails nothing of it stays. A run may tend its store ([`Tending`]): then bounded upkeep may be done before each
+//! line, and the line is answered from the stage behind it (`IsKeptUp`). Laws say which answer a line gets
+//! ([`a_line_gets_the_answer_of_its_cause`], [`a_backup_line_gets_the_answer_of_its_cause`]), and that what was printed tells the
+//! answers ([`the_lines_said_are_the_answers`]).
 //!
 //! A run may make a backup on a second machine, beside its lines (`IsBackupOfRun`): it stands for the first commands that the answer
 //! `saved` counts. Before a line that ends the backup a crash leaves no store there, and then none or the one that is saved; only the
@@ -34,6 +35,7 @@ mod running;
 mod saving;
 mod say;
 mod script;
+mod tending;
 mod upkeep;
 
 pub use bad_line::{BadCause, BadLine};
@@ -43,3 +45,4 @@ pub use line_answers::{
 };
 pub use notes::Notes;
 pub use running::run;
+pub use tending::Tending;

@@ -19,12 +19,16 @@ ghost use Rattle.script_run.specs.Saving.{IsBackedUp};
 
 use crate::line::answer_next;
 use crate::notes::Notes;
+use crate::tending::{Tending, tend};
+use backup_copy::copies_go_on;
 use disk_model::{Machine, Source};
 use op_codec::AllOps;
 use script_lines::{LineReader, Next, a_line_asks_one_thing};
 use shell_base::Stop;
 use std::alloc::Global;
-use store_engine::{Engine, engine_stands, group_is_closed, standing_files_meet_their_format};
+use store_engine::{
+    Engine, Pace, engine_stands, group_is_closed, standing_files_meet_their_format,
+};
 
 /// Closes the group that is open, if there is one, and forces the log. Fails where the disk does.
 fn close_script<M: Machine>(engine: &mut Engine<AllOps>, machine: &mut M) -> Result<(), Stop>
@@ -52,10 +56,11 @@ fn close_script<M: Machine>(engine: &mut Engine<AllOps>, machine: &mut M) -> Res
     }
 }
 
-/// Answers the lines of a script, where no group is open and no backup is made, and notes them. At its end an open group is
-/// closed, and the log is forced. It reports whether some answer was a refusal.
+/// Answers the lines of a script, where no group is open and no backup is made, and notes them; before each is read the store is
+/// tended, if it is by line. At its end an open group is closed, and the log is forced. It reports whether some answer was a refusal.
 pub fn answer_script<M: Machine, T: Machine, S: Source>(
     alloc: Global,
+    tending: Tending,
     engine: &mut Engine<AllOps>,
     machine: &mut M,
     backup: &mut T,
@@ -67,17 +72,17 @@ pub fn answer_script<M: Machine, T: Machine, S: Source>(
     ensures time { Passes (M.disk machine.old) (M.disk machine.new) }
     ensures backup_time { Passes (T.disk backup.old) (T.disk backup.new) }
     ensures answers { (p : Params) (commands : List Command) → (holds : Holds p (M.disk machine.old) engine.old commands) → forced_in engine.old ≡ length commands → engine.old.group ≡ None → S.tells input.old →
-        IsRun p (stage_of engine.old holds.world) (M.disk machine.old) (M.disk machine.new) commands (lines_of (S.left input.old)) (status_after result) }
+        IsRun tending p (stage_of engine.old holds.world) (M.disk machine.old) (M.disk machine.new) commands (lines_of (S.left input.old)) (status_after result) }
     ensures complete { (p : Params) (commands : List Command) → (holds : Holds p (M.disk machine.old) engine.old commands) → forced_in engine.old ≡ length commands → engine.old.group ≡ None → S.tells input.old →
-        IfOk result (λ refusing. IsComplete p (stage_of engine.old holds.world) (M.disk machine.old) (M.disk machine.new) commands (lines_of (S.left input.old)) (status_after (Ok refusing))) }
+        IfOk result (λ refusing. IsComplete tending p (stage_of engine.old holds.world) (M.disk machine.old) (M.disk machine.new) commands (lines_of (S.left input.old)) (status_after (Ok refusing))) }
     ensures backup { (p : Params) (commands : List Command) → (holds : Holds p (M.disk machine.old) engine.old commands) → forced_in engine.old ≡ length commands → engine.old.group ≡ None → engine.old.copied ≡ None → S.tells input.old →
-        IsBackedUp T.disk p (stage_of engine.old holds.world) commands (lines_of (S.left input.old)) (M.disk machine.old) (M.disk machine.new) backup.old backup.new }
+        IsBackedUp tending T.disk p (stage_of engine.old holds.world) commands (lines_of (S.left input.old)) (M.disk machine.old) (M.disk machine.new) backup.old backup.new }
     // Whatever a source that reports nothing gave, it is some script.
     ensures some { (script : List (List ℕ)) × ((p : Params) (commands : List Command) → (holds : Holds p (M.disk machine.old) engine.old commands) → forced_in engine.old ≡ length commands → engine.old.group ≡ None →
-        IsRun p (stage_of engine.old holds.world) (M.disk machine.old) (M.disk machine.new) commands script (status_after result)
-        × IfOk result (λ refusing. IsComplete p (stage_of engine.old holds.world) (M.disk machine.old) (M.disk machine.new) commands script (status_after (Ok refusing))))
+        IsRun tending p (stage_of engine.old holds.world) (M.disk machine.old) (M.disk machine.new) commands script (status_after result)
+        × IfOk result (λ refusing. IsComplete tending p (stage_of engine.old holds.world) (M.disk machine.old) (M.disk machine.new) commands script (status_after (Ok refusing))))
         × ((p : Params) (commands : List Command) → (holds : Holds p (M.disk machine.old) engine.old commands) → forced_in engine.old ≡ length commands → engine.old.group ≡ None → engine.old.copied ≡ None →
-        IsBackedUp T.disk p (stage_of engine.old holds.world) commands script (M.disk machine.old) (M.disk machine.new) backup.old backup.new) }
+        IsBackedUp tending T.disk p (stage_of engine.old holds.world) commands script (M.disk machine.old) (M.disk machine.new) backup.old backup.new) }
     ensures input { S.tells input.old → TakesScript (S.left input.old) (S.left input.new) notes.new result }
     ensures cause { IfErr result (λ stop. StopsWith stop (M.disk machine.old) (M.disk machine.new) (S.faults input.old) (S.faults input.new) (T.disk backup.old) (T.disk backup.new)) }
     ensures undamaged { (M.disk machine.old).tells_files → IsAttached (M.disk machine.old) engine.old → IfErr result IsUndamaged }
@@ -85,9 +90,12 @@ pub fn answer_script<M: Machine, T: Machine, S: Source>(
 {
     standing_files_meet_their_format::<AllOps>();
     a_line_asks_one_thing();
+    copies_go_on::<AllOps, M, T>();
     let mut lines = LineReader::new(alloc)?;
+    let mut pace = Pace::new();
     let mut refusing = false;
     loop {
+        tend(engine, machine, tending, &mut pace)?;
         match lines.next(input)? {
             Next::End => break,
             next => {

@@ -25,3 +25,5 @@ mod rows;
 mod running;
 #[cfg(test)]
 mod standbys;
+#[cfg(test)]
+mod tending;

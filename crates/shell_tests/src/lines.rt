@@ -479,8 +479,12 @@ const LEAST: Params = Params {
 };
 
 // Words, and what they ask.
-const WORDS: [(&[&str], Option<Asked>); 40] = [
-    (&["redo", "run"], Some(Asked::Run)),
+const WORDS: [(&[&str], Option<Asked>); 44] = [
+    (&["redo", "run"], Some(Asked::Run { tend: false })),
+    (&["redo", "run", "--tend"], Some(Asked::Run { tend: true })),
+    (&["redo", "run", "--tend", "--tend"], None),
+    (&["redo", "run", "--tend=true"], None),
+    (&["redo", "run", "tend"], None),
     (&["redo", "dump"], Some(Asked::Dump)),
     (&["redo", "dump", "run"], None),
     (&["redo", "Dump"], None),

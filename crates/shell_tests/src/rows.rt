@@ -15,7 +15,7 @@ const NODES: Run = ("redo init 8 1024 65536", b"", Status::Done, b"");
 const NO_STORE: Run = ("redo run", b"get 0\n", Status::NotAStore, b"not a store\n");
 
 const USAGE: &[u8] =
-    b"usage: redo init N CAP LIMIT | run | dump | demo --seed S --steps T | upgrade N CAP LIMIT | ship FROM | follow\n";
+    b"usage: redo init N CAP LIMIT | run [--tend] | dump | demo --seed S --steps T | upgrade N CAP LIMIT | ship FROM | follow\n";
 
 // Runs in one folder, empty at first, with a crash between them that loses what was not synced.
 const ROWS: [&[Run]; 47] = [

@@ -28,6 +28,8 @@ mod scripts;
 #[cfg(test)]
 mod stops;
 #[cfg(test)]
+mod tends;
+#[cfg(test)]
 mod trees;
 #[cfg(test)]
 mod trials;

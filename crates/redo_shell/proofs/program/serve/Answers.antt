@@ -1,7 +1,11 @@
 use Rattle.std.proofs.Common.{refl, sym, subst}
 use Rattle.command_words.specs.Words.{IsAllowed}
 use Rattle.shell_base.specs.Status.{IsOfDump, IsOfFollow, IsOfInit, IsOfShip, IsOfUpgrade}
+use Rattle.script_lines.specs.Grammar.{lines_of}
+use Rattle.script_run.specs.RunCalls.{IsRunCall}
+use Rattle.script_run.specs.Saving.{IsBackupOfRun}
 use Rattle.script_run.specs.StartLaws.{beside_none}
+use Rattle.script_run.specs.declared.tending.Tending.{Tending}
 use Rattle.redo_shell.specs.Demo.{IsOfDemo}
 use Rattle.redo_shell.proofs.CallLemmas.{backup_for, call_for}
 use Rattle.redo_shell.proofs.BesideLemmas.{noted_for}
@@ -26,7 +30,7 @@ pub returns-in-Upgrade-clause-too_long : goal.returns-in-Upgrade-clause-too_long
 returns-in-Upgrade-clause-too_long g c = λ told is. absurd (subst IsOfUpgrade is c.upgrade.ensures.call.ends)
 
 pub returns-in-Run-clause-call : goal.returns-in-Run-clause-call
-returns-in-Run-clause-call g c = call_for _ _ _ _ _ _ _ (sym c.in-Run.is) c.run.ensures.call
+returns-in-Run-clause-call g c = call_for _ _ _ _ _ _ _ (sym c.in-Run.is) (subst (λ (t : Tending). IsRunCall t c.args.budget (g.S.Source.tells c.args.input.now) (g.S.Source.left c.args.input.now) (g.S.Source.left c.run.new.input) (g.M.Machine.disk c.args.machine.now) (g.M.Machine.disk c.run.new.machine) c.run.result) c.of.ensures c.run.ensures.call)
 
 pub returns-in-Dump-clause-call : goal.returns-in-Dump-clause-call
 returns-in-Dump-clause-call g c = call_for _ _ _ _ _ _ _ (sym c.in-Dump.is) c.dump.ensures.call
@@ -56,7 +60,7 @@ pub returns-in-Demo-clause-too_long : goal.returns-in-Demo-clause-too_long
 returns-in-Demo-clause-too_long g c = λ told is. absurd (subst IsOfDemo is c.demo.ensures.demo.ends)
 
 pub returns-in-Run-clause-backup : goal.returns-in-Run-clause-backup
-returns-in-Run-clause-backup g c = backup_for _ g.T.Machine.disk _ _ _ _ _ _ (sym c.in-Run.is) c.run.ensures.backup
+returns-in-Run-clause-backup g c = backup_for _ g.T.Machine.disk _ _ _ _ _ _ (sym c.in-Run.is) (subst (λ (t : Tending). IsBackupOfRun t c.args.budget g.T.Machine.disk (g.S.Source.tells c.args.input.now) (lines_of (g.S.Source.left c.args.input.now)) (g.M.Machine.disk c.args.machine.now) (g.M.Machine.disk c.run.new.machine) c.args.backup.now c.run.new.backup) c.of.ensures c.run.ensures.backup)
 
 pub returns-in-Dump-clause-backup : goal.returns-in-Dump-clause-backup
 returns-in-Dump-clause-backup g c = backup_for _ g.T.Machine.disk _ _ _ _ _ _ (sym c.in-Dump.is) refl

@@ -38,10 +38,10 @@ pub returns-in-Err-Refused-clause-call : goal.returns-in-Err-Refused-clause-call
 returns-in-Err-Refused-clause-call g c = λ asked asks. absurd (c.in-Err-Refused.ensures.refused (subst IsRefusal (sym c.in-Err-Refused.field-0-is) tt) asked asks)
 
 pub returns-in-Err-Refused-clause-backup : goal.returns-in-Err-Refused-clause-backup
-returns-in-Err-Refused-clause-backup g c = backup_idle g.T.Machine.disk c.args.backup.now (λ asks. c.in-Err-Refused.ensures.refused (subst IsRefusal (sym c.in-Err-Refused.field-0-is) tt) _ asks)
+returns-in-Err-Refused-clause-backup g c = backup_idle g.T.Machine.disk c.args.backup.now (λ tend asks. c.in-Err-Refused.ensures.refused (subst IsRefusal (sym c.in-Err-Refused.field-0-is) tt) _ asks)
 
 pub returns-in-Err-Refused-clause-noted : goal.returns-in-Err-Refused-clause-noted
-returns-in-Err-Refused-clause-noted g c = record { run = λ asks. absurd (c.in-Err-Refused.ensures.refused (subst IsRefusal (sym c.in-Err-Refused.field-0-is) tt) _ asks); other = λ none. c.new.ensures }
+returns-in-Err-Refused-clause-noted g c = record { run = λ tend asks. absurd (c.in-Err-Refused.ensures.refused (subst IsRefusal (sym c.in-Err-Refused.field-0-is) tt) _ asks); other = λ none. c.new.ensures }
 
 pub returns-in-Err-Refused-clause-cause : goal.returns-in-Err-Refused-clause-cause
 returns-in-Err-Refused-clause-cause g c = record {
@@ -69,8 +69,8 @@ returns-in-Err-Refused-clause-cause g c = record {
 pub returns-in-Err-Refused-clause-exactly : goal.returns-in-Err-Refused-clause-exactly
 returns-in-Err-Refused-clause-exactly g c = λ faultless. record {
   usage = λ memory. (λ is asked asks. c.in-Err-Refused.ensures.refused (subst IsRefusal (sym c.in-Err-Refused.field-0-is) tt) asked asks, λ none. ⊎_elim (λ e. e) (λ e. absurd (faultless.output (⊎_elim (λ e. cc e) (λ e. e) (c.end_with.ensures.cause e)))) c.end_with.ensures.status);
-  run = λ asks. absurd (c.in-Err-Refused.ensures.refused (subst IsRefusal (sym c.in-Err-Refused.field-0-is) tt) _ asks);
-  runs = λ asks. absurd (c.in-Err-Refused.ensures.refused (subst IsRefusal (sym c.in-Err-Refused.field-0-is) tt) _ asks);
+  run = λ tend asks. absurd (c.in-Err-Refused.ensures.refused (subst IsRefusal (sym c.in-Err-Refused.field-0-is) tt) _ asks);
+  runs = λ tend asks. absurd (c.in-Err-Refused.ensures.refused (subst IsRefusal (sym c.in-Err-Refused.field-0-is) tt) _ asks);
   dump = λ asks. absurd (c.in-Err-Refused.ensures.refused (subst IsRefusal (sym c.in-Err-Refused.field-0-is) tt) _ asks);
   dumps = λ asks. absurd (c.in-Err-Refused.ensures.refused (subst IsRefusal (sym c.in-Err-Refused.field-0-is) tt) _ asks);
   init = λ p asks. absurd (c.in-Err-Refused.ensures.refused (subst IsRefusal (sym c.in-Err-Refused.field-0-is) tt) _ asks);
@@ -85,8 +85,8 @@ returns-in-Err-Refused-clause-exactly g c = λ faultless. record {
 pub returns-in-Err-Refused-clause-session : goal.returns-in-Err-Refused-clause-session
 returns-in-Err-Refused-clause-session g c = record {
   time = c.end_with.ensures.runs.time;
-  run = λ first next sizes runs bytes asks. absurd (c.in-Err-Refused.ensures.refused (subst IsRefusal (sym c.in-Err-Refused.field-0-is) tt) _ asks);
-  run_untold = λ asks. absurd (c.in-Err-Refused.ensures.refused (subst IsRefusal (sym c.in-Err-Refused.field-0-is) tt) _ asks);
+  run = λ tend first next sizes runs bytes asks. absurd (c.in-Err-Refused.ensures.refused (subst IsRefusal (sym c.in-Err-Refused.field-0-is) tt) _ asks);
+  run_untold = λ tend asks. absurd (c.in-Err-Refused.ensures.refused (subst IsRefusal (sym c.in-Err-Refused.field-0-is) tt) _ asks);
   init = λ p first next sizes runs said asks. absurd (c.in-Err-Refused.ensures.refused (subst IsRefusal (sym c.in-Err-Refused.field-0-is) tt) _ asks);
   dump = λ first next sizes runs said asks. absurd (c.in-Err-Refused.ensures.refused (subst IsRefusal (sym c.in-Err-Refused.field-0-is) tt) _ asks);
   upgrade = λ q first next sizes runs said asks. absurd (c.in-Err-Refused.ensures.refused (subst IsRefusal (sym c.in-Err-Refused.field-0-is) tt) _ asks);
@@ -102,8 +102,8 @@ returns-clause-exactly g c = λ faultless.
     let unread : IsUnread (g.M.Machine.disk c.args.machine.now) (g.M.Machine.disk c.args.machine.now) Memory = record { ends = refl; stays = stays_here (g.M.Machine.disk c.args.machine.now) (g.met.M.Machine.lawful c.args.machine.now) } in
     record {
       usage = λ memory. absurd (memory tt);
-      run = λ asks told. inr unread;
-      runs = λ asks memory. absurd (memory tt);
+      run = λ tend asks told. inr unread;
+      runs = λ tend asks memory. absurd (memory tt);
       dump = λ asks told. inr unread;
       dumps = λ asks memory. absurd (memory tt);
       init = λ p asks told. inr unread;
