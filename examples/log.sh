@@ -17,6 +17,13 @@ END
 "$log"
 echo "status $?"
 
+# Of the records those alone that are asked; and while nobody uses the store a glance says the same.
+"$log" --object 0 --from 2
+"$log" --kind put --to 2
+"$log" --glance 2>told | tail -n 1
+"$log" --kind puts 2>told
+echo "status $?"
+
 # The last block begins at byte 206. Where its gate is closed, the force counts for nothing: the bytes behind it are what a force
 # that was stopped would have left.
 printf '\0' | dd of=log_a.rdo bs=1 seek=206 conv=notrunc 2>/dev/null

@@ -26,7 +26,7 @@ use checking::check_store;
 use disk_model::Machine;
 use std::alloc::Global;
 use std::process::ExitCode;
-use tool_output::{Status, Tool, run_tool};
+use tool_output::{Status, Tool, run_glance, run_tool, words};
 
 /// The tool that checks a store.
 struct Check;
@@ -36,12 +36,31 @@ impl Tool for Check {
         "redo_check"
     }
 
-    fn look<M: Machine>(alloc: Global, machine: &mut M) -> Status {
+    fn look<M: Machine>(&self, alloc: Global, machine: &mut M) -> Status {
         check_store(alloc, machine)
     }
 }
 
-/// Status 0 where all holds; [`run_tool`] has the others.
+/// Whether these are the words of a glance: `--glance` alone behind the program's name; none where they ask nothing.
+fn asks_glance(words: &[String]) -> Option<bool> {
+    match words {
+        [] | [_] => Some(false),
+        [_, option] if option.as_str() == "--glance" => Some(true),
+        _ => None,
+    }
+}
+
+/// Status 0 where all holds; 2 where the words are refused; [`run_tool`] and [`run_glance`] have the others.
 fn main(rt: HostRuntime) -> ExitCode {
-    run_tool::<Check>(rt)
+    let Ok(words) = words(&rt) else {
+        return ExitCode::from(Status::Memory.number());
+    };
+    match asks_glance(&words) {
+        Some(true) => run_glance(rt, &Check),
+        Some(false) => run_tool(rt, &Check),
+        None => {
+            let _told = eprintln!(rt; "usage: redo_check [--glance]");
+            ExitCode::from(2)
+        }
+    }
 }

@@ -15,13 +15,14 @@ use Rattle.oper_core.specs.Meaning.{Meaning}
 use Rattle.redo_log.specs.Unreadable.{AreUnreadable, FindsNone, IsBroken}
 use Rattle.tool_output.specs.Faults.{CountsStop, StopsBy}
 use Rattle.redo_log.specs.Fronts.{AreLinesToNone, SaysBlockToNone, SaysNone}
-use Rattle.redo_log.specs.Lines.{begun_lines, blocks_lines, header_words, line, record_lines}
+use Rattle.redo_log.specs.Lines.{begun_lines, blocks_lines, frame_line, header_words, record_lines}
 use Rattle.tool_output.specs.Saying.{OnlySays, says_nothing, says_then, still_agrees}
 use Rattle.tool_output.specs.declared.stop.Stop.{Stop}
 use Rattle.tool_output.specs.declared.stop.Stop.TheVariants as stops
 use Rattle.tool_output.specs.FaultLaws.{counted_since, counted_until, stops_counted}
 use Rattle.redo_log.proofs.ReadLemmas.{IsSayingBlock, IsSayingBlocks}
 use Rattle.redo_log.proofs.Steps.{found_next}
+use Rattle.redo_log.specs.declared.choice.Choice.{Choice}
 
 -- all bytes of the payload are in memory, and no record begins with those that were not taken
 pub none_found : (m : Meaning AllOps) (first mid : Disk) (old it : PayloadReaderView) → Stays first mid → it.file ≡ old.file → FindsNone m mid old it → first.tells_files → (all passed : List (List ℕ)) (taken : List ℕ) (later : List (List ℕ))
@@ -42,10 +43,10 @@ none_found m first mid old it kept same finds told all passed taken later stands
     }
 
 -- behind the records of a block that were said
-pub block_broken : (m : Meaning AllOps) (first now : Disk) (after : List ℕ) (old it : PayloadReaderView) → IsSayingBlock m first now old it → 0 < remaining it
+pub block_broken : (w : Choice) (m : Meaning AllOps) (first now : Disk) (after : List ℕ) (old it : PayloadReaderView) → IsSayingBlock w m first now old it → 0 < remaining it
     → (now.tells_files → (all passed : List (List ℕ)) (taken : List ℕ) (later : List (List ℕ)) → IsInLog (now.reads it.file) it all passed taken later → 0 < remaining it → SaysNone m (remaining it) all passed taken later now.said after)
-    → first.tells_files → (all passed later : List (List ℕ)) → IsInLog (first.reads old.file) old all passed [] later → 0 < remaining old → SaysBlockToNone m old.file all passed later first.said after
-block_broken m first now after old it is some breaks told all passed later stands more =
+    → first.tells_files → (all passed later : List (List ℕ)) → IsInLog (first.reads old.file) old all passed [] later → 0 < remaining old → SaysBlockToNone w m old.file all passed later first.said after
+block_broken w m first now after old it is some breaks told all passed later stands more =
     let so_far = is.said told all passed later stands more in
     let taken = payload_of m so_far.part in
     let at : now.reads it.file ≡ first.reads old.file = λ i. is.run.reads told i (is.file i) in
@@ -53,55 +54,55 @@ block_broken m first now after old it is some breaks told all passed later stand
     let long : remaining old ≡ length (taken ++ none.behind.rest) = omega (arith, length-append taken none.behind.rest, none.long, so_far.count) in
     record {
       is = record { part = so_far.part; in_grammar = so_far.in_grammar; behind = none.behind };
-      said = none.silent ∙ so_far.said ∙ λ i. first.said ++ (line old.file (end_of passed) (long i) (codes "block") ++ record_lines m old.file (end_of passed + 5) so_far.part);
+      said = none.silent ∙ so_far.said ∙ λ i. first.said ++ (frame_line w old.file (end_of passed) (long i) (codes "block") ++ record_lines w m old.file (end_of passed + 5) so_far.part);
     }
 
 -- behind the blocks that were said
-pub blocks_broken : (m : Meaning AllOps) (first now mid : Disk) (after : List ℕ) (old it next : PayloadReaderView) → IsSayingBlocks m first now old it → Stays now mid → next.file ≡ it.file → 0 < remaining next
+pub blocks_broken : (w : Choice) (m : Meaning AllOps) (first now mid : Disk) (after : List ℕ) (old it next : PayloadReaderView) → IsSayingBlocks w m first now old it → Stays now mid → next.file ≡ it.file → 0 < remaining next
     → ((files : Files) → mid.agrees files → (payloads passed : List (List ℕ)) (taken : List ℕ) (later : List (List ℕ)) → IsInLog (files it.file) it payloads passed taken later → HasNext (files next.file) next payloads (with_block passed taken) later true)
-    → (mid.tells_files → (all passed later : List (List ℕ)) → IsInLog (mid.reads next.file) next all passed [] later → 0 < remaining next → SaysBlockToNone m next.file all passed later mid.said after)
-    → first.tells_files → (all : List (List ℕ)) → IsInLog (first.reads old.file) old all [] [] all → (text : List ℕ) × AreLinesToNone m old.file all text × (after ≡ first.said ++ text)
-blocks_broken m first now mid after old it next is kept same some step broken told all stands =
+    → (mid.tells_files → (all passed later : List (List ℕ)) → IsInLog (mid.reads next.file) next all passed [] later → 0 < remaining next → SaysBlockToNone w m next.file all passed later mid.said after)
+    → first.tells_files → (all : List (List ℕ)) → IsInLog (first.reads old.file) old all [] [] all → (text : List ℕ) × AreLinesToNone w m old.file all text × (after ≡ first.said ++ text)
+blocks_broken w m first now mid after old it next is kept same some step broken told all stands =
     let so_far = is.said told all stands in
     let groups = so_far.groups in
     let passed = map (payload_of m) groups in
     let told_now = is.run.time.files_told.0 told in
-    let found = found_next m first now mid old it next true is kept step told all so_far in
+    let found = found_next w m first now mid old it next true is kept step told all so_far in
     let reads : mid.reads ≡ first.reads = kept.reads told_now ∙ is.run.reads told in
     let here : IsInLog (mid.reads next.file) next all passed [] found.1 = subst (λ (f : Files). IsInLog (f next.file) next all passed [] found.1) (sym reads) found.3 in
     let none = broken (kept.time.files_told.0 told_now) all passed found.1 here some in
     let payload = payload_of m none.is.part ++ none.is.behind.rest in
-    let lines = blocks_lines m old.file 33 groups in
-    let begun = begun_lines m old.file (end_of passed) payload none.is.part in
+    let lines = blocks_lines w m old.file 33 groups in
+    let begun = begun_lines w m old.file (end_of passed) payload none.is.part in
     let before : mid.said ≡ first.said ++ lines = kept.said told_now ∙ so_far.said in (
       lines ++ begun,
       record { groups = groups; later = found.1; in_grammar = so_far.in_grammar; is = none.is; text_is = refl },
-      none.said ∙ (λ i. before i ++ begun_lines m ((same ∙ is.file) i) (end_of passed) payload none.is.part) ∙ append_assoc first.said lines begun,
+      none.said ∙ (λ i. before i ++ begun_lines w m ((same ∙ is.file) i) (end_of passed) payload none.is.part) ∙ append_assoc first.said lines begun,
     )
 
 -- a reader that stands in a whole log finds no fault in its blocks
-pub no_block_fault : (m : Meaning AllOps) (first now mid : Disk) (after : List ℕ) (old it : PayloadReaderView) → IsSayingBlocks m first now old it → Stays now mid → (file : FileNo) (place : ℕ) → IsNoLog mid it file place
-    → first.tells_files → (all : List (List ℕ)) → IsInLog (first.reads old.file) old all [] [] all → (text : List ℕ) × AreLinesToNone m old.file all text × (after ≡ first.said ++ text)
-no_block_fault m first now mid after old it is kept file place none told all stands =
+pub no_block_fault : (w : Choice) (m : Meaning AllOps) (first now mid : Disk) (after : List ℕ) (old it : PayloadReaderView) → IsSayingBlocks w m first now old it → Stays now mid → (file : FileNo) (place : ℕ) → IsNoLog mid it file place
+    → first.tells_files → (all : List (List ℕ)) → IsInLog (first.reads old.file) old all [] [] all → (text : List ℕ) × AreLinesToNone w m old.file all text × (after ≡ first.said ++ text)
+no_block_fault w m first now mid after old it is kept file place none told all stands =
     let so_far = is.said told all stands in
     absurd (none.1 first.reads (still_agrees (says_then is.run (says_nothing kept)) told) all (map (payload_of m) so_far.groups) [] so_far.later
     (subst (λ (f : FileNo). IsInLog (first.reads f) it all (map (payload_of m) so_far.groups) [] so_far.later) (sym is.file) so_far.stands))
 
 -- of a log whose header was said
-pub log_broken : (m : Meaning AllOps) (first one two : Disk) (after : List ℕ) (active : FileNo) (header : Header) (it : PayloadReaderView) → OnlySays first one → Stays one two → it.file ≡ active
-    → (first.tells_files → one.said ≡ first.said ++ line active 0 33 (header_words header))
+pub log_broken : (w : Choice) (m : Meaning AllOps) (first one two : Disk) (after : List ℕ) (active : FileNo) (header : Header) (it : PayloadReaderView) → OnlySays first one → Stays one two → it.file ≡ active
+    → (first.tells_files → one.said ≡ first.said ++ frame_line w active 0 33 (header_words header))
     → ((payloads : List (List ℕ)) → first.tells_files → HoldsLog active header payloads first.reads → IsInLog (first.reads active) it payloads [] [] payloads)
-    → (two.tells_files → (all : List (List ℕ)) → IsInLog (two.reads it.file) it all [] [] all → (text : List ℕ) × AreLinesToNone m it.file all text × (after ≡ two.said ++ text))
+    → (two.tells_files → (all : List (List ℕ)) → IsInLog (two.reads it.file) it all [] [] all → (text : List ℕ) × AreLinesToNone w m it.file all text × (after ≡ two.said ++ text))
     → first.tells_files → (payloads : List (List ℕ)) → HoldsLog active header payloads first.reads
-    → (text : List ℕ) × AreLinesToNone m active payloads text × (after ≡ first.said ++ (line active 0 33 (header_words header) ++ text))
-log_broken m first one two after active header it head kept same said starts broken told payloads holds =
+    → (text : List ℕ) × AreLinesToNone w m active payloads text × (after ≡ first.said ++ (frame_line w active 0 33 (header_words header) ++ text))
+log_broken w m first one two after active header it head kept same said starts broken told payloads holds =
     let told_one = head.time.files_told.0 told in
     let reads_two : two.reads ≡ first.reads = kept.reads told_one ∙ head.reads told in
     let at : two.reads it.file ≡ first.reads active = λ i. reads_two i (same i) in
     let (text, lines, all) = broken (kept.time.files_told.0 told_one) payloads (subst (λ (f : List ℕ). IsInLog f it payloads [] [] payloads) (sym at) (starts payloads told holds)) in (
       text,
-      subst (λ (f : FileNo). AreLinesToNone m f payloads text) same lines,
-      all ∙ ap (λ (l : List ℕ). l ++ text) (kept.said told_one ∙ said told) ∙ append_assoc first.said (line active 0 33 (header_words header)) text,
+      subst (λ (f : FileNo). AreLinesToNone w m f payloads text) same lines,
+      all ∙ ap (λ (l : List ℕ). l ++ text) (kept.said told_one ∙ said told) ∙ append_assoc first.said (frame_line w active 0 33 (header_words header)) text,
     )
 
 -- what a saying of the log tells of it

@@ -6,3 +6,5 @@ pub mod UsedLemmas
 pub mod RecordLemmas
 pub mod ListLemmas
 pub mod BrokenLemmas
+pub mod AskLemmas
+pub mod CommandLemmas

@@ -1,4 +1,8 @@
 pub mod Words
+pub mod Kinds
+pub mod Choosing
+pub mod Commands
+pub mod Asking
 pub mod Lines
 pub mod Reading
 pub mod Unreadable

@@ -2,8 +2,11 @@
 ghost use Rattle.std.specs.Prelude.{◌≡◌, ◌++◌, OnOk, IfOk};
 ghost use Rattle.std.specs.List.{flat_map};
 ghost use Rattle.script_lines.specs.Replies.{spaced};
-ghost use Rattle.redo_log.specs.Lines.{line, header_words, record_words, start_words};
+ghost use Rattle.op_codec.specs.AllOps.{all_meaning};
+ghost use Rattle.oper_core.specs.declared.bounds.Bounds.{Bounds as Limits};
+ghost use Rattle.redo_log.specs.Lines.{frame_line, header_words, line, line_if, record_line, record_words, start_words};
 
+use crate::choice::{Choice, admits, is_all};
 use crate::words::push_op;
 use disk_model::FileNo;
 use formats::Record;
@@ -25,7 +28,7 @@ fn push_counted(alloc: Global, text: &mut Vec<u8>, word: &[u8], number: u64) -> 
 }
 
 /// A line: a file, a place in it, how many bytes stand there, and what they are.
-pub fn line_of(
+fn line_of(
     alloc: Global,
     file: FileNo,
     place: u64,
@@ -44,21 +47,54 @@ pub fn line_of(
     Ok(text)
 }
 
+/// The same, or nothing where it is not to be said.
+fn line_if(
+    alloc: Global,
+    yes: bool,
+    file: FileNo,
+    place: u64,
+    count: u64,
+    what: &[u8],
+) -> Result<Vec<u8>, Memory>
+    ensures { IfOk result (λ made. made.items ≡ line_if yes file place count what.now) }
+{
+    if yes {
+        line_of(alloc, file, place, count, what)
+    } else {
+        Ok(Vec::new(alloc))
+    }
+}
+
+/// The line of the header, of a block or of the end.
+pub fn frame_line(
+    alloc: Global,
+    choice: Choice,
+    file: FileNo,
+    place: u64,
+    count: u64,
+    what: &[u8],
+) -> Result<Vec<u8>, Memory>
+    ensures { IfOk result (λ made. made.items ≡ frame_line choice file place count what.now) }
+{
+    line_if(alloc, is_all(choice), file, place, count, what)
+}
+
 /// The line of a header.
 pub fn header_line(
     alloc: Global,
+    choice: Choice,
     file: FileNo,
     epoch: u64,
     base: u64,
     commands: u64,
 ) -> Result<Vec<u8>, Memory>
-    ensures { IfOk result (λ made. made.items ≡ line file 0 33 (header_words (record { epoch = epoch; base = base; commands = commands }))) }
+    ensures { IfOk result (λ made. made.items ≡ frame_line choice file 0 33 (header_words (record { epoch = epoch; base = base; commands = commands }))) }
 {
     let mut text = Vec::new(alloc);
     push_counted(alloc, &mut text, b"header epoch", epoch)?;
     push_counted(alloc, &mut text, b" base", base)?;
     push_counted(alloc, &mut text, b" commands", commands)?;
-    line_of(alloc, file, 0, HEADER, text.as_slice())
+    frame_line(alloc, choice, file, 0, HEADER, text.as_slice())
 }
 
 /// Adds the redo starts of a checkpoint.
@@ -105,17 +141,33 @@ fn push_record(alloc: Global, text: &mut Vec<u8>, it: &Record<AllOps>) -> Result
     Ok(())
 }
 
-/// The line of a record, whose code has so many bytes.
-pub fn record_line(
+/// The line of a record, whose code has so many bytes, or nothing where it is not to be said.
+fn said_line(
     alloc: Global,
+    said: bool,
     file: FileNo,
     place: u64,
     count: u64,
     it: &Record<AllOps>,
 ) -> Result<Vec<u8>, Memory>
-    ensures { IfOk result (λ made. made.items ≡ line file place count (record_words it.now)) }
+    ensures { IfOk result (λ made. made.items ≡ line_if said file place count (record_words it.now)) }
 {
     let mut words = Vec::new(alloc);
     push_record(alloc, &mut words, it)?;
-    line_of(alloc, file, place, count, words.as_slice())
+    line_if(alloc, said, file, place, count, words.as_slice())
+}
+
+/// The same, where the record is all that is asked.
+pub fn record_line(
+    alloc: Global,
+    choice: Choice,
+    file: FileNo,
+    place: u64,
+    count: u64,
+    it: &Record<AllOps>,
+) -> Result<Vec<u8>, Memory>
+    ensures { (b : Limits) → IfOk result (λ made. made.items ≡ record_line choice (all_meaning b) file place count it.now) }
+{
+    let said = admits(choice, it);
+    said_line(alloc, said, file, place, count, it)
 }

@@ -15,13 +15,14 @@ ghost use Rattle.redo_log.specs.Unreadable.{AreReadable, IsBroken};
 ghost use Rattle.tool_output.specs.Faults.{CountsFaults, CountsStop, StopsBy};
 ghost use Rattle.redo_log.specs.Fronts.{AreLinesBefore, AreLinesToNone, AreLogLines, IsDamage, IsDamageSaid, SaysNoMore, SaysOfLog};
 ghost use Rattle.tool_output.specs.Lines.{damaged, not_a_store};
-ghost use Rattle.redo_log.specs.Lines.{header_words, line, used};
+ghost use Rattle.redo_log.specs.Lines.{frame_line, header_words, used};
 ghost use Rattle.redo_log.specs.Listing.{ArePlaced, IsListed, SaysLog, meaning_of};
 ghost use Rattle.tool_output.specs.Found.{HasStore, IsLogStopped, IsStopped};
 ghost use Rattle.tool_output.specs.Saying.{OnlySays};
 
+use crate::choice::Choice;
 use crate::left::left_behind;
-use crate::lines::{header_line, line_of};
+use crate::lines::{frame_line, header_line};
 use crate::saying::say_blocks;
 use disk_model::{FileNo, Machine};
 use formats::ReadErr;
@@ -46,50 +47,74 @@ fn read_bounds<M: Machine>(alloc: Global, machine: &mut M) -> Result<Bounds, Sto
 }
 
 /// Says where a log ends, and what a torn force left there.
-fn say_end<M: Machine>(alloc: Global, machine: &mut M, file: FileNo, end: u64) -> Result<(), Stop>
+fn say_end<M: Machine>(
+    alloc: Global,
+    machine: &mut M,
+    choice: Choice,
+    file: FileNo,
+    end: u64,
+) -> Result<(), Stop>
     ensures runs { OnlySays (M.disk machine.old) (M.disk machine.new) }
     ensures said { (M.disk machine.old).tells_files
-        → OnOk result ((M.disk machine.new).said ≡ (M.disk machine.old).said ++ line file end (used (drop end ((M.disk machine.old).reads file))) (codes "end")) }
+        → OnOk result ((M.disk machine.new).said ≡ (M.disk machine.old).said ++ frame_line choice file end (used (drop end ((M.disk machine.old).reads file))) (codes "end")) }
     ensures front { (M.disk machine.old).tells_files
-        → SaysFront (line file end (used (drop end ((M.disk machine.old).reads file))) (codes "end")) (M.disk machine.old).said (M.disk machine.new).said }
+        → SaysFront (frame_line choice file end (used (drop end ((M.disk machine.old).reads file))) (codes "end")) (M.disk machine.old).said (M.disk machine.new).said }
     ensures cause { IfErr result (StopsBy (M.disk machine.old) (M.disk machine.new) (λ file place. ⊥)) }
 {
     let left = left_behind(alloc, machine, file, end)?;
-    let line = line_of(alloc, file, end, left, b"end")?;
+    let line = frame_line(alloc, choice, file, end, left, b"end")?;
     say_text(machine, line.as_slice())?;
     Ok(())
 }
 
 /// Says the header of a log.
-fn say_header<M: Machine>(alloc: Global, machine: &mut M, log: &LogFile) -> Result<(), Stop>
+fn say_header<M: Machine>(
+    alloc: Global,
+    machine: &mut M,
+    choice: Choice,
+    log: &LogFile,
+) -> Result<(), Stop>
     ensures runs { OnlySays (M.disk machine.old) (M.disk machine.new) }
     ensures said { (M.disk machine.old).tells_files
-        → OnOk result ((M.disk machine.new).said ≡ (M.disk machine.old).said ++ line log.now.active 0 33 (header_words log.now.header)) }
-    ensures front { (M.disk machine.old).tells_files → SaysFront (line log.now.active 0 33 (header_words log.now.header)) (M.disk machine.old).said (M.disk machine.new).said }
+        → OnOk result ((M.disk machine.new).said ≡ (M.disk machine.old).said ++ frame_line choice log.now.active 0 33 (header_words log.now.header)) }
+    ensures front { (M.disk machine.old).tells_files → SaysFront (frame_line choice log.now.active 0 33 (header_words log.now.header)) (M.disk machine.old).said (M.disk machine.new).said }
     ensures cause { IfErr result (StopsBy (M.disk machine.old) (M.disk machine.new) (λ file place. ⊥)) }
 {
-    let line = header_line(alloc, log.active(), log.epoch(), log.base(), log.commands())?;
+    let line = header_line(
+        alloc,
+        choice,
+        log.active(),
+        log.epoch(),
+        log.base(),
+        log.commands(),
+    )?;
     say_text(machine, line.as_slice())?;
     Ok(())
 }
 
 /// Says a log from its header to its end.
-fn say_log<M: Machine>(alloc: Global, machine: &mut M, b: Bounds, log: &LogFile) -> Result<(), Stop>
+fn say_log<M: Machine>(
+    alloc: Global,
+    machine: &mut M,
+    choice: Choice,
+    b: Bounds,
+    log: &LogFile,
+) -> Result<(), Stop>
     ensures runs { OnlySays (M.disk machine.old) (M.disk machine.new) }
     ensures said { (M.disk machine.old).tells_files → (payloads : List (List ℕ)) → HoldsLog log.now.active log.now.header payloads (M.disk machine.old).reads
         → log.now.end ≡ end_of payloads → log.now.pending ≡ []
-        → OnOk result (SaysLog (all_meaning b) (M.disk machine.old).reads log.now.active log.now.header payloads (M.disk machine.old).said (M.disk machine.new).said) }
+        → OnOk result (SaysLog choice (all_meaning b) (M.disk machine.old).reads log.now.active log.now.header payloads (M.disk machine.old).said (M.disk machine.new).said) }
     ensures front { (M.disk machine.old).tells_files → (payloads : List (List ℕ)) → HoldsLog log.now.active log.now.header payloads (M.disk machine.old).reads
         → log.now.end ≡ end_of payloads → log.now.pending ≡ []
-        → OnErr result ((text : List ℕ) × AreLogLines (all_meaning b) (M.disk machine.old).reads log.now.active log.now.header payloads text × SaysFront text (M.disk machine.old).said (M.disk machine.new).said) }
+        → OnErr result ((text : List ℕ) × AreLogLines choice (all_meaning b) (M.disk machine.old).reads log.now.active log.now.header payloads text × SaysFront text (M.disk machine.old).said (M.disk machine.new).said) }
     ensures cause { IfErr result (StopsBy (M.disk machine.old) (M.disk machine.new) (λ file place. (M.disk machine.old).tells_files → (payloads : List (List ℕ))
-        → HoldsLog log.now.active log.now.header payloads (M.disk machine.old).reads → (lines : List ℕ) × AreLinesToNone (all_meaning b) log.now.active payloads lines
-        × ((M.disk machine.new).said ≡ (M.disk machine.old).said ++ (line log.now.active 0 33 (header_words log.now.header) ++ lines)))) }
+        → HoldsLog log.now.active log.now.header payloads (M.disk machine.old).reads → (lines : List ℕ) × AreLinesToNone choice (all_meaning b) log.now.active payloads lines
+        × ((M.disk machine.new).said ≡ (M.disk machine.old).said ++ (frame_line choice log.now.active 0 33 (header_words log.now.header) ++ lines)))) }
 {
-    say_header(alloc, machine, log)?;
+    say_header(alloc, machine, choice, log)?;
     let mut payloads = log.reader(alloc, machine)?;
-    say_blocks(alloc, machine, b, &mut payloads)?;
-    say_end(alloc, machine, log.active(), log.used())?;
+    say_blocks(alloc, machine, choice, b, &mut payloads)?;
+    say_end(alloc, machine, choice, log.active(), log.used())?;
     Ok(())
 }
 
@@ -164,36 +189,41 @@ fn end_listing<M: Machine>(
 }
 
 /// Says the log of a store of these bounds, and checks it.
-fn list_log<M: Machine>(alloc: Global, machine: &mut M, b: Bounds) -> Result<(), Stop>
+fn list_log<M: Machine>(
+    alloc: Global,
+    machine: &mut M,
+    choice: Choice,
+    b: Bounds,
+) -> Result<(), Stop>
     ensures runs { OnlySays (M.disk machine.old) (M.disk machine.new) }
     ensures listed { (M.disk machine.old).tells_files → HasStore (M.disk machine.old).reads b
-        → OnOk result (IsListed (M.disk machine.old).reads (M.disk machine.old).said (M.disk machine.new).said) }
+        → OnOk result (IsListed choice (M.disk machine.old).reads (M.disk machine.old).said (M.disk machine.new).said) }
     ensures cause { (M.disk machine.old).tells_files → HasStore (M.disk machine.old).reads b → IfErr result (IsLogStopped (M.disk machine.old).reads) }
-    ensures damage { (M.disk machine.old).tells_files → HasStore (M.disk machine.old).reads b → IfErr result (λ stop. IsDamage stop → (lines : List ℕ) × AreLinesBefore (all_meaning b) (M.disk machine.old).reads lines
+    ensures damage { (M.disk machine.old).tells_files → HasStore (M.disk machine.old).reads b → IfErr result (λ stop. IsDamage stop → (lines : List ℕ) × AreLinesBefore choice (all_meaning b) (M.disk machine.old).reads lines
         × ((M.disk machine.new).said ≡ (M.disk machine.old).said ++ lines)) }
-    ensures front { (M.disk machine.old).tells_files → SaysOfLog (all_meaning b) (M.disk machine.old).reads (M.disk machine.old).said (M.disk machine.new).said }
+    ensures front { (M.disk machine.old).tells_files → SaysOfLog choice (all_meaning b) (M.disk machine.old).reads (M.disk machine.old).said (M.disk machine.new).said }
     ensures faults { IfErr result (CountsStop (M.disk machine.old) (M.disk machine.new)) }
 {
     let log = LogFile::load(alloc, machine)?;
-    let said = say_log(alloc, machine, b, &log);
+    let said = say_log(alloc, machine, choice, b, &log);
     drop(log);
     end_listing(alloc, machine, b, said)?;
     Ok(())
 }
 
 /// The same, and ends with the status that reports it.
-fn list_open<M: Machine>(alloc: Global, machine: &mut M, b: Bounds) -> Status
+fn list_open<M: Machine>(alloc: Global, machine: &mut M, choice: Choice, b: Bounds) -> Status
     ensures keeps { OnlySays (M.disk machine.old) (M.disk machine.new) }
     ensures listed { (M.disk machine.old).tells_files → HasStore (M.disk machine.old).reads b → result ≡ Status.Done
-        → IsListed (M.disk machine.old).reads (M.disk machine.old).said (M.disk machine.new).said }
+        → IsListed choice (M.disk machine.old).reads (M.disk machine.old).said (M.disk machine.new).said }
     ensures a_store { (M.disk machine.old).tells_files → HasStore (M.disk machine.old).reads b → result ≢ Status.NotAStore }
     ensures damaged { (M.disk machine.old).tells_files → HasStore (M.disk machine.old).reads b → result ≡ Status.Damaged
-        → IsDamageSaid (all_meaning b) (M.disk machine.old).reads (M.disk machine.old).said (M.disk machine.new).said }
+        → IsDamageSaid choice (all_meaning b) (M.disk machine.old).reads (M.disk machine.old).said (M.disk machine.new).said }
     ensures front { (M.disk machine.old).tells_files → HasStore (M.disk machine.old).reads b
-        → SaysNoMore (all_meaning b) (M.disk machine.old).reads (M.disk machine.old).said (M.disk machine.new).said }
+        → SaysNoMore choice (all_meaning b) (M.disk machine.old).reads (M.disk machine.old).said (M.disk machine.new).said }
     ensures faults { CountsFaults (M.disk machine.old) (M.disk machine.new) result }
 {
-    match list_log(alloc, machine, b) {
+    match list_log(alloc, machine, choice, b) {
         Ok(()) => Status::Done,
         Err(stop) => end_stopped(alloc, machine, stop),
     }
@@ -201,23 +231,23 @@ fn list_open<M: Machine>(alloc: Global, machine: &mut M, b: Bounds) -> Status
 
 /// Says the log of the store as lines, one for the header, each block, each record, and the end. It writes no file. Where there is
 /// no store it says that; where the files break their format it says the lines before the damage, and its place.
-pub fn list_store<M: Machine>(alloc: Global, machine: &mut M) -> Status
+pub fn list_store<M: Machine>(alloc: Global, machine: &mut M, choice: Choice) -> Status
     // No file changes, at no moment.
     ensures keeps { OnlySays (M.disk machine.old) (M.disk machine.new) }
     // The lines are those of all records that the log holds, in their order, and nothing else.
-    ensures listed { (M.disk machine.old).tells_files → result ≡ Status.Done → IsListed (M.disk machine.old).reads (M.disk machine.old).said (M.disk machine.new).said }
+    ensures listed { (M.disk machine.old).tells_files → result ≡ Status.Done → IsListed choice (M.disk machine.old).reads (M.disk machine.old).said (M.disk machine.new).said }
     ensures no_store { (M.disk machine.old).tells_files → result ≡ Status.NotAStore
         → IsClosedAt 0 ((M.disk machine.old).reads Objects) × ((M.disk machine.new).said ≡ (M.disk machine.old).said ++ not_a_store) }
     // The lines before a damage are those of the records that stand before it, or of all records where it is the number of one.
     ensures damaged { (M.disk machine.old).tells_files → result ≡ Status.Damaged
-        → IsDamageSaid (meaning_of (M.disk machine.old).reads) (M.disk machine.old).reads (M.disk machine.old).said (M.disk machine.new).said }
+        → IsDamageSaid choice (meaning_of (M.disk machine.old).reads) (M.disk machine.old).reads (M.disk machine.old).said (M.disk machine.new).said }
     // With any status no more is said than a front of these lines and of the last one.
-    ensures front { (M.disk machine.old).tells_files → SaysNoMore (meaning_of (M.disk machine.old).reads) (M.disk machine.old).reads (M.disk machine.old).said (M.disk machine.new).said }
+    ensures front { (M.disk machine.old).tells_files → SaysNoMore choice (meaning_of (M.disk machine.old).reads) (M.disk machine.old).reads (M.disk machine.old).said (M.disk machine.new).said }
     // A fault is reported only where the machine counted it: where none was, and memory is not refused, the lines end with one of these.
     ensures faults { CountsFaults (M.disk machine.old) (M.disk machine.new) result }
 {
     match read_bounds(alloc, machine) {
-        Ok(b) => list_open(alloc, machine, b),
+        Ok(b) => list_open(alloc, machine, choice, b),
         Err(stop) => end_stopped(alloc, machine, stop),
     }
 }

@@ -6,12 +6,13 @@ ghost use Rattle.formats.specs.Log.{end_of};
 ghost use Rattle.op_codec.specs.AllOps.{all_meaning};
 ghost use Rattle.tool_output.specs.Faults.{StopsBy};
 ghost use Rattle.redo_log.specs.Fronts.{AreFirstLines, AreLinesToNone, SaysBlockToNone, SaysNone, SaysSomeOfBlock, SaysSomeRecords};
-ghost use Rattle.redo_log.specs.Lines.{line};
+ghost use Rattle.redo_log.specs.Lines.{frame_line};
 ghost use Rattle.tool_output.specs.Saying.{OnlySays};
 ghost use Rattle.redo_log.specs.Reading.{SaysRecord, SaysBlock, SaysBlocks};
 
+use crate::choice::Choice;
 use crate::finding::find_record;
-use crate::lines::{line_of, record_line};
+use crate::lines::{frame_line, record_line};
 use disk_model::Machine;
 use formats::BLOCK_HEAD;
 use log_blocks::PayloadReader;
@@ -23,6 +24,7 @@ use tool_output::{Stop, say_text};
 fn say_record<M: Machine>(
     alloc: Global,
     machine: &mut M,
+    choice: Choice,
     b: Bounds,
     payloads: &mut PayloadReader,
 ) -> Result<(), Stop>
@@ -31,16 +33,23 @@ fn say_record<M: Machine>(
     ensures less { OnOk result ((remaining payloads.new < remaining payloads.old) × (ahead payloads.new ≤ ahead payloads.old)) }
     ensures said { (M.disk machine.old).tells_files → (all passed : List (List ℕ)) (taken : List ℕ) (later : List (List ℕ))
         → IsInLog ((M.disk machine.old).reads payloads.old.file) payloads.old all passed taken later → 0 < remaining payloads.old
-        → OnOk result (SaysRecord (all_meaning b) ((M.disk machine.old).reads payloads.old.file) payloads.old payloads.new all passed taken later (M.disk machine.old).said (M.disk machine.new).said) }
+        → OnOk result (SaysRecord choice (all_meaning b) ((M.disk machine.old).reads payloads.old.file) payloads.old payloads.new all passed taken later (M.disk machine.old).said (M.disk machine.new).said) }
     ensures front { (M.disk machine.old).tells_files → (all passed : List (List ℕ)) (taken : List ℕ) (later : List (List ℕ))
         → IsInLog ((M.disk machine.old).reads payloads.old.file) payloads.old all passed taken later → 0 < remaining payloads.old
-        → OnErr result (SaysSomeRecords (all_meaning b) payloads.old.file (remaining payloads.old) all passed taken later (M.disk machine.old).said (M.disk machine.new).said) }
+        → OnErr result (SaysSomeRecords choice (all_meaning b) payloads.old.file (remaining payloads.old) all passed taken later (M.disk machine.old).said (M.disk machine.new).said) }
     ensures cause { IfErr result (StopsBy (M.disk machine.old) (M.disk machine.new) (λ file place. (M.disk machine.old).tells_files → (all passed : List (List ℕ)) (taken : List ℕ) (later : List (List ℕ))
         → IsInLog ((M.disk machine.old).reads payloads.old.file) payloads.old all passed taken later → 0 < remaining payloads.old
         → SaysNone (all_meaning b) (remaining payloads.old) all passed taken later (M.disk machine.old).said (M.disk machine.new).said)) }
 {
     let (it, length) = find_record(alloc, machine, b, payloads)?;
-    let line = record_line(alloc, payloads.file(), payloads.place(), length as u64, &it)?;
+    let line = record_line(
+        alloc,
+        choice,
+        payloads.file(),
+        payloads.place(),
+        length as u64,
+        &it,
+    )?;
     say_text(machine, line.as_slice())?;
     payloads.take(length);
     Ok(())
@@ -50,19 +59,21 @@ fn say_record<M: Machine>(
 fn say_head<M: Machine>(
     alloc: Global,
     machine: &mut M,
+    choice: Choice,
     payloads: &PayloadReader,
 ) -> Result<(), Stop>
     ensures runs { OnlySays (M.disk machine.old) (M.disk machine.new) }
     ensures said { (M.disk machine.old).tells_files → (all passed later : List (List ℕ))
         → IsInLog ((M.disk machine.old).reads payloads.now.file) payloads.now all passed [] later → 0 < remaining payloads.now
-        → OnOk result ((M.disk machine.new).said ≡ (M.disk machine.old).said ++ line payloads.now.file (end_of passed) (remaining payloads.now) (codes "block")) }
+        → OnOk result ((M.disk machine.new).said ≡ (M.disk machine.old).said ++ frame_line choice payloads.now.file (end_of passed) (remaining payloads.now) (codes "block")) }
     ensures front { (M.disk machine.old).tells_files → (all passed later : List (List ℕ))
         → IsInLog ((M.disk machine.old).reads payloads.now.file) payloads.now all passed [] later → 0 < remaining payloads.now
-        → SaysFront (line payloads.now.file (end_of passed) (remaining payloads.now) (codes "block")) (M.disk machine.old).said (M.disk machine.new).said }
+        → SaysFront (frame_line choice payloads.now.file (end_of passed) (remaining payloads.now) (codes "block")) (M.disk machine.old).said (M.disk machine.new).said }
     ensures cause { IfErr result (StopsBy (M.disk machine.old) (M.disk machine.new) (λ file place. ⊥)) }
 {
-    let line = line_of(
+    let line = frame_line(
         alloc,
+        choice,
         payloads.file(),
         payloads.place().saturating_sub(BLOCK_HEAD as u64),
         payloads.remaining(),
@@ -76,6 +87,7 @@ fn say_head<M: Machine>(
 fn say_block<M: Machine>(
     alloc: Global,
     machine: &mut M,
+    choice: Choice,
     b: Bounds,
     payloads: &mut PayloadReader,
 ) -> Result<(), Stop>
@@ -84,20 +96,20 @@ fn say_block<M: Machine>(
     ensures less { OnOk result ((remaining payloads.new ≡ 0) × (ahead payloads.new ≤ ahead payloads.old)) }
     ensures said { (M.disk machine.old).tells_files → (all passed later : List (List ℕ))
         → IsInLog ((M.disk machine.old).reads payloads.old.file) payloads.old all passed [] later → 0 < remaining payloads.old
-        → OnOk result (SaysBlock (all_meaning b) ((M.disk machine.old).reads payloads.old.file) payloads.old payloads.new all passed later (M.disk machine.old).said (M.disk machine.new).said) }
+        → OnOk result (SaysBlock choice (all_meaning b) ((M.disk machine.old).reads payloads.old.file) payloads.old payloads.new all passed later (M.disk machine.old).said (M.disk machine.new).said) }
     ensures front { (M.disk machine.old).tells_files → (all passed later : List (List ℕ))
         → IsInLog ((M.disk machine.old).reads payloads.old.file) payloads.old all passed [] later → 0 < remaining payloads.old
-        → OnErr result (SaysSomeOfBlock (all_meaning b) payloads.old.file all passed later (M.disk machine.old).said (M.disk machine.new).said) }
+        → OnErr result (SaysSomeOfBlock choice (all_meaning b) payloads.old.file all passed later (M.disk machine.old).said (M.disk machine.new).said) }
     ensures cause { IfErr result (StopsBy (M.disk machine.old) (M.disk machine.new) (λ file place. (M.disk machine.old).tells_files → (all passed later : List (List ℕ))
         → IsInLog ((M.disk machine.old).reads payloads.old.file) payloads.old all passed [] later → 0 < remaining payloads.old
-        → SaysBlockToNone (all_meaning b) payloads.old.file all passed later (M.disk machine.old).said (M.disk machine.new).said)) }
+        → SaysBlockToNone choice (all_meaning b) payloads.old.file all passed later (M.disk machine.old).said (M.disk machine.new).said)) }
 {
-    say_head(alloc, machine, payloads)?;
+    say_head(alloc, machine, choice, payloads)?;
     loop {
         if payloads.remaining() == 0 {
             return Ok(());
         }
-        say_record(alloc, machine, b, payloads)?;
+        say_record(alloc, machine, choice, b, payloads)?;
     }
 }
 
@@ -105,23 +117,24 @@ fn say_block<M: Machine>(
 pub fn say_blocks<M: Machine>(
     alloc: Global,
     machine: &mut M,
+    choice: Choice,
     b: Bounds,
     payloads: &mut PayloadReader,
 ) -> Result<(), Stop>
     requires { remaining payloads.old ≡ 0 }
     ensures runs { OnlySays (M.disk machine.old) (M.disk machine.new) }
     ensures said { (M.disk machine.old).tells_files → (all : List (List ℕ)) → IsInLog ((M.disk machine.old).reads payloads.old.file) payloads.old all [] [] all
-        → OnOk result (SaysBlocks (all_meaning b) payloads.old all (M.disk machine.old).said (M.disk machine.new).said) }
+        → OnOk result (SaysBlocks choice (all_meaning b) payloads.old all (M.disk machine.old).said (M.disk machine.new).said) }
     ensures front { (M.disk machine.old).tells_files → (all : List (List ℕ)) → IsInLog ((M.disk machine.old).reads payloads.old.file) payloads.old all [] [] all
-        → OnErr result ((text : List ℕ) × AreFirstLines (all_meaning b) payloads.old.file all text × SaysFront text (M.disk machine.old).said (M.disk machine.new).said) }
+        → OnErr result ((text : List ℕ) × AreFirstLines choice (all_meaning b) payloads.old.file all text × SaysFront text (M.disk machine.old).said (M.disk machine.new).said) }
     ensures cause { IfErr result (StopsBy (M.disk machine.old) (M.disk machine.new) (λ file place. (M.disk machine.old).tells_files → (all : List (List ℕ))
         → IsInLog ((M.disk machine.old).reads payloads.old.file) payloads.old all [] [] all
-        → (text : List ℕ) × AreLinesToNone (all_meaning b) payloads.old.file all text × ((M.disk machine.new).said ≡ (M.disk machine.old).said ++ text))) }
+        → (text : List ℕ) × AreLinesToNone choice (all_meaning b) payloads.old.file all text × ((M.disk machine.new).said ≡ (M.disk machine.old).said ++ text))) }
 {
     loop {
         if !payloads.next_payload(machine)? {
             return Ok(());
         }
-        say_block(alloc, machine, b, payloads)?;
+        say_block(alloc, machine, choice, b, payloads)?;
     }
 }

@@ -1,5 +1,6 @@
 //! What the tools that look at a store have in common, `redo_log` and `redo_check`: they say text and write no file, they stop for
-//! the same causes, they end with the same last lines and statuses, and as programs they lock the folder ([`run_tool`]).
+//! the same causes, they end with the same last lines and statuses, and as programs they lock the folder ([`run_tool`]), or look at
+//! it without a lock and without the right to write ([`run_glance`]).
 //!
 //! The contracts are those of `say_text`, of which no more than a front is said; of `end_with`, `end_damaged` and `end_stopped`,
 //! which say the last line; what the files are where a tool goes on, and where it stops (specs/Found.antt, FoundLaws.antt); and the
@@ -9,6 +10,8 @@
 #![tactic(auto)]
 
 mod ending;
+mod glance;
+mod glance_machine;
 mod program;
 mod saying;
 mod status;
@@ -16,7 +19,8 @@ mod stop;
 mod text;
 
 pub use ending::{end_damaged, end_stopped, end_with};
-pub use program::{Tool, run_tool};
+pub use glance::run_glance;
+pub use program::{Tool, run_tool, words};
 pub use saying::say_text;
 pub use status::Status;
 pub use stop::Stop;

@@ -51,7 +51,7 @@ pub returns-clause-listed : goal.returns-clause-listed
 returns-clause-listed g c told store =
     let first = g.M.Machine.disk c.args.machine.now in
     let found = c.in_ok-log.ensures.read first.reads (told_agrees c.load.ensures.kept told) in
-    listed first (g.M.Machine.disk c.load.new.machine) (g.M.Machine.disk c.say_log-said.new.machine) (g.M.Machine.disk c.end_listing.new.machine) c.args.b _ _ found.0 told store c.load.ensures.kept c.say_log-said.ensures.runs c.end_listing.ensures.kept found.1
+    listed c.args.choice first (g.M.Machine.disk c.load.new.machine) (g.M.Machine.disk c.say_log-said.new.machine) (g.M.Machine.disk c.end_listing.new.machine) c.args.b _ _ found.0 told store c.load.ensures.kept c.say_log-said.ensures.runs c.end_listing.ensures.kept found.1
     (λ told_mid holds. on_ok c.say_log-said.result _ c.in_ok-end_listing.ensures.all (c.say_log-said.ensures.said told_mid found.0 holds found.2 found.3)) c.in_ok-end_listing.ensures.whole
 
 pub returns-in_err-log-clause-faults : goal.returns-in_err-log-clause-faults
@@ -65,7 +65,7 @@ pub returns-in_err-log-clause-damage : goal.returns-in_err-log-clause-damage
 returns-in_err-log-clause-damage g c told store =
     let first = g.M.Machine.disk c.args.machine.now in
     stopped_by c.from_residual.result (stop_from_read c.in_err-log.field-0.0) _ c.from_residual.ensures.1
-    (logs_fault (all_meaning c.args.b) first.reads first.said (g.M.Machine.disk c.load.new.machine).said _ _ c.in_err-log.field-0.0 (λ file place is. is first.reads (told_agrees c.load.ensures.kept told)) store.0 (c.load.ensures.kept.said told) c.in_err-log.ensures.cause)
+    (logs_fault c.args.choice (all_meaning c.args.b) first.reads first.said (g.M.Machine.disk c.load.new.machine).said _ _ c.in_err-log.field-0.0 (λ file place is. is first.reads (told_agrees c.load.ensures.kept told)) store.0 (c.load.ensures.kept.said told) c.in_err-log.ensures.cause)
 
 pub returns-in_err-log-clause-front : goal.returns-in_err-log-clause-front
 returns-in_err-log-clause-front g c told = inl (c.load.ensures.kept.said told)
@@ -75,19 +75,19 @@ returns-in_err-end_listing-clause-damage g c told store =
     let first = g.M.Machine.disk c.args.machine.now in
     let found = c.in_ok-log.ensures.read first.reads (told_agrees c.load.ensures.kept told) in
     stopped_by c.from_residual-in_err-end_listing.result c.in_err-end_listing.field-0.0 _ c.from_residual-in_err-end_listing.ensures.1
-    (λ damage. log_damage (all_meaning c.args.b) first (g.M.Machine.disk c.load.new.machine) (g.M.Machine.disk c.say_log-said.new.machine) (g.M.Machine.disk c.end_listing.new.machine) c.in_ok-log.log.active c.in_ok-log.log.header found.0 c.say_log-said.result told c.load.ensures.kept c.say_log-said.ensures.runs c.end_listing.ensures.kept store.0 found.1
+    (λ damage. log_damage c.args.choice (all_meaning c.args.b) first (g.M.Machine.disk c.load.new.machine) (g.M.Machine.disk c.say_log-said.new.machine) (g.M.Machine.disk c.end_listing.new.machine) c.in_ok-log.log.active c.in_ok-log.log.header found.0 c.say_log-said.result told c.load.ensures.kept c.say_log-said.ensures.runs c.end_listing.ensures.kept store.0 found.1
     (c.in_err-end_listing.ensures.damage damage) (λ told_mid holds. c.say_log-said.ensures.said told_mid found.0 holds found.2 found.3) c.say_log-said.ensures.cause)
 
 pub returns-in_err-end_listing-clause-front : goal.returns-in_err-end_listing-clause-front
 returns-in_err-end_listing-clause-front g c told =
     let first = g.M.Machine.disk c.args.machine.now in
     let found = c.in_ok-log.ensures.read first.reads (told_agrees c.load.ensures.kept told) in
-    inr (log_part (all_meaning c.args.b) first (g.M.Machine.disk c.load.new.machine) (g.M.Machine.disk c.say_log-said.new.machine) (g.M.Machine.disk c.end_listing.new.machine) c.in_ok-log.log.active c.in_ok-log.log.header found.0 c.say_log-said.result told c.load.ensures.kept c.say_log-said.ensures.runs c.end_listing.ensures.kept found.1
+    inr (log_part c.args.choice (all_meaning c.args.b) first (g.M.Machine.disk c.load.new.machine) (g.M.Machine.disk c.say_log-said.new.machine) (g.M.Machine.disk c.end_listing.new.machine) c.in_ok-log.log.active c.in_ok-log.log.header found.0 c.say_log-said.result told c.load.ensures.kept c.say_log-said.ensures.runs c.end_listing.ensures.kept found.1
     (λ told_mid holds. c.say_log-said.ensures.said told_mid found.0 holds found.2 found.3) (λ told_mid holds. c.say_log-said.ensures.front told_mid found.0 holds found.2 found.3))
 
 pub returns-clause-front : goal.returns-clause-front
 returns-clause-front g c told =
     let first = g.M.Machine.disk c.args.machine.now in
     let found = c.in_ok-log.ensures.read first.reads (told_agrees c.load.ensures.kept told) in
-    inr (log_part (all_meaning c.args.b) first (g.M.Machine.disk c.load.new.machine) (g.M.Machine.disk c.say_log-said.new.machine) (g.M.Machine.disk c.end_listing.new.machine) c.in_ok-log.log.active c.in_ok-log.log.header found.0 c.say_log-said.result told c.load.ensures.kept c.say_log-said.ensures.runs c.end_listing.ensures.kept found.1
+    inr (log_part c.args.choice (all_meaning c.args.b) first (g.M.Machine.disk c.load.new.machine) (g.M.Machine.disk c.say_log-said.new.machine) (g.M.Machine.disk c.end_listing.new.machine) c.in_ok-log.log.active c.in_ok-log.log.header found.0 c.say_log-said.result told c.load.ensures.kept c.say_log-said.ensures.runs c.end_listing.ensures.kept found.1
     (λ told_mid holds. c.say_log-said.ensures.said told_mid found.0 holds found.2 found.3) (λ told_mid holds. c.say_log-said.ensures.front told_mid found.0 holds found.2 found.3))

@@ -36,9 +36,9 @@ pub returns-in-Err-clause-faults : goal.returns-in-Err-clause-faults
 returns-in-Err-clause-faults g c = stopped_counted (g.M.Machine.disk c.args.machine.now) (g.M.Machine.disk c.list_log.new.machine) (g.M.Machine.disk c.end_stopped.new.machine) c.in-Err.stop c.end_stopped.result c.list_log.ensures.runs.time c.end_stopped.ensures.runs.time c.in-Err.ensures.faults c.end_stopped.ensures.faults
 
 pub returns-in-Ok-clause-front : goal.returns-in-Ok-clause-front
-returns-in-Ok-clause-front g c told store = no_last (all_meaning c.args.b) (g.M.Machine.disk c.args.machine.now).reads _ _ store.0 (c.list_log.ensures.front told)
+returns-in-Ok-clause-front g c told store = no_last c.args.choice (all_meaning c.args.b) (g.M.Machine.disk c.args.machine.now).reads _ _ store.0 (c.list_log.ensures.front told)
 
 pub returns-in-Err-clause-front : goal.returns-in-Err-clause-front
 returns-in-Err-clause-front g c told store =
-    stopped_part (all_meaning c.args.b) (g.M.Machine.disk c.args.machine.now).reads _ _ _ c.in-Err.stop store.0 (c.in-Err.ensures.cause told store) (c.list_log.ensures.front told) (c.in-Err.ensures.damage told store)
+    stopped_part c.args.choice (all_meaning c.args.b) (g.M.Machine.disk c.args.machine.now).reads _ _ _ c.in-Err.stop store.0 (c.in-Err.ensures.cause told store) (c.list_log.ensures.front told) (c.in-Err.ensures.damage told store)
     (c.end_stopped.ensures.front (c.list_log.ensures.runs.time.files_told.0 told))

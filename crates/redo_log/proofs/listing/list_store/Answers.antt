@@ -23,7 +23,7 @@ returns-in-Ok-clause-listed g c told done =
     let mid = g.M.Machine.disk c.read_bounds.new.machine in
     let new = g.M.Machine.disk c.list_open.new.machine in
     let store = subst (λ (f : Files). HasStore f c.in-Ok.b) (sym (kept.reads told)) (c.in-Ok.ensures.whole told) in
-    subst (λ (f : Files). IsListed f first.said new.said) (kept.reads told) (subst (λ (s : List ℕ). IsListed mid.reads s new.said) (kept.said told) (c.list_open.ensures.listed (kept.time.files_told.0 told) store done))
+    subst (λ (f : Files). IsListed c.args.choice f first.said new.said) (kept.reads told) (subst (λ (s : List ℕ). IsListed c.args.choice mid.reads s new.said) (kept.said told) (c.list_open.ensures.listed (kept.time.files_told.0 told) store done))
 
 pub returns-in-Ok-clause-no_store : goal.returns-in-Ok-clause-no_store
 returns-in-Ok-clause-no_store g c told none =
@@ -39,8 +39,8 @@ returns-in-Ok-clause-damaged g c told done =
     let new = g.M.Machine.disk c.list_open.new.machine in
     let store = subst (λ (f : Files). HasStore f c.in-Ok.b) (sym (kept.reads told)) (c.in-Ok.ensures.whole told) in
     let m = all_meaning c.in-Ok.b in
-    subst (λ (b : Bounds). IsDamageSaid (all_meaning b) first.reads first.said new.said) (c.in-Ok.ensures.whole told).1
-    (subst (λ (f : Files). IsDamageSaid m f first.said new.said) (kept.reads told) (subst (λ (s : List ℕ). IsDamageSaid m mid.reads s new.said) (kept.said told) (c.list_open.ensures.damaged (kept.time.files_told.0 told) store done)))
+    subst (λ (b : Bounds). IsDamageSaid c.args.choice (all_meaning b) first.reads first.said new.said) (c.in-Ok.ensures.whole told).1
+    (subst (λ (f : Files). IsDamageSaid c.args.choice m f first.said new.said) (kept.reads told) (subst (λ (s : List ℕ). IsDamageSaid c.args.choice m mid.reads s new.said) (kept.said told) (c.list_open.ensures.damaged (kept.time.files_told.0 told) store done)))
 
 pub returns-in-Err-clause-keeps : goal.returns-in-Err-clause-keeps
 returns-in-Err-clause-keeps g c = says_then (says_nothing c.read_bounds.ensures.kept) c.end_stopped.ensures.runs
@@ -84,11 +84,11 @@ returns-in-Ok-clause-front g c told =
     let new = g.M.Machine.disk c.list_open.new.machine in
     let m = all_meaning c.in-Ok.b in
     let store = subst (λ (f : Files). HasStore f c.in-Ok.b) (sym (kept.reads told)) (c.in-Ok.ensures.whole told) in
-    subst (λ (b : Bounds). SaysNoMore (all_meaning b) first.reads first.said new.said) (c.in-Ok.ensures.whole told).1
-    (subst (λ (f : Files). SaysNoMore m f first.said new.said) (kept.reads told) (subst (λ (s : List ℕ). SaysNoMore m mid.reads s new.said) (kept.said told) (c.list_open.ensures.front (kept.time.files_told.0 told) store)))
+    subst (λ (b : Bounds). SaysNoMore c.args.choice (all_meaning b) first.reads first.said new.said) (c.in-Ok.ensures.whole told).1
+    (subst (λ (f : Files). SaysNoMore c.args.choice m f first.said new.said) (kept.reads told) (subst (λ (s : List ℕ). SaysNoMore c.args.choice m mid.reads s new.said) (kept.said told) (c.list_open.ensures.front (kept.time.files_told.0 told) store)))
 
 pub returns-in-Err-clause-front : goal.returns-in-Err-clause-front
 returns-in-Err-clause-front g c told =
     let kept = c.read_bounds.ensures.kept in
     let files = (g.M.Machine.disk c.args.machine.now).reads in
-    unopened_part (meaning_of files) files _ _ _ c.in-Err.stop (c.in-Err.ensures.cause told) (c.in-Err.ensures.damage told) (kept.said told) (c.end_stopped.ensures.front (kept.time.files_told.0 told))
+    unopened_part c.args.choice (meaning_of files) files _ _ _ c.in-Err.stop (c.in-Err.ensures.cause told) (c.in-Err.ensures.damage told) (kept.said told) (c.end_stopped.ensures.front (kept.time.files_told.0 told))

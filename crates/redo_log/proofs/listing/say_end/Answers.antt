@@ -1,7 +1,7 @@
 use Rattle.std.proofs.Common.{◌++◌, ◌∙◌, ℕ, ap, drop}
 use Rattle.std.specs.Prelude.{codes}
 use Rattle.disk_model.specs.Moments.{told_agrees}
-use Rattle.redo_log.specs.Lines.{line, used}
+use Rattle.redo_log.specs.Lines.{frame_line, line, used}
 use Rattle.tool_output.specs.Saying.{says_front, says_nothing, says_then}
 use Rattle.tool_output.specs.Stops.{stop_from_read}
 use Rattle.tool_output.specs.FaultLaws.{read_stops, stops_first, stops_later}
@@ -24,7 +24,7 @@ pub returns-clause-said : goal.returns-clause-said
 returns-clause-said g c told =
     let first = g.M.Machine.disk c.args.machine.now in
     let kept = c.left_behind.ensures.kept in
-    let text = c.as_slice.ensures.value ∙ c.in_ok-line.ensures ∙ ap (λ (k : ℕ). line c.args.file c.args.end k (codes "end")) (c.in_ok-left.ensures.left first.reads (told_agrees kept told)) in
+    let text = c.as_slice.ensures.value ∙ c.in_ok-line.ensures ∙ ap (λ (k : ℕ). frame_line c.args.choice c.args.file c.args.end k (codes "end")) (c.in_ok-left.ensures.left first.reads (told_agrees kept told)) in
     c.in_ok-say_text.ensures.all (kept.time.files_told.0 told) ∙ λ i. kept.said told i ++ text i
 
 pub returns-in_err-left-clause-cause : goal.returns-in_err-left-clause-cause
@@ -37,24 +37,24 @@ pub returns-in_err-left-clause-front : goal.returns-in_err-left-clause-front
 returns-in_err-left-clause-front g c told =
     let first = g.M.Machine.disk c.args.machine.now in
     let kept = c.left_behind.ensures.kept in
-    nothing_said (line c.args.file c.args.end (used (drop c.args.end (first.reads c.args.file))) (codes "end")) _ _ (kept.said told)
+    nothing_said (frame_line c.args.choice c.args.file c.args.end (used (drop c.args.end (first.reads c.args.file))) (codes "end")) _ _ (kept.said told)
 
 pub returns-in_err-line-clause-front : goal.returns-in_err-line-clause-front
 returns-in_err-line-clause-front g c told =
     let first = g.M.Machine.disk c.args.machine.now in
     let kept = c.left_behind.ensures.kept in
-    nothing_said (line c.args.file c.args.end (used (drop c.args.end (first.reads c.args.file))) (codes "end")) _ _ (kept.said told)
+    nothing_said (frame_line c.args.choice c.args.file c.args.end (used (drop c.args.end (first.reads c.args.file))) (codes "end")) _ _ (kept.said told)
 
 pub returns-in_err-say_text-clause-front : goal.returns-in_err-say_text-clause-front
 returns-in_err-say_text-clause-front g c told =
     let first = g.M.Machine.disk c.args.machine.now in
     let kept = c.left_behind.ensures.kept in
-    let text = c.as_slice.ensures.value ∙ c.in_ok-line.ensures ∙ ap (λ (k : ℕ). line c.args.file c.args.end k (codes "end")) (c.in_ok-left.ensures.left first.reads (told_agrees kept told)) in
+    let text = c.as_slice.ensures.value ∙ c.in_ok-line.ensures ∙ ap (λ (k : ℕ). frame_line c.args.choice c.args.file c.args.end k (codes "end")) (c.in_ok-left.ensures.left first.reads (told_agrees kept told)) in
     front_at _ _ _ _ _ text (kept.said told) (c.say_text.ensures.runs.said (kept.time.files_told.0 told))
 
 pub returns-clause-front : goal.returns-clause-front
 returns-clause-front g c told =
     let first = g.M.Machine.disk c.args.machine.now in
     let kept = c.left_behind.ensures.kept in
-    let text = c.as_slice.ensures.value ∙ c.in_ok-line.ensures ∙ ap (λ (k : ℕ). line c.args.file c.args.end k (codes "end")) (c.in_ok-left.ensures.left first.reads (told_agrees kept told)) in
+    let text = c.as_slice.ensures.value ∙ c.in_ok-line.ensures ∙ ap (λ (k : ℕ). frame_line c.args.choice c.args.file c.args.end k (codes "end")) (c.in_ok-left.ensures.left first.reads (told_agrees kept told)) in
     front_at _ _ _ _ _ text (kept.said told) (c.say_text.ensures.runs.said (kept.time.files_told.0 told))

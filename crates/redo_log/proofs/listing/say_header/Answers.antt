@@ -1,6 +1,6 @@
 use Rattle.std.proofs.Common.{◌++◌, ◌∙◌, List, ℕ, ap, refl}
 use Rattle.disk_model.specs.Moments.{stays_here}
-use Rattle.redo_log.specs.Lines.{header_words, line}
+use Rattle.redo_log.specs.Lines.{frame_line, header_words, line}
 use Rattle.tool_output.specs.Saying.{says_front, says_nothing}
 use Rattle.tool_output.specs.FaultLaws.{stops_first}
 use Rattle.tool_output.specs.FrontLaws.{front_at, nothing_said}
@@ -17,21 +17,21 @@ returns-clause-runs g c = says_front _ c.say_text.ensures.runs
 
 pub returns-clause-said : goal.returns-clause-said
 returns-clause-said g c told =
-    let text = c.as_slice.ensures.value ∙ c.in_ok-line.ensures ∙ λ i. line (c.active.ensures i) 0 33 (header_words (record { epoch = c.epoch.ensures i; base = c.base.ensures i; commands = c.commands.ensures i })) in
+    let text = c.as_slice.ensures.value ∙ c.in_ok-line.ensures ∙ λ i. frame_line c.args.choice (c.active.ensures i) 0 33 (header_words (record { epoch = c.epoch.ensures i; base = c.base.ensures i; commands = c.commands.ensures i })) in
     c.in_ok-say_text.ensures.all told ∙ ap (λ (l : List ℕ). (g.M.Machine.disk c.args.machine.now).said ++ l) text
 
 pub returns-in_err-say_text-clause-cause : goal.returns-in_err-say_text-clause-cause
 returns-in_err-say_text-clause-cause g c = stops_first (g.M.Machine.disk c.args.machine.now) (g.M.Machine.disk c.say_text.new.machine) _ _ c.from_residual-in_err-say_text.result c.in_err-say_text.field-0.0 (λ file place none. absurd none) c.from_residual-in_err-say_text.ensures.1 c.in_err-say_text.ensures.cause
 
 pub returns-in_err-line-clause-front : goal.returns-in_err-line-clause-front
-returns-in_err-line-clause-front g c told = nothing_said (line c.args.log.now.active 0 33 (header_words c.args.log.now.header)) _ _ refl
+returns-in_err-line-clause-front g c told = nothing_said (frame_line c.args.choice c.args.log.now.active 0 33 (header_words c.args.log.now.header)) _ _ refl
 
 pub returns-in_err-say_text-clause-front : goal.returns-in_err-say_text-clause-front
 returns-in_err-say_text-clause-front g c told =
-    let text = c.as_slice.ensures.value ∙ c.in_ok-line.ensures ∙ λ i. line (c.active.ensures i) 0 33 (header_words (record { epoch = c.epoch.ensures i; base = c.base.ensures i; commands = c.commands.ensures i })) in
+    let text = c.as_slice.ensures.value ∙ c.in_ok-line.ensures ∙ λ i. frame_line c.args.choice (c.active.ensures i) 0 33 (header_words (record { epoch = c.epoch.ensures i; base = c.base.ensures i; commands = c.commands.ensures i })) in
     front_at _ _ _ _ _ text refl (c.say_text.ensures.runs.said told)
 
 pub returns-clause-front : goal.returns-clause-front
 returns-clause-front g c told =
-    let text = c.as_slice.ensures.value ∙ c.in_ok-line.ensures ∙ λ i. line (c.active.ensures i) 0 33 (header_words (record { epoch = c.epoch.ensures i; base = c.base.ensures i; commands = c.commands.ensures i })) in
+    let text = c.as_slice.ensures.value ∙ c.in_ok-line.ensures ∙ λ i. frame_line c.args.choice (c.active.ensures i) 0 33 (header_words (record { epoch = c.epoch.ensures i; base = c.base.ensures i; commands = c.commands.ensures i })) in
     front_at _ _ _ _ _ text refl (c.say_text.ensures.runs.said told)

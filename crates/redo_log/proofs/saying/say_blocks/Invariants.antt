@@ -4,7 +4,7 @@ use Rattle.redo_log.proofs.ReadLemmas.{IsSayingBlocks}
 use Rattle.redo_log.proofs.saying.say_blocks.Given as goal
 
 abbrev pub invariant-loop-alloc : goal.invariant-loop-alloc
-invariant-loop-alloc g l = IsSayingBlocks (all_meaning l.fn.b) (g.M.Machine.disk l.fn.machine) (g.M.Machine.disk l.machine) l.fn.payloads l.payloads
+invariant-loop-alloc g l = IsSayingBlocks l.fn.choice (all_meaning l.fn.b) (g.M.Machine.disk l.fn.machine) (g.M.Machine.disk l.machine) l.fn.payloads l.payloads
 
 abbrev pub decreases-loop-alloc : goal.decreases-loop-alloc
 decreases-loop-alloc g l = ahead l.payloads

@@ -41,10 +41,10 @@ returns-clause-said g c told all passed taken later is some =
     let first = g.M.Machine.disk c.args.machine.now in
     let kept = c.find_record.ensures.kept in
     let found = c.in_ok-it.ensures.found in
-    says_record (all_meaning c.args.b) first (g.M.Machine.disk c.find_record.new.machine) (g.M.Machine.disk c.say_text.new.machine) c.args.payloads.now c.find_record.new.payloads c.take.new.self all passed taken later
+    says_record c.args.choice (all_meaning c.args.b) first (g.M.Machine.disk c.find_record.new.machine) (g.M.Machine.disk c.say_text.new.machine) c.args.payloads.now c.find_record.new.payloads c.take.new.self all passed taken later
     c.in_ok-it.it c.file.result c.in_ok-it.length c.place.result _ told kept c.find_record.ensures.file c.in_ok-it.ensures.all.0 found.0 found.1 some
     (c.in_ok-it.ensures.read first.reads (told_agrees kept told) all passed taken later is) c.take.ensures.read c.take.ensures.took c.file.ensures c.place.ensures
-    (c.as_slice.ensures.value ∙ c.in_ok-line.ensures) (c.in_ok-say_text.ensures.all (kept.time.files_told.0 told))
+    (c.as_slice.ensures.value ∙ c.in_ok-line.ensures c.args.b) (c.in_ok-say_text.ensures.all (kept.time.files_told.0 told))
 
 pub returns-in_err-it-clause-cause : goal.returns-in_err-it-clause-cause
 returns-in_err-it-clause-cause g c = stops_first (g.M.Machine.disk c.args.machine.now) (g.M.Machine.disk c.find_record.new.machine) _ _ c.from_residual.result c.in_err-it.field-0.0 (λ file place finds. none_found (all_meaning c.args.b) (g.M.Machine.disk c.args.machine.now) (g.M.Machine.disk c.find_record.new.machine) c.args.payloads.now c.find_record.new.payloads c.find_record.ensures.kept c.find_record.ensures.file finds) c.from_residual.ensures.1 c.in_err-it.ensures.cause
@@ -55,12 +55,12 @@ returns-in_err-say_text-clause-cause g c = stops_later (g.M.Machine.disk c.args.
 pub returns-in_err-it-clause-front : goal.returns-in_err-it-clause-front
 returns-in_err-it-clause-front g c told all passed taken later is some =
     let first = g.M.Machine.disk c.args.machine.now in
-    on_any c.from_residual.result (no_record (all_meaning c.args.b) (first.reads c.args.payloads.now.file) c.args.payloads.now all passed taken later first.said (g.M.Machine.disk c.find_record.new.machine).said is (c.find_record.ensures.kept.said told))
+    on_any c.from_residual.result (no_record c.args.choice (all_meaning c.args.b) (first.reads c.args.payloads.now.file) c.args.payloads.now all passed taken later first.said (g.M.Machine.disk c.find_record.new.machine).said is (c.find_record.ensures.kept.said told))
 
 pub returns-in_err-line-clause-front : goal.returns-in_err-line-clause-front
 returns-in_err-line-clause-front g c told all passed taken later is some =
     let first = g.M.Machine.disk c.args.machine.now in
-    on_any c.from_residual-in_err-line.result (no_record (all_meaning c.args.b) (first.reads c.args.payloads.now.file) c.args.payloads.now all passed taken later first.said (g.M.Machine.disk c.find_record.new.machine).said is (c.find_record.ensures.kept.said told))
+    on_any c.from_residual-in_err-line.result (no_record c.args.choice (all_meaning c.args.b) (first.reads c.args.payloads.now.file) c.args.payloads.now all passed taken later first.said (g.M.Machine.disk c.find_record.new.machine).said is (c.find_record.ensures.kept.said told))
 
 pub returns-in_err-say_text-clause-front : goal.returns-in_err-say_text-clause-front
 returns-in_err-say_text-clause-front g c told all passed taken later is some =
@@ -68,6 +68,6 @@ returns-in_err-say_text-clause-front g c told all passed taken later is some =
     let kept = c.find_record.ensures.kept in
     let searched = c.find_record.new.payloads in
     let found = c.in_ok-it.ensures.found in
-    on_any c.from_residual-in_err-say_text.result (one_record (all_meaning c.args.b) (first.reads searched.file) c.args.payloads.now searched all passed taken later c.in_ok-it.it c.file.result c.in_ok-it.length c.place.result _
+    on_any c.from_residual-in_err-say_text.result (one_record c.args.choice (all_meaning c.args.b) (first.reads searched.file) c.args.payloads.now searched all passed taken later c.in_ok-it.it c.file.result c.in_ok-it.length c.place.result _
     first.said (g.M.Machine.disk c.find_record.new.machine).said (g.M.Machine.disk c.say_text.new.machine).said found.0 found.1 c.in_ok-it.ensures.all.0 (c.file.ensures ∙ c.find_record.ensures.file) some
-    (c.in_ok-it.ensures.read first.reads (told_agrees kept told) all passed taken later is) c.place.ensures (c.as_slice.ensures.value ∙ c.in_ok-line.ensures) (kept.said told) (c.say_text.ensures.runs.said (kept.time.files_told.0 told)))
+    (c.in_ok-it.ensures.read first.reads (told_agrees kept told) all passed taken later is) c.place.ensures (c.as_slice.ensures.value ∙ c.in_ok-line.ensures c.args.b) (kept.said told) (c.say_text.ensures.runs.said (kept.time.files_told.0 told)))

@@ -1,0 +1,10 @@
+use crate::choice::Choice;
+
+/// What the words ask.
+#[derive(Clone, Copy, Debug, PartialEq, Eq)]
+pub struct Asked {
+    /// The records that are listed.
+    pub choice: Choice,
+    /// Without a lock, while another program may use the store.
+    pub glance: bool,
+}
