@@ -13,7 +13,7 @@ extern "C" {
 #endif
 
 /* Of this header: greater where something was added, which never changes what was there. */
-#define REDO_VERSION 3
+#define REDO_VERSION 4
 uint32_t redo_version(void);            /* of the library that runs */
 size_t redo_handle_size(void);          /* sizeof(redo_t) in it, which is 128 in all versions */
 
@@ -34,7 +34,7 @@ typedef struct redo {
     redo_files_t copy_;
     redo_core_t target_;
     const struct redo *self_;
-    uint32_t forks_, spare_;
+    uint32_t forks_, upkeep_;
 } redo_t;
 #ifdef __cplusplus
 #define REDO_CLOSED {}
@@ -45,8 +45,8 @@ typedef struct redo {
 /* The answers: 0, or why a call was not done. A number is never used again for something else. Below 32 the store or the machine
  * speaks (numbers below 16 are the statuses of the program, which ends with 3 in the place of 6), from 32 on a command is refused,
  * and from 64 on a call is misused. What is refused or misused has changed nothing; of a call that is several commands (maps, hash
- * files, runs of an application) those before the refusal stay. An install, a drain, a checkpoint or a trim that is answered with
- * REDO_LOG_FULL or REDO_MEMORY may have done a part of its work, which changes no value, and may be called again. After
+ * files, runs of an application) those before the refusal stay. An install, a tend, a drain, a checkpoint or a trim that is answered
+ * with REDO_LOG_FULL or REDO_MEMORY may have done a part of its work, which changes no value, and may be called again. After
  * REDO_DISK_FAULT a handle answers that until it is closed. */
 enum {
     REDO_OK = 0,
@@ -61,10 +61,12 @@ enum {
     REDO_LOG_FULL = 16,      /* detail: bytes used, bytes needed, limit; redo_drain and redo_trim make room */
     REDO_EXHAUSTED = 17,     /* no number is left for a command; detail: the last one */
     REDO_IN_GROUP = 18,      /* not within a group; detail: how many commands it has */
-    REDO_NO_GROUP = 19,      /* redo_end: no group is open */
+    REDO_NO_GROUP = 19,      /* redo_end, redo_group_abort: no group is open */
     REDO_IN_BACKUP = 20,     /* not while a backup is being made; detail: how many objects are copied */
     REDO_NO_BACKUP = 21,     /* no backup is being made: said before REDO_IN_GROUP */
     REDO_NOT_COPIED = 22,    /* redo_backup_finish: not all objects are copied; detail: how many are */
+    REDO_IN_TXN = 23,        /* not within a transaction */
+    REDO_NO_TXN = 24,        /* redo_txn_commit, redo_txn_abort: no transaction is open */
     REDO_NO_OBJECT = 32,     /* the store has no such object, or the range is none */
     REDO_SAME = 33,          /* the two objects are one */
     REDO_BAD_PLACE = 34,     /* redo_cut: the value is not that long */
@@ -125,12 +127,35 @@ int32_t redo_get(redo_t *db, uint32_t object, void *into, size_t room, uint64_t 
 int32_t redo_force(redo_t *db, uint64_t *commands);     /* all accepted commands are durable: so many since redo_create */
 int32_t redo_install(redo_t *db, uint64_t *installed);  /* one node of the write graph: 1, or 0 where none was left */
 int32_t redo_drain(redo_t *db);                         /* all of them */
+/* A piece of a drain, with four syncs at most for all that it installs together: up to `most` nodes, or one; 0 where none was left. */
+int32_t redo_tend(redo_t *db, uint64_t most, uint64_t *installed);
+/* With `on` the handle keeps up: after a command outside a group and a transaction, and after the end of either, it takes one such
+ * piece, and one trim that leaves at most 1 MiB, where they are due; and a drain and a trim where the log is past three quarters of
+ * its limit still, or has no room for another value. Of that nothing is told but REDO_DISK_FAULT, which is the answer of the command
+ * then. */
+int32_t redo_upkeep(redo_t *db, int32_t on);
 int32_t redo_checkpoint(redo_t *db);                    /* logs where a restart begins */
 int32_t redo_trim(redo_t *db);                          /* rewrites the log without the records that no restart needs */
 
 /* A group: of the commands between the two a crash leaves all or none. redo_begin forces first; redo_end forces nothing. */
 int32_t redo_begin(redo_t *db);
 int32_t redo_end(redo_t *db);
+/* The same, where the log has room for records of so many bytes: else REDO_LOG_FULL at once, and nothing is done. No command of the
+ * group is REDO_LOG_FULL then as long as their records are no longer (docs/LIBRARY.md says how long they are). */
+int32_t redo_begin_room(redo_t *db, uint64_t bytes);
+/* Gives up the open group: its commands are gone, in memory and on the disk, and those before it are there, and durable. The store
+ * is opened again in memory for that, and a backup that is being made is given up. Where it fails, for want of memory or with a
+ * file, the answer is REDO_DISK_FAULT, and the files have the commands before the group. */
+int32_t redo_group_abort(redo_t *db);
+
+/* A transaction: between the two, commands on values and steps of applications are staged, and redo_get sees them; nothing is logged.
+ * A command is refused as it would be after the staged ones. redo_txn_commit adds all of them, in one group, or none; the next
+ * redo_force makes them durable. It is REDO_LOG_FULL exactly where their records do not fit, and the transaction stays open then: after
+ * a redo_drain and a redo_trim it may be committed once more. Every other answer ends it; with one that is not REDO_OK nothing of
+ * it is there. Runs of an application, maps, hash files, groups and another redo_txn_begin are REDO_IN_TXN meanwhile. */
+int32_t redo_txn_begin(redo_t *db);             /* not within a group */
+int32_t redo_txn_commit(redo_t *db);            /* forces what was accepted before it */
+int32_t redo_txn_abort(redo_t *db);             /* drops what is staged, and so does redo_close */
 
 /* A backup: the store as it is at the finish, in another folder, which is there and has no store. Commands, installs and checks go
  * on meanwhile; redo_trim does not (REDO_IN_BACKUP), and nothing of a backup goes within a group. Its files are in memory until its

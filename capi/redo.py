@@ -7,6 +7,9 @@
         with s.group():             # of these a crash leaves both or neither
             s.copy(0, 1)
             s.append(0, 1)
+        with s.transaction():       # these are done as a whole, or not at all: an exception undoes them
+            s.put(2, s.get(1)[:3])
+            s.swap(0, 2)
         s.force()                   # from here on no crash loses them
         print(s.get(1))             # b'hellohello'
         tree = s.tree(4, 35)        # an ordered map in the objects 4 to 35
@@ -114,8 +117,11 @@ _create, _open, _close = _c("create", _bytes, _u32, _u32, _u32), _c("open", _byt
 _last_detail = _c("last_detail", ctypes.POINTER(_Detail))
 _put, _get, _copy, _append = _c("put", _u32, *_pair), _c("get", _u32, *_room), _c("copy", *_objects), _c("append", *_objects)
 _cut, _sort, _swap = _c("cut", *_objects, _u32), _c("sort", *_objects, _u32), _c("swap", *_objects)
-_force, _install, _drain = _c("force", _u64p), _c("install", _u64p), _c("drain")
+_force, _install, _tend, _drain = _c("force", _u64p), _c("install", _u64p), _c("tend", _u64, _u64p), _c("drain")
 _checkpoint, _trim, _begin, _end = _c("checkpoint"), _c("trim"), _c("begin"), _c("end")
+_begin_room, _group_abort = _c("begin_room", _u64), _c("group_abort")
+_upkeep = _c("upkeep", ctypes.c_int32)
+_txn_begin, _txn_commit, _txn_abort = _c("txn_begin"), _c("txn_commit"), _c("txn_abort")
 _backup_start, _backup_copy = _c("backup_start", _bytes), _c("backup_copy", _u32, _u64p)
 _backup_finish, _backup_give_up = _c("backup_finish", _u64p), _c("backup_give_up")
 _stat, _params = _c("stat", ctypes.POINTER(_Stat)), _c("params", ctypes.POINTER(_Params))
@@ -128,7 +134,7 @@ _app_run, _program_run = _c("app_run", _u32, _u64, _u64p), _c("program_run", *_o
 _program_exec, _program_read, _program_write = (_c("program_" + name, *_objects) for name in ("exec", "read", "write"))
 _lib.redo_strerror.restype, _lib.redo_strerror.argtypes = _bytes, [ctypes.c_int32]
 _lib.redo_version.restype, _lib.redo_handle_size.restype = _u32, _size
-if _lib.redo_version() < 3 or _lib.redo_handle_size() != ctypes.sizeof(_Handle):
+if _lib.redo_version() < 4 or _lib.redo_handle_size() != ctypes.sizeof(_Handle):
     raise ImportError("the library is none that this module knows")
 
 
@@ -167,6 +173,8 @@ class NoGroup(Error): code = 19
 class InBackup(Error): code = 20
 class NoBackup(Error): code = 21
 class NotCopied(Error): code = 22
+class InTransaction(Error): code = 23
+class NoTransaction(Error): code = 24
 class NoObject(Error, IndexError): code = 32
 class Same(Error): code = 33
 class BadPlace(Error): code = 34
@@ -208,6 +216,8 @@ def _error(code: int, detail: tuple[int, int, int] = (0, 0, 0)) -> Error:
     text = _lib.redo_strerror(code).decode()
     if code in (5, 11, 72) and detail[0]:
         text += f": {os.strerror(detail[0])}"
+    elif code == BadTree.code:
+        text += f": object {detail[0]}"
     elif any(detail):
         text += f" {detail}"
     return _ERRORS.get(code, Error)(text, detail)
@@ -298,6 +308,51 @@ class _Held:
         self.__enter__, self.__exit__ = enter, leave
 
 
+class _Left:
+    """The `__exit__` of what is undone."""
+
+    def __get__(self, undo: _Undoing | None, owner: type[_Undoing]) -> Callable[..., None]:
+        if undo is None:
+            return _Undoing._leave
+        leave = partial(_Undoing._leave, undo)
+        undo.leave = weakref.ref(leave)
+        return leave
+
+
+class _Undoing:
+    """Stands behind the `with` of a group that is undone, and of a transaction. The `with` alone has what its `__exit__` gives, as
+    that of a backup, and the turn is let go with it, in C: so it is over, whatever has ended it, and the next call undoes what was
+    not ended."""
+
+    def __init__(self, store: Store, begin: Callable[..., int], words: tuple[object, ...], end: Callable[..., int],
+                 abort: Callable[..., int]) -> None:
+        self.store, self.begin, self.words, self.end, self.abort = store, begin, words, end, abort
+        self.leave: Callable[[], object] = weakref.ref(self)
+        self.over: object = None
+
+    def __enter__(self) -> Store:
+        store, turn = self.store, self.store._turn
+        if turn._is_owned():
+            store._do(store._refuse_group)
+        try:
+            turn.acquire()
+            self.over = weakref.ref(self.leave(), turn.call.__exit__)
+        except BaseException:
+            self.over = None
+            try:
+                turn.release()
+            except RuntimeError:        # it was not taken yet
+                pass
+            raise
+        store._do(store._open_group, self, *self.words)
+        return store
+
+    def _leave(self, error: object, *_: object) -> None:
+        self.store._do(self.store._end_undoing, self, error)
+
+    __exit__ = _Left()
+
+
 class Store:
     """A store that is open. Values and keys are `bytes`; objects are numbers from 0 on, and NoObject is raised at others.
 
@@ -319,6 +374,7 @@ class Store:
         self._busy = False
         self._grouped = False                       # the library may have a group open
         self._task: object = None                   # whose it is
+        self._undo: _Undoing | None = None          # what an exception undoes of it
         self._saving: Callable[[], object] | None = None        # of a backup that may be under way: None where its `with` is over
 
     def _do(self, work: Callable[..., Any], *words: object) -> Any:
@@ -343,16 +399,18 @@ class Store:
         if in_group:
             return
         if self._grouped:
-            _end(self._handle)
-            self._grouped, self._task = False, None
+            self._end_work()
         if self._saving and self._saving() is None:
             _backup_give_up(self._handle)
             self._saving = None
 
-    def _raise(self, code: int) -> NoReturn:
+    def _failure(self, code: int) -> Error:
         detail = _Detail()
         _last_detail(self._handle, detail)
-        raise _error(code, (detail.first, detail.second, detail.third))
+        return _error(code, (detail.first, detail.second, detail.third))
+
+    def _raise(self, code: int) -> NoReturn:
+        raise self._failure(code)
 
     def _made(self, function: Callable[..., int], *words: object) -> None:
         if code := function(self._handle, *words):
@@ -383,14 +441,52 @@ class Store:
         value: bytes = self._do(self._copied, function, *words)
         return value
 
-    def _open_group(self) -> None:
+    def _is_over(self) -> None:
+        self._grouped, self._task, self._undo = False, None, None
+
+    def _end_work(self) -> None:
+        """Ends what the `with` of a group or a transaction has begun that is over: an exception has ended it, which undoes what is
+        to be undone."""
+        (self._undo.abort if self._undo else _end)(self._handle)
+        self._is_over()
+
+    def _open_group(self, undo: _Undoing | None = None, *words: object) -> None:
         if self._grouped:                           # that of a `with` that is over
-            _end(self._handle)
-        self._grouped, self._task = True, _task()
-        self._made(_begin)
+            self._end_work()
+        self._grouped, self._task, self._undo = True, _task(), undo
+        try:
+            self._made(undo.begin if undo else _begin, *words)
+        except Error:
+            self._is_over()
+            raise
+
+    def _end_undoing(self, undo: _Undoing, error: object) -> None:
+        """The end of the `with`."""
+        if self._undo is not undo or not self.is_open:      # it was ended before
+            return
+        failure = self._ended(undo.end) if error is None else None
+        if error is None and not failure:
+            self._is_over()
+            return
+        code = undo.abort(self._handle)
+        self._is_over()
+        if failure:
+            raise failure
+        if code:
+            self._raise(code)
+
+    def _ended(self, end: Callable[..., int]) -> Error | None:
+        """Where the log has no room for a transaction it is made empty, once."""
+        if not (code := end(self._handle)):
+            return None
+        failure = self._failure(code)
+        if end is _txn_commit and isinstance(failure, LogFull) and _drain(self._handle) == _trim(self._handle) == 0:
+            code = end(self._handle)
+            return self._failure(code) if code else None
+        return failure
 
     def _refuse_group(self) -> NoReturn:
-        raise _error(InGroup.code)
+        raise _error(InTransaction.code if self._undo and self._undo.end is _txn_commit else InGroup.code)
 
     def put(self, x: int, value: Bytes) -> None:
         """Object x holds these bytes: as many as `params().cap` at most, or TooLarge is raised."""
@@ -436,25 +532,47 @@ class Store:
         `install`, `drain`, `checkpoint`, `trim` and all of a backup."""
         return self._number(_force)
 
-    def group(self) -> AbstractContextManager[Store]:
+    def group(self, undo: bool = False, room: int | None = None) -> AbstractContextManager[Store]:
         """For a `with`: commands of which a crash leaves all or none; the next `force` after the group makes them durable. Other
         threads wait for its end, and other tasks of asyncio are Busy until then. In a group there is no other one: InGroup.
 
-        Nothing is undone: after an exception the commands before it stay, as a group of their own."""
+        With `undo` an exception undoes it: the commands before the group are there, and durable. A backup that is being made is given
+        up then. Where that fails the store is let go (DiskFault). Without it nothing is undone: after an exception the commands before
+        it stay, as a group of their own. With `room`, LogFull is raised at once where the log has no room for records of so many
+        bytes."""
+        if undo or room is not None:
+            words = () if room is None else (_u64(_count(room, 64)),)
+            return _Undoing(self, _begin if room is None else _begin_room, words, _end, _group_abort if undo else _end)
         group: AbstractContextManager[Store] = self._turn
         return group
+
+    def transaction(self) -> AbstractContextManager[Store]:
+        """For a `with`: commands that are all done at its end, or none of them. Until then `get` alone sees them. An exception drops
+        them. Where the log has no room for all of them at the end, it is drained and trimmed, once; LogFull is raised where that is
+        not enough, or a backup is being made. A crash leaves all or none; the next `force` makes them durable.
+
+        Maps, hash files, runs of an application, groups and other transactions are InTransaction within. Other threads wait for its
+        end, and other tasks of asyncio are Busy until then."""
+        return _Undoing(self, _txn_begin, (), _txn_commit, _txn_abort)
 
     def end_group(self) -> bool:
         """Ends a group before its `with` does: the commands that follow there are in none. False where no group is open."""
         return bool(self._do(self._end_group))
 
     def _end_group(self) -> bool:
-        was_open, self._grouped = _end(self._handle) == 0, False
-        return was_open
+        if _end(self._handle):
+            return False
+        self._is_over()
+        return True
 
     def install(self) -> bool:
         """Installs one node of the write graph. False where none was left."""
         return self._number(_install) != 0
+
+    def tend(self, most: int) -> int:
+        """A piece of a drain, with four syncs at most: installs so many nodes together, or one, and says how many. 0 where none was
+        left."""
+        return self._number(_tend, _u64(_count(most, 64)))
 
     def drain(self) -> None:
         """Installs all nodes of the write graph. Where it raises LogFull or OutOfMemory some may be installed, as of a `trim` a part
@@ -762,26 +880,31 @@ def _leave_to_parent() -> None:
 os.register_at_fork(after_in_child=_leave_to_parent)
 
 
-def _opened(function: Callable[..., int], *words: object) -> Store:
+def _opened(upkeep: bool, function: Callable[..., int], *words: object) -> Store:
     store = Store()
     try:
         store._call(function, *words)
+        if upkeep:
+            store._call(_upkeep, 1)
         return store
     except BaseException:       # which may have come once the store was open
         _close(store._handle)
         raise
 
 
-def open(path: str | os.PathLike[str]) -> Store:
-    """Opens the store in this folder, and reads its files into memory. Raises NotAStore, Damaged, NoFolder and Locked."""
-    return _opened(_open, _path(path))
+def open(path: str | os.PathLike[str], upkeep: bool = False) -> Store:
+    """Opens the store in this folder, and reads its files into memory. Raises NotAStore, Damaged, NoFolder and Locked.
+
+    With `upkeep` no `drain` and no `trim` is needed: after a command outside a group and a transaction, and after the end of either,
+    the store takes a small piece of them, where one is due, and all of it where the log stays nearly full."""
+    return _opened(upkeep, _open, _path(path))
 
 
-def create(path: str | os.PathLike[str], objects: int, cap: int, limit: int) -> Store:
+def create(path: str | os.PathLike[str], objects: int, cap: int, limit: int, upkeep: bool = False) -> Store:
     """Makes a store in this folder, which is there, and opens it: 1 to 65,535 objects of at most `cap` bytes (16 to 1,048,576), and
     a log of at most `limit` bytes (2 cap + 4,096 to 536,870,912). Raises BadParams at other numbers, AlreadyStore, OldLog, NoFolder
     and Locked."""
-    return _opened(_create, _path(path), *(_whole(n, BadParams) for n in (objects, cap, limit)))
+    return _opened(upkeep, _create, _path(path), *(_whole(n, BadParams) for n in (objects, cap, limit)))
 
 
 if __name__ == "__main__":      # python3 -m redo DIR: the shell, docs/SHELL.md

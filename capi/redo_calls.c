@@ -9,8 +9,33 @@
 #define MADE(name, ...) redo_report(db, redo_core_##name(&db->core_, __VA_ARGS__))
 #define REPORT(name, ...) REDO_CALL(MADE(name, __VA_ARGS__))
 #define REPORT_OF(name) REDO_CALL(redo_report(db, redo_core_##name(&db->core_)))
+/* The same of a command, after which the handle keeps up, where it is to. */
+#define COMMAND(name, ...) REDO_CALL(kept_up(db, MADE(name, __VA_ARGS__)))
+#define COMMAND_OF(name) REDO_CALL(kept_up(db, redo_report(db, redo_core_##name(&db->core_))))
 /* The same, but where bytes that it names are nowhere. */
 #define UNLESS(nowhere, made) REDO_CALL((nowhere) ? redo_alone(db, REDO_NULL) : (made))
+
+/* Whether the log is past three quarters of its limit, or has no room for another value. */
+static int is_nearly_full(redo_t *db) {
+    redo_stat_t stat;
+    redo_params_t p;
+    return redo_core_stat(&db->core_, &stat) == REDO_OK && redo_core_params(&db->core_, &p) == REDO_OK &&
+           (stat.used > p.limit / 4 * 3 || stat.used + p.cap + 64 > p.limit);
+}
+/* What is due after a command, in pieces; and all of it where they leave the log nearly full, as values do that are put again and
+ * again, each of which is installed alone. */
+static int32_t kept_up(redo_t *db, int32_t answer) {
+    if (answer != REDO_OK || !db->upkeep_) return answer;
+    redo_detail_t before = db->detail_;
+    answer = redo_report(db, redo_core_keep_up(&db->core_));
+    if (answer == REDO_OK && is_nearly_full(db)) {
+        answer = redo_report(db, redo_core_drain(&db->core_));
+        if (answer == REDO_OK) answer = redo_report(db, redo_core_trim(&db->core_));
+    }
+    if (answer == REDO_DISK_FAULT) return answer;
+    return db->detail_ = before, REDO_OK;
+}
+int32_t redo_upkeep(redo_t *db, int32_t on) { return REDO_CALL((db->upkeep_ = on != 0, REDO_OK)); }
 
 /* How much of a value is handed on, which the library copies before it asks for CAP: with one byte past it it is too large. */
 static size_t up_to_cap(redo_t *db, size_t length) {
@@ -25,13 +50,13 @@ static int32_t told(redo_t *db, int32_t answer, const void *into, size_t room, c
 #define VALUE(name, ...) told(db, MADE(name, __VA_ARGS__, INTO(into, room), length ? length : &unasked), into, room, &unasked)
 
 int32_t redo_put(redo_t *db, uint32_t object, const void *value, size_t length) {
-    return UNLESS(NOWHERE(value, length), MADE(put, object, redo_some(value), up_to_cap(db, length)));
+    return UNLESS(NOWHERE(value, length), kept_up(db, MADE(put, object, redo_some(value), up_to_cap(db, length))));
 }
-int32_t redo_copy(redo_t *db, uint32_t from, uint32_t to) { return REPORT(copy, from, to); }
-int32_t redo_append(redo_t *db, uint32_t from, uint32_t to) { return REPORT(append, from, to); }
-int32_t redo_cut(redo_t *db, uint32_t from, uint32_t to, uint32_t place) { return REPORT(cut, from, to, place); }
-int32_t redo_sort(redo_t *db, uint32_t from, uint32_t to, uint32_t width) { return REPORT(sort, from, to, width); }
-int32_t redo_swap(redo_t *db, uint32_t first, uint32_t second) { return REPORT(swap, first, second); }
+int32_t redo_copy(redo_t *db, uint32_t from, uint32_t to) { return COMMAND(copy, from, to); }
+int32_t redo_append(redo_t *db, uint32_t from, uint32_t to) { return COMMAND(append, from, to); }
+int32_t redo_cut(redo_t *db, uint32_t from, uint32_t to, uint32_t place) { return COMMAND(cut, from, to, place); }
+int32_t redo_sort(redo_t *db, uint32_t from, uint32_t to, uint32_t width) { return COMMAND(sort, from, to, width); }
+int32_t redo_swap(redo_t *db, uint32_t first, uint32_t second) { return COMMAND(swap, first, second); }
 int32_t redo_get(redo_t *db, uint32_t object, void *into, size_t room, uint64_t *length) {
     uint64_t unasked = 0;
     return UNLESS(NOWHERE(into, room), VALUE(get, object));
@@ -39,20 +64,46 @@ int32_t redo_get(redo_t *db, uint32_t object, void *into, size_t room, uint64_t 
 
 int32_t redo_force(redo_t *db, uint64_t *commands) { return REPORT(force, COUNT(commands)); }
 int32_t redo_install(redo_t *db, uint64_t *installed) { return REPORT(install, COUNT(installed)); }
+int32_t redo_tend(redo_t *db, uint64_t most, uint64_t *installed) { return REPORT(tend, most, COUNT(installed)); }
 int32_t redo_drain(redo_t *db) { return REPORT_OF(drain); }
 int32_t redo_checkpoint(redo_t *db) { return REPORT_OF(checkpoint); }
 int32_t redo_trim(redo_t *db) { return REPORT_OF(trim); }
 int32_t redo_begin(redo_t *db) { return REPORT_OF(begin); }
-int32_t redo_end(redo_t *db) { return REPORT_OF(end); }
+int32_t redo_begin_room(redo_t *db, uint64_t bytes) { return REPORT(begin_room, bytes); }
+int32_t redo_end(redo_t *db) { return COMMAND_OF(end); }
+
+/* Where the store was opened again, or let go, a backup is over. (A core that was let go has no detail of its own.) */
+static int32_t again(redo_t *db, uint32_t core_answer) {
+    db->detail_ = (redo_detail_t){0, 0, 0};
+    int32_t answer = redo_report(db, core_answer);
+    if (answer != REDO_DISK_FAULT) redo_end_backup(db);
+    return answer;
+}
+static int32_t abort_group(redo_t *db) {
+    uint32_t answer = redo_core_abort(&db->core_);
+    return answer == REDO_NO_GROUP ? redo_report(db, answer) : again(db, answer);
+}
+int32_t redo_group_abort(redo_t *db) { return REDO_CALL(abort_group(db)); }
+
+/* A commit that is cut off within has given up its group. */
+static int32_t commit_txn(redo_t *db) {
+    uint32_t answer = redo_core_txn_commit(&db->core_);
+    bool is_cut = answer != REDO_OK && answer != REDO_LOG_FULL && answer != REDO_NO_TXN && answer != REDO_IN_GROUP;
+    return is_cut ? again(db, answer) : kept_up(db, redo_report(db, answer));
+}
+int32_t redo_txn_begin(redo_t *db) { return REPORT_OF(txn_begin); }
+int32_t redo_txn_commit(redo_t *db) { return REDO_CALL(commit_txn(db)); }
+int32_t redo_txn_abort(redo_t *db) { return REPORT_OF(txn_abort); }
+
 int32_t redo_stat(redo_t *db, redo_stat_t *stat) { return REPORT(stat, stat ? stat : &(redo_stat_t){0}); }
 int32_t redo_params(redo_t *db, redo_params_t *params) { return REPORT(params, params ? params : &(redo_params_t){0}); }
 
 int32_t redo_tree_insert(redo_t *db, redo_range_t tree, const void *key, size_t key_length, const void *value, size_t length) {
     return UNLESS(NOWHERE(key, key_length) || NOWHERE(value, length),
-                  MADE(tree_insert, &tree, redo_some(key), key_length, redo_some(value), length));
+                  kept_up(db, MADE(tree_insert, &tree, redo_some(key), key_length, redo_some(value), length)));
 }
 int32_t redo_tree_delete(redo_t *db, redo_range_t tree, const void *key, size_t key_length) {
-    return UNLESS(NOWHERE(key, key_length), MADE(tree_delete, &tree, redo_some(key), key_length));
+    return UNLESS(NOWHERE(key, key_length), kept_up(db, MADE(tree_delete, &tree, redo_some(key), key_length)));
 }
 int32_t redo_tree_get(redo_t *db, redo_range_t tree, const void *key, size_t key_length, void *into, size_t room,
                       uint64_t *length) {
@@ -77,10 +128,10 @@ int32_t redo_tree_pair(redo_t *db, uint64_t pair, void *key, size_t key_room, vo
 }
 int32_t redo_hash_put(redo_t *db, redo_range_t hash, const void *key, size_t key_length, const void *value, size_t length) {
     return UNLESS(NOWHERE(key, key_length) || NOWHERE(value, length),
-                  MADE(hash_put, &hash, redo_some(key), key_length, redo_some(value), length));
+                  kept_up(db, MADE(hash_put, &hash, redo_some(key), key_length, redo_some(value), length)));
 }
 int32_t redo_hash_delete(redo_t *db, redo_range_t hash, const void *key, size_t key_length) {
-    return UNLESS(NOWHERE(key, key_length), MADE(hash_delete, &hash, redo_some(key), key_length));
+    return UNLESS(NOWHERE(key, key_length), kept_up(db, MADE(hash_delete, &hash, redo_some(key), key_length)));
 }
 int32_t redo_hash_get(redo_t *db, redo_range_t hash, const void *key, size_t key_length, void *into, size_t room,
                       uint64_t *length) {
@@ -88,15 +139,15 @@ int32_t redo_hash_get(redo_t *db, redo_range_t hash, const void *key, size_t key
     return UNLESS(NOWHERE(key, key_length) || NOWHERE(into, room), VALUE(hash_get, &hash, redo_some(key), key_length));
 }
 
-int32_t redo_app_exec(redo_t *db, uint32_t app) { return REPORT(app_exec, app); }
-int32_t redo_app_read(redo_t *db, uint32_t app, uint32_t from) { return REPORT(app_read, app, from); }
-int32_t redo_app_write(redo_t *db, uint32_t app, uint32_t to) { return REPORT(app_write, app, to); }
+int32_t redo_app_exec(redo_t *db, uint32_t app) { return COMMAND(app_exec, app); }
+int32_t redo_app_read(redo_t *db, uint32_t app, uint32_t from) { return COMMAND(app_read, app, from); }
+int32_t redo_app_write(redo_t *db, uint32_t app, uint32_t to) { return COMMAND(app_write, app, to); }
 int32_t redo_app_run(redo_t *db, uint32_t app, uint64_t most, uint64_t *steps) {
-    return REPORT(app_run, app, most, COUNT(steps));
+    return COMMAND(app_run, app, most, COUNT(steps));
 }
-int32_t redo_program_exec(redo_t *db, uint32_t app, uint32_t program) { return REPORT(program_exec, app, program); }
-int32_t redo_program_read(redo_t *db, uint32_t app, uint32_t from) { return REPORT(program_read, app, from); }
-int32_t redo_program_write(redo_t *db, uint32_t app, uint32_t to) { return REPORT(program_write, app, to); }
+int32_t redo_program_exec(redo_t *db, uint32_t app, uint32_t program) { return COMMAND(program_exec, app, program); }
+int32_t redo_program_read(redo_t *db, uint32_t app, uint32_t from) { return COMMAND(program_read, app, from); }
+int32_t redo_program_write(redo_t *db, uint32_t app, uint32_t to) { return COMMAND(program_write, app, to); }
 int32_t redo_program_run(redo_t *db, uint32_t app, uint32_t program, uint64_t most, uint64_t *steps) {
-    return REPORT(program_run, app, program, most, COUNT(steps));
+    return COMMAND(program_run, app, program, most, COUNT(steps));
 }

@@ -31,8 +31,17 @@ uint32_t redo_core_get(redo_core_t *, uint32_t, uint8_t *, size_t, uint64_t *);
 
 uint32_t redo_core_begin(redo_core_t *);
 uint32_t redo_core_end(redo_core_t *);
+uint32_t redo_core_begin_room(redo_core_t *, uint64_t);
+/* REDO_DISK_FAULT where the store is not opened again: then it was let go, and the handle is closed. */
+uint32_t redo_core_abort(redo_core_t *);
+/* Between the two a command is staged. The same of a commit that was cut off within. */
+uint32_t redo_core_txn_begin(redo_core_t *);
+uint32_t redo_core_txn_commit(redo_core_t *);
+uint32_t redo_core_txn_abort(redo_core_t *);
 uint32_t redo_core_force(redo_core_t *, uint64_t *);
 uint32_t redo_core_install(redo_core_t *, uint64_t *);
+uint32_t redo_core_tend(redo_core_t *, size_t, uint64_t *);
+uint32_t redo_core_keep_up(redo_core_t *);
 uint32_t redo_core_drain(redo_core_t *);
 uint32_t redo_core_checkpoint(redo_core_t *);
 uint32_t redo_core_trim(redo_core_t *);

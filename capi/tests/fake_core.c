@@ -15,11 +15,16 @@ typedef struct {
     uint64_t epoch, end, accepted, forced;      /* of the log in force */
     uint64_t filled, growths;                   /* how far its file goes, and how many blocks let it grow */
     bool in_group; uint64_t group;
+    bool in_txn; uint64_t staged;               /* changes of a transaction are on the map, and wait in a block of their own */
+    bytes_t before, staging;                    /* the map before a group or a transaction */
     bool in_backup, is_store; uint32_t copied;      /* of a backup: whether its folder has a store */
     waiting_t *first, **last;
     entry_t *pairs; size_t pair_count;
     redo_detail_t detail;
 } store_t;
+
+/* Where a test says so, no memory is left for an abort: the store is let go. */
+bool fake_aborts_fail;
 
 static bytes_t dup_bytes(const void *at, size_t n) {
     bytes_t b = {malloc(n + 1), n};
@@ -121,6 +126,7 @@ static void force(store_t *s) {
 }
 static bytes_t whole(store_t *s) {
     bytes_t all = {0, 0};
+    if (s->in_txn) return dup_bytes(s->before.at, s->before.n);
     for (size_t i = 0; i < s->count; i++) log_change(&all, s->map[i].name, s->map[i].value, false);
     return all;
 }
@@ -147,7 +153,7 @@ static void drop(store_t *s) {
         waiting_t *w = s->first;
         s->first = w->next, free(w->bytes), free(w);
     }
-    drop_pairs(s), free(s->map), free(s->block.at), free(s);
+    drop_pairs(s), free(s->map), free(s->block.at), free(s->before.at), free(s->staging.at), free(s);
 }
 static void lay_out(store_t *s, bytes_t changes) {
     write_block(s, changes);
@@ -210,15 +216,23 @@ uint32_t redo_core_detail(redo_core_t *c, redo_detail_t *d) { STORE; return *d =
 typedef struct { bytes_t name, value; bool gone; } step_t;
 static uint32_t command(store_t *s, const step_t *steps, int count) {
     size_t need = HEAD;
+    bytes_t *block = s->in_txn ? &s->staging : &s->block;
     for (int i = 0; i < count; i++) need += 8 + steps[i].name.n + steps[i].value.n;
-    if (s->end + s->block.n + need > s->numbers.limit)
+    if (!s->in_txn && s->end + s->block.n + need > s->numbers.limit)
         return s->detail = (redo_detail_t){s->end + s->block.n, need, s->numbers.limit}, REDO_LOG_FULL;
-    for (int i = 0; i < count; i++) log_change(&s->block, steps[i].name, steps[i].value, steps[i].gone);
-    bytes_t changes = dup_bytes(s->block.at + s->block.n - need + HEAD, need - HEAD);
+    for (int i = 0; i < count; i++) log_change(block, steps[i].name, steps[i].value, steps[i].gone);
+    bytes_t changes = dup_bytes(block->at + block->n - need + HEAD, need - HEAD);
     redo_changes(s, changes);
     free(changes.at);
-    s->accepted++, s->group += s->in_group;
+    if (s->in_txn) s->staged++;
+    else s->accepted++, s->group += s->in_group;
     return REDO_OK;
+}
+/* The map is kept, and may be had again. */
+static void keep_map(store_t *s) { free(s->before.at), s->before = whole(s); }
+static void map_again(store_t *s) {
+    for (size_t i = 0; i < s->count; i++) free(s->map[i].name.at), free(s->map[i].value.at);
+    s->count = 0, redo_changes(s, s->before);
 }
 /* The name of an object, of the input of an application, or of a key. */
 typedef struct { uint8_t at[64]; } name_t;
@@ -282,13 +296,59 @@ uint32_t redo_core_get(redo_core_t *c, uint32_t x, uint8_t *into, size_t room, u
     STORE; HAS(x); return give(into, room, length, object(s, x));
 }
 
-#define ALONE STORE; if (s->in_group) return s->detail = (redo_detail_t){s->group, 0, 0}, REDO_IN_GROUP
-uint32_t redo_core_begin(redo_core_t *c) { ALONE; force(s); s->in_group = true, s->group = 0; return REDO_OK; }
+/* Calls that take no part in a transaction. */
+#define APART STORE; if (s->in_txn) return refuse(s, REDO_IN_TXN)
+#define IN_NO_GROUP if (s->in_group) return s->detail = (redo_detail_t){s->group, 0, 0}, REDO_IN_GROUP
+#define ALONE STORE; IN_NO_GROUP
+uint32_t redo_core_begin(redo_core_t *c) { APART; IN_NO_GROUP; force(s), keep_map(s), s->in_group = true, s->group = 0; return REDO_OK; }
+uint32_t redo_core_begin_room(redo_core_t *c, uint64_t n) {
+    APART; IN_NO_GROUP;
+    uint64_t used = s->end + s->block.n + HEAD;
+    if (used > s->numbers.limit || n > s->numbers.limit - used) return s->detail = (redo_detail_t){used, n, s->numbers.limit}, REDO_LOG_FULL;
+    return redo_core_begin(c);
+}
+uint32_t redo_core_abort(redo_core_t *c) {
+    STORE;
+    if (!s->in_group) return refuse(s, REDO_NO_GROUP);
+    if (fake_aborts_fail) return redo_core_close(c), REDO_DISK_FAULT;
+    map_again(s), s->block.n = 0, s->accepted -= s->group, s->in_group = s->in_backup = false;
+    ask(s, REDO_CALL_SYNC, log_of(s->epoch), 0, 0, 0);
+    return REDO_OK;
+}
+uint32_t redo_core_txn_begin(redo_core_t *c) {
+    STORE;
+    if (s->in_txn) return refuse(s, REDO_IN_TXN);
+    IN_NO_GROUP;
+    keep_map(s), s->in_txn = true, s->staging.n = s->staged = 0;
+    return REDO_OK;
+}
+uint32_t redo_core_txn_abort(redo_core_t *c) {
+    STORE;
+    if (!s->in_txn) return refuse(s, REDO_NO_TXN);
+    return s->in_txn = false, map_again(s), REDO_OK;
+}
+uint32_t redo_core_txn_commit(redo_core_t *c) {
+    STORE;
+    if (!s->in_txn) return refuse(s, REDO_NO_TXN);
+    if (fake_aborts_fail) return redo_core_close(c), REDO_DISK_FAULT;
+    force(s);
+    if (s->end + s->staging.n + HEAD > s->numbers.limit)
+        return s->detail = (redo_detail_t){s->end, HEAD + s->staging.n, s->numbers.limit}, REDO_LOG_FULL;
+    add(&s->block, s->staging.at, s->staging.n), s->accepted += s->staged, s->in_txn = false;
+    return REDO_OK;
+}
 uint32_t redo_core_end(redo_core_t *c) {
     STORE; if (!s->in_group) return refuse(s, REDO_NO_GROUP); s->in_group = false; return REDO_OK;
 }
 uint32_t redo_core_force(redo_core_t *c, uint64_t *n) { ALONE; force(s); *n = s->forced; return REDO_OK; }
 uint32_t redo_core_install(redo_core_t *c, uint64_t *n) { ALONE; *n = 0; return REDO_OK; }
+uint32_t redo_core_tend(redo_core_t *c, size_t most, uint64_t *n) { ALONE; (void)most, force(s), *n = 0; return REDO_OK; }
+/* A trim where the log is past a third. */
+uint32_t redo_core_keep_up(redo_core_t *c) {
+    APART;
+    if (!s->in_group && !s->in_backup && s->end + s->block.n > s->numbers.limit / 3) force(s), trim(s);
+    return REDO_OK;
+}
 uint32_t redo_core_drain(redo_core_t *c) { ALONE; force(s); return REDO_OK; }
 uint32_t redo_core_checkpoint(redo_core_t *c) { ALONE; force(s); return REDO_OK; }
 uint32_t redo_core_trim(redo_core_t *c) {
@@ -358,7 +418,7 @@ static uint32_t steps_of(store_t *s, uint32_t app, uint64_t most, uint64_t *step
     return REDO_OK;
 }
 uint32_t redo_core_app_run(redo_core_t *c, uint32_t app, uint64_t most, uint64_t *steps) {
-    STORE; HAS(app); return steps_of(s, app, most, steps);
+    APART; HAS(app); return steps_of(s, app, most, steps);
 }
 uint32_t redo_core_app_exec(redo_core_t *c, uint32_t app) {
     STORE; HAS(app);
@@ -378,18 +438,18 @@ uint32_t redo_core_program_exec(redo_core_t *c, uint32_t app, uint32_t p) {
 uint32_t redo_core_program_read(redo_core_t *c, uint32_t app, uint32_t x) { return redo_core_app_read(c, app, x); }
 uint32_t redo_core_program_write(redo_core_t *c, uint32_t app, uint32_t x) { return redo_core_app_write(c, app, x); }
 uint32_t redo_core_program_run(redo_core_t *c, uint32_t app, uint32_t p, uint64_t most, uint64_t *steps) {
-    STORE; HAS(app); HAS(p);
+    APART; HAS(app); HAS(p);
     return most ? refuse(s, REDO_NOT_CODE) : (*steps = 0, REDO_OK);
 }
 
 #define RANGE(r, kind) if ((r)->low + ((kind) == 'h') > (r)->high) return refuse(s, REDO_NO_OBJECT)
 #define KEY(n) if ((n) < 1 || (n) > 32) return refuse(s, REDO_BAD_KEY)
 static uint32_t map_set(redo_core_t *c, char kind, const redo_range_t *r, redo_bytes_t k, size_t kn, redo_bytes_t v, size_t n) {
-    STORE; RANGE(r, kind); KEY(kn); KEY(n); HAS(r->high);
+    APART; RANGE(r, kind); KEY(kn); KEY(n); HAS(r->high);
     return command(s, &(step_t){named(&(name_t){{0}}, kind, r->low, r->high, k, kn), {(uint8_t *)v, n}, false}, 1);
 }
 static uint32_t map_get(redo_core_t *c, char kind, const redo_range_t *r, redo_bytes_t k, size_t kn, bytes_t *v) {
-    STORE; RANGE(r, kind); KEY(kn); HAS(r->high);
+    APART; RANGE(r, kind); KEY(kn); HAS(r->high);
     bool found;
     *v = value_of(s, named(&(name_t){{0}}, kind, r->low, r->high, k, kn), &found);
     return found ? REDO_OK : refuse(s, REDO_NO_KEY);
@@ -425,7 +485,7 @@ uint32_t redo_core_hash_get(redo_core_t *c, const redo_range_t *r, redo_bytes_t 
     return map_give(c, 'h', r, k, kn, into, room, length);
 }
 uint32_t redo_core_tree_range(redo_core_t *c, const redo_range_t *r, redo_bytes_t f, size_t fn, redo_bytes_t t, size_t tn, uint64_t *count) {
-    STORE; RANGE(r, 't'); KEY(fn); KEY(tn); HAS(r->high);
+    APART; RANGE(r, 't'); KEY(fn); KEY(tn); HAS(r->high);
     bytes_t from = named(&(name_t){{0}}, 't', r->low, r->high, f, fn), to = named(&(name_t){{0}}, 't', r->low, r->high, t, tn);
     drop_pairs(s);
     for (size_t i = place(s, from); i < s->count && order(s->map[i].name, to) < 0; i++) {

@@ -28,6 +28,12 @@ static void empty(const char *folder) {
 /* What a run was told: how many commands were accepted, how many of them to be durable, and the first answer that was not 0. */
 typedef struct { bool is_made; int accepted, forced; int32_t answer; size_t made_at[COMMANDS + 1]; size_t store_at; } told_t;
 
+/* Some puts are those of a transaction, and come behind a group that is given up. */
+static int32_t put(redo_t *db, int i) {
+    if (i % 5) return redo_put(db, 0, numbers, (size_t)i);
+    return redo_begin(db) ?: redo_put(db, 0, "never", 5) ?: redo_group_abort(db) ?: redo_txn_begin(db)
+        ?: redo_put(db, 0, numbers, (size_t)i) ?: redo_txn_commit(db);
+}
 static bool is_done(told_t *t, int32_t rc) { return t->answer = rc, rc == REDO_OK; }
 static told_t run(const char *folder, redo_t *db) {
     told_t t = {0};
@@ -35,7 +41,7 @@ static told_t run(const char *folder, redo_t *db) {
     if (!is_done(&t, redo_create(db, folder, 4, 64, 65536))) return t;
     t.is_made = true, t.store_at = made_count;
     for (int i = 1; i <= COMMANDS; i++) {
-        if (!is_done(&t, redo_put(db, 0, numbers, (size_t)i))) return t;
+        if (!is_done(&t, put(db, i))) return t;
         t.accepted = i;
         if (i % 3 == 0) {
             if (!is_done(&t, redo_force(db, &n))) return t;

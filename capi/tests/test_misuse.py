@@ -98,6 +98,29 @@ def interrupted_groups(folder):
         interrupts(work, check)
 
 
+def interrupted_work(folder):
+    """A transaction, and a group that is undone, are whole or nothing, and over when their `with` is."""
+    with redo.create(folder, 8, 1024, 1 << 20) as s:
+        for begin in (s.transaction, lambda: s.group(undo=True)):
+            def work():
+                n = b"%d" % random.randrange(1000)
+                with begin():
+                    s.put(0, n)
+                    s.put(1, n)
+
+            def check():
+                other = threading.Thread(target=s.stat)
+                other.start()
+                other.join()
+                assert s.get(0) == s.get(1)
+                s.force()
+                if s.stat().used > 1 << 19:
+                    s.drain()
+                    s.trim()
+
+            interrupts(work, check)
+
+
 def interrupted_backups(folder):
     """A backup is over when its `with` is: it is whole, or given up, and its folder is let go."""
     target = folder + "/copy"
@@ -314,7 +337,7 @@ def words(folder):
 
 def main():
     folder = sys.argv[1] if len(sys.argv) > 1 else "."
-    for test in (interrupted_groups, interrupted_backups, interrupted_opens, ended_groups, calls_within_calls, tasks, copies, forks, programs, words):
+    for test in (interrupted_groups, interrupted_work, interrupted_backups, interrupted_opens, ended_groups, calls_within_calls, tasks, copies, forks, programs, words):
         os.mkdir(f"{folder}/{test.__name__}")
         if sys.argv[2:] in ([], [test.__name__]):
             test(f"{folder}/{test.__name__}")

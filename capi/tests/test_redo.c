@@ -138,6 +138,7 @@ static void groups(void) {
     WANT(REDO_IN_GROUP, redo_begin(&db)), detail_is(2, 0);
     WANT(REDO_IN_GROUP, redo_force(&db, &n));
     WANT(REDO_IN_GROUP, redo_drain(&db));
+    WANT(REDO_IN_GROUP, redo_tend(&db, 1, &n));
     WANT(REDO_IN_GROUP, redo_trim(&db));
     WANT(REDO_OK, redo_end(&db));
     WANT(REDO_OK, redo_force(&db, &n));
@@ -147,6 +148,8 @@ static void groups(void) {
 }
 
 static void upkeep(void) {
+    WANT(REDO_OK, redo_tend(&db, 2, &n));
+    WANT(REDO_OK, redo_tend(&db, 0, 0));
     do WANT(REDO_OK, redo_install(&db, &n)); while (n);
     WANT(REDO_OK, redo_drain(&db));
     WANT(REDO_OK, redo_checkpoint(&db));
@@ -293,6 +296,117 @@ static void applications(void) {
     WANT(REDO_NO_OBJECT, redo_app_exec(&db, 8));
 }
 
+/* A group is given up. */
+static void given_up(const char *folder) {
+    redo_stat_t before, after;
+    put(0, "kept"), put(1, "too");
+    WANT(REDO_NO_GROUP, redo_group_abort(&db)), detail_is(0, 0);
+    WANT(REDO_OK, redo_begin(&db));
+    WANT(REDO_OK, redo_stat(&db, &before));
+    put(0, "lost"), put(1, "lost"), is(0, "lost");
+    WANT(REDO_OK, redo_group_abort(&db));
+    WANT(REDO_NO_GROUP, redo_group_abort(&db));
+    WANT(REDO_NO_GROUP, redo_end(&db));
+    is(0, "kept"), is(1, "too");
+    WANT(REDO_OK, redo_stat(&db, &after));
+    if (after.accepted != before.accepted || after.forced != before.accepted) fail("the commands after a group was given up");
+    WANT(REDO_OK, redo_close(&db));
+    WANT(REDO_OK, redo_open(&db, folder));
+    is(0, "kept"), is(1, "too");
+}
+/* A group of which no command meets a full log, or which is not begun. */
+static void roomy(void) {
+    WANT(REDO_LOG_FULL, redo_begin_room(&db, 65536)), detail_is_full(&db, 65536);
+    WANT(REDO_LOG_FULL, redo_begin_room(&db, UINT64_MAX));
+    WANT(REDO_OK, redo_begin_room(&db, 100));
+    WANT(REDO_IN_GROUP, redo_begin_room(&db, 100)), detail_is(0, 0);
+    put(2, "roomy");
+    WANT(REDO_OK, redo_end(&db));
+}
+/* Where the store is not opened again, the handle has let it go, and the files have what was there before the group. */
+extern bool fake_aborts_fail __attribute__((weak));
+static void lost(const char *folder) {
+    if (!&fake_aborts_fail) return;
+    for (int in_txn = 0; in_txn < 2; in_txn++) {
+        WANT(REDO_OK, in_txn ? redo_txn_begin(&db) : redo_begin(&db));
+        put(0, "lost");
+        fake_aborts_fail = true;
+        WANT(REDO_DISK_FAULT, in_txn ? redo_txn_commit(&db) : redo_group_abort(&db)), detail_is(0, 0);
+        fake_aborts_fail = false;
+        WANT(REDO_DISK_FAULT, redo_get(&db, 0, got, sizeof got, &n));
+        WANT(REDO_OK, redo_close(&db));
+        WANT(REDO_OK, redo_open(&db, folder));
+        is(0, "kept");
+    }
+}
+
+/* What takes no part in a transaction is refused within one. */
+static void apart(void) {
+    redo_range_t r = range(0, 7);
+    WANT(REDO_IN_TXN, redo_txn_begin(&db)), detail_is(0, 0);
+    WANT(REDO_IN_TXN, redo_begin(&db));
+    WANT(REDO_IN_TXN, redo_begin_room(&db, 1));
+    WANT(REDO_IN_TXN, redo_tree_insert(&db, r, B("k"), B("v")));
+    WANT(REDO_IN_TXN, redo_tree_delete(&db, r, B("k")));
+    WANT(REDO_IN_TXN, redo_tree_get(&db, r, B("k"), got, sizeof got, &n));
+    WANT(REDO_IN_TXN, redo_tree_range(&db, r, B("k"), B("l"), &n));
+    WANT(REDO_IN_TXN, redo_hash_put(&db, r, B("k"), B("v")));
+    WANT(REDO_IN_TXN, redo_hash_delete(&db, r, B("k")));
+    WANT(REDO_IN_TXN, redo_hash_get(&db, r, B("k"), got, sizeof got, &n));
+    WANT(REDO_IN_TXN, redo_app_run(&db, 0, 1, &n));
+    WANT(REDO_IN_TXN, redo_program_run(&db, 0, 1, 1, &n));
+    WANT(REDO_NO_GROUP, redo_end(&db));
+    WANT(REDO_NO_GROUP, redo_group_abort(&db));
+}
+/* With upkeep on, the log has room for more than its limit. */
+static void upkept(void) {
+    uint8_t long_value[1024] = {0};
+    WANT(REDO_OK, redo_upkeep(&db, 1));
+    for (int i = 0; i < 400; i++) WANT(REDO_OK, redo_put(&db, 4, long_value, sizeof long_value));
+    WANT(REDO_OK, redo_begin(&db));
+    put(4, "");
+    WANT(REDO_OK, redo_end(&db));
+    WANT(REDO_OK, redo_upkeep(&db, 0));
+}
+static void transactions(const char *folder) {
+    redo_stat_t before, after;
+    uint8_t long_value[1024] = {0};
+    WANT(REDO_NO_TXN, redo_txn_commit(&db)), detail_is(0, 0);
+    WANT(REDO_NO_TXN, redo_txn_abort(&db));
+    WANT(REDO_OK, redo_begin(&db));
+    WANT(REDO_IN_GROUP, redo_txn_begin(&db));
+    WANT(REDO_OK, redo_end(&db));
+    WANT(REDO_OK, redo_stat(&db, &before));
+    WANT(REDO_OK, redo_txn_begin(&db)), apart();
+    put(0, "staged"), is(0, "staged"), is(1, "too");
+    WANT(REDO_OK, redo_append(&db, 0, 1)), is(1, "toostaged");
+    WANT(REDO_BAD_PLACE, redo_cut(&db, 0, 1, 7));
+    WANT(REDO_NO_OBJECT, redo_put(&db, 8, B("x")));
+    WANT(REDO_NO_OBJECT, redo_get(&db, 8, got, 1, &n));
+    WANT(REDO_OK, redo_force(&db, &n));
+    WANT(REDO_OK, redo_stat(&db, &after));
+    if (after.accepted != before.accepted) fail("what is staged is no command of the store");
+    WANT(REDO_OK, redo_txn_abort(&db)), is(0, "kept"), is(1, "too");
+    WANT(REDO_OK, redo_txn_begin(&db));
+    put(0, "staged"), put(1, "staged");
+    WANT(REDO_OK, redo_txn_commit(&db)), is(0, "staged");
+    WANT(REDO_NO_TXN, redo_txn_commit(&db));
+    put(0, "kept"), put(1, "too");
+    while (redo_put(&db, 4, long_value, sizeof long_value) == REDO_OK) {}
+    WANT(REDO_OK, redo_txn_begin(&db));
+    for (uint32_t x = 5; x < 8; x++) WANT(REDO_OK, redo_put(&db, x, long_value, sizeof long_value));
+    WANT(REDO_LOG_FULL, redo_txn_commit(&db)), detail_is_full(&db, 65536);
+    WANT(REDO_OK, redo_drain(&db));
+    WANT(REDO_OK, redo_trim(&db));
+    WANT(REDO_OK, redo_txn_commit(&db));
+    WANT(REDO_OK, redo_txn_begin(&db));
+    for (uint32_t i = 0; i < 70; i++) WANT(REDO_OK, redo_put(&db, i % 8, long_value, sizeof long_value));
+    WANT(REDO_LOG_FULL, redo_txn_commit(&db));
+    WANT(REDO_OK, redo_close(&db));                     /* drops it */
+    WANT(REDO_OK, redo_open(&db, folder));
+    is(0, "kept");
+}
+
 /* A child is killed within a group: what was forced is there, and of the group nothing. */
 static void killed(const char *folder) {
     WANT(REDO_OK, redo_close(&db));
@@ -334,7 +448,7 @@ static void closed_streams(const char *folder) {
 
 int main(int argc, char **argv) {
     const char *folder = argc > 1 ? argv[1] : ".";
-    closed(folder), made(folder), values(), nowhere(folder), groups(), upkeep(), backups(folder), maps(folder), applications(), killed(folder), threads();
+    closed(folder), made(folder), values(), nowhere(folder), groups(), upkeep(), backups(folder), maps(folder), applications(), given_up(folder), roomy(), lost(folder), upkept(), transactions(folder), killed(folder), threads();
     WANT(REDO_OK, redo_last_detail(&db, &(redo_detail_t){0, 0, 0}));
     closed_streams(folder);
     WANT(REDO_OK, redo_close(&db));

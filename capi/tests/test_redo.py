@@ -5,6 +5,7 @@ import subprocess
 import sys
 import threading
 from collections.abc import MutableMapping
+from functools import partial
 
 sys.dont_write_bytecode = True
 sys.path.insert(0, os.path.join(os.path.dirname(os.path.abspath(__file__)), os.pardir))
@@ -58,6 +59,8 @@ def values(folder):
             except redo.LogFull as error:
                 full = error
         assert full.code == 16 and full.detail[2] == 65536, full.detail
+        while s.tend(2) > 1:
+            pass
         while s.install():
             pass
         s.drain()
@@ -90,6 +93,82 @@ def groups(folder):
         s.force()
     with redo.open(folder) as s:
         assert s.get(5) == b"a" and s.get(6) == b"kept"
+
+
+def undone(folder):
+    """An exception within a group that is undone, or within a transaction, leaves what was there before."""
+    with redo.open(folder) as s:
+        s.put(0, b"kept")
+        for work in (partial(s.group, undo=True), partial(s.group, undo=True, room=100), s.transaction):
+            before = s.stat().accepted
+            try:
+                with work() as t:
+                    t.put(0, b"lost")
+                    t.append(0, 1)
+                    assert s.get(0) == b"lost"
+                    raise KeyError
+            except KeyError:
+                pass
+            assert s.get(0) == b"kept" and s.stat().accepted == before
+            with work():
+                s.put(1, b"done")
+            assert s.get(1) == b"done" and s.stat().accepted == before + 1
+            s.put(1, b"")
+        with s.group(undo=True):
+            s.put(0, b"done")
+            assert s.end_group() and not s.end_group()
+        assert s.get(0) == b"done"
+        refused(redo.LogFull, lambda: s.group(room=1 << 29).__enter__())
+        s.put(0, b"kept")
+    with redo.open(folder) as s:
+        with s.transaction():
+            s.put(0, b"lost")
+            s.close()
+    with redo.open(folder) as s:
+        assert s.get(0) == b"kept"
+
+
+def upkept(folder):
+    """A store that keeps up has room for more than its log."""
+    with redo.open(folder, upkeep=True) as s:
+        for i in range(4 * s.params().limit // 4096):
+            s.put(3, bytes(4096))
+        with s.group():
+            s.put(3, b"")
+        with s.transaction():
+            s.put(4, b"")
+        assert s.stat().used < s.params().limit
+
+
+def transactions(folder):
+    with redo.open(folder) as s:
+        cap, limit = s.params().cap, s.params().limit
+        with s.transaction():
+            refused(redo.InTransaction, lambda: s.transaction().__enter__())
+            refused(redo.InTransaction, lambda: s.group().__enter__())
+            refused(redo.InTransaction, s.group(undo=True).__enter__)
+            refused(redo.InTransaction, s.tree(1, 7).set, b"k", b"v")
+            refused(redo.InTransaction, s.hash(1, 7).set, b"k", b"v")
+            refused(redo.InTransaction, s.app_run, 1, 1)
+            refused(redo.BadPlace, s.cut, 0, 1, cap)
+            s.put(0, b"b")
+            s.append(0, 1)
+        with s.group():
+            refused(redo.InGroup, s.transaction().__enter__)
+        for i in range(2 * limit // cap):               # the log is made empty now and then
+            with s.transaction():
+                s.put(1, bytes(cap))
+                s.put(2, bytes([i % 256]) * cap)
+        assert s.get(2) == bytes([i % 256]) * cap
+        try:
+            with s.transaction():
+                for i in range(limit // cap + 1):
+                    s.put(1, b"lost" + bytes(cap - 4))
+            raise AssertionError("more than a log")
+        except redo.LogFull as full:
+            assert full.detail[2] == limit
+        assert s.get(1) == bytes(cap)
+        s.put(1, b""), s.put(2, b"")
 
 
 def backups(folder):
@@ -267,7 +346,7 @@ def faults(folder):
 
 def main():
     folder = sys.argv[1] if len(sys.argv) > 1 else "."
-    for test in (values, groups, backups, maps, applications, forks_and_kills, threads, *([faults] if "REDO_CALLS" in os.environ else [])):
+    for test in (values, groups, undone, transactions, upkept, backups, maps, applications, forks_and_kills, threads, *([faults] if "REDO_CALLS" in os.environ else [])):
         test(folder)
     print("test_redo.py: ok")
 

@@ -1,10 +1,12 @@
 pub mod Failures
 pub mod Fronts
+pub mod GivingUp
 pub mod Left
 pub mod Named
 pub mod OnHandles
 pub mod OnTargets
 pub mod TargetValues
 pub mod Telling
+pub mod Transacting
 pub mod Untaken
 pub mod Values

@@ -32,7 +32,8 @@ pub record IsUntaken (old new : QueueMem) : Type 0 where
   pub calls : taken_from new ≡ taken_from old
 
 -- A call on the store of a session came to something, and that is what C is told: its number is answered, what is beside it is
--- kept. No call is taken from the machine, those that were taken for C are as they were, and so are the pairs that were found for it.
+-- kept. No call is taken from the machine, those that were taken for C are as they were, and so are the pairs
+-- that were found for it, and the transaction that is open, if one is.
 module _ {R : Type 0} (told : R → Answer) (does : Store QueueMem → Store QueueMem → R → Type 0) (old new : Session) (answer : ℕ) where
   pub record IsCalled : Type 0 where
     pub made : R
@@ -42,6 +43,7 @@ module _ {R : Type 0} (told : R → Answer) (does : Store QueueMem → Store Que
     pub untaken : IsUntaken old.store.machine new.store.machine
     pub taken : new.taken ≡ old.taken
     pub pairs : new.pairs ≡ old.pairs
+    pub staging : new.staging ≡ old.staging
 
 -- C is told this, and nothing is done
 pub record DoesNothing (told : Answer) (old new : Session) (answer : ℕ) : Type 0 where
@@ -50,6 +52,7 @@ pub record DoesNothing (told : Answer) (old new : Session) (answer : ℕ) : Type
   pub store : new.store ≡ old.store
   pub taken : new.taken ≡ old.taken
   pub pairs : new.pairs ≡ old.pairs
+  pub staging : new.staging ≡ old.staging
 
 -- a command was run
 pub record DoesExec (op : AllOps) (old new : Store QueueMem) (made : Result ℕ ExecErr) : Type 0 where
@@ -122,7 +125,7 @@ abbrev pub TellsCount : Result ℕ WorkErr → ℕ → Type 0
 TellsCount made count = IfOk made (λ n. count ≡ n)
 
 -- how long the value is that was read
-abbrev pub TellsLength : Result (Option ℕ) ReadErr → ℕ → Type 0
+abbrev pub TellsLength : {E : Type 0} → Result (Option ℕ) E → ℕ → Type 0
 TellsLength made count = IfOk made (λ found. IfSome found (λ n. count ≡ n))
 
 -- whether a node was installed

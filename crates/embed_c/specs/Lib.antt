@@ -1,10 +1,13 @@
 pub mod Answers
 pub mod Backups
 pub mod Calls
+pub mod GivenUp
 pub mod Handles
 pub mod Next
 pub mod Opening
 pub mod Owned
 pub mod OwnedTarget
 pub mod Ranges
+pub mod Staging
+pub mod Upkept
 pub mod Waiting

@@ -37,6 +37,7 @@ pub record IsReady (files : Files) (s : Session) : Type 0 where
   pub first : first_files s.store.machine ≡ files
   pub untaken : taken_from s.store.machine ≡ []
   pub taken : left_in s.taken ≡ []
+  pub staging : s.staging ≡ None
 
 -- A store was opened on these files, all of which were on the disk. If they stood for some commands, the store has these, and
 -- all are durable: whatever front of the calls that wait is made on the files, a crash leaves files that stand for them.

@@ -169,7 +169,7 @@ impl Answer {
 }
 
 /// What C is told of a command.
-pub fn exec_answer(made: Result<u64, ExecErr>) -> Answer
+pub fn exec_answer<T: Drop>(made: Result<T, ExecErr>) -> Answer
     ensures { result ≡ told of_exec made }
 {
     match made {
@@ -185,6 +185,16 @@ pub fn work_answer<T: Drop>(made: Result<T, WorkErr>) -> Answer
     match made {
         Ok(_) => Answer::done(),
         Err(cause) => Answer::of_work(cause),
+    }
+}
+
+/// What C is told of work that fails as a read does.
+pub fn read_answer<T: Drop>(made: Result<T, ReadErr>) -> Answer
+    ensures { result ≡ told of_read made }
+{
+    match made {
+        Ok(_) => Answer::done(),
+        Err(cause) => Answer::of_read(cause),
     }
 }
 

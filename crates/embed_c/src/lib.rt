@@ -15,23 +15,27 @@ ghost use Rattle.op_codec.specs.AllOps.{plain, program as program_command};
 ghost use Rattle.op_meaning.specs.declared.plain_op.PlainOp.TheVariants.{Append as AppendOp, AppRead as AppReadOp, AppWrite as AppWriteOp, Copy as CopyOp, Cut as CutOp, Exec as ExecOp, Put as PutOp, Sort as SortOp, Swap as SwapOp};
 ghost use Rattle.store_engine.specs.Engine.{params_of};
 ghost use Rattle.embed.specs.Embedded.{Reports};
-ghost use Rattle.embed_c.specs.Answers.{alone, of_exec, of_work, told, told_end, told_value};
-ghost use Rattle.embed_c.specs.Calls.{DoesBegin, DoesCheckpoint, DoesDrain, DoesEnd, DoesExec, DoesForce, DoesGet, DoesInstall, DoesNothing, DoesRun, DoesTrim, IsCalled, TellsCount, TellsInstall, TellsLength, TellsSteps};
+ghost use Rattle.embed_c.specs.Answers.{alone, of_exec, of_work, told, told_end};
+ghost use Rattle.embed_c.specs.Calls.{DoesBegin, DoesCheckpoint, DoesDrain, DoesEnd, DoesForce, DoesInstall, DoesNothing, DoesRun, DoesTrim, IsCalled, TellsCount, TellsInstall, TellsSteps};
 ghost use Rattle.embed_c.specs.Handles.{ClosesHandle, OnSession, OpensHandle, session_of};
 ghost use Rattle.embed_c.specs.Ranges.{DoesHashDelete, DoesHashGet, DoesHashPut, DoesInsert, DoesTreeDelete, DoesTreeGet, GivesFirst, IfNamed, IsRanged, TellsFound, of_hash, of_tree, told_found};
 ghost use Rattle.embed_c.specs.Opening.{IsCreated, IsFailure, IsOpened, IsUncreated, IsUnopened};
+ghost use Rattle.embed_c.specs.Staging.{Apart, Gets, Runs};
 ghost use Rattle.embed_c.specs.Waiting.{TellsNext};
 ghost use Rattle.write_queue.specs.Handed.{handed};
 ghost use Rattle.write_queue.specs.Memory.{disk_of};
 
 mod answer;
 mod backing_up;
+mod giving_up;
 mod handle;
 mod maps;
 mod session;
+mod staging;
 mod taken;
 mod target;
 mod target_handle;
+mod upkeep;
 
 use answer::{Answer, Detail};
 use app_program::ProgramOp;
@@ -102,7 +106,7 @@ fn opened(
 
 // Does a command on the session behind a handle.
 fn exec(alloc: Global, redo: &mut Redo, op: AllOps) -> u32
-    ensures { OnSession (IsCalled (told of_exec) (DoesExec op)) (session_of redo.old) (session_of redo.new) result }
+    ensures { OnSession (Runs op) (session_of redo.old) (session_of redo.new) result }
 {
     match redo.take(alloc) {
         None => NOT_OPEN,
@@ -193,7 +197,7 @@ pub extern "C" fn redo_core_next(
 
 #[unsafe(no_mangle)]
 pub extern "C" fn redo_core_put(alloc: Global, redo: &mut Redo, object: u32, value: &[u8]) -> u32
-    ensures { OnSession (λ old new answer. IsCalled (told of_exec) (DoesExec (plain (PutOp object value.now))) old new answer ⊎ DoesNothing (alone 8) old new answer) (session_of redo.old) (session_of redo.new) result }
+    ensures { OnSession (λ old new answer. Runs (plain (PutOp object value.now)) old new answer ⊎ DoesNothing (alone 8) old new answer) (session_of redo.old) (session_of redo.new) result }
 {
     match redo.take(alloc) {
         None => NOT_OPEN,
@@ -207,14 +211,14 @@ pub extern "C" fn redo_core_put(alloc: Global, redo: &mut Redo, object: u32, val
 
 #[unsafe(no_mangle)]
 pub extern "C" fn redo_core_copy(alloc: Global, redo: &mut Redo, from: u32, to: u32) -> u32
-    ensures { OnSession (IsCalled (told of_exec) (DoesExec (plain (CopyOp from to)))) (session_of redo.old) (session_of redo.new) result }
+    ensures { OnSession (Runs (plain (CopyOp from to))) (session_of redo.old) (session_of redo.new) result }
 {
     exec(alloc, redo, plain_op(PlainOp::Copy { from, to }))
 }
 
 #[unsafe(no_mangle)]
 pub extern "C" fn redo_core_append(alloc: Global, redo: &mut Redo, from: u32, to: u32) -> u32
-    ensures { OnSession (IsCalled (told of_exec) (DoesExec (plain (AppendOp from to)))) (session_of redo.old) (session_of redo.new) result }
+    ensures { OnSession (Runs (plain (AppendOp from to))) (session_of redo.old) (session_of redo.new) result }
 {
     exec(alloc, redo, plain_op(PlainOp::Append { from, to }))
 }
@@ -227,7 +231,7 @@ pub extern "C" fn redo_core_cut(
     to: u32,
     place: u32,
 ) -> u32
-    ensures { OnSession (IsCalled (told of_exec) (DoesExec (plain (CutOp from to place)))) (session_of redo.old) (session_of redo.new) result }
+    ensures { OnSession (Runs (plain (CutOp from to place))) (session_of redo.old) (session_of redo.new) result }
 {
     exec(alloc, redo, plain_op(PlainOp::Cut { from, to, place }))
 }
@@ -240,35 +244,35 @@ pub extern "C" fn redo_core_sort(
     to: u32,
     width: u32,
 ) -> u32
-    ensures { OnSession (IsCalled (told of_exec) (DoesExec (plain (SortOp from to width)))) (session_of redo.old) (session_of redo.new) result }
+    ensures { OnSession (Runs (plain (SortOp from to width))) (session_of redo.old) (session_of redo.new) result }
 {
     exec(alloc, redo, plain_op(PlainOp::Sort { from, to, width }))
 }
 
 #[unsafe(no_mangle)]
 pub extern "C" fn redo_core_swap(alloc: Global, redo: &mut Redo, first: u32, second: u32) -> u32
-    ensures { OnSession (IsCalled (told of_exec) (DoesExec (plain (SwapOp first second)))) (session_of redo.old) (session_of redo.new) result }
+    ensures { OnSession (Runs (plain (SwapOp first second))) (session_of redo.old) (session_of redo.new) result }
 {
     exec(alloc, redo, plain_op(PlainOp::Swap { first, second }))
 }
 
 #[unsafe(no_mangle)]
 pub extern "C" fn redo_core_app_exec(alloc: Global, redo: &mut Redo, app: u32) -> u32
-    ensures { OnSession (IsCalled (told of_exec) (DoesExec (plain (ExecOp app)))) (session_of redo.old) (session_of redo.new) result }
+    ensures { OnSession (Runs (plain (ExecOp app))) (session_of redo.old) (session_of redo.new) result }
 {
     exec(alloc, redo, plain_op(PlainOp::Exec { app }))
 }
 
 #[unsafe(no_mangle)]
 pub extern "C" fn redo_core_app_read(alloc: Global, redo: &mut Redo, app: u32, from: u32) -> u32
-    ensures { OnSession (IsCalled (told of_exec) (DoesExec (plain (AppReadOp app from)))) (session_of redo.old) (session_of redo.new) result }
+    ensures { OnSession (Runs (plain (AppReadOp app from))) (session_of redo.old) (session_of redo.new) result }
 {
     exec(alloc, redo, plain_op(PlainOp::AppRead { app, from }))
 }
 
 #[unsafe(no_mangle)]
 pub extern "C" fn redo_core_app_write(alloc: Global, redo: &mut Redo, app: u32, to: u32) -> u32
-    ensures { OnSession (IsCalled (told of_exec) (DoesExec (plain (AppWriteOp app to)))) (session_of redo.old) (session_of redo.new) result }
+    ensures { OnSession (Runs (plain (AppWriteOp app to))) (session_of redo.old) (session_of redo.new) result }
 {
     exec(alloc, redo, plain_op(PlainOp::AppWrite { app, to }))
 }
@@ -281,11 +285,11 @@ pub extern "C" fn redo_core_app_run(
     most: u64,
     steps: &mut u64,
 ) -> u32
-    ensures { OnSession (IsCalled (told of_exec) (λ old new made. DoesRun (step_of app) most old new made × TellsSteps made steps.new)) (session_of redo.old) (session_of redo.new) result }
+    ensures { OnSession (Apart (IsCalled (told of_exec) (λ old new made. DoesRun (step_of app) most old new made × TellsSteps made steps.new))) (session_of redo.old) (session_of redo.new) result }
 {
-    match redo.take(alloc) {
-        None => NOT_OPEN,
-        Some(mut session) => {
+    match redo.take_apart(alloc) {
+        Err(answer) => answer,
+        Ok(mut session) => {
             let answer = session.app_run(app, most, steps);
             redo.put_back(session);
             answer
@@ -302,11 +306,11 @@ pub extern "C" fn redo_core_program_run(
     most: u64,
     steps: &mut u64,
 ) -> u32
-    ensures { OnSession (IsCalled (told of_exec) (λ old new made. DoesRun (program_step app program) most old new made × TellsSteps made steps.new)) (session_of redo.old) (session_of redo.new) result }
+    ensures { OnSession (Apart (IsCalled (told of_exec) (λ old new made. DoesRun (program_step app program) most old new made × TellsSteps made steps.new))) (session_of redo.old) (session_of redo.new) result }
 {
-    match redo.take(alloc) {
-        None => NOT_OPEN,
-        Some(mut session) => {
+    match redo.take_apart(alloc) {
+        Err(answer) => answer,
+        Ok(mut session) => {
             let answer = session.program_run(app, program, most, steps);
             redo.put_back(session);
             answer
@@ -321,21 +325,21 @@ pub extern "C" fn redo_core_program_exec(
     app: u32,
     program: u32,
 ) -> u32
-    ensures { OnSession (IsCalled (told of_exec) (DoesExec (program_command (StepOp app program)))) (session_of redo.old) (session_of redo.new) result }
+    ensures { OnSession (Runs (program_command (StepOp app program))) (session_of redo.old) (session_of redo.new) result }
 {
     exec(alloc, redo, program_op(ProgramOp::Step { app, program }))
 }
 
 #[unsafe(no_mangle)]
 pub extern "C" fn redo_core_program_read(alloc: Global, redo: &mut Redo, app: u32, from: u32) -> u32
-    ensures { OnSession (IsCalled (told of_exec) (DoesExec (program_command (FeedOp app from)))) (session_of redo.old) (session_of redo.new) result }
+    ensures { OnSession (Runs (program_command (FeedOp app from))) (session_of redo.old) (session_of redo.new) result }
 {
     exec(alloc, redo, program_op(ProgramOp::Feed { app, from }))
 }
 
 #[unsafe(no_mangle)]
 pub extern "C" fn redo_core_program_write(alloc: Global, redo: &mut Redo, app: u32, to: u32) -> u32
-    ensures { OnSession (IsCalled (told of_exec) (DoesExec (program_command (DrainOp app to)))) (session_of redo.old) (session_of redo.new) result }
+    ensures { OnSession (Runs (program_command (DrainOp app to))) (session_of redo.old) (session_of redo.new) result }
 {
     exec(alloc, redo, program_op(ProgramOp::Drain { app, to }))
 }
@@ -348,7 +352,7 @@ pub extern "C" fn redo_core_get(
     into: &mut [u8],
     length: &mut u64,
 ) -> u32
-    ensures { OnSession (IsCalled told_value (λ old new made. DoesGet object into.old into.new old new made × TellsLength made length.new)) (session_of redo.old) (session_of redo.new) result }
+    ensures { OnSession (Gets object into.old into.new length.new) (session_of redo.old) (session_of redo.new) result }
 {
     match redo.take(alloc) {
         None => NOT_OPEN,
@@ -376,11 +380,11 @@ pub extern "C" fn redo_core_force(alloc: Global, redo: &mut Redo, count: &mut u6
 
 #[unsafe(no_mangle)]
 pub extern "C" fn redo_core_begin(alloc: Global, redo: &mut Redo) -> u32
-    ensures { OnSession (IsCalled (told of_work) DoesBegin) (session_of redo.old) (session_of redo.new) result }
+    ensures { OnSession (Apart (IsCalled (told of_work) DoesBegin)) (session_of redo.old) (session_of redo.new) result }
 {
-    match redo.take(alloc) {
-        None => NOT_OPEN,
-        Some(mut session) => {
+    match redo.take_apart(alloc) {
+        Err(answer) => answer,
+        Ok(mut session) => {
             let answer = session.begin();
             redo.put_back(session);
             answer
@@ -530,11 +534,11 @@ pub extern "C" fn redo_core_tree_insert(
     key: &[u8],
     value: &[u8],
 ) -> u32
-    ensures { OnSession (IfNamed (nat_le range.now.low range.now.high) (is_short key.now && is_short value.now) (IsCalled (told of_tree) (DoesInsert range.now.low range.now.high key.now value.now))) (session_of redo.old) (session_of redo.new) result }
+    ensures { OnSession (Apart (IfNamed (nat_le range.now.low range.now.high) (is_short key.now && is_short value.now) (IsCalled (told of_tree) (DoesInsert range.now.low range.now.high key.now value.now)))) (session_of redo.old) (session_of redo.new) result }
 {
-    match redo.take(alloc) {
-        None => NOT_OPEN,
-        Some(mut session) => {
+    match redo.take_apart(alloc) {
+        Err(answer) => answer,
+        Ok(mut session) => {
             let answer = session.tree_insert(*range, key, value);
             redo.put_back(session);
             answer
@@ -549,11 +553,11 @@ pub extern "C" fn redo_core_tree_delete(
     range: &Range,
     key: &[u8],
 ) -> u32
-    ensures { OnSession (IfNamed (nat_le range.now.low range.now.high) (is_short key.now) (IsCalled (told of_tree) (DoesTreeDelete range.now.low range.now.high key.now))) (session_of redo.old) (session_of redo.new) result }
+    ensures { OnSession (Apart (IfNamed (nat_le range.now.low range.now.high) (is_short key.now) (IsCalled (told of_tree) (DoesTreeDelete range.now.low range.now.high key.now)))) (session_of redo.old) (session_of redo.new) result }
 {
-    match redo.take(alloc) {
-        None => NOT_OPEN,
-        Some(mut session) => {
+    match redo.take_apart(alloc) {
+        Err(answer) => answer,
+        Ok(mut session) => {
             let answer = session.tree_delete(*range, key);
             redo.put_back(session);
             answer
@@ -570,11 +574,11 @@ pub extern "C" fn redo_core_tree_get(
     into: &mut [u8],
     length: &mut u64,
 ) -> u32
-    ensures { OnSession (IfNamed (nat_le range.now.low range.now.high) (is_short key.now) (IsCalled (told_found of_tree) (λ old new made. DoesTreeGet range.now.low range.now.high key.now old new made × TellsFound made into.old into.new length.new))) (session_of redo.old) (session_of redo.new) result }
+    ensures { OnSession (Apart (IfNamed (nat_le range.now.low range.now.high) (is_short key.now) (IsCalled (told_found of_tree) (λ old new made. DoesTreeGet range.now.low range.now.high key.now old new made × TellsFound made into.old into.new length.new)))) (session_of redo.old) (session_of redo.new) result }
 {
-    match redo.take(alloc) {
-        None => NOT_OPEN,
-        Some(mut session) => {
+    match redo.take_apart(alloc) {
+        Err(answer) => answer,
+        Ok(mut session) => {
             let answer = session.tree_get(*range, key, into, length);
             redo.put_back(session);
             answer
@@ -591,11 +595,11 @@ pub extern "C" fn redo_core_tree_range(
     to: &[u8],
     count: &mut u64,
 ) -> u32
-    ensures { OnSession (IfNamed (nat_le range.now.low range.now.high) (is_short from.now && is_short to.now) (IsRanged range.now.low range.now.high from.now to.now count.new)) (session_of redo.old) (session_of redo.new) result }
+    ensures { OnSession (Apart (IfNamed (nat_le range.now.low range.now.high) (is_short from.now && is_short to.now) (IsRanged range.now.low range.now.high from.now to.now count.new))) (session_of redo.old) (session_of redo.new) result }
 {
-    match redo.take(alloc) {
-        None => NOT_OPEN,
-        Some(mut session) => {
+    match redo.take_apart(alloc) {
+        Err(answer) => answer,
+        Ok(mut session) => {
             let answer = session.tree_range(*range, from, to, count);
             redo.put_back(session);
             answer
@@ -632,11 +636,11 @@ pub extern "C" fn redo_core_hash_put(
     key: &[u8],
     value: &[u8],
 ) -> u32
-    ensures { OnSession (IfNamed (nat_lt range.now.low range.now.high) (is_short key.now && is_short value.now) (IsCalled (told of_hash) (DoesHashPut range.now.low range.now.high key.now value.now))) (session_of redo.old) (session_of redo.new) result }
+    ensures { OnSession (Apart (IfNamed (nat_lt range.now.low range.now.high) (is_short key.now && is_short value.now) (IsCalled (told of_hash) (DoesHashPut range.now.low range.now.high key.now value.now)))) (session_of redo.old) (session_of redo.new) result }
 {
-    match redo.take(alloc) {
-        None => NOT_OPEN,
-        Some(mut session) => {
+    match redo.take_apart(alloc) {
+        Err(answer) => answer,
+        Ok(mut session) => {
             let answer = session.hash_put(*range, key, value);
             redo.put_back(session);
             answer
@@ -651,11 +655,11 @@ pub extern "C" fn redo_core_hash_delete(
     range: &Range,
     key: &[u8],
 ) -> u32
-    ensures { OnSession (IfNamed (nat_lt range.now.low range.now.high) (is_short key.now) (IsCalled (told of_hash) (DoesHashDelete range.now.low range.now.high key.now))) (session_of redo.old) (session_of redo.new) result }
+    ensures { OnSession (Apart (IfNamed (nat_lt range.now.low range.now.high) (is_short key.now) (IsCalled (told of_hash) (DoesHashDelete range.now.low range.now.high key.now)))) (session_of redo.old) (session_of redo.new) result }
 {
-    match redo.take(alloc) {
-        None => NOT_OPEN,
-        Some(mut session) => {
+    match redo.take_apart(alloc) {
+        Err(answer) => answer,
+        Ok(mut session) => {
             let answer = session.hash_delete(*range, key);
             redo.put_back(session);
             answer
@@ -672,11 +676,11 @@ pub extern "C" fn redo_core_hash_get(
     into: &mut [u8],
     length: &mut u64,
 ) -> u32
-    ensures { OnSession (IfNamed (nat_lt range.now.low range.now.high) (is_short key.now) (IsCalled (told_found of_hash) (λ old new made. DoesHashGet range.now.low range.now.high key.now old new made × TellsFound made into.old into.new length.new))) (session_of redo.old) (session_of redo.new) result }
+    ensures { OnSession (Apart (IfNamed (nat_lt range.now.low range.now.high) (is_short key.now) (IsCalled (told_found of_hash) (λ old new made. DoesHashGet range.now.low range.now.high key.now old new made × TellsFound made into.old into.new length.new)))) (session_of redo.old) (session_of redo.new) result }
 {
-    match redo.take(alloc) {
-        None => NOT_OPEN,
-        Some(mut session) => {
+    match redo.take_apart(alloc) {
+        Err(answer) => answer,
+        Ok(mut session) => {
             let answer = session.hash_get(*range, key, into, length);
             redo.put_back(session);
             answer

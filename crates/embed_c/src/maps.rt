@@ -82,7 +82,7 @@ fn put_found<E>(made: &Result<Option<Short>, E>, into: &mut [u8], length: &mut u
 
 impl Session {
     // Refuses a call before anything is done.
-    fn refuse(&mut self, number: u32) -> u32
+    pub(crate) fn refuse(&mut self, number: u32) -> u32
         ensures { DoesNothing (alone number) self.old self.new result }
     {
         self.detail = Answer::alone(number).detail;

@@ -15,6 +15,7 @@ ghost use Rattle.embed_c.specs.Answers.{alone, of_exec, of_work, told, told_end,
 ghost use Rattle.embed_c.specs.Calls.{DoesBegin, DoesCheckpoint, DoesDrain, DoesEnd, DoesExec, DoesForce, DoesGet, DoesInstall, DoesNothing, DoesRun, DoesTrim, IsCalled, TellsCount, TellsInstall, TellsLength, TellsSteps};
 ghost use Rattle.embed_c.specs.Next.{left_in};
 ghost use Rattle.embed_c.specs.Opening.{IsCreated, IsFailure, IsHanded, IsOpened, IsReady, IsUncreated, IsUnopened};
+ghost use Rattle.embed_c.specs.Staging.{Gets, Runs};
 ghost use Rattle.embed_c.specs.Waiting.{KeepsStore, TellsNext, pending};
 
 use crate::answer::{Answer, Detail, end_answer, exec_answer, value_answer, work_answer};
@@ -27,7 +28,8 @@ use op_codec::{AllOps, plain_op};
 use op_meaning::PlainOp;
 use oper_core::ByteList;
 use std::alloc::Global;
-use store_engine::{ExecErr, Install, ReadErr, Stat, WorkErr, standing_files_meet_their_format};
+use store_engine::{ExecErr, Install, Pace, Stat, WorkErr, standing_files_meet_their_format};
+use transactions::Transaction;
 use write_queue::{QueueMem, fronts_are_what_is_left};
 
 /// A store in use, as one value behind a handle.
@@ -35,10 +37,14 @@ use write_queue::{QueueMem, fronts_are_what_is_left};
 pub struct Session {
     pub(crate) alloc: Global,
     pub(crate) store: Store<QueueMem>,
-    taken: Taken,
+    pub(crate) taken: Taken,
     pub(crate) detail: Detail,
     // The pairs of a tree that were found last.
     pub(crate) pairs: Vec<(Short, Short)>,
+    // The transaction that is open.
+    pub(crate) staging: Option<Transaction<AllOps>>,
+    // When upkeep is due.
+    pub(crate) pace: Pace,
 }
 
 // Whether a store may have these numbers.
@@ -62,7 +68,7 @@ fn machine(alloc: Global, objects: &[u8], log_a: &[u8], log_b: &[u8]) -> Option<
 }
 
 // Writes the count of a call that was done.
-fn put_count(made: &Result<u64, WorkErr>, count: &mut u64)
+pub(crate) fn put_count(made: &Result<u64, WorkErr>, count: &mut u64)
     ensures { TellsCount made.now count.new }
 {
     if let Ok(n) = made {
@@ -80,7 +86,7 @@ fn put_steps(made: &Result<u64, ExecErr>, steps: &mut u64)
 }
 
 // Writes how long the value is that was read.
-fn put_length(made: &Result<Option<usize>, ReadErr>, length: &mut u64)
+pub(crate) fn put_length<E>(made: &Result<Option<usize>, E>, length: &mut u64)
     ensures { TellsLength made.now length.new }
 {
     if let Ok(Some(n)) = made {
@@ -119,6 +125,8 @@ impl Session {
                 taken: Taken::new(alloc),
                 detail: Answer::done().detail,
                 pairs: Vec::new(alloc),
+                staging: None,
+                pace: Pace::new(),
             }),
             Err((cause, _)) => Err(Answer::of_open(cause)),
         }
@@ -173,6 +181,7 @@ impl Session {
         ensures store { KeepsStore self.old.store self.new.store }
         ensures detail { self.new.detail ≡ self.old.detail }
         ensures pairs { self.new.pairs ≡ self.old.pairs }
+        ensures staging { self.new.staging ≡ self.old.staging }
     {
         if !self.taken.is_empty() {
             return;
@@ -196,8 +205,8 @@ impl Session {
         self.detail
     }
 
-    /// Does a command.
-    pub fn exec(&mut self, op: AllOps) -> u32
+    // Does a command at once.
+    fn run(&mut self, op: AllOps) -> u32
         ensures { IsCalled (told of_exec) (DoesExec op) self.old self.new result }
     {
         let answer = exec_answer(self.store.exec(op));
@@ -205,9 +214,19 @@ impl Session {
         answer.number
     }
 
+    /// Does a command, or stages it, where a transaction is open.
+    pub fn exec(&mut self, op: AllOps) -> u32
+        ensures { Runs op self.old self.new result }
+    {
+        if self.in_transaction() {
+            return self.stage(op);
+        }
+        self.run(op)
+    }
+
     /// Gives an object a value.
     pub fn put(&mut self, object: u32, value: &[u8]) -> u32
-        ensures { IsCalled (told of_exec) (DoesExec (plain (PutOp object value.now))) self.old self.new result ⊎ DoesNothing (alone 8) self.old self.new result }
+        ensures { Runs (plain (PutOp object value.now)) self.old self.new result ⊎ DoesNothing (alone 8) self.old self.new result }
     {
         match Vec::from_slice(self.alloc, value) {
             Ok(value) => self.exec(plain_op(PlainOp::Put {
@@ -243,8 +262,8 @@ impl Session {
         answer.number
     }
 
-    /// Copies the front of an object's value, as much as there is room for.
-    pub fn get(&mut self, object: u32, into: &mut [u8], length: &mut u64) -> u32
+    // Copies the front of the value that an object of the store has.
+    fn read(&mut self, object: u32, into: &mut [u8], length: &mut u64) -> u32
         ensures { IsCalled told_value (λ old new made. DoesGet object into.old into.new old new made × TellsLength made length.new) self.old self.new result }
     {
         let made = self.store.get(object, into);
@@ -252,6 +271,17 @@ impl Session {
         let answer = value_answer(made);
         self.detail = answer.detail;
         answer.number
+    }
+
+    /// Copies the front of an object's value, as much as there is room for: where a transaction is open, of the value that it has
+    /// after the staged commands.
+    pub fn get(&mut self, object: u32, into: &mut [u8], length: &mut u64) -> u32
+        ensures { Gets object into.old into.new length.new self.old self.new result }
+    {
+        if self.in_transaction() {
+            return self.see(object, into, length);
+        }
+        self.read(object, into, length)
     }
 
     /// Makes all commands durable, once C has made the calls that wait.

@@ -1,9 +1,8 @@
 use Rattle.std.proofs.Common.{subst}
 use Rattle.op_codec.specs.AllOps.{AllOps}
-use Rattle.embed_c.specs.Answers.{of_exec, told}
-use Rattle.embed_c.specs.Calls.{DoesExec, IsCalled}
 use Rattle.embed_c.specs.Handles.{OnSession, session_of}
+use Rattle.embed_c.specs.Staging.{Runs}
 use Rattle.embed_c.proofs.redo_core_app_read.Goals as goal
 
 pub returns : goal.returns
-returns c = subst (λ (op : AllOps). OnSession (IsCalled (told of_exec) (DoesExec op)) (session_of c.args.redo.now) (session_of c.exec.new.redo) c.exec.result) c.plain_op.ensures c.exec.ensures
+returns c = subst (λ (op : AllOps). OnSession (Runs op) (session_of c.args.redo.now) (session_of c.exec.new.redo) c.exec.result) c.plain_op.ensures c.exec.ensures

@@ -1,10 +1,9 @@
-use Rattle.embed_c.specs.Answers.{told_value}
-use Rattle.embed_c.specs.Calls.{DoesGet, IsCalled, TellsLength}
+use Rattle.embed_c.specs.Staging.{Gets}
 use Rattle.embed_c.proofs.OnHandles.{was_closed, was_open}
 use Rattle.embed_c.proofs.redo_core_get.Goals as goal
 
 pub returns-in-None : goal.returns-in-None
-returns-in-None c = was_closed (IsCalled told_value (λ old new made. DoesGet c.args.object c.args.into.now c.args.into.now old new made × TellsLength made c.args.length.now)) c.in-None.ensures.none c.in-None.ensures.left
+returns-in-None c = was_closed (Gets c.args.object c.args.into.now c.args.into.now c.args.length.now) c.in-None.ensures.none c.in-None.ensures.left
 
 pub returns-in-Some : goal.returns-in-Some
-returns-in-Some c = was_open (IsCalled told_value (λ old new made. DoesGet c.args.object c.args.into.now c.get-answer.new.into old new made × TellsLength made c.get-answer.new.length)) c.in-Some.ensures.some c.deref_mut.ensures.value c.put_back.ensures c.get-answer.ensures
+returns-in-Some c = was_open (Gets c.args.object c.args.into.now c.get-answer.new.into c.get-answer.new.length) c.in-Some.ensures.some c.deref_mut.ensures.value c.put_back.ensures c.get-answer.ensures

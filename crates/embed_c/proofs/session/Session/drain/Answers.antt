@@ -12,4 +12,5 @@ returns c = record {
   untaken = untaken c.drain.ensures.time;
   taken = refl;
   pairs = refl;
+  staging = refl;
 }

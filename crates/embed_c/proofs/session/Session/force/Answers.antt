@@ -12,4 +12,5 @@ returns c = record {
   untaken = untaken c.force-made.ensures.time;
   taken = refl;
   pairs = refl;
+  staging = refl;
 }

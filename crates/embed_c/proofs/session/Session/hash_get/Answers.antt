@@ -34,4 +34,5 @@ returns c =
       untaken = untaken c.hash_get-made.ensures.time;
       taken = refl;
       pairs = refl;
+      staging = refl;
     })

@@ -32,4 +32,5 @@ returns c =
       untaken = untaken c.hash_put.ensures.time;
       taken = refl;
       pairs = refl;
+      staging = refl;
     })

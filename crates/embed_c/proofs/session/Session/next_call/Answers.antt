@@ -14,4 +14,5 @@ returns c =
       store = c.refill.ensures.store;
       detail = c.refill.ensures.detail;
       pairs = c.refill.ensures.pairs;
+      staging = c.refill.ensures.staging;
     }

@@ -1,4 +1,4 @@
-use Rattle.std.proofs.Common.{◌∙◌, subst, sym}
+use Rattle.std.proofs.Common.{◌∙◌, refl, subst, sym}
 use Rattle.embed_c.specs.Opening.{IsFailure}
 use Rattle.embed_c.proofs.Failures.{open_cause, open_fails}
 use Rattle.embed_c.proofs.Fronts.{kept_by}
@@ -9,7 +9,7 @@ pub returns-in-Ok-clause-ready : goal.returns-in-Ok-clause-ready
 returns-in-Ok-clause-ready c = λ none.
     let ready = c.in-Ok.ensures.ready in
     let same = untaken {old = c.args.machine} {new = c.in-Ok.store.machine} c.in-Ok.ensures.opening.time in
-    record { unbroken = ready.0; group = ready.1; copied = ready.2; attached = ready.4; first = same.first; untaken = same.calls ∙ none; taken = c.new.ensures }
+    record { unbroken = ready.0; group = ready.1; copied = ready.2; attached = ready.4; first = same.first; untaken = same.calls ∙ none; taken = c.new.ensures; staging = refl }
 
 pub returns-in-Ok-clause-holds : goal.returns-in-Ok-clause-holds
 returns-in-Ok-clause-holds c = λ p commands opens. c.in-Ok.ensures.holds p commands opens

@@ -9,4 +9,5 @@ returns c = record {
   store = refl;
   taken = refl;
   pairs = refl;
+  staging = refl;
 }

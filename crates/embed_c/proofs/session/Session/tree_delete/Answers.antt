@@ -32,4 +32,5 @@ returns c =
       untaken = untaken c.tree_delete.ensures.time;
       taken = refl;
       pairs = refl;
+      staging = refl;
     })

@@ -36,6 +36,7 @@ returns-in-Ok c =
           });
       count = omega (arith, c.len.ensures);
       pairs = refl;
+      staging = refl;
       number = refl;
       detail = ap (λ (a : Answer). a.detail) c.done.ensures;
       untaken = untaken done.time;
@@ -58,6 +59,7 @@ returns-in-Err c =
           });
       count = tt;
       pairs = refl;
+      staging = refl;
       number = ap (λ (a : Answer). a.number) c.of_tree-answer.ensures;
       detail = ap (λ (a : Answer). a.detail) c.of_tree-answer.ensures;
       untaken = untaken failed.time;

@@ -12,4 +12,5 @@ returns c = record {
   untaken = untaken c.trim.ensures.time;
   taken = refl;
   pairs = refl;
+  staging = refl;
 }

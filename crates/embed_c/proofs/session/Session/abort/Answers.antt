@@ -1,0 +1,25 @@
+use Rattle.std.proofs.Common.{ap, refl}
+use Rattle.embed_c.specs.declared.answer.Answer.{Answer}
+use Rattle.embed_c.proofs.GivingUp.{boxed_as}
+use Rattle.embed_c.proofs.Untaken.{untaken}
+use Rattle.embed_c.proofs.session.Session.abort.Goals as goal
+
+pub returns-in-Ok : goal.returns-in-Ok
+returns-in-Ok c =
+    let e = c.in-Ok.ensures in
+    boxed_as c.boxed.result c.boxed.ensures (record {
+      store = record {
+        unbroken = e.ready.0;
+        group = e.ready.1;
+        copied = e.ready.2;
+        identities = e.ready.3;
+        attached = e.ready.4;
+        undone = e.undone tt;
+        images = e.images tt;
+      };
+      detail = ap (λ (a : Answer). a.detail) c.done.ensures;
+      untaken = untaken e.opening.time;
+      taken = refl;
+      pairs = refl;
+      staging = refl;
+    })
