@@ -21,14 +21,14 @@ for name in primary first second; do
   redo -C $name init 8 64 65536
   echo 0 >$name.last
 done
-echo 1 >shipped
+echo 1 >primary.shipped
 
-# adds to the queue what it has not of the primary's log: all from the number in `shipped` on
+# adds to the queue what it has not of the primary's log: all from the number in `primary.shipped` on
 add() {
   local next
-  next=$("$check" -C primary | awk '/ next number / { print $5 }') && redo -C primary ship "$(cat shipped)" >frames || return
+  next=$("$check" -C primary | awk '/ next number / { print $5 }') && redo -C primary ship "$(cat primary.shipped)" >frames || return
   [ ! -s frames ] || base64 -w 0 frames | queue -x XADD log '*' frames >added || return
-  echo "$next" >shipped
+  echo "$next" >primary.shipped
 }
 
 run() { printf '%s\n' "$@" | redo -C primary run; }
@@ -80,7 +80,7 @@ run 'put 6 ee'
 try add
 queue XDEL log "$lost" >removed
 try take first
-echo 8 >shipped
+echo 8 >primary.shipped
 try add
 for name in first second; do
   [ $name = first ] || try take $name
