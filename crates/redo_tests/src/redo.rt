@@ -62,9 +62,9 @@ const ROWS: [Row; 6] = [
     (
         THREE_PUTS,
         2,
-        (1, [2, 2]),
+        (1, [1, 1]),
         &[b"aa", b"bb", b"cc"],
-        &[b"aa", b"", b""],
+        &[b"aa", b"bb", b""],
     ),
     (
         THREE_PUTS,

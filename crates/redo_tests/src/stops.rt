@@ -8,11 +8,11 @@ use std::test::Fail;
 // A log, how many objects may be dirty, the calls that a redo makes then, and the values after it.
 type Row = (&'static [u8], usize, u64, &'static [&'static [u8]]);
 
-// A redo makes four calls that read a log of one block, and six for each object that is flushed.
+// A redo makes four calls that read a log of one block, six for an object that is flushed alone, and ten for two together.
 const ROWS: [Row; 5] = [
     (THREE_PUTS, 0, 22, &[b"aa", b"bb", b"cc"]),
     (THREE_PUTS, 1, 16, &[b"aa", b"bb", b"cc"]),
-    (THREE_PUTS, 2, 10, &[b"aa", b"bb", b"cc"]),
+    (THREE_PUTS, 2, 14, &[b"aa", b"bb", b"cc"]),
     (LOGGED, 0, 28, &[b"bb", b"aa"]),
     (LOGGED, 1, 16, &[b"bb", b"aa"]),
 ];
