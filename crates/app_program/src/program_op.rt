@@ -1,4 +1,4 @@
-ghost use Rattle.std.specs.Prelude.{◌≡◌, ◌<◌, ◌^◌, ◌++◌, [], List, ℕ, IfNone, IfSome, drop, length};
+ghost use Rattle.std.specs.Prelude.{◌≡◌, ◌<◌, ◌^◌, ◌++◌, IfNone, IfSome, drop, length};
 ghost use Rattle.std.specs.List.{AllByRecursion};
 ghost use Rattle.oper_core.specs.Meaning.{StartsWithCode};
 ghost use Rattle.oper_core.specs.declared.bounds.Bounds.{Bounds};

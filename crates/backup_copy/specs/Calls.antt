@@ -10,7 +10,7 @@ use Rattle.formats.specs.Objects.{BeginsStore}
 use Rattle.formats.specs.declared.params.Params.{Params}
 use Rattle.running_store.specs.LongSlot.{IsLongSlot}
 use Rattle.store_engine.specs.Calls.{IsForcing}
-use Rattle.store_engine.specs.Engine.{EngineView, params_of, used_in}
+use Rattle.store_engine.specs.Engine.{EngineView, used_in}
 use Rattle.store_engine.specs.Store.{Stands}
 use Rattle.backup_copy.specs.Target.{AreShut}
 use Rattle.backup_copy.specs.declared.backup_err.BackupErr.{BackupErr}

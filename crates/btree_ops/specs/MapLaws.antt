@@ -1,5 +1,5 @@
 -- The laws on nodes.
-use Rattle.std.proofs.Common.{◌≡◌, ◌≢◌, ◌≤◌, ◌⊎◌, inl, inr, ℕ, suc, ◌+◌, ◌*◌, ◌^◌, Bool, true, false, not, if◌then◌else◌, T, Option, None, Some, is_some, List, [], ◌∷◌, ◌++◌, All, length, get_or, refl, sym, ap, ◌∙◌, subst, arith, IfSome, IfNone, option_map, length-append, Less, Greater, is_lt, true≢false, mul-suc}
+use Rattle.std.proofs.Common.{◌≡◌, ◌≢◌, ◌≤◌, ◌⊎◌, inl, inr, ℕ, suc, ◌+◌, ◌*◌, ◌^◌, Bool, true, false, if◌then◌else◌, T, Option, None, Some, is_some, List, [], ◌∷◌, ◌++◌, All, length, get_or, refl, sym, ap, ◌∙◌, subst, arith, IfSome, IfNone, option_map, length-append, Less, Greater, is_lt, true≢false, mul-suc}
 use Rattle.std.specs.Prelude.{IsTrue, nat_lt}
 use Rattle.std.specs.Ordering.{ordering_reverse}
 use Rattle.std.specs.Cmp.Lexicographic.{nat_list_cmp_total}
@@ -15,7 +15,6 @@ use Rattle.key_entries.specs.Entries.{Field, byte_order, short_field, child_fiel
 use Rattle.key_entries.specs.EntryLaws.{AreBytes, short_bounds, same_some, map_some}
 use Rattle.btree_ops.specs.Node.{leaf, inner, node_code, node_in, IsNode}
 use Rattle.btree_ops.specs.NodeLaws.{IsNodeOf, node_found, node_is}
-use Rattle.key_entries.specs.Pairs.{has}
 use Rattle.btree_ops.specs.Effects.{leaf_halves, inner_halves, behind_branch, behind_child}
 use Rattle.btree_ops.specs.Laws.{SplitsLeaf, SplitsInner, IsBehindBranch}
 use Rattle.btree_ops.specs.declared.halves.Halves.{Halves}

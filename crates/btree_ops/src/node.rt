@@ -1,4 +1,4 @@
-ghost use Rattle.std.specs.Prelude.{◌≡◌, ◌++◌, IfOk, IfSome, IfNone};
+ghost use Rattle.std.specs.Prelude.{◌≡◌, IfOk, IfSome, IfNone};
 ghost use Rattle.btree_ops.specs.Node.{node_code, node_in, IsNode};
 ghost use Rattle.btree_ops.specs.NodeLaws.{IsNodeOf};
 ghost use Rattle.btree_ops.specs.declared.node.Node.{Node};

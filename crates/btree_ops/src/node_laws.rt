@@ -1,9 +1,9 @@
 //! What a tree on these nodes needs to know of them, as laws on definitions.
 
-ghost use Rattle.std.specs.Prelude.{◌≡◌, ◌≢◌, ◌≤◌, ◌⊎◌, ℕ, IsTrue, Option, None, Some, List, [], ◌∷◌, length};
+ghost use Rattle.std.specs.Prelude.{◌≡◌, ◌≢◌, ◌≤◌, ◌⊎◌, ℕ, IsTrue, None, Some, List, ◌∷◌, length};
 ghost use Rattle.std.specs.FinMap.Entries.{put};
 ghost use Rattle.key_entries.specs.Short.{is_short};
-ghost use Rattle.key_entries.specs.Entries.{byte_order, short_field, child_field, AreEntries};
+ghost use Rattle.key_entries.specs.Entries.{byte_order};
 ghost use Rattle.key_entries.specs.EntryLaws.{AreBytes};
 ghost use Rattle.btree_ops.specs.Node.{leaf, inner, node_code, node_in, IsNode};
 ghost use Rattle.btree_ops.specs.NodeLaws.{IsNodeOf};

@@ -1,5 +1,5 @@
 -- Upkeep: a trim and then a turn, each where it is due.
-use Rattle.std.proofs.Common.{◌≡◌, ◌∙◌, sym, subst, ap, ℕ, List, [], ◌++◌, refl, arith, Option, None, Some}
+use Rattle.std.proofs.Common.{◌≡◌, ◌∙◌, sym, subst, ap, ℕ, List, [], ◌++◌, refl, Option, None, Some}
 use Rattle.std.specs.Prelude.{max, Result, Ok, Err, IfOk, IfErr}
 use Rattle.disk_model.specs.Disk.{Disk}
 use Rattle.oper_core.specs.Meaning.{Meaning}

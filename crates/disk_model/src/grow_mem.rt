@@ -2,7 +2,7 @@
 ghost use Rattle.std.specs.Prelude.{◌≡◌, ◌<◌, ◌≤◌, ◌+◌, ◌-◌, ◌++◌, [], length, take, IfOk, OnOk, OnErr, IsOk, IsErr, IsOkAnd};
 ghost use Rattle.disk_model.specs.Disk.{Files, Rises, Runs, Stays, Same, In, Torn, HoldsAt, SaysFront, IsSettledIn, read_of};
 ghost use Rattle.disk_model.specs.FilesTold.{lawful_files_told};
-ghost use Rattle.disk_model.specs.Growing.{disk_of, files_of, said_by, HasSameFaults, HoldsTheSame, FailsToWrite, FailsToSay};
+ghost use Rattle.disk_model.specs.Growing.{disk_of, files_of, said_by, HasSameFaults, FailsToWrite, FailsToSay};
 ghost use Rattle.disk_model.specs.declared.machine.FileNo.{FileNo};
 
 use crate::by_file::ByFile;

@@ -1,5 +1,5 @@
 // One file of a machine in memory.
-ghost use Rattle.std.specs.Prelude.{◌≡◌, ◌≤◌, ◌+◌, [], ◌∷◌, length, drop, IfOk};
+ghost use Rattle.std.specs.Prelude.{◌≡◌, ◌≤◌, ◌+◌, [], ◌∷◌, length, IfOk};
 ghost use Rattle.disk_model.specs.Disk.{written_over};
 ghost use Rattle.disk_model.specs.Entries.{IsWithin, replay, replayed};
 

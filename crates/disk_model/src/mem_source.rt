@@ -1,5 +1,5 @@
 // Input in memory, whose reads fail as was planned.
-ghost use Rattle.std.specs.Prelude.{◌≡◌, ◌↔◌, ◌<◌, ◌≤◌, ◌+◌, ◌-◌, ◌^◌, ◌++◌, ℕ, length, min, take, drop, vec_len, Contains, IfOk, OnOk, OnErr, IsErr, IsOkAnd, IsTrue};
+ghost use Rattle.std.specs.Prelude.{◌≡◌, ◌↔◌, ◌<◌, ◌≤◌, ◌+◌, ◌-◌, ◌^◌, ◌++◌, length, min, take, vec_len, IfOk, OnOk, OnErr, IsErr, IsOkAnd, IsTrue};
 
 use crate::copying::copy_from;
 use crate::count::{count_call, is_among};

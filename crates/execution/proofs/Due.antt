@@ -14,7 +14,7 @@ use Rattle.formats.specs.declared.record.Record.TheVariants.{Command as Logged_c
 use Rattle.explain_core.specs.History.{Member}
 use Rattle.explain_core.specs.History.Member.{Command, Identity}
 use Rattle.explain_core.specs.World.{World, end_of}
-use Rattle.running_store.specs.Courses.{course, record_length}
+use Rattle.running_store.specs.Courses.{record_length}
 use Rattle.running_store.specs.Appended.{next_lsn}
 use Rattle.running_store.specs.Parts.{Parts, Shows, meaning_in, record_of}
 use Rattle.running_store.specs.Taking.{Ending, Takes}

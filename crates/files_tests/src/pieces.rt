@@ -1,5 +1,4 @@
 // The pieces in which a log is read: records across two of them, records longer than one, and several blocks.
-ghost use Rattle.std.specs.Prelude.{◌≡◌};
 
 use crate::records::{loaded, with_lsn};
 use disk_model::{FileNo, Machine, MemMachine};

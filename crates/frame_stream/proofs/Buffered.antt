@@ -1,12 +1,12 @@
 -- A stream goes through a buffer, piece by piece and frame by frame.
-use Rattle.std.proofs.Common.{◌≡◌, ◌∙◌, ◌+◌, ◌<◌, ◌≤◌, sym, ap, subst, ℕ, List, [], ◌∷◌, ◌++◌, length, take, drop, slice_index, refl, arith, append_assoc, length-append, length-drop, ◌-◌}
+use Rattle.std.proofs.Common.{◌≡◌, ◌∙◌, ◌+◌, ◌<◌, ◌≤◌, sym, ap, ℕ, List, [], ◌∷◌, ◌++◌, length, take, drop, slice_index, arith, append_assoc, length-append, length-drop, ◌-◌}
 use Rattle.std.proofs.Math.Seq.{drop-append_seam}
 use Rattle.std.proofs.lemmas.List.{append-nil, length-take-le, take-append-drop}
 use Rattle.byteorder.specs.Endian.{little_bytes, little_number}
 use Rattle.formats.specs.Log.{IsPayload}
 use Rattle.oper_core.specs.LittleEndian.{little_bytes-front}
 use Rattle.frame_stream.specs.Frames.{frame, frames, IsFrameLength, IsUnfinished}
-use Rattle.frame_stream.specs.FrameBuffer.{BeginsWith, FrameBufferView, HasPassed}
+use Rattle.frame_stream.specs.FrameBuffer.{FrameBufferView, HasPassed}
 use Rattle.frame_stream.specs.Laws.{length_stands, length-frame}
 use Rattle.frame_stream.proofs.Apart.{all_append, frames_append}
 

@@ -1,4 +1,4 @@
-ghost use Rattle.std.specs.Prelude.{◌≡◌, ◌<◌, ◌≤◌, ◌+◌, ◌^◌, ◌∷◌, ◌++◌, [], List, ℕ, IfSome, OnErr, OnOk, length, drop};
+ghost use Rattle.std.specs.Prelude.{◌≡◌, ◌<◌, ◌≤◌, ◌+◌, ◌^◌, ◌∷◌, ◌++◌, [], List, ℕ, OnErr, OnOk, length, drop};
 ghost use Rattle.formats.specs.Log.{IsPayload};
 ghost use Rattle.frame_stream.specs.FrameBuffer.{BeginsWith, HasPassed, first_kept, taken_by};
 ghost use Rattle.frame_stream.specs.Frames.{frame};

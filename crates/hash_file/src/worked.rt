@@ -1,9 +1,9 @@
 //! Hash files worked out by computation.
 
-ghost use Rattle.std.specs.Prelude.{◌≡◌, ◌++◌, ◌==◌, if◌then◌else◌, length, None, Some, Ok, Err, List, [], ◌∷◌};
+ghost use Rattle.std.specs.Prelude.{◌≡◌, ◌++◌, ◌==◌, if◌then◌else◌, length, None, Some, Ok, Err, [], ◌∷◌};
 ghost use Rattle.oper_core.specs.State.{start};
 ghost use Rattle.hash_ops.specs.Blocks.{directory, directory_in};
-ghost use Rattle.hash_ops.specs.declared.hash_op.HashOp.TheVariants.{Init, Put, Delete, Split};
+ghost use Rattle.hash_ops.specs.declared.hash_op.HashOp.TheVariants.{Put, Delete, Split};
 ghost use Rattle.hash_file.specs.Plan.{put_plan, delete_plan, get_answer};
 ghost use Rattle.hash_file.specs.Worked.{bounds, pairs_to, put_all, after_puts, begun_with, value, seven_alike, eighth_alike, seven_even, no_directory, one_entry, no_pairs};
 ghost use Rattle.hash_file.specs.declared.refusal.HashRefusal.TheVariants.{NoObject, BadHash, HashFull, NoRoom, NoKey};

@@ -1,4 +1,4 @@
-ghost use Rattle.std.specs.Prelude.{◌≡◌, ◌≤◌, ◌++◌, OnOk, IfOk, IfSome, option_map, T};
+ghost use Rattle.std.specs.Prelude.{◌≡◌, ◌≤◌, IfOk, IfSome, T};
 ghost use Rattle.std.specs.FinMap.Entries.{is_sorted};
 ghost use Rattle.key_entries.specs.Entries.{byte_order};
 ghost use Rattle.hash_ops.specs.Blocks.{bucket_code, bucket_in};

@@ -1,6 +1,6 @@
 //! The number of a key.
 
-ghost use Rattle.std.specs.Prelude.{◌≡◌, ◌≤◌, ◌<◌, ◌^◌};
+ghost use Rattle.std.specs.Prelude.{◌≡◌, ◌<◌};
 ghost use Rattle.hash_ops.specs.Hash as numbers;
 
 use key_entries::Short;

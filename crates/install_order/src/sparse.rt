@@ -1,4 +1,4 @@
-ghost use Rattle.std.specs.Prelude.{◌≡◌, ℕ, ◌<◌, ◌≤◌, ◌==◌, ◌↔◌, ◌⊎◌, Bool, not, IsTrue, IsFalse};
+ghost use Rattle.std.specs.Prelude.{◌≡◌, ℕ, ◌≤◌, ◌==◌, ◌↔◌, ◌⊎◌, Bool, not, IsTrue, IsFalse};
 ghost use Rattle.install_order.specs.Renamed.{IsRenamed, lsns_of, places_of};
 ghost use Rattle.install_order.specs.More.{IsAdded, NewArc};
 ghost use Rattle.install_order.specs.Digraph.{Walk, Joined, AreNodes, AreLevels, with_arc, outside, IsOnWay, merged, IsReached, AreWhole, arcs};

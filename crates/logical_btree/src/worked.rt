@@ -1,10 +1,9 @@
 //! Trees worked out by computation.
 
-ghost use Rattle.std.specs.Prelude.{◌≡◌, ◌++◌, Option, None, Some, Ok, Err, List, [], ◌∷◌};
+ghost use Rattle.std.specs.Prelude.{◌≡◌, ◌++◌, None, Some, Ok, Err, [], ◌∷◌};
 ghost use Rattle.oper_core.specs.State.{start};
 ghost use Rattle.btree_ops.specs.declared.node_op.NodeOp.TheVariants.{Put, Delete, SplitChild, SplitRoot};
 ghost use Rattle.logical_btree.specs.Plan.{insert_plan, delete_plan, get_answer, range_answer};
-ghost use Rattle.logical_btree.specs.Tree.{reach};
 ghost use Rattle.logical_btree.specs.Worked.{bounds, pairs_to, puts_of, inserted, after_inserts, split_by_hand, no_node, one_separator, root_below_itself, endless, two_full};
 ghost use Rattle.logical_btree.specs.declared.refusal.TreeRefusal.TheVariants.{NoObject, BadTree, TreeFull, NoKey};
 

@@ -1,4 +1,4 @@
-ghost use Rattle.std.specs.Prelude.{◌≡◌, ◌≤◌, ◌<◌, ◌++◌, List, ℕ, None, All, length, take, IsTrue, IfOk, IfSome, OnOk, OnErr, IfNone};
+ghost use Rattle.std.specs.Prelude.{◌≡◌, ◌<◌, ◌++◌, length, IsTrue, IfOk, IfSome, OnOk, OnErr, IfNone};
 ghost use Rattle.std.specs.Result.{result_err};
 ghost use Rattle.oper_core.specs.Meaning.{Meaning, HasBounds, AreWithin, IsSmall, IsLawful, Widens, FitsReads, KeepsUnwritten, StartsWithCode};
 ghost use Rattle.oper_core.specs.declared.bounds.Bounds.{Bounds};

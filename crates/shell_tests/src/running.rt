@@ -17,7 +17,7 @@ pub struct Pieces<'a> {
 }
 
 impl Source for Pieces<'_> {
-    ghost use Rattle.std.specs.Prelude.{⊤, []};
+    ghost use Rattle.std.specs.Prelude.{⊤};
 
     ghost tells = { λ _. ⊤ };
 

@@ -1,5 +1,5 @@
 -- A store of version 2 in which the byte behind N is written.
-use Rattle.std.proofs.Common.{◌≡◌, ◌≢◌, inl, inr, ◌<◌, ◌≤◌, ◌+◌, ◌-◌, ◌*◌, ℕ, List, [], ◌∷◌, length, refl, sym, ◌∙◌, ap, subst, arith}
+use Rattle.std.proofs.Common.{◌≡◌, inl, inr, ◌<◌, ◌≤◌, ◌+◌, ◌-◌, ℕ, List, [], ◌∷◌, length, sym, ◌∙◌, ap, subst, arith}
 use Rattle.std.specs.Prelude.{false, true, nat_lt}
 use Rattle.std.proofs.lemmas.Bool.{cases_eq, lt-ltb}
 use Rattle.disk_model.specs.Disk.{Disk, HoldsAt, In, IsSettled, LeavesOnly, Runs, Same, Torn}
@@ -7,14 +7,14 @@ use Rattle.disk_model.specs.Moments.{first_call, from_reads}
 use Rattle.disk_model.specs.declared.machine.FileNo.TheVariants.{Objects}
 use Rattle.oper_core.specs.declared.bounds.Bounds.{Bounds}
 use Rattle.formats.specs.Bytes.{byte_at, number_at}
-use Rattle.formats.specs.Objects.{BeginsStore, IsInRange, IsInForm, IsObjectsFile, second_form, form_in, params_at, params_in, layout_in, place_in, last_slot, cell_of}
+use Rattle.formats.specs.Objects.{BeginsStore, IsInRange, IsInForm, second_form, form_in, params_at, params_in, layout_in, place_in, last_slot}
 use Rattle.formats.specs.declared.form.Form.{Form}
 use Rattle.formats.specs.declared.layout.Layout.{Layout}
 use Rattle.formats.specs.declared.params.Params.{Params}
 use Rattle.stable_objects.specs.Admitting.{IsSecond, switch_place, with_more}
 use Rattle.stable_objects.specs.Growing.{IsGrown, IsGrowing, IsStillOrGrown}
 use Rattle.stable_objects.specs.Larger.{IsStill}
-use Rattle.stable_objects.specs.LayoutLaws.{first_in, second_in, form_same, layout_same}
+use Rattle.stable_objects.specs.LayoutLaws.{first_in, second_in, form_same}
 use Rattle.stable_objects.specs.Replacing.{AgreesOutside}
 use Rattle.stable_objects.specs.SlotsView.{SlotsView, AreOf}
 use Rattle.stable_objects.proofs.Bytes.{byte_written}

@@ -1,21 +1,21 @@
 -- Gates of spare slots are opened one after the other, and synced together.
-use Rattle.std.proofs.Common.{◌≡◌, ◌≢◌, ◌⊎◌, inl, inr, ◌<◌, ◌+◌, ◌*◌, ℕ, zero, suc, List, [], ◌∷◌, length, take, refl, sym, ◌∙◌, ap, subst, arith}
+use Rattle.std.proofs.Common.{◌≡◌, ◌≢◌, ◌⊎◌, inl, inr, ◌<◌, ◌+◌, ◌*◌, ℕ, zero, suc, List, [], ◌∷◌, length, take, refl, sym, ◌∙◌, subst, arith}
 use Rattle.std.specs.Prelude.{◌==◌, IsTrue, slice_index}
 use Rattle.std.proofs.lemmas.Bool.{both_ways, cases_eq, cases_lt, eq-eqb, eqb-true, or_cases, or_left, or_right}
-use Rattle.disk_model.specs.Disk.{Disk, Files, In, IsDisk, IsSettled, LeavesOnly, Runs, Same, Stays, Torn}
-use Rattle.disk_model.specs.Moments.{first_call, from_reads, runs_none, runs_then_stays, runs_twice, runs_wider}
+use Rattle.disk_model.specs.Disk.{Disk, Files, In, IsDisk, IsSettled, LeavesOnly, Runs, Same, Torn}
+use Rattle.disk_model.specs.Moments.{first_call, from_reads, runs_none, runs_twice, runs_wider}
 use Rattle.disk_model.specs.declared.machine.FileNo.TheVariants.{Objects}
 use Rattle.oper_core.specs.Cell.{Cell}
 use Rattle.oper_core.specs.State.{is_among}
-use Rattle.formats.specs.Bytes.{byte_at, IsOpenAt}
+use Rattle.formats.specs.Bytes.{IsOpenAt}
 use Rattle.formats.specs.Objects.{last_slot}
 use Rattle.formats.specs.declared.layout.Layout.{Layout}
-use Rattle.stable_objects.specs.Ready.{AreOldOrNew, AreOldOrNewSince, AreOpened, AreReady, IsGateOf, KeepsButGatesOf}
+use Rattle.stable_objects.specs.Ready.{AreOldOrNewSince, AreOpened, AreReady, IsGateOf, KeepsButGatesOf}
 use Rattle.stable_objects.specs.Replacing.{spare_in}
 use Rattle.stable_objects.specs.SlotLaws.{layout_of_file}
-use Rattle.stable_objects.specs.SlotsView.{AreOf, SlotsView, layout_of, place_of}
+use Rattle.stable_objects.specs.SlotsView.{AreOf, SlotsView, layout_of}
 use Rattle.stable_objects.specs.SpareLaws.{keeps_none, keeps_twice}
-use Rattle.stable_objects.specs.Spares.{KeepsBut, spare_place}
+use Rattle.stable_objects.specs.Spares.{spare_place}
 use Rattle.stable_objects.proofs.Opened.{old_or_new}
 use Rattle.stable_objects.proofs.Outside.{byte_beside, torn_agrees}
 use Rattle.stable_objects.proofs.Places.{place_within, places_apart}

@@ -1,5 +1,5 @@
 -- Gates of slots that are ready are opened, any of them, and each object has the pair that it had or the one that it is to have.
-use Rattle.std.proofs.Common.{◌≡◌, ◌≢◌, ◌⊎◌, inl, inr, ◌<◌, ◌≤◌, ◌+◌, ◌-◌, ◌*◌, ℕ, zero, suc, List, length, refl, sym, ◌∙◌, ap, subst, arith}
+use Rattle.std.proofs.Common.{◌≡◌, ◌≢◌, ◌⊎◌, inl, inr, ◌<◌, ◌≤◌, ◌+◌, ◌-◌, ◌*◌, ℕ, zero, suc, List, length, sym, ◌∙◌, ap, subst, arith}
 use Rattle.std.specs.Prelude.{IsTrue, IsFalse}
 use Rattle.std.proofs.lemmas.Bool.{both_ways, cases_Bool, cases_eq}
 use Rattle.oper_core.specs.Cell.{Cell}
@@ -13,13 +13,13 @@ use Rattle.stable_objects.specs.Ready.{AreHeld, AreOldOrNew, AreOpened, AreReady
 use Rattle.stable_objects.specs.Replacing.{AgreesOutside, spare_in}
 use Rattle.stable_objects.specs.SlotLaws.{layout_of_file, place_of_file}
 use Rattle.stable_objects.specs.SlotsView.{SlotsView, AreOf, head, layout_of, length_in, place_of}
-use Rattle.stable_objects.specs.Spares.{spare_lsn, spare_place}
+use Rattle.stable_objects.specs.Spares.{spare_place}
 use Rattle.stable_objects.proofs.Behind.{front_agrees}
-use Rattle.stable_objects.proofs.Cells.{AreWholeBy, whole_by, whole_cell, open_cell, closed_cell, greater, cell_is_held, held_in, closed_where_none, open_where_some, less_where_open}
+use Rattle.stable_objects.proofs.Cells.{AreWholeBy, whole_by, whole_cell, open_cell, closed_cell, greater, cell_is_held, held_in, closed_where_none, less_where_open}
 use Rattle.stable_objects.proofs.Changed.{SlotStays, apart_here}
 use Rattle.stable_objects.proofs.Headed.{headed, layout_kept}
 use Rattle.stable_objects.proofs.Replaced.{IsSpare, spare}
-use Rattle.stable_objects.proofs.Spares.{cells_kept, no_gate, lsn_kept, slot_kept, whole_kept}
+use Rattle.stable_objects.proofs.Spares.{cells_kept, no_gate, slot_kept, whole_kept}
 
 module _ (slots : SlotsView) (objects : List ℕ) (pairs : ℕ → Cell) (old new : List ℕ) (are : AreOf slots old) (ready : AreReady slots old objects pairs) (keeps : KeepsButGatesOf slots objects old new) where
   abbrev p : Params

@@ -4,7 +4,7 @@ use Rattle.std.proofs.lemmas.Bool.{cases_eq, cases_lt}
 use Rattle.std.proofs.lemmas.Grind.{same_number_lists}
 use Rattle.disk_model.specs.Disk.{Torn}
 use Rattle.oper_core.specs.Cell.{Cell}
-use Rattle.formats.specs.Bytes.{byte_at, number_at, IsOpenAt}
+use Rattle.formats.specs.Bytes.{byte_at, IsOpenAt}
 use Rattle.formats.specs.Objects.{BeginsStore, IsInForm, IsWholeSlot, first_form, form_in, params_at, layout_in, place_in, slot_place, last_slot, lsn_at, length_at, value_at, open_lsn, cell_of}
 use Rattle.formats.specs.declared.form.Form.{Form}
 use Rattle.formats.specs.declared.layout.Layout.{Layout}

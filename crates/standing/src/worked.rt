@@ -1,10 +1,10 @@
-ghost use Rattle.std.specs.Prelude.{◌≡◌, ℕ, List, [], ◌∷◌};
+ghost use Rattle.std.specs.Prelude.{◌≡◌, List, [], ◌∷◌};
 ghost use Rattle.disk_model.specs.declared.machine.FileNo.TheVariants.{Objects};
 ghost use Rattle.log_blocks.specs.Creating.{IsNewLog};
 ghost use Rattle.stable_objects.specs.Making.{IsNewFile};
 ghost use Rattle.explain_core.specs.ByteOps.{byte_meaning};
 ghost use Rattle.explain_core.specs.Sound.{IsSound};
-ghost use Rattle.explain_core.specs.World.{World, AreAllowed, new_world};
+ghost use Rattle.explain_core.specs.World.{AreAllowed, new_world};
 ghost use Rattle.explain_core.specs.declared.byte_op.ByteOp.{ByteOp};
 ghost use Rattle.explain_core.specs.declared.byte_op.ByteOp.TheVariants.{Put};
 ghost use Rattle.standing.specs.Standing.{FilesShow, StandsFor, stored};

@@ -1,5 +1,5 @@
 -- What upkeep makes of an engine in which no group is open.
-use Rattle.std.specs.Prelude.{◌≡◌, ◌≤◌, ◌^◌, ◌/◌, ℕ, Option, None, Some, Result, Ok, IfOk, IfSome, IsErrOf, min}
+use Rattle.std.specs.Prelude.{◌≡◌, ◌≤◌, ◌^◌, ◌/◌, ℕ, None, Result, Ok, IfOk, IfSome, IsErrOf, min}
 use Rattle.disk_model.specs.Disk.{Disk}
 use Rattle.disk_model.specs.declared.machine.FileNo.{FileNo}
 use Rattle.oper_core.specs.Meaning.{Meaning}

@@ -1,5 +1,5 @@
 -- The beginning of a group: which world engine and files then show.
-use Rattle.std.proofs.Common.{◌≡◌, ◌∙◌, sym, subst, ap, ℕ, ◌-◌, ◌+◌, true, false, List, [], ◌∷◌, ◌++◌, length, refl, inl, inr, ⊎_elim, Option, None, Some, arith}
+use Rattle.std.proofs.Common.{◌≡◌, ◌∙◌, sym, subst, ap, ℕ, ◌-◌, ◌+◌, List, [], ◌∷◌, ◌++◌, length, refl, inl, inr, Option, None, Some, arith}
 use Rattle.std.specs.Prelude.{Result, Ok, Err, OnOk}
 use Rattle.std.proofs.lemmas.Bool.{cases_Bool, cond-true, cond-false}
 use Rattle.disk_model.specs.Disk.{Disk, LeavesOnly}
@@ -8,13 +8,13 @@ use Rattle.oper_core.specs.Meaning.{Meaning}
 use Rattle.oper_core.specs.declared.bounds.Bounds.{Bounds}
 use Rattle.formats.specs.declared.params.Params.{Params}
 use Rattle.explain_core.specs.History.{Member, commands_of}
-use Rattle.explain_core.specs.World.{World, Step, run, step, end_of}
+use Rattle.explain_core.specs.World.{World, Step, run, step}
 use Rattle.explain_core.specs.World.Step.{Begin, Block_gate}
 use Rattle.running_store.specs.Appended.{next_lsn}
 use Rattle.running_store.specs.Courses.{force_steps, waits}
 use Rattle.store_engine.specs.Calls.{IsBeginning, work_of_force}
 use Rattle.store_engine.specs.declared.work_err.WorkErr.{WorkErr}
-use Rattle.store_engine.specs.Engine.{EngineView, Between, Holds, Says, ShowsIn, commands_since, forced_in, group_size, accepted_in}
+use Rattle.store_engine.specs.Engine.{EngineView, Between, Holds, Says, commands_since, forced_in, accepted_in}
 use Rattle.store_engine.specs.Grouping.{ungrouped}
 use Rattle.store_engine.specs.Store.{meaning_in}
 use Rattle.transactions.specs.Committing.{HasBegun}

@@ -1,5 +1,5 @@
 -- A group that is open is closed.
-use Rattle.std.proofs.Common.{◌≡◌, ◌∙◌, ap, sym, subst, refl, ℕ, Option, None, Some, Result, Ok, List}
+use Rattle.std.proofs.Common.{◌≡◌, ◌∙◌, ap, sym, subst, ℕ, Option, None, Some, Result, Ok, List}
 use Rattle.std.specs.Prelude.{IsTrue, is_some, IfSome}
 use Rattle.disk_model.specs.Disk.{Disk}
 use Rattle.oper_core.specs.Meaning.{Meaning}

@@ -1,8 +1,7 @@
 -- A cache after one object was set.
-use Rattle.std.proofs.Common.{◌≡◌, ◌∙◌, ◌==◌, sym, ap, ℕ, List, Bool, true, false, if◌then◌else◌, inl, inr, Some, nat_eq, true≢false, ne_eqb, eq-eqb}
+use Rattle.std.proofs.Common.{◌≡◌, ◌∙◌, ◌==◌, sym, ap, ℕ, List, true, false, if◌then◌else◌, inl, inr, Some, nat_eq, true≢false, ne_eqb, eq-eqb}
 use Rattle.std.proofs.lemmas.Bool.{cases_Bool, cond-true, cond-false, eqb-true}
 use Rattle.dirty_cache.specs.Contents.{Contents, held}
-use Rattle.dirty_cache.specs.declared.entry.Entry.{Entry}
 
 pub as_tested : (old new : Contents) (o : ℕ) (v : List ℕ) → held new o ≡ Some (record { lsn = 0; bytes = v }) → ((y : ℕ) → nat_eq o y ≡ false → held new y ≡ held old y)
     → (x : ℕ) → held new x ≡ (if x == o then Some (record { lsn = 0; bytes = v }) else held old x)

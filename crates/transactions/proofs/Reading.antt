@@ -1,9 +1,8 @@
 -- Calls that only read, one after the other.
-use Rattle.std.proofs.Common.{◌≡◌, ◌∙◌, sym, subst, ap, ℕ, ◌+◌, ◌<◌, false, true, List, [], ◌∷◌, ◌++◌, map, take, length, slice_index, refl, inl, inr, ◌⊎◌, ⊎_elim, Option, None, Some, IfOk, Result, Ok, Err, IsErrOf}
-use Rattle.std.specs.Result.{result_err}
+use Rattle.std.proofs.Common.{◌≡◌, ◌∙◌, sym, subst, ap, ℕ, ◌+◌, ◌<◌, false, List, [], ◌∷◌, ◌++◌, map, take, length, slice_index, refl, inl, inr, ◌⊎◌, ⊎_elim, Option, Some}
 use Rattle.std.proofs.lemmas.List.{take_more, map-append}
 use Rattle.std.proofs.lemmas.Bool.{cases_Bool}
-use Rattle.disk_model.specs.Disk.{Disk, IsDisk, Stays}
+use Rattle.disk_model.specs.Disk.{Disk, IsDisk}
 use Rattle.disk_model.specs.Moments.{stays_here, stays_twice}
 use Rattle.oper_core.specs.Meaning.{Meaning}
 use Rattle.oper_core.specs.declared.bounds.Bounds.{Bounds}

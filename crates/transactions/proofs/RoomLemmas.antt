@@ -1,5 +1,5 @@
 -- Commands for whose records there is room are not stopped.
-use Rattle.std.proofs.Common.{◌≡◌, ◌∙◌, sym, subst, ap, ℕ, ◌+◌, ◌≤◌, ◌^◌, Bool, true, false, if◌then◌else◌, ◌||◌, nat_lt, nat_le, List, [], ◌∷◌, ◌++◌, length, refl, inl, inr, ⊎_elim, arith, length-append}
+use Rattle.std.proofs.Common.{◌≡◌, ◌∙◌, sym, subst, ap, ℕ, ◌+◌, ◌≤◌, ◌^◌, Bool, true, false, if◌then◌else◌, ◌||◌, nat_lt, nat_le, List, [], ◌∷◌, length, refl, inl, inr, ⊎_elim, arith, length-append}
 use Rattle.std.specs.Option.{is_some}
 use Rattle.std.proofs.lemmas.Bool.{cases_Bool, cond-true, cond-false, le-ltb, lt-ltb, lt-leb}
 use Rattle.disk_model.specs.Disk.{Disk}
@@ -7,7 +7,7 @@ use Rattle.oper_core.specs.Meaning.{Meaning}
 use Rattle.oper_core.specs.declared.bounds.Bounds.{Bounds}
 use Rattle.formats.specs.declared.params.Params.{Params}
 use Rattle.explain_core.specs.History.Member.{Command}
-use Rattle.explain_core.specs.World.{World, Step, run, step, end_of}
+use Rattle.explain_core.specs.World.{World, run, step, end_of}
 use Rattle.explain_core.specs.World.Step.{Append}
 use Rattle.running_store.specs.Commands.{command_length}
 use Rattle.running_store.specs.Courses.{Course, Stop, and_then, course, grown, waits}
@@ -17,7 +17,7 @@ use Rattle.execution.specs.Courses.{append_course}
 use Rattle.store_engine.specs.Engine.{EngineView, ShowsIn, group_size, params_of, records_of, used_in}
 use Rattle.store_engine.specs.Store.{meaning_in}
 use Rattle.store_engine.specs.Lists.{AddsFront, IsNeed, commands_course, larger}
-use Rattle.transactions.specs.Room.{HasRoomFor, HasRoomOf}
+use Rattle.transactions.specs.Room.{HasRoomFor}
 
 module _ {O : Type 0} (meaning : Bounds → Meaning O) (p : Params) (limit : ℕ) where
   abbrev m : Meaning O

@@ -1,5 +1,5 @@
 // A group is opened for the commands of a transaction, and closed.
-ghost use Rattle.std.specs.Prelude.{◌≡◌, ◌+◌, ◌≤◌, ℕ, List, false, None, Some, length, IfOk, IfSome, IsTrue, OnOk};
+ghost use Rattle.std.specs.Prelude.{◌≡◌, ◌+◌, List, false, None, length, IfSome, IsTrue, OnOk};
 ghost use Rattle.disk_model.specs.Disk.{LeavesOnly, Passes};
 ghost use Rattle.formats.specs.declared.params.Params.{Params};
 ghost use Rattle.store_engine.specs.Engine.{Between, Holds, forced_in, params_of};

@@ -1,5 +1,5 @@
 // An open group is undone: what is forced is opened again.
-ghost use Rattle.std.specs.Prelude.{◌≡◌, ◌<◌, ◌++◌, ℕ, List, false, None, Some, length, IfErr, IfOk};
+ghost use Rattle.std.specs.Prelude.{◌≡◌, ◌<◌, ◌++◌, List, false, None, Some, length, IfErr, IfOk};
 ghost use Rattle.disk_model.specs.Disk.{LeavesOnly};
 ghost use Rattle.formats.specs.declared.params.Params.{Params};
 ghost use Rattle.stable_objects.specs.Reading.{IsNoDamage};

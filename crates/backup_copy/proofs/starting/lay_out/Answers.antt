@@ -75,7 +75,6 @@ returns-clause-moments g c told none =
 
 pub returns-clause-laid_out : goal.returns-clause-laid_out
 returns-clause-laid_out g c tells cells =
-    let mid = g.T.Machine.disk c.settle.new.machine in
     let closed = g.T.Machine.disk c.close.new.machine in
     let logged = g.T.Machine.disk c.create.new.m in
     let laid = g.T.Machine.disk c.lay_out.new.machine in

@@ -1,4 +1,3 @@
-use Rattle.std.proofs.Common.{refl}
 use Rattle.disk_model.specs.Disk.{Disk}
 use Rattle.running_store.specs.CallLaws.{logging_twice}
 use Rattle.running_store.specs.Calls.{IsCall, Never, ending_of_read}

@@ -1,4 +1,4 @@
-use Rattle.std.proofs.Common.{◌∙◌, ℕ, ap, inl, inr, subst, sym}
+use Rattle.std.proofs.Common.{ℕ, ap, inl, inr, subst, sym}
 use Rattle.disk_model.specs.Disk.{Disk, Runs, Same, SaysFront}
 use Rattle.disk_model.specs.Moments.{passes_twice}
 use Rattle.store_engine.specs.Engine.{EngineView}

@@ -1,7 +1,7 @@
-use Rattle.std.proofs.Common.{◌≡◌, sym, subst, refl, ℕ, List, [], ◌∷◌, take, inl, inr}
+use Rattle.std.proofs.Common.{sym, subst, refl, List, take, inl, inr}
 use Rattle.explain_core.specs.Backup.{copy_of, installed_in_copy}
 use Rattle.explain_core.specs.Stable.{IsStableOf}
-use Rattle.explain_core.specs.World.{Starts, plan_of}
+use Rattle.explain_core.specs.World.{Starts}
 use Rattle.formats.specs.Objects.{bounds_of}
 use Rattle.standing.proofs.standing_files.a_copy_stands.Goals as goal
 

@@ -1,6 +1,5 @@
 use Rattle.std.proofs.Common.{◌≡◌, ◌∙◌, ap, subst, sym, None, Some, List, ℕ, map, length}
 use Rattle.oper_core.specs.State.{State}
-use Rattle.oper_core.specs.Meaning.{FitsReads, Meaning, read_values}
 use Rattle.formats.specs.Objects.{bounds_of}
 use Rattle.formats.specs.declared.params.Params.{Params}
 use Rattle.running_store.specs.Among.{small_bounds}

@@ -1,4 +1,4 @@
-use Rattle.std.proofs.Common.{◌≡◌, ◌∙◌, sym}
+use Rattle.std.proofs.Common.{◌∙◌}
 use Rattle.std.specs.Prelude.{None, Some}
 use Rattle.store_engine.specs.ListLaws.{calls_unbroken}
 use Rattle.transactions.proofs.Making.{all_made, ends_by, no_refusal, none_left, none_made, one_more}

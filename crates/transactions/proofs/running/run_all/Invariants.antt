@@ -1,4 +1,4 @@
-use Rattle.std.proofs.Common.{◌≡◌, List, false, length}
+use Rattle.std.proofs.Common.{◌≡◌, List, false}
 use Rattle.std.specs.Prelude.{None}
 use Rattle.formats.specs.declared.params.Params.{Params}
 use Rattle.store_engine.specs.Engine.{Holds}

@@ -1,4 +1,3 @@
-use Rattle.std.proofs.Common.{◌≡◌, ◌∙◌}
 use Rattle.std.specs.Prelude.{None, Some}
 use Rattle.transactions.proofs.Reading.{fetch_fails, fetched_reads, reads_so}
 use Rattle.transactions.proofs.seeing.see.Goals as goal

@@ -1,4 +1,4 @@
-use Rattle.std.proofs.Common.{◌≡◌, ◌≤◌, ◌+◌, ◌∙◌, ap, subst, sym, List, ℕ, [], ◌∷◌, ◌++◌, length, length-append, All, map, ⊎_elim}
+use Rattle.std.proofs.Common.{◌≤◌, ◌+◌, ◌∙◌, ap, subst, sym, List, ℕ, [], ◌∷◌, length, length-append, All, map, ⊎_elim}
 use Rattle.std.proofs.lemmas.List.{take_all}
 use Rattle.std.proofs.lemmas.List.Elements.{All-push}
 use Rattle.formats.specs.declared.params.Params.{Params}

@@ -32,7 +32,6 @@ returns-clause-runs g c =
 
 pub returns-clause-prepared : goal.returns-clause-prepared
 returns-clause-prepared g c told header payloads is =
-    let mid = g.M.Machine.disk c.put.new.machine in
     let new = g.M.Machine.disk c.write_out.new.machine in
     let told_mid = c.put.ensures.runs.time.files_told.0 told in
     let told_new = c.write_out.ensures.runs.time.files_told.0 told_mid in

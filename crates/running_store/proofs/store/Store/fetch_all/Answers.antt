@@ -1,4 +1,4 @@
-use Rattle.std.proofs.Common.{◌≡◌, ◌<◌, ◌∙◌, sym, subst, slice_index, All, IsSome}
+use Rattle.std.proofs.Common.{◌≡◌, ◌∙◌, sym, subst, slice_index, All, IsSome}
 use Rattle.std.proofs.lemmas.Result.{err_from_is_err_and}
 use Rattle.stable_objects.specs.SlotsView.{SlotsView, lsn_in}
 use Rattle.dirty_cache.specs.Contents.{held}

@@ -1,15 +1,13 @@
-use Rattle.std.proofs.Common.{◌≡◌, ◌∙◌, ◌<◌, ◌≤◌, All, ap, sym, subst, length, map, false, true, refl, ℕ, List}
+use Rattle.std.proofs.Common.{◌≡◌, ◌∙◌, ◌<◌, ◌≤◌, All, sym, subst, length, map, false, true, refl, ℕ}
 use Rattle.std.proofs.lemmas.Bool.{both_ways}
 use Rattle.std.proofs.lemmas.List.{length-map}
 use Rattle.std.proofs.lemmas.Result.{err_from_is_err_and}
-use Rattle.disk_model.specs.Disk.{Disk}
 use Rattle.disk_model.specs.declared.machine.FileNo.TheVariants.{Objects}
 use Rattle.stable_objects.specs.SlotsView.{SlotsView, lsn_in}
 use Rattle.running_store.specs.AfterReads.{fetch_as, fetch_unbroken}
-use Rattle.running_store.specs.Fetches.{IsFetch}
 use Rattle.running_store.specs.Laid.{Laid}
 use Rattle.running_store.specs.Lent.{cached_values}
-use Rattle.running_store.specs.StoreView.{StoreView, store_params}
+use Rattle.running_store.specs.StoreView.{StoreView}
 use Rattle.running_store.proofs.FetchLemmas.{fetch_twice, handed_on, later_fails, read_later}
 use Rattle.running_store.proofs.LentLemmas.{cached_short, values_cached, values_kept}
 use Rattle.running_store.proofs.store.Store.inputs_of.Given.{Over}

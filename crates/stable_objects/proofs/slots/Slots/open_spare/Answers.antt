@@ -4,7 +4,6 @@ use Rattle.disk_model.specs.declared.machine.FileNo.TheVariants.{Objects}
 use Rattle.formats.specs.Bytes.{byte_at, IsOpenAt}
 use Rattle.formats.specs.declared.layout.Layout.{Layout}
 use Rattle.stable_objects.specs.SlotGates.{slot_gate}
-use Rattle.stable_objects.specs.Replacing.{spare_in}
 use Rattle.stable_objects.specs.SlotsView.{layout_of}
 use Rattle.stable_objects.proofs.Bytes.{byte_written}
 use Rattle.stable_objects.proofs.slots.Slots.open_spare.Goals as goal

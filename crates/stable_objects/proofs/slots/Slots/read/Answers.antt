@@ -23,7 +23,6 @@ returns-clause-value g c files agree are =
     let file = files Objects in
     let slots = c.args.self.now in
     let x = c.args.object in
-    let cap = ap (λ (v : SlotsView). v.params.cap) c.self.view_is in
     let here : c.gate_place-place.result ≡ place_of slots x (holder_in slots x) =
     c.gate_place-place.ensures ∙ ap (λ (l : Layout). slot_gate l c.holder.result) c.layout.ensures.is ∙ ap (λ (s : ℕ). slot_gate (layout_of slots) s) c.holder.ensures in
     held_value slots file x c.gate_place-place.result are c.requires (λ none. c.if-lsn-eq0.false (c.lsn-lsn.ensures ∙ none)) here c.read_value.new.into.items (c.in_ok-read_value.ensures.value files agree)

@@ -1,6 +1,6 @@
-use Rattle.std.proofs.Common.{◌≡◌, ◌∙◌, ap, sym}
+use Rattle.std.proofs.Common.{◌∙◌, ap, sym}
 use Rattle.formats.specs.declared.params.Params.{Params}
-use Rattle.store_engine.specs.Engine.{params_of, records_of}
+use Rattle.store_engine.specs.Engine.{records_of}
 use Rattle.transactions.proofs.transaction.Transaction.commit.Goals as goal
 
 pub returns-clause-left : goal.returns-clause-left

@@ -1,8 +1,6 @@
-use Rattle.std.proofs.Common.{◌≡◌, ◌∙◌, ap, subst, sym, refl, None, List, ℕ, [], ◌∷◌, ◌++◌, All, length, Ok, Err}
+use Rattle.std.proofs.Common.{◌≡◌, ◌∙◌, ap, subst, sym, refl, None, List, ℕ, All, length, Ok, Err}
 use Rattle.formats.specs.Objects.{bounds_of}
-use Rattle.formats.specs.declared.params.Params.{Params}
 use Rattle.dirty_cache.specs.Contents.{HasRoom, held}
-use Rattle.execution.specs.declared.exec_err.ExecErr.TheVariants.{Memory}
 use Rattle.running_store.specs.Laid.{with_entries}
 use Rattle.store_engine.specs.Engine.{params_of}
 use Rattle.store_engine.specs.Store.{meaning_in}
