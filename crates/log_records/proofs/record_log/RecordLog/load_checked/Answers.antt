@@ -1,4 +1,4 @@
-use Rattle.std.proofs.Common.{◌∙◌, ◌+◌, ◌-◌, ◌^◌, ℕ, List, refl, ap, arith, min}
+use Rattle.std.proofs.Common.{rules, ◌∙◌, ◌+◌, ◌-◌, ◌^◌, ℕ, List, refl, ap, arith, min}
 use Rattle.std.proofs.lemmas.Result.{err_from_is_err_and}
 use Rattle.disk_model.specs.Moments.{agreed_before, told_agrees, stays_twice}
 use Rattle.oper_core.specs.Meaning.{IsSmall}
@@ -54,42 +54,37 @@ returns-in_err-counted-clause-whole g c told active header groups is =
     (record_fails m log.header read.0 old.reads log.active f place read.1 there.0 (there.1 old.reads agree read.0 read.1.log)))
     c.in_err-counted.ensures.cause)
 
-pub returns-clause-read : goal.returns-clause-read
-returns-clause-read g c told =
-    let old = g.M.Machine.disk c.args.m.now in
-    let mid = g.M.Machine.disk c.load.new.machine in
-    let new = g.M.Machine.disk c.count_records.new.m in
-    let kept = stays_twice old mid new c.load.ensures.kept c.count_records.ensures.kept in
-    let read = c.in_ok-log.ensures.read old.reads (told_agrees c.load.ensures.kept told) in
+pub returns : goal.returns
+returns g c =
     let counted = c.in_ok-counted.ensures.counted in
-    let groups = counted.1.read old.reads (told_agrees kept told) read.0 read.1.log in
-    let loaded = is_loaded (g.O.Oper.meaning c.args.b) c.args.b old new _ read.0 counted.0 c.in_ok-counted.counted.commands told kept read.1 read.2 read.3 refl groups counted.1.placed counted.2.next counted.2.commands
-    (c.saturating_add-accepted.ensures ∙ ap (λ (n : ℕ). min (n + c.in_ok-counted.counted.commands) (2 ^ 64 - 1)) c.commands.ensures) refl in
-    (loaded.0, counted.2.last ∙ ap (λ (l : List (Record g.row.O.Denot)). last_checkpoint l) loaded.1)
-
-pub returns-clause-held : goal.returns-clause-held
-returns-clause-held g c files agree =
-    let read = c.in_ok-log.ensures.read files (agreed_before c.count_records.ensures.kept files agree) in
-    let counted = c.in_ok-counted.ensures.counted in
-    is_held (g.O.Oper.meaning c.args.b) files _ read.0 counted.0 read.1 (counted.1.read files agree read.0 read.1.log) counted.1.placed counted.2.next
-
-pub returns-clause-counted : goal.returns-clause-counted
-returns-clause-counted g c =
-    let counted = c.in_ok-counted.ensures.counted in
-    (counted.0, counted.1, counted.2.next, counted.2.last)
-
-pub returns-clause-kept : goal.returns-clause-kept
-returns-clause-kept g c = stays_twice (g.M.Machine.disk c.args.m.now) (g.M.Machine.disk c.load.new.machine) (g.M.Machine.disk c.count_records.new.m) c.load.ensures.kept c.count_records.ensures.kept
-
-pub returns-clause-next : goal.returns-clause-next
-returns-clause-next g c =
-    let m = g.O.Oper.meaning c.args.b in
-    let base = c.in_ok-log.log.header.base in
-    let header = c.in_ok-log.ensures.header in
-    let counted = c.in_ok-counted.ensures.counted in (
-      omega (arith, header.base_low, counted.2.next, next_rises m base counted.0),
-      omega (arith, counted.2.next, lsn_end m base base counted.0 header.base_high counted.1.placed),
-    )
+    record {
+      kept = stays_twice (g.M.Machine.disk c.args.m.now) (g.M.Machine.disk c.load.new.machine) (g.M.Machine.disk c.count_records.new.m) c.load.ensures.kept c.count_records.ensures.kept;
+      read = λ told.
+          let old = g.M.Machine.disk c.args.m.now in
+          let mid = g.M.Machine.disk c.load.new.machine in
+          let new = g.M.Machine.disk c.count_records.new.m in
+          let kept = stays_twice old mid new c.load.ensures.kept c.count_records.ensures.kept in
+          let read = c.in_ok-log.ensures.read old.reads (told_agrees c.load.ensures.kept told) in
+          let groups = counted.1.read old.reads (told_agrees kept told) read.0 read.1.log in
+          let loaded = is_loaded (g.O.Oper.meaning c.args.b) c.args.b old new _ read.0 counted.0 c.in_ok-counted.counted.commands told kept read.1 read.2 read.3 refl groups counted.1.placed counted.2.next counted.2.commands
+          (c.saturating_add-accepted.ensures ∙ ap (λ (n : ℕ). min (n + c.in_ok-counted.counted.commands) (2 ^ 64 - 1)) c.commands.ensures) refl in
+          (loaded.0, counted.2.last ∙ ap (λ (l : List (Record g.row.O.Denot)). last_checkpoint l) loaded.1);
+      held = λ files agree.
+          let read = c.in_ok-log.ensures.read files (agreed_before c.count_records.ensures.kept files agree) in
+          is_held (g.O.Oper.meaning c.args.b) files _ read.0 counted.0 read.1 (counted.1.read files agree read.0 read.1.log) counted.1.placed counted.2.next;
+      counted = (counted.0, counted.1, counted.2.next, counted.2.last);
+      bounds = search rules;
+      next =
+          let m = g.O.Oper.meaning c.args.b in
+          let base = c.in_ok-log.log.header.base in
+          let header = c.in_ok-log.ensures.header in
+          let counted = c.in_ok-counted.ensures.counted in (
+            omega (arith, header.base_low, counted.2.next, next_rises m base counted.0),
+            omega (arith, counted.2.next, lsn_end m base base counted.0 header.base_high counted.1.placed),
+          );
+      cause = search rules;
+      whole = search rules;
+    }
 
 pub invariant_of-log : goal.invariant_of-log
 invariant_of-log g c =

@@ -1,4 +1,4 @@
-use Rattle.std.proofs.Common.{sym, subst, arith}
+use Rattle.std.proofs.Common.{rules, sym, subst, arith}
 use Rattle.std.proofs.lemmas.Result.{err_from_is_err_and}
 use Rattle.disk_model.specs.Disk.{Rises}
 use Rattle.disk_model.specs.Moments.{told_agrees}
@@ -33,8 +33,8 @@ returns-in_err-it-clause-cause g c =
     let p = err_from_is_err_and c.from_residual.result c.from_residual.ensures.1 in
     rw (p.1, p.2) (subst (λ (v : RecordLogView). FailsBy (Rises old.disk_faults new.disk_faults) (IsTailFault (g.O.Oper.meaning v.bounds) new v.log) c.in_err-it.field-0.0) c.self.view_is c.in_err-it.ensures.cause)
 
-pub returns-clause-planned : goal.returns-clause-planned
-returns-clause-planned g c =
+pub returns : goal.returns
+returns g c =
     let new = g.M.Machine.disk c.measure.new.m in
     let b = c.self.inside.bounds in
     let m = g.O.Oper.meaning b in
@@ -42,16 +42,12 @@ returns-clause-planned g c =
     let measured = c.in_ok-it.ensures.measured in
     let last = c.count_last-last.result in
     let has = subst (λ (k : _). HasLast m k measured.0 c.count_last-last.new.so_far last) c.base-base.ensures (c.count_last-last.ensures b measured.0 measured.2) in
-    subst (λ (v : RecordLogView). IsCopyPlanned (g.O.Oper.meaning v.bounds) new v.log (record { commands = c.commands.result; lengths = c.push.new.self }) last) c.self.view_is
-    (measured_copy m new log measured.0 c.count_last-last.new.so_far last (record { commands = c.commands.result; lengths = c.push.new.self }) measured.1 has c.commands.ensures c.in_ok-push.ensures.items)
-
-pub returns-clause-fits : goal.returns-clause-fits
-returns-clause-fits g c =
-    let new = g.M.Machine.disk c.measure.new.m in
-    let b = c.self.inside.bounds in
-    let m = g.O.Oper.meaning b in
-    let log = c.self.inside.log in
-    let measured = c.in_ok-it.ensures.measured in
-    let last = c.count_last-last.result in
-    let has = subst (λ (k : _). HasLast m k measured.0 c.count_last-last.new.so_far last) c.base-base.ensures (c.count_last-last.ensures b measured.0 measured.2) in
-    measured_fits m new log measured.0 c.count_last-last.new.so_far last (record { commands = c.commands.result; lengths = c.push.new.self }) measured.1 has c.commands.ensures c.in_ok-push.ensures.items (omega (arith, c.if-len-gt-MAX_BLOCKS.false))
+    record {
+      kept = search rules;
+      planned =
+          subst (λ (v : RecordLogView). IsCopyPlanned (g.O.Oper.meaning v.bounds) new v.log (record { commands = c.commands.result; lengths = c.push.new.self }) last) c.self.view_is
+          (measured_copy m new log measured.0 c.count_last-last.new.so_far last (record { commands = c.commands.result; lengths = c.push.new.self }) measured.1 has c.commands.ensures c.in_ok-push.ensures.items);
+      fits = measured_fits m new log measured.0 c.count_last-last.new.so_far last (record { commands = c.commands.result; lengths = c.push.new.self }) measured.1 has c.commands.ensures c.in_ok-push.ensures.items (omega (arith, c.if-len-gt-MAX_BLOCKS.false));
+      undamaged = search rules;
+      cause = search rules;
+    }

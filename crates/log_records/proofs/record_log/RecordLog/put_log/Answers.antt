@@ -1,4 +1,4 @@
-use Rattle.std.proofs.Common.{◌≢◌, ◌+◌, ◌<◌, ◌^◌, ◌∙◌, ◌++◌, [], ◌∷◌, List, ℕ, map, refl, sym, subst, arith}
+use Rattle.std.proofs.Common.{rules, ◌≢◌, ◌+◌, ◌<◌, ◌^◌, ◌∙◌, ◌++◌, [], ◌∷◌, List, ℕ, map, refl, sym, subst, arith}
 use Rattle.std.proofs.lemmas.Result.{err_from_is_err_and}
 use Rattle.disk_model.specs.Disk.{In, IsSettledIn, Runs, Same}
 use Rattle.disk_model.specs.declared.machine.FileNo.{FileNo}
@@ -63,45 +63,38 @@ returns-in_err-finish-clause-cause g c =
     let p = err_from_is_err_and c.from_residual-in_err-finish.result c.from_residual-in_err-finish.ensures.1 in
     rw (p.1, p.2) (rises_since old two (g.M.Machine.disk c.finish.new.machine) (omega (arith, c.begin_log.ensures.runs.time.disk_faults, c.copy.ensures.runs.time.disk_faults)) (c.in_err-finish.ensures.cause refl))
 
-pub returns-clause-runs : goal.returns-clause-runs
-returns-clause-runs g c =
+pub returns : goal.returns
+returns g c =
     let old = g.M.Machine.disk c.args.m.now in
     let one = g.M.Machine.disk c.begin_log.new.machine in
     let two = g.M.Machine.disk c.copy.new.m in
     let fin = g.M.Machine.disk c.finish.new.machine in
     let file = c.args.out.now.file in
     let same = c.copy.ensures.file ∙ c.begin_log.ensures.file in
-    keeps_twice old two fin file (keeps_twice old one two file c.begin_log.ensures.runs (subst (λ (f : FileNo). Runs (In f KeepsClosed) Same one two) c.begin_log.ensures.file c.copy.ensures.runs))
-    (subst (λ (f : FileNo). Runs (In f KeepsClosed) Same two fin) same c.finish.ensures.runs)
-
-pub returns-clause-prepared : goal.returns-clause-prepared
-returns-clause-prepared g c told closed groups holds =
-    let old = g.M.Machine.disk c.args.m.now in
-    let one = g.M.Machine.disk c.begin_log.new.machine in
-    let two = g.M.Machine.disk c.copy.new.m in
-    let fin = g.M.Machine.disk c.finish.new.machine in
-    let now = c.args.self.now in
-    let b = now.bounds in
-    let m = g.O.Oper.meaning b in
-    let file = c.args.out.now.file in
-    let same = c.copy.ensures.file ∙ c.begin_log.ensures.file in
-    let small : IsSmall b = subst (λ (v : RecordLogView). IsSmall v.bounds) c.self.view_is c.self.invariant.small in
-    let codes = has_codes m b small (g.met.O.Oper.bounded b) (g.met.O.Oper.lawful b small) in
-    let run = keeps_twice old one two file c.begin_log.ensures.runs (subst (λ (f : FileNo). Runs (In f KeepsClosed) Same one two) c.begin_log.ensures.file c.copy.ensures.runs) in
-    let told_one = c.begin_log.ensures.runs.time.files_told.0 told in
-    let told_two = run.time.files_told.0 told in
-    let holds_two = subst (λ (f : List ℕ). IsRecordLog m now.log.header groups f) (sym ((run.reads told).others now.log.active c.requires.apart)) holds in
-    let begun = subst (λ (v : RecordLogView). HasPutLog one c.begin_log.new.writer (next_header v.log c.args.base c.args.new.commands) []) c.self.view_is (c.in_ok-begin_log.ensures.begun told closed) in
-    let planned = planned_beside m old two file now.log c.args.base (c.args.checkpoint.now ∷ []) c.args.new c.requires.apart run c.requires.planned in
-    let header = next_header now.log c.args.base c.args.new.commands in
-    let payloads = map (payload_of m) (in_full_blocks m (from_lsn c.args.base (records_of groups) ++ c.args.checkpoint.now ∷ [])) in
-    subst (λ (f : FileNo). IsPrepared header payloads (fin.reads f)) same
-    (c.in_ok-finish.ensures.prepared told_two header payloads
-    (put_log m codes two one two now.log c.args.base (c.args.checkpoint.now ∷ []) c.args.new c.begin_log.new.writer c.copy.new.out header groups told_one (run.ends.agreeing told_two) holds_two planned (some_with m (from_lsn c.args.base planned.records) c.args.checkpoint.now) begun
-    c.in_ok-copy.ensures.copied))
-
-pub returns-clause-settled : goal.returns-clause-settled
-returns-clause-settled g c = subst (λ (f : FileNo). IsSettledIn f (g.M.Machine.disk c.finish.new.machine)) (c.copy.ensures.file ∙ c.begin_log.ensures.file) c.in_ok-finish.ensures.settled
-
-pub returns-clause-end : goal.returns-clause-end
-returns-clause-end g c = omega (arith, c.end-end.ensures, c.in_ok-begin_log.ensures.end, c.in_ok-copy.ensures.copied.end)
+    record {
+      runs =
+          keeps_twice old two fin file (keeps_twice old one two file c.begin_log.ensures.runs (subst (λ (f : FileNo). Runs (In f KeepsClosed) Same one two) c.begin_log.ensures.file c.copy.ensures.runs))
+          (subst (λ (f : FileNo). Runs (In f KeepsClosed) Same two fin) same c.finish.ensures.runs);
+      prepared = λ told closed groups holds.
+          let now = c.args.self.now in
+          let b = now.bounds in
+          let m = g.O.Oper.meaning b in
+          let small : IsSmall b = subst (λ (v : RecordLogView). IsSmall v.bounds) c.self.view_is c.self.invariant.small in
+          let codes = has_codes m b small (g.met.O.Oper.bounded b) (g.met.O.Oper.lawful b small) in
+          let run = keeps_twice old one two file c.begin_log.ensures.runs (subst (λ (f : FileNo). Runs (In f KeepsClosed) Same one two) c.begin_log.ensures.file c.copy.ensures.runs) in
+          let told_one = c.begin_log.ensures.runs.time.files_told.0 told in
+          let told_two = run.time.files_told.0 told in
+          let holds_two = subst (λ (f : List ℕ). IsRecordLog m now.log.header groups f) (sym ((run.reads told).others now.log.active c.requires.apart)) holds in
+          let begun = subst (λ (v : RecordLogView). HasPutLog one c.begin_log.new.writer (next_header v.log c.args.base c.args.new.commands) []) c.self.view_is (c.in_ok-begin_log.ensures.begun told closed) in
+          let planned = planned_beside m old two file now.log c.args.base (c.args.checkpoint.now ∷ []) c.args.new c.requires.apart run c.requires.planned in
+          let header = next_header now.log c.args.base c.args.new.commands in
+          let payloads = map (payload_of m) (in_full_blocks m (from_lsn c.args.base (records_of groups) ++ c.args.checkpoint.now ∷ [])) in
+          subst (λ (f : FileNo). IsPrepared header payloads (fin.reads f)) same
+          (c.in_ok-finish.ensures.prepared told_two header payloads
+          (put_log m codes two one two now.log c.args.base (c.args.checkpoint.now ∷ []) c.args.new c.begin_log.new.writer c.copy.new.out header groups told_one (run.ends.agreeing told_two) holds_two planned (some_with m (from_lsn c.args.base planned.records) c.args.checkpoint.now) begun
+          c.in_ok-copy.ensures.copied));
+      settled = subst (λ (f : FileNo). IsSettledIn f (g.M.Machine.disk c.finish.new.machine)) (c.copy.ensures.file ∙ c.begin_log.ensures.file) c.in_ok-finish.ensures.settled;
+      file = search rules;
+      end = omega (arith, c.end-end.ensures, c.in_ok-begin_log.ensures.end, c.in_ok-copy.ensures.copied.end);
+      cause = search rules;
+    }
