@@ -31,40 +31,28 @@ use Rattle.execution.proofs.executing.execute.Goals.{In_ok-copies, In_err-requir
 use Rattle.execution.proofs.executing.execute.Goals as goal
 
 -- it is not admitted
-pub returns-in_err-copies-clause-call : goal.returns-in_err-copies-clause-call
-returns-in_err-copies-clause-call g c =
+pub returns-in_err-copies : goal.returns-in_err-copies
+returns-in_err-copies g c =
     let old = g.M.Machine.disk c.args.machine.now in
     let new = g.M.Machine.disk c.admit.new.machine in
     let e = c.in_err-copies.field-0.0 in
-    at_err (λ r. IsCall g.O.Oper.meaning old new c.args.store.now c.admit.new.store 0 (StopsCommand c.args.grouped (store_params c.args.store.now).limit) (ending_of_exec r)) c.from_residual.result e c.from_residual.ensures.1
-    (unadmitted_call g.O.Oper.meaning c.args.grouped c.args.op old new c.args.store.now c.admit.new.store e c.in_err-copies.ensures.cause c.in_err-copies.ensures.call)
-
-pub returns-in_err-copies-clause-takes : goal.returns-in_err-copies-clause-takes
-returns-in_err-copies-clause-takes g c =
-    let old = g.M.Machine.disk c.args.machine.now in
-    let new = g.M.Machine.disk c.admit.new.machine in
-    let e = c.in_err-copies.field-0.0 in
-    at_err (λ r. Takes g.O.Oper.meaning old new c.args.store.now.parts c.admit.new.store.parts (λ m w used. exec_course m c.args.grouped (store_params c.args.store.now).limit c.args.op w used) (ending_of_exec r)) c.from_residual.result e
-    c.from_residual.ensures.1
-    (unadmitted_takes g.O.Oper.meaning c.args.grouped c.args.op old new c.args.store.now c.admit.new.store (IsFailed (ending_of_error e)) c.in_err-copies.ensures.call (g.met.M.Machine.lawful c.admit.new.machine) g.met.O.Oper.bounded g.met.O.Oper.lawful e
-    c.in_err-copies.ensures.cause c.in_err-copies.ensures.shown)
-
-pub returns-in_err-copies-clause-in_world : goal.returns-in_err-copies-clause-in_world
-returns-in_err-copies-clause-in_world g c p w shows =
-    let old = g.M.Machine.disk c.args.machine.now in
-    let new = g.M.Machine.disk c.admit.new.machine in
-    let e = c.in_err-copies.field-0.0 in
-    at_err (λ r. HasCauseIn c.args.grouped (meaning_in g.O.Oper.meaning p) p.limit w (log_length c.args.store.now) c.args.op r) c.from_residual.result e c.from_residual.ensures.1
-    (admit_cause g.O.Oper.meaning c.args.grouped p old new c.args.store.now.parts w shows c.args.op g.met.O.Oper.bounded g.met.O.Oper.lawful e c.in_err-copies.ensures.call.read.stays c.in_err-copies.ensures.cause
-    c.in_err-copies.ensures.shown (λ is. c.in_err-copies.ensures.fault (λ i. Err (is i))))
-
-pub returns-in_err-copies-clause-outcome : goal.returns-in_err-copies-clause-outcome
-returns-in_err-copies-clause-outcome g c =
-    let old = g.M.Machine.disk c.args.machine.now in
-    let new = g.M.Machine.disk c.admit.new.machine in
-    let e = c.in_err-copies.field-0.0 in
-    at_err (λ r. IsOutcome g.O.Oper.meaning c.args.grouped old new c.args.store.now.parts c.admit.new.store.parts c.args.op r) c.from_residual.result e c.from_residual.ensures.1
-    (unadmitted_outcome g.O.Oper.meaning c.args.grouped c.args.op old new c.args.store.now c.admit.new.store (IsFailed (ending_of_error e)) c.in_err-copies.ensures.call e c.in_err-copies.ensures.cause)
+    record {
+      call =
+          at_err (λ r. IsCall g.O.Oper.meaning old new c.args.store.now c.admit.new.store 0 (StopsCommand c.args.grouped (store_params c.args.store.now).limit) (ending_of_exec r)) c.from_residual.result e c.from_residual.ensures.1
+          (unadmitted_call g.O.Oper.meaning c.args.grouped c.args.op old new c.args.store.now c.admit.new.store e c.in_err-copies.ensures.cause c.in_err-copies.ensures.call);
+      takes =
+          at_err (λ r. Takes g.O.Oper.meaning old new c.args.store.now.parts c.admit.new.store.parts (λ m w used. exec_course m c.args.grouped (store_params c.args.store.now).limit c.args.op w used) (ending_of_exec r)) c.from_residual.result e
+          c.from_residual.ensures.1
+          (unadmitted_takes g.O.Oper.meaning c.args.grouped c.args.op old new c.args.store.now c.admit.new.store (IsFailed (ending_of_error e)) c.in_err-copies.ensures.call (g.met.M.Machine.lawful c.admit.new.machine) g.met.O.Oper.bounded g.met.O.Oper.lawful e
+          c.in_err-copies.ensures.cause c.in_err-copies.ensures.shown);
+      in_world = λ p w shows.
+          at_err (λ r. HasCauseIn c.args.grouped (meaning_in g.O.Oper.meaning p) p.limit w (log_length c.args.store.now) c.args.op r) c.from_residual.result e c.from_residual.ensures.1
+          (admit_cause g.O.Oper.meaning c.args.grouped p old new c.args.store.now.parts w shows c.args.op g.met.O.Oper.bounded g.met.O.Oper.lawful e c.in_err-copies.ensures.call.read.stays c.in_err-copies.ensures.cause
+          c.in_err-copies.ensures.shown (λ is. c.in_err-copies.ensures.fault (λ i. Err (is i))));
+      outcome =
+          at_err (λ r. IsOutcome g.O.Oper.meaning c.args.grouped old new c.args.store.now.parts c.admit.new.store.parts c.args.op r) c.from_residual.result e c.from_residual.ensures.1
+          (unadmitted_outcome g.O.Oper.meaning c.args.grouped c.args.op old new c.args.store.now c.admit.new.store (IsFailed (ending_of_error e)) c.in_err-copies.ensures.call e c.in_err-copies.ensures.cause);
+    }
 
 -- after the admission nothing refuses it
 module _ (g : Over) (c : In_ok-copies g) where
@@ -97,41 +85,31 @@ module _ (g : Over) (c : In_err-require_place g) where
       unplaced_call g.O.Oper.meaning c.args.grouped c.args.op (g.M.Machine.disk c.args.machine.now) (g.M.Machine.disk c.admit.new.machine) (g.M.Machine.disk c.require_place.new.machine) c.args.store.now c.admit.new.store c.require_place.new.store
       c.in_ok-copies.ensures.call _ c.in_err-require_place.ensures.call
 
-pub returns-in_err-require_place-clause-call : goal.returns-in_err-require_place-clause-call
-returns-in_err-require_place-clause-call g c =
-    let at = goal.at.returns-in_err-require_place-clause-call g c in
-    at_err (λ r. IsCall g.O.Oper.meaning (g.M.Machine.disk c.args.machine.now) (g.M.Machine.disk c.require_place.new.machine) c.args.store.now c.require_place.new.store 0
-    (StopsCommand c.args.grouped (store_params c.args.store.now).limit) (ending_of_exec r)) c.from_residual-in_err-require_place.result c.in_err-require_place.field-0.0 c.from_residual-in_err-require_place.ensures.1 (call g at.In_err-require_place)
-
-pub returns-in_err-require_place-clause-takes : goal.returns-in_err-require_place-clause-takes
-returns-in_err-require_place-clause-takes g c =
-    let at = goal.at.returns-in_err-require_place-clause-takes g c in
+pub returns-in_err-require_place : goal.returns-in_err-require_place
+returns-in_err-require_place g c =
+    let at = goal.at.returns-in_err-require_place g c in
     let old = g.M.Machine.disk c.args.machine.now in
     let new = g.M.Machine.disk c.require_place.new.machine in
     let e = c.in_err-require_place.field-0.0 in
-    at_err (λ r. Takes g.O.Oper.meaning old new c.args.store.now.parts c.require_place.new.store.parts (λ m w used. exec_course m c.args.grouped (store_params c.args.store.now).limit c.args.op w used) (ending_of_exec r))
-    c.from_residual-in_err-require_place.result e c.from_residual-in_err-require_place.ensures.1
-    (unplaced_takes g.O.Oper.meaning c.args.grouped c.args.op old (g.M.Machine.disk c.admit.new.machine) new c.args.store.now c.admit.new.store c.require_place.new.store c.in_ok-copies.ensures.call (said g at.In_ok-copies) e
-    (lacks g at.In_err-require_place) c.in_err-require_place.ensures.takes)
-
-pub returns-in_err-require_place-clause-in_world : goal.returns-in_err-require_place-clause-in_world
-returns-in_err-require_place-clause-in_world g c p w shows =
-    let at = goal.at.returns-in_err-require_place-clause-in_world g c in
-    let e = c.in_err-require_place.field-0.0 in
-    at_err (λ r. HasCauseIn c.args.grouped (meaning_in g.O.Oper.meaning p) p.limit w (log_length c.args.store.now) c.args.op r) c.from_residual-in_err-require_place.result e c.from_residual-in_err-require_place.ensures.1
-    (unplaced_cause g.O.Oper.meaning c.args.grouped c.args.op (g.M.Machine.disk c.args.machine.now) (g.M.Machine.disk c.admit.new.machine) (g.M.Machine.disk c.require_place.new.machine) c.args.store.now c.admit.new.store c.require_place.new.store
-    c.in_ok-copies.ensures.call (said g at.In_ok-copies) e (lacks g at.In_err-require_place) p w shows)
-
-pub returns-in_err-require_place-clause-outcome : goal.returns-in_err-require_place-clause-outcome
-returns-in_err-require_place-clause-outcome g c =
-    let at = goal.at.returns-in_err-require_place-clause-outcome g c in
-    let old = g.M.Machine.disk c.args.machine.now in
-    let new = g.M.Machine.disk c.require_place.new.machine in
-    let e = c.in_err-require_place.field-0.0 in
-    let called = call g at.In_err-require_place in
-    at_err (λ r. IsOutcome g.O.Oper.meaning c.args.grouped old new c.args.store.now.parts c.require_place.new.store.parts c.args.op r) c.from_residual-in_err-require_place.result e c.from_residual-in_err-require_place.ensures.1
-    (unplaced_outcome g.O.Oper.meaning c.args.grouped c.args.op old (g.M.Machine.disk c.admit.new.machine) new c.args.store.now c.admit.new.store c.require_place.new.store c.in_ok-copies.ensures.call e (lacks g at.In_err-require_place)
-    (values g at.In_ok-copies, c.in_ok-copies.ensures.ready) called.fault c.in_err-require_place.ensures.left)
+    record {
+      call =
+          at_err (λ r. IsCall g.O.Oper.meaning (g.M.Machine.disk c.args.machine.now) (g.M.Machine.disk c.require_place.new.machine) c.args.store.now c.require_place.new.store 0
+          (StopsCommand c.args.grouped (store_params c.args.store.now).limit) (ending_of_exec r)) c.from_residual-in_err-require_place.result c.in_err-require_place.field-0.0 c.from_residual-in_err-require_place.ensures.1 (call g at.In_err-require_place);
+      takes =
+          at_err (λ r. Takes g.O.Oper.meaning old new c.args.store.now.parts c.require_place.new.store.parts (λ m w used. exec_course m c.args.grouped (store_params c.args.store.now).limit c.args.op w used) (ending_of_exec r))
+          c.from_residual-in_err-require_place.result e c.from_residual-in_err-require_place.ensures.1
+          (unplaced_takes g.O.Oper.meaning c.args.grouped c.args.op old (g.M.Machine.disk c.admit.new.machine) new c.args.store.now c.admit.new.store c.require_place.new.store c.in_ok-copies.ensures.call (said g at.In_ok-copies) e
+          (lacks g at.In_err-require_place) c.in_err-require_place.ensures.takes);
+      in_world = λ p w shows.
+          at_err (λ r. HasCauseIn c.args.grouped (meaning_in g.O.Oper.meaning p) p.limit w (log_length c.args.store.now) c.args.op r) c.from_residual-in_err-require_place.result e c.from_residual-in_err-require_place.ensures.1
+          (unplaced_cause g.O.Oper.meaning c.args.grouped c.args.op (g.M.Machine.disk c.args.machine.now) (g.M.Machine.disk c.admit.new.machine) (g.M.Machine.disk c.require_place.new.machine) c.args.store.now c.admit.new.store c.require_place.new.store
+          c.in_ok-copies.ensures.call (said g at.In_ok-copies) e (lacks g at.In_err-require_place) p w shows);
+      outcome =
+          let called = call g at.In_err-require_place in
+          at_err (λ r. IsOutcome g.O.Oper.meaning c.args.grouped old new c.args.store.now.parts c.require_place.new.store.parts c.args.op r) c.from_residual-in_err-require_place.result e c.from_residual-in_err-require_place.ensures.1
+          (unplaced_outcome g.O.Oper.meaning c.args.grouped c.args.op old (g.M.Machine.disk c.admit.new.machine) new c.args.store.now c.admit.new.store c.require_place.new.store c.in_ok-copies.ensures.call e (lacks g at.In_err-require_place)
+          (values g at.In_ok-copies, c.in_ok-copies.ensures.ready) called.fault c.in_err-require_place.ensures.left);
+    }
 
 -- it has its place, and no call was made since its objects were read
 module _ (g : Over) (c : In_ok-require_place g) where
@@ -191,63 +169,47 @@ append_command-requires-clause-place g c =
     (subst (λ (k : ℕ). HasPlace read.parts.log.log k) range.0 c.in_ok-require_place.ensures.fits))
 
 -- it lacks memory
-pub returns-in_err-append_command-clause-call : goal.returns-in_err-append_command-clause-call
-returns-in_err-append_command-clause-call g c =
-    let at = goal.at.returns-in_err-append_command-clause-call g c in
+pub returns-in_err-append_command : goal.returns-in_err-append_command
+returns-in_err-append_command g c =
+    let at = goal.at.returns-in_err-append_command g c in
     let old = g.M.Machine.disk c.args.machine.now in
     let new = g.M.Machine.disk c.require_place.new.machine in
-    at_err (λ r. IsCall g.O.Oper.meaning old new c.args.store.now c.append_command.new.self 0 (StopsCommand c.args.grouped (store_params c.args.store.now).limit) (ending_of_exec r)) c.from_residual-in_err-append_command.result Memory
-    c.from_residual-in_err-append_command.ensures.1
-    (short_call g.O.Oper.meaning c.args.grouped c.args.op old new c.args.store.now c.require_place.new.store c.append_command.new.self (fetched g at.In_ok-require_place) (g.met.M.Machine.lawful c.require_place.new.machine)
-    (values g at.In_ok-copies) c.in_ok-copies.ensures.ready (place g at.In_ok-require_place) c.in_err-append_command.ensures)
-
-pub returns-in_err-append_command-clause-takes : goal.returns-in_err-append_command-clause-takes
-returns-in_err-append_command-clause-takes g c =
-    let at = goal.at.returns-in_err-append_command-clause-takes g c in
-    let old = g.M.Machine.disk c.args.machine.now in
-    let new = g.M.Machine.disk c.require_place.new.machine in
-    at_err (λ r. Takes g.O.Oper.meaning old new c.args.store.now.parts c.append_command.new.self.parts (λ m w used. exec_course m c.args.grouped (store_params c.args.store.now).limit c.args.op w used) (ending_of_exec r))
-    c.from_residual-in_err-append_command.result Memory c.from_residual-in_err-append_command.ensures.1
-    (short_takes g.O.Oper.meaning c.args.grouped c.args.op old new c.args.store.now c.require_place.new.store c.append_command.new.self (fetched g at.In_ok-require_place) (g.met.M.Machine.lawful c.require_place.new.machine)
-    (values g at.In_ok-copies) c.in_ok-copies.ensures.ready (place g at.In_ok-require_place) c.in_err-append_command.ensures)
-
-pub returns-in_err-append_command-clause-in_world : goal.returns-in_err-append_command-clause-in_world
-returns-in_err-append_command-clause-in_world g c p w shows =
-    at_err (λ r. HasCauseIn c.args.grouped (meaning_in g.O.Oper.meaning p) p.limit w (log_length c.args.store.now) c.args.op r) c.from_residual-in_err-append_command.result Memory c.from_residual-in_err-append_command.ensures.1 tt
-
-pub returns-in_err-append_command-clause-outcome : goal.returns-in_err-append_command-clause-outcome
-returns-in_err-append_command-clause-outcome g c =
-    let at = goal.at.returns-in_err-append_command-clause-outcome g c in
-    let old = g.M.Machine.disk c.args.machine.now in
-    let new = g.M.Machine.disk c.require_place.new.machine in
-    at_err (λ r. IsOutcome g.O.Oper.meaning c.args.grouped old new c.args.store.now.parts c.append_command.new.self.parts c.args.op r) c.from_residual-in_err-append_command.result Memory c.from_residual-in_err-append_command.ensures.1
-    (short_outcome g.O.Oper.meaning c.args.grouped c.args.op old new c.args.store.now c.require_place.new.store c.append_command.new.self (fetched g at.In_ok-require_place) (g.met.M.Machine.lawful c.require_place.new.machine)
-    (values g at.In_ok-copies) c.in_ok-copies.ensures.ready (place g at.In_ok-require_place) c.in_err-append_command.ensures)
+    record {
+      call =
+          at_err (λ r. IsCall g.O.Oper.meaning old new c.args.store.now c.append_command.new.self 0 (StopsCommand c.args.grouped (store_params c.args.store.now).limit) (ending_of_exec r)) c.from_residual-in_err-append_command.result Memory
+          c.from_residual-in_err-append_command.ensures.1
+          (short_call g.O.Oper.meaning c.args.grouped c.args.op old new c.args.store.now c.require_place.new.store c.append_command.new.self (fetched g at.In_ok-require_place) (g.met.M.Machine.lawful c.require_place.new.machine)
+          (values g at.In_ok-copies) c.in_ok-copies.ensures.ready (place g at.In_ok-require_place) c.in_err-append_command.ensures);
+      takes =
+          at_err (λ r. Takes g.O.Oper.meaning old new c.args.store.now.parts c.append_command.new.self.parts (λ m w used. exec_course m c.args.grouped (store_params c.args.store.now).limit c.args.op w used) (ending_of_exec r))
+          c.from_residual-in_err-append_command.result Memory c.from_residual-in_err-append_command.ensures.1
+          (short_takes g.O.Oper.meaning c.args.grouped c.args.op old new c.args.store.now c.require_place.new.store c.append_command.new.self (fetched g at.In_ok-require_place) (g.met.M.Machine.lawful c.require_place.new.machine)
+          (values g at.In_ok-copies) c.in_ok-copies.ensures.ready (place g at.In_ok-require_place) c.in_err-append_command.ensures);
+      in_world = λ p w shows. at_err (λ r. HasCauseIn c.args.grouped (meaning_in g.O.Oper.meaning p) p.limit w (log_length c.args.store.now) c.args.op r) c.from_residual-in_err-append_command.result Memory c.from_residual-in_err-append_command.ensures.1 tt;
+      outcome =
+          at_err (λ r. IsOutcome g.O.Oper.meaning c.args.grouped old new c.args.store.now.parts c.append_command.new.self.parts c.args.op r) c.from_residual-in_err-append_command.result Memory c.from_residual-in_err-append_command.ensures.1
+          (short_outcome g.O.Oper.meaning c.args.grouped c.args.op old new c.args.store.now c.require_place.new.store c.append_command.new.self (fetched g at.In_ok-require_place) (g.met.M.Machine.lawful c.require_place.new.machine)
+          (values g at.In_ok-copies) c.in_ok-copies.ensures.ready (place g at.In_ok-require_place) c.in_err-append_command.ensures);
+    }
 
 -- it is done
-pub returns-clause-call : goal.returns-clause-call
-returns-clause-call g c =
-    let at = goal.at.returns-clause-call g c in
-    finished_call g.O.Oper.meaning c.args.grouped c.args.op (g.M.Machine.disk c.args.machine.now) (g.M.Machine.disk c.require_place.new.machine) c.args.store.now c.require_place.new.store c.append_command.new.self
-    (fetched g at.In_ok-require_place) (g.met.M.Machine.lawful c.require_place.new.machine) (values g at.In_ok-copies) c.in_ok-copies.ensures.ready (place g at.In_ok-require_place) (done_on g at.In_ok-require_place c.append_command.new.self c.in_ok-append_command.ensures)
-
-pub returns-clause-takes : goal.returns-clause-takes
-returns-clause-takes g c =
-    let at = goal.at.returns-clause-takes g c in
-    finished_takes g.O.Oper.meaning c.args.grouped c.args.op (g.M.Machine.disk c.args.machine.now) (g.M.Machine.disk c.require_place.new.machine) c.args.store.now c.require_place.new.store c.append_command.new.self
-    (fetched g at.In_ok-require_place) (g.met.M.Machine.lawful c.require_place.new.machine) (values g at.In_ok-copies) c.in_ok-copies.ensures.ready (place g at.In_ok-require_place) (done_on g at.In_ok-require_place c.append_command.new.self c.in_ok-append_command.ensures)
-    g.met.O.Oper.bounded g.met.O.Oper.lawful c.in_ok-copies.ensures.read c.append_keeps.ensures.command
-
-pub returns-clause-in_world : goal.returns-clause-in_world
-returns-clause-in_world g c p w shows =
-    let at = goal.at.returns-clause-in_world g c in
-    finished_cause g.O.Oper.meaning c.args.grouped c.args.op (g.M.Machine.disk c.args.machine.now) (g.M.Machine.disk c.require_place.new.machine) c.args.store.now c.require_place.new.store c.append_command.new.self
-    (fetched g at.In_ok-require_place) (g.met.M.Machine.lawful c.require_place.new.machine) (values g at.In_ok-copies) c.in_ok-copies.ensures.ready (place g at.In_ok-require_place) (done_on g at.In_ok-require_place c.append_command.new.self c.in_ok-append_command.ensures)
-    g.met.O.Oper.bounded g.met.O.Oper.lawful c.in_ok-copies.ensures.read c.append_keeps.ensures.command p w shows c.accepted.result (c.accepted.ensures ∙ ap (λ (l : RecordLogView). l.accepted) c.log.ensures)
-
-pub returns-clause-outcome : goal.returns-clause-outcome
-returns-clause-outcome g c =
-    let at = goal.at.returns-clause-outcome g c in
-    finished_outcome g.O.Oper.meaning c.args.grouped c.args.op (g.M.Machine.disk c.args.machine.now) (g.M.Machine.disk c.require_place.new.machine) c.args.store.now c.require_place.new.store c.append_command.new.self
-    (fetched g at.In_ok-require_place) (g.met.M.Machine.lawful c.require_place.new.machine) (values g at.In_ok-copies) c.in_ok-copies.ensures.ready (place g at.In_ok-require_place) (done_on g at.In_ok-require_place c.append_command.new.self c.in_ok-append_command.ensures) c.accepted.result
-    (c.accepted.ensures ∙ ap (λ (l : RecordLogView). l.accepted) c.log.ensures)
+pub returns : goal.returns
+returns g c =
+    let at = goal.at.returns g c in
+    record {
+      call =
+          finished_call g.O.Oper.meaning c.args.grouped c.args.op (g.M.Machine.disk c.args.machine.now) (g.M.Machine.disk c.require_place.new.machine) c.args.store.now c.require_place.new.store c.append_command.new.self
+          (fetched g at.In_ok-require_place) (g.met.M.Machine.lawful c.require_place.new.machine) (values g at.In_ok-copies) c.in_ok-copies.ensures.ready (place g at.In_ok-require_place) (done_on g at.In_ok-require_place c.append_command.new.self c.in_ok-append_command.ensures);
+      takes =
+          finished_takes g.O.Oper.meaning c.args.grouped c.args.op (g.M.Machine.disk c.args.machine.now) (g.M.Machine.disk c.require_place.new.machine) c.args.store.now c.require_place.new.store c.append_command.new.self
+          (fetched g at.In_ok-require_place) (g.met.M.Machine.lawful c.require_place.new.machine) (values g at.In_ok-copies) c.in_ok-copies.ensures.ready (place g at.In_ok-require_place) (done_on g at.In_ok-require_place c.append_command.new.self c.in_ok-append_command.ensures)
+          g.met.O.Oper.bounded g.met.O.Oper.lawful c.in_ok-copies.ensures.read c.append_keeps.ensures.command;
+      in_world = λ p w shows.
+          finished_cause g.O.Oper.meaning c.args.grouped c.args.op (g.M.Machine.disk c.args.machine.now) (g.M.Machine.disk c.require_place.new.machine) c.args.store.now c.require_place.new.store c.append_command.new.self
+          (fetched g at.In_ok-require_place) (g.met.M.Machine.lawful c.require_place.new.machine) (values g at.In_ok-copies) c.in_ok-copies.ensures.ready (place g at.In_ok-require_place) (done_on g at.In_ok-require_place c.append_command.new.self c.in_ok-append_command.ensures)
+          g.met.O.Oper.bounded g.met.O.Oper.lawful c.in_ok-copies.ensures.read c.append_keeps.ensures.command p w shows c.accepted.result (c.accepted.ensures ∙ ap (λ (l : RecordLogView). l.accepted) c.log.ensures);
+      outcome =
+          finished_outcome g.O.Oper.meaning c.args.grouped c.args.op (g.M.Machine.disk c.args.machine.now) (g.M.Machine.disk c.require_place.new.machine) c.args.store.now c.require_place.new.store c.append_command.new.self
+          (fetched g at.In_ok-require_place) (g.met.M.Machine.lawful c.require_place.new.machine) (values g at.In_ok-copies) c.in_ok-copies.ensures.ready (place g at.In_ok-require_place) (done_on g at.In_ok-require_place c.append_command.new.self c.in_ok-append_command.ensures) c.accepted.result
+          (c.accepted.ensures ∙ ap (λ (l : RecordLogView). l.accepted) c.log.ensures);
+    }

@@ -31,43 +31,29 @@ use Rattle.execution.proofs.following.follow_command.Goals.{In-Ok, In_ok-require
 use Rattle.execution.proofs.following.follow_command.Goals as goal
 
 -- it is not admitted
-pub returns-in-Err-clause-call : goal.returns-in-Err-clause-call
-returns-in-Err-clause-call g c =
-    let old = g.M.Machine.disk c.args.machine.now in
-    let new = g.M.Machine.disk c.admit.new.machine in
-    subst (λ (e : RecordErr). IsCall g.O.Oper.meaning old new c.args.store.now c.admit.new.store 0 (StopsWithin log_limit) (ending_of_record_error e)) (sym c.record_error.ensures)
-    (differs_call g.O.Oper.meaning c.args.op c.next-lsn.result old new c.args.store.now c.admit.new.store c.in-Err.e c.in-Err.ensures.cause c.in-Err.ensures.call)
-
-pub returns-in-Err-clause-takes : goal.returns-in-Err-clause-takes
-returns-in-Err-clause-takes g c =
-    let old = g.M.Machine.disk c.args.machine.now in
-    let new = g.M.Machine.disk c.admit.new.machine in
-    subst (λ (e : RecordErr). Takes g.O.Oper.meaning old new c.args.store.now.parts c.admit.new.store.parts (λ m w used. member_course m (Command c.args.op) w used) (ending_of_record_error e)) (sym c.record_error.ensures)
-    (differs_takes g.O.Oper.meaning c.args.op c.next-lsn.result old new c.args.store.now c.admit.new.store _ c.in-Err.ensures.call g.met.O.Oper.bounded g.met.O.Oper.lawful c.in-Err.e c.in-Err.ensures.cause c.in-Err.ensures.shown
-    (g.met.M.Machine.lawful c.admit.new.machine))
-
-pub returns-in-Err-clause-in_world : goal.returns-in-Err-clause-in_world
-returns-in-Err-clause-in_world g c p w shows =
+pub returns-in-Err : goal.returns-in-Err
+returns-in-Err g c =
     let old = g.M.Machine.disk c.args.machine.now in
     let new = g.M.Machine.disk c.admit.new.machine in
     let next : c.next-lsn.result ≡ next_of c.args.store.now = search rules in
-    subst (λ (e : RecordErr). HasMemberCause (meaning_in g.O.Oper.meaning p) w (log_length c.args.store.now) (Command c.args.op) (Err e)) (sym c.record_error.ensures)
-    (differs_cause g.O.Oper.meaning c.args.op c.next-lsn.result old new c.args.store.now c.admit.new.store _ c.in-Err.ensures.call g.met.O.Oper.bounded g.met.O.Oper.lawful c.in-Err.e c.in-Err.ensures.cause c.in-Err.ensures.shown next p w shows)
-
-pub returns-in-Err-clause-quiet : goal.returns-in-Err-clause-quiet
-returns-in-Err-clause-quiet g c = λ room. c.in-Err.ensures.call.read.stays
-
-pub returns-in-Err-clause-untaken : goal.returns-in-Err-clause-untaken
-returns-in-Err-clause-untaken g c = (ap (λ (l : RecordLogView). l.next) c.in-Err.ensures.call.log, c.in-Err.ensures.call.read.fetched.slots)
-
-pub returns-in-Err-clause-cause : goal.returns-in-Err-clause-cause
-returns-in-Err-clause-cause g c =
-    let old = g.M.Machine.disk c.args.machine.now in
-    let new = g.M.Machine.disk c.admit.new.machine in
-    let store : StoreView = c.args.store.now in
-    let next : c.next-lsn.result ≡ next_of c.args.store.now = search rules in
-    subst (λ (e : RecordErr). IsFollowFailure (meaning_in g.O.Oper.meaning (store_params store)) (Logged (next_of store) c.args.op) (next_of store) old new store.parts.volatile.objects e) (sym c.record_error.ensures)
-    (differs_failure g.O.Oper.meaning c.args.op c.next-lsn.result old new store c.admit.new.store c.in-Err.e next c.in-Err.ensures.cause)
+    record {
+      call =
+          subst (λ (e : RecordErr). IsCall g.O.Oper.meaning old new c.args.store.now c.admit.new.store 0 (StopsWithin log_limit) (ending_of_record_error e)) (sym c.record_error.ensures)
+          (differs_call g.O.Oper.meaning c.args.op c.next-lsn.result old new c.args.store.now c.admit.new.store c.in-Err.e c.in-Err.ensures.cause c.in-Err.ensures.call);
+      takes =
+          subst (λ (e : RecordErr). Takes g.O.Oper.meaning old new c.args.store.now.parts c.admit.new.store.parts (λ m w used. member_course m (Command c.args.op) w used) (ending_of_record_error e)) (sym c.record_error.ensures)
+          (differs_takes g.O.Oper.meaning c.args.op c.next-lsn.result old new c.args.store.now c.admit.new.store _ c.in-Err.ensures.call g.met.O.Oper.bounded g.met.O.Oper.lawful c.in-Err.e c.in-Err.ensures.cause c.in-Err.ensures.shown
+          (g.met.M.Machine.lawful c.admit.new.machine));
+      in_world = λ p w shows.
+          subst (λ (e : RecordErr). HasMemberCause (meaning_in g.O.Oper.meaning p) w (log_length c.args.store.now) (Command c.args.op) (Err e)) (sym c.record_error.ensures)
+          (differs_cause g.O.Oper.meaning c.args.op c.next-lsn.result old new c.args.store.now c.admit.new.store _ c.in-Err.ensures.call g.met.O.Oper.bounded g.met.O.Oper.lawful c.in-Err.e c.in-Err.ensures.cause c.in-Err.ensures.shown next p w shows);
+      quiet = λ room. c.in-Err.ensures.call.read.stays;
+      untaken = (ap (λ (l : RecordLogView). l.next) c.in-Err.ensures.call.log, c.in-Err.ensures.call.read.fetched.slots);
+      cause =
+          let store : StoreView = c.args.store.now in
+          subst (λ (e : RecordErr). IsFollowFailure (meaning_in g.O.Oper.meaning (store_params store)) (Logged (next_of store) c.args.op) (next_of store) old new store.parts.volatile.objects e) (sym c.record_error.ensures)
+          (differs_failure g.O.Oper.meaning c.args.op c.next-lsn.result old new store c.admit.new.store c.in-Err.e next c.in-Err.ensures.cause);
+    }
 
 pub require_room-requires-clause-unbroken : goal.require_room-requires-clause-unbroken
 require_room-requires-clause-unbroken g c = fetch_unbroken (g.M.Machine.disk c.args.machine.now) (g.M.Machine.disk c.admit.new.machine) c.args.store.now c.admit.new.store c.in-Ok.ensures.call
@@ -108,34 +94,38 @@ module _ (g : Over) (c : In-Ok g) where
   takes_room new room ending takes = room_takes g.O.Oper.meaning old mid new before read room c.in-Ok.ensures.call n (Command c.args.op) ending takes
 
 -- it gets no room
-pub returns-in_err-require_room-clause-call : goal.returns-in_err-require_room-clause-call
-returns-in_err-require_room-clause-call g c =
-    let at = (goal.at.returns-in_err-require_room-clause-call g c).In-Ok in
+pub returns-in_err-require_room : goal.returns-in_err-require_room
+returns-in_err-require_room g c =
+    let at = (goal.at.returns-in_err-require_room g c).In-Ok in
     let new = g.M.Machine.disk c.require_room.new.machine in
     let room : StoreView = c.require_room.new.store in
     let e = c.in_err-require_room.field-0.0 in
-    at_err (λ r. IsCall g.O.Oper.meaning (old g at) new (before g at) room 0 (StopsWithin log_limit) (ending_of_follow r)) c.from_residual.result e c.from_residual.ensures.1
-    (room_call g.O.Oper.meaning (old g at) (mid g at) new (before g at) (read g at) room c.in-Ok.ensures.call (ending_of_record_error e) c.in_err-require_room.ensures.call)
-
-pub returns-in_err-require_room-clause-takes : goal.returns-in_err-require_room-clause-takes
-returns-in_err-require_room-clause-takes g c =
-    let at = (goal.at.returns-in_err-require_room-clause-takes g c).In-Ok in
-    let new = g.M.Machine.disk c.require_room.new.machine in
-    let room : StoreView = c.require_room.new.store in
-    let e = c.in_err-require_room.field-0.0 in
-    at_err (λ r. Takes g.O.Oper.meaning (old g at) new (before g at).parts room.parts (λ m w used. member_course m (Command c.args.op) w used) (ending_of_follow r)) c.from_residual.result e c.from_residual.ensures.1
-    (roomless_takes g.O.Oper.meaning (n g at) (Command c.args.op) (old g at) (before g at).parts (comes g at) new room.parts (read g at).parts.log _ e c.in_err-require_room.ensures.cause
-    (takes_room g at new room (ending_of_record_error e) c.in_err-require_room.ensures.takes))
-
-pub returns-in_err-require_room-clause-in_world : goal.returns-in_err-require_room-clause-in_world
-returns-in_err-require_room-clause-in_world g c p w shows =
-    let at = (goal.at.returns-in_err-require_room-clause-in_world g c).In-Ok in
-    let new = g.M.Machine.disk c.require_room.new.machine in
-    let room : StoreView = c.require_room.new.store in
-    let e = c.in_err-require_room.field-0.0 in
-    at_err (λ r. HasMemberCause (meaning_in g.O.Oper.meaning p) w (log_length (before g at)) (Command c.args.op) r) c.from_residual.result e c.from_residual.ensures.1
-    (roomless_cause g.O.Oper.meaning (n g at) (Command c.args.op) (old g at) (before g at).parts (comes g at) new room.parts (read g at).parts.log _ e c.in_err-require_room.ensures.cause
-    (takes_room g at new room (ending_of_record_error e) c.in_err-require_room.ensures.takes) p w shows)
+    record {
+      call =
+          at_err (λ r. IsCall g.O.Oper.meaning (old g at) new (before g at) room 0 (StopsWithin log_limit) (ending_of_follow r)) c.from_residual.result e c.from_residual.ensures.1
+          (room_call g.O.Oper.meaning (old g at) (mid g at) new (before g at) (read g at) room c.in-Ok.ensures.call (ending_of_record_error e) c.in_err-require_room.ensures.call);
+      takes =
+          at_err (λ r. Takes g.O.Oper.meaning (old g at) new (before g at).parts room.parts (λ m w used. member_course m (Command c.args.op) w used) (ending_of_follow r)) c.from_residual.result e c.from_residual.ensures.1
+          (roomless_takes g.O.Oper.meaning (n g at) (Command c.args.op) (old g at) (before g at).parts (comes g at) new room.parts (read g at).parts.log _ e c.in_err-require_room.ensures.cause
+          (takes_room g at new room (ending_of_record_error e) c.in_err-require_room.ensures.takes));
+      in_world = λ p w shows.
+          at_err (λ r. HasMemberCause (meaning_in g.O.Oper.meaning p) w (log_length (before g at)) (Command c.args.op) r) c.from_residual.result e c.from_residual.ensures.1
+          (roomless_cause g.O.Oper.meaning (n g at) (Command c.args.op) (old g at) (before g at).parts (comes g at) new room.parts (read g at).parts.log _ e c.in_err-require_room.ensures.cause
+          (takes_room g at new room (ending_of_record_error e) c.in_err-require_room.ensures.takes) p w shows);
+      quiet = stays g (goal.at.returns-in_err-require_room g c).In-Ok (g.M.Machine.disk c.require_room.new.machine) c.require_room.new.store (λ short. ap (λ m. g.M.Machine.disk m) (c.in_err-require_room.ensures.quiet short));
+      untaken =
+          let store : StoreView = c.args.store.now in
+          at_err (λ r. OnErr r ((next_of room ≡ next_of store) × (room.parts.volatile.objects.slots ≡ store.parts.volatile.objects.slots))) c.from_residual.result c.in_err-require_room.field-0.0 c.from_residual.ensures.1 (
+            room_next g.O.Oper.meaning (old g at) (mid g at) (g.M.Machine.disk c.require_room.new.machine) (before g at) (read g at) room c.in-Ok.ensures.call c.in_err-require_room.ensures.kept.1,
+            ap (λ (s : Volatile). s.objects.slots) c.in_err-require_room.ensures.kept.0 ∙ c.in-Ok.ensures.call.read.fetched.slots,
+          );
+      cause =
+          let store = before g at in
+          let m = meaning_in g.O.Oper.meaning (store_params store) in
+          at_err (λ r. IfErr r (IsFollowFailure m (Logged (next_of store) c.args.op) (next_of store) (old g at) new store.parts.volatile.objects)) c.from_residual.result e c.from_residual.ensures.1
+          (room_failure g.O.Oper.meaning (old g at) (mid g at) new store (read g at) c.require_room.new.store c.in-Ok.ensures.call m (Logged (next_of store) c.args.op) store.parts.volatile.objects (n g at) _ e refl c.in_err-require_room.ensures.cause
+          c.in_err-require_room.ensures.call);
+    }
 
 -- where the block has room nothing was written
 stays : (g : Over) (at : In-Ok g) (new : Disk) (room : StoreView) → (length (read g at).parts.log.log.pending + n g at ≤ 2 ^ 30 → new ≡ mid g at) → length (before g at).parts.log.log.pending + command_length (meaning_in g.O.Oper.meaning (store_params (before g at))) at.args.op ≤ 2 ^ 30
@@ -143,31 +133,6 @@ stays : (g : Over) (at : In-Ok g) (new : Disk) (room : StoreView) → (length (r
 stays g at new room same short =
     let long = at.in-Ok.ensures.length.0 in
     room_stays g.O.Oper.meaning (old g at) (mid g at) new (before g at) (read g at) room at.in-Ok.ensures.call (n g at) same (omega (arith, short, long))
-
-pub returns-in_err-require_room-clause-quiet : goal.returns-in_err-require_room-clause-quiet
-returns-in_err-require_room-clause-quiet g c =
-    stays g (goal.at.returns-in_err-require_room-clause-quiet g c).In-Ok (g.M.Machine.disk c.require_room.new.machine) c.require_room.new.store (λ short. ap (λ m. g.M.Machine.disk m) (c.in_err-require_room.ensures.quiet short))
-
-pub returns-in_err-require_room-clause-untaken : goal.returns-in_err-require_room-clause-untaken
-returns-in_err-require_room-clause-untaken g c =
-    let at = (goal.at.returns-in_err-require_room-clause-untaken g c).In-Ok in
-    let room : StoreView = c.require_room.new.store in
-    let store : StoreView = c.args.store.now in
-    at_err (λ r. OnErr r ((next_of room ≡ next_of store) × (room.parts.volatile.objects.slots ≡ store.parts.volatile.objects.slots))) c.from_residual.result c.in_err-require_room.field-0.0 c.from_residual.ensures.1 (
-      room_next g.O.Oper.meaning (old g at) (mid g at) (g.M.Machine.disk c.require_room.new.machine) (before g at) (read g at) room c.in-Ok.ensures.call c.in_err-require_room.ensures.kept.1,
-      ap (λ (s : Volatile). s.objects.slots) c.in_err-require_room.ensures.kept.0 ∙ c.in-Ok.ensures.call.read.fetched.slots,
-    )
-
-pub returns-in_err-require_room-clause-cause : goal.returns-in_err-require_room-clause-cause
-returns-in_err-require_room-clause-cause g c =
-    let at = (goal.at.returns-in_err-require_room-clause-cause g c).In-Ok in
-    let new = g.M.Machine.disk c.require_room.new.machine in
-    let e = c.in_err-require_room.field-0.0 in
-    let store = before g at in
-    let m = meaning_in g.O.Oper.meaning (store_params store) in
-    at_err (λ r. IfErr r (IsFollowFailure m (Logged (next_of store) c.args.op) (next_of store) (old g at) new store.parts.volatile.objects)) c.from_residual.result e c.from_residual.ensures.1
-    (room_failure g.O.Oper.meaning (old g at) (mid g at) new store (read g at) c.require_room.new.store c.in-Ok.ensures.call m (Logged (next_of store) c.args.op) store.parts.volatile.objects (n g at) _ e refl c.in_err-require_room.ensures.cause
-    c.in_err-require_room.ensures.call)
 
 -- it gets some
 module _ (g : Over) (c : In_ok-require_room g) where
@@ -219,84 +184,60 @@ append_command-requires-clause-place g c =
     (subst (λ (k : ℕ). HasPlace store.parts.log.log k) long c.in_ok-require_room.ensures.place)
 
 -- there is no memory for it
-pub returns-in_err-append_command-clause-call : goal.returns-in_err-append_command-clause-call
-returns-in_err-append_command-clause-call g c =
-    let in_goal = goal.at.returns-in_err-append_command-clause-call g c in
+pub returns-in_err-append_command : goal.returns-in_err-append_command
+returns-in_err-append_command g c =
+    let in_goal = goal.at.returns-in_err-append_command g c in
     let at = in_goal.In-Ok in
     let there = in_goal.In_ok-require_room in
     let after : StoreView = c.append_command.new.self in
-    at_err (λ r. IsCall g.O.Oper.meaning (old g at) (new g there) (before g at) after 0 (StopsWithin log_limit) (ending_of_follow r)) c.from_residual-in_err-append_command.result Memory c.from_residual-in_err-append_command.ensures.1
-    (then_call g.O.Oper.meaning (old g at) (mid g at) (new g there) (before g at) (read g at) (room g there) c.in-Ok.ensures.call after 0 Ending.Short c.in_ok-require_room.ensures.call
-    (left_call g.O.Oper.meaning (room g there) after (fine g there) (new g there) (g.met.M.Machine.lawful c.require_room.new.machine) c.in_err-append_command.ensures))
-
-pub returns-in_err-append_command-clause-takes : goal.returns-in_err-append_command-clause-takes
-returns-in_err-append_command-clause-takes g c =
-    let in_goal = goal.at.returns-in_err-append_command-clause-takes g c in
-    let at = in_goal.In-Ok in
-    let there = in_goal.In_ok-require_room in
-    let after : StoreView = c.append_command.new.self in
-    let call = room_call g.O.Oper.meaning (old g at) (mid g at) (new g there) (before g at) (read g at) (room g there) c.in-Ok.ensures.call Ending.Done c.in_ok-require_room.ensures.call in
-    at_err (λ r. Takes g.O.Oper.meaning (old g at) (new g there) (before g at).parts after.parts (λ m w used. member_course m (Command c.args.op) w used) (ending_of_follow r)) c.from_residual-in_err-append_command.result Memory
-    c.from_residual-in_err-append_command.ensures.1
-    (as_member g.O.Oper.meaning (n g at) (Command c.args.op) (old g at) (before g at).parts (comes g at) (new g there) after.parts Ending.Short
-    (unappended_takes g.O.Oper.meaning (n g at) (Command c.args.op) (old g at) (new g there) (before g at).parts (room g there).parts after.parts call.quiet (takes_room g at (new g there) (room g there) Ending.Done c.in_ok-require_room.ensures.takes)
-    (left_takes g.O.Oper.meaning (room g there) after (fine g there) (new g there) (g.met.M.Machine.lawful c.require_room.new.machine) c.in_err-append_command.ensures (behind_room g.O.Oper.meaning (n g at) (Command c.args.op)))))
-
-pub returns-in_err-append_command-clause-in_world : goal.returns-in_err-append_command-clause-in_world
-returns-in_err-append_command-clause-in_world g c p w shows =
-    at_err (λ r. HasMemberCause (meaning_in g.O.Oper.meaning p) w (log_length c.args.store.now) (Command c.args.op) r) c.from_residual-in_err-append_command.result Memory c.from_residual-in_err-append_command.ensures.1 tt
-
-pub returns-in_err-append_command-clause-quiet : goal.returns-in_err-append_command-clause-quiet
-returns-in_err-append_command-clause-quiet g c =
-    stays g (goal.at.returns-in_err-append_command-clause-quiet g c).In-Ok (g.M.Machine.disk c.require_room.new.machine) c.require_room.new.store (λ short. ap (λ m. g.M.Machine.disk m) (c.in_ok-require_room.ensures.quiet short))
-
-pub returns-in_err-append_command-clause-untaken : goal.returns-in_err-append_command-clause-untaken
-returns-in_err-append_command-clause-untaken g c =
-    let there = (goal.at.returns-in_err-append_command-clause-untaken g c).In_ok-require_room in
-    let after : StoreView = c.append_command.new.self in
     let store : StoreView = c.args.store.now in
-    let left = c.in_err-append_command.ensures.untaken in
-    at_err (λ r. OnErr r ((next_of after ≡ next_of store) × (after.parts.volatile.objects.slots ≡ store.parts.volatile.objects.slots))) c.from_residual-in_err-append_command.result Memory c.from_residual-in_err-append_command.ensures.1 (
-      ap (λ (l : RecordLogView). l.next) left.log ∙ next_is g there,
-      left.slots ∙ ap (λ (s : Volatile). s.objects.slots) c.in_ok-require_room.ensures.kept.0 ∙ c.in-Ok.ensures.call.read.fetched.slots,
-    )
-
-pub returns-in_err-append_command-clause-cause : goal.returns-in_err-append_command-clause-cause
-returns-in_err-append_command-clause-cause g c =
-    let store : StoreView = c.args.store.now in
-    let m = meaning_in g.O.Oper.meaning (store_params store) in
-    at_err (λ r. IfErr r (IsFollowFailure m (Logged (next_of store) c.args.op) (next_of store) (g.M.Machine.disk c.args.machine.now) (g.M.Machine.disk c.require_room.new.machine) store.parts.volatile.objects)) c.from_residual-in_err-append_command.result Memory
-    c.from_residual-in_err-append_command.ensures.1 refl
+    record {
+      call =
+          at_err (λ r. IsCall g.O.Oper.meaning (old g at) (new g there) (before g at) after 0 (StopsWithin log_limit) (ending_of_follow r)) c.from_residual-in_err-append_command.result Memory c.from_residual-in_err-append_command.ensures.1
+          (then_call g.O.Oper.meaning (old g at) (mid g at) (new g there) (before g at) (read g at) (room g there) c.in-Ok.ensures.call after 0 Ending.Short c.in_ok-require_room.ensures.call
+          (left_call g.O.Oper.meaning (room g there) after (fine g there) (new g there) (g.met.M.Machine.lawful c.require_room.new.machine) c.in_err-append_command.ensures));
+      takes =
+          let call = room_call g.O.Oper.meaning (old g at) (mid g at) (new g there) (before g at) (read g at) (room g there) c.in-Ok.ensures.call Ending.Done c.in_ok-require_room.ensures.call in
+          at_err (λ r. Takes g.O.Oper.meaning (old g at) (new g there) (before g at).parts after.parts (λ m w used. member_course m (Command c.args.op) w used) (ending_of_follow r)) c.from_residual-in_err-append_command.result Memory
+          c.from_residual-in_err-append_command.ensures.1
+          (as_member g.O.Oper.meaning (n g at) (Command c.args.op) (old g at) (before g at).parts (comes g at) (new g there) after.parts Ending.Short
+          (unappended_takes g.O.Oper.meaning (n g at) (Command c.args.op) (old g at) (new g there) (before g at).parts (room g there).parts after.parts call.quiet (takes_room g at (new g there) (room g there) Ending.Done c.in_ok-require_room.ensures.takes)
+          (left_takes g.O.Oper.meaning (room g there) after (fine g there) (new g there) (g.met.M.Machine.lawful c.require_room.new.machine) c.in_err-append_command.ensures (behind_room g.O.Oper.meaning (n g at) (Command c.args.op)))));
+      in_world = λ p w shows. at_err (λ r. HasMemberCause (meaning_in g.O.Oper.meaning p) w (log_length c.args.store.now) (Command c.args.op) r) c.from_residual-in_err-append_command.result Memory c.from_residual-in_err-append_command.ensures.1 tt;
+      quiet = stays g (goal.at.returns-in_err-append_command g c).In-Ok (g.M.Machine.disk c.require_room.new.machine) c.require_room.new.store (λ short. ap (λ m. g.M.Machine.disk m) (c.in_ok-require_room.ensures.quiet short));
+      untaken =
+          let there = (goal.at.returns-in_err-append_command g c).In_ok-require_room in
+          let left = c.in_err-append_command.ensures.untaken in
+          at_err (λ r. OnErr r ((next_of after ≡ next_of store) × (after.parts.volatile.objects.slots ≡ store.parts.volatile.objects.slots))) c.from_residual-in_err-append_command.result Memory c.from_residual-in_err-append_command.ensures.1 (
+            ap (λ (l : RecordLogView). l.next) left.log ∙ next_is g there,
+            left.slots ∙ ap (λ (s : Volatile). s.objects.slots) c.in_ok-require_room.ensures.kept.0 ∙ c.in-Ok.ensures.call.read.fetched.slots,
+          );
+      cause =
+          let m = meaning_in g.O.Oper.meaning (store_params store) in
+          at_err (λ r. IfErr r (IsFollowFailure m (Logged (next_of store) c.args.op) (next_of store) (g.M.Machine.disk c.args.machine.now) (g.M.Machine.disk c.require_room.new.machine) store.parts.volatile.objects)) c.from_residual-in_err-append_command.result Memory
+          c.from_residual-in_err-append_command.ensures.1 refl;
+    }
 
 -- it is taken
-pub returns-clause-call : goal.returns-clause-call
-returns-clause-call g c =
-    let in_goal = goal.at.returns-clause-call g c in
+pub returns : goal.returns
+returns g c =
+    let in_goal = goal.at.returns g c in
     let at = in_goal.In-Ok in
     let there = in_goal.In_ok-require_room in
-    then_call g.O.Oper.meaning (old g at) (mid g at) (new g there) (before g at) (read g at) (room g there) c.in-Ok.ensures.call c.append_command.new.self 0 Ending.Done c.in_ok-require_room.ensures.call
-    (commanded_call g.O.Oper.meaning (room g there) c.append_command.new.self (fine g there) (new g there) (g.met.M.Machine.lawful c.require_room.new.machine) c.args.op (kept g there) c.in_ok-append_command.ensures)
-
-pub returns-clause-takes : goal.returns-clause-takes
-returns-clause-takes g c =
-    let in_goal = goal.at.returns-clause-takes g c in
-    let at = in_goal.In-Ok in
-    let there = in_goal.In_ok-require_room in
-    let after : StoreView = c.append_command.new.self in
-    let call = room_call g.O.Oper.meaning (old g at) (mid g at) (new g there) (before g at) (read g at) (room g there) c.in-Ok.ensures.call Ending.Done c.in_ok-require_room.ensures.call in
-    as_member g.O.Oper.meaning (n g at) (Command c.args.op) (old g at) (before g at).parts (comes g at) (new g there) after.parts Ending.Done
-    (appended_takes g.O.Oper.meaning (n g at) (Command c.args.op) (old g at) (new g there) (before g at).parts (room g there).parts after.parts call.quiet (takes_room g at (new g there) (room g there) Ending.Done c.in_ok-require_room.ensures.takes)
-    (g.met.M.Machine.lawful c.require_room.new.machine)
-    (command_after g.O.Oper.meaning c.args.op (old g at) (before g at) (values g at) (n g at) c.in-Ok.ensures.ready c.in-Ok.ensures.length.0 g.met.O.Oper.bounded g.met.O.Oper.lawful c.in-Ok.ensures.read (new g there) (room g there) after (params g there)
-    (subst (λ (vs : List (List ℕ)). IsCommanded g.O.Oper.meaning (room g there) after c.args.op vs) (sym (same_values g there)) c.in_ok-append_command.ensures) c.append_keeps.ensures.command))
-
-pub returns-clause-in_world : goal.returns-clause-in_world
-returns-clause-in_world g c p w shows =
-    let in_goal = goal.at.returns-clause-in_world g c in
-    let at = in_goal.In-Ok in
-    let there = in_goal.In_ok-require_room in
-    taken_cause g.O.Oper.meaning (n g at) (Command c.args.op) (old g at) (before g at).parts (comes g at) (new g there) (room g there).parts (takes_room g at (new g there) (room g there) Ending.Done c.in_ok-require_room.ensures.takes) p w shows
-
-pub returns-clause-quiet : goal.returns-clause-quiet
-returns-clause-quiet g c =
-    stays g (goal.at.returns-clause-quiet g c).In-Ok (g.M.Machine.disk c.require_room.new.machine) c.require_room.new.store (λ short. ap (λ m. g.M.Machine.disk m) (c.in_ok-require_room.ensures.quiet short))
+    record {
+      call =
+          then_call g.O.Oper.meaning (old g at) (mid g at) (new g there) (before g at) (read g at) (room g there) c.in-Ok.ensures.call c.append_command.new.self 0 Ending.Done c.in_ok-require_room.ensures.call
+          (commanded_call g.O.Oper.meaning (room g there) c.append_command.new.self (fine g there) (new g there) (g.met.M.Machine.lawful c.require_room.new.machine) c.args.op (kept g there) c.in_ok-append_command.ensures);
+      takes =
+          let after : StoreView = c.append_command.new.self in
+          let call = room_call g.O.Oper.meaning (old g at) (mid g at) (new g there) (before g at) (read g at) (room g there) c.in-Ok.ensures.call Ending.Done c.in_ok-require_room.ensures.call in
+          as_member g.O.Oper.meaning (n g at) (Command c.args.op) (old g at) (before g at).parts (comes g at) (new g there) after.parts Ending.Done
+          (appended_takes g.O.Oper.meaning (n g at) (Command c.args.op) (old g at) (new g there) (before g at).parts (room g there).parts after.parts call.quiet (takes_room g at (new g there) (room g there) Ending.Done c.in_ok-require_room.ensures.takes)
+          (g.met.M.Machine.lawful c.require_room.new.machine)
+          (command_after g.O.Oper.meaning c.args.op (old g at) (before g at) (values g at) (n g at) c.in-Ok.ensures.ready c.in-Ok.ensures.length.0 g.met.O.Oper.bounded g.met.O.Oper.lawful c.in-Ok.ensures.read (new g there) (room g there) after (params g there)
+          (subst (λ (vs : List (List ℕ)). IsCommanded g.O.Oper.meaning (room g there) after c.args.op vs) (sym (same_values g there)) c.in_ok-append_command.ensures) c.append_keeps.ensures.command));
+      in_world = λ p w shows. taken_cause g.O.Oper.meaning (n g at) (Command c.args.op) (old g at) (before g at).parts (comes g at) (new g there) (room g there).parts (takes_room g at (new g there) (room g there) Ending.Done c.in_ok-require_room.ensures.takes) p w shows;
+      quiet = stays g (goal.at.returns g c).In-Ok (g.M.Machine.disk c.require_room.new.machine) c.require_room.new.store (λ short. ap (λ m. g.M.Machine.disk m) (c.in_ok-require_room.ensures.quiet short));
+      untaken = search rules;
+      cause = search rules;
+    }

@@ -38,50 +38,32 @@ use Rattle.execution.proofs.following.follow_identity.Goals.{In_ok-fetch, After-
 use Rattle.execution.proofs.following.follow_identity.Goals as goal
 
 -- its object is not fetched
-pub returns-in_err-fetch-clause-call : goal.returns-in_err-fetch-clause-call
-returns-in_err-fetch-clause-call g c =
-    let old = g.M.Machine.disk c.args.machine.now in
-    let new = g.M.Machine.disk c.fetch.new.machine in
-    let e = c.in_err-fetch.field-0.0 in
-    at_err (λ r. IsCall g.O.Oper.meaning old new c.args.store.now c.fetch.new.self (if is_ok r then 1 else 0) (StopsWithin log_limit) (ending_of_follow r)) c.from_residual.result (record_from_read e) c.from_residual.ensures.1
-    (unfetched_call g.O.Oper.meaning c.args.object c.args.value.now old new c.args.store.now c.fetch.new.self e c.in_err-fetch.ensures.call c.in_err-fetch.ensures.cause)
-
-pub returns-in_err-fetch-clause-takes : goal.returns-in_err-fetch-clause-takes
-returns-in_err-fetch-clause-takes g c =
+pub returns-in_err-fetch : goal.returns-in_err-fetch
+returns-in_err-fetch g c =
     let old = g.M.Machine.disk c.args.machine.now in
     let new = g.M.Machine.disk c.fetch.new.machine in
     let e = c.in_err-fetch.field-0.0 in
     let before : StoreView = c.args.store.now in
     let read : StoreView = c.fetch.new.self in
-    at_err (λ r. Takes g.O.Oper.meaning old new before.parts read.parts (λ m w used. member_course m (Identity c.args.object c.args.value.now) w used) (ending_of_follow r)) c.from_residual.result (record_from_read e) c.from_residual.ensures.1
-    (unfetched_takes g.O.Oper.meaning c.args.object c.args.value.now old new before read e c.in_err-fetch.ensures.call c.in_err-fetch.ensures.cause (g.met.M.Machine.lawful c.fetch.new.machine))
-
-pub returns-in_err-fetch-clause-in_world : goal.returns-in_err-fetch-clause-in_world
-returns-in_err-fetch-clause-in_world g c p w shows =
-    let old = g.M.Machine.disk c.args.machine.now in
-    let new = g.M.Machine.disk c.fetch.new.machine in
-    let e = c.in_err-fetch.field-0.0 in
-    at_err (λ r. HasMemberCause (meaning_in g.O.Oper.meaning p) w (log_length c.args.store.now) (Identity c.args.object c.args.value.now) r) c.from_residual.result (record_from_read e) c.from_residual.ensures.1
-    (unfetched_cause g.O.Oper.meaning c.args.object c.args.value.now old new c.args.store.now c.fetch.new.self e c.in_err-fetch.ensures.call c.in_err-fetch.ensures.cause p w shows)
-
-pub returns-in_err-fetch-clause-quiet : goal.returns-in_err-fetch-clause-quiet
-returns-in_err-fetch-clause-quiet g c = λ short. c.in_err-fetch.ensures.call.read.stays
-
-pub returns-in_err-fetch-clause-untaken : goal.returns-in_err-fetch-clause-untaken
-returns-in_err-fetch-clause-untaken g c =
-    let before : StoreView = c.args.store.now in
-    let read : StoreView = c.fetch.new.self in
-    at_err (λ r. OnErr r ((next_of read ≡ next_of before) × (read.parts.volatile.objects.slots ≡ before.parts.volatile.objects.slots))) c.from_residual.result (record_from_read c.in_err-fetch.field-0.0) c.from_residual.ensures.1
-    (ap (λ (l : RecordLogView). l.next) c.in_err-fetch.ensures.call.log, c.in_err-fetch.ensures.call.read.fetched.slots)
-
-pub returns-in_err-fetch-clause-cause : goal.returns-in_err-fetch-clause-cause
-returns-in_err-fetch-clause-cause g c =
-    let old = g.M.Machine.disk c.args.machine.now in
-    let new = g.M.Machine.disk c.fetch.new.machine in
-    let e = c.in_err-fetch.field-0.0 in
-    let store : StoreView = c.args.store.now in
-    at_err (λ r. IfErr r (IsFollowFailure (meaning_in g.O.Oper.meaning (store_params store)) (Logged (next_of store) c.args.object c.args.value.now) (next_of store) old new store.parts.volatile.objects)) c.from_residual.result (record_from_read e)
-    c.from_residual.ensures.1 (unfetched_failure g.O.Oper.meaning c.args.object c.args.value.now old new store c.fetch.new.self e c.in_err-fetch.ensures.call c.in_err-fetch.ensures.cause)
+    record {
+      call =
+          at_err (λ r. IsCall g.O.Oper.meaning old new c.args.store.now c.fetch.new.self (if is_ok r then 1 else 0) (StopsWithin log_limit) (ending_of_follow r)) c.from_residual.result (record_from_read e) c.from_residual.ensures.1
+          (unfetched_call g.O.Oper.meaning c.args.object c.args.value.now old new c.args.store.now c.fetch.new.self e c.in_err-fetch.ensures.call c.in_err-fetch.ensures.cause);
+      takes =
+          at_err (λ r. Takes g.O.Oper.meaning old new before.parts read.parts (λ m w used. member_course m (Identity c.args.object c.args.value.now) w used) (ending_of_follow r)) c.from_residual.result (record_from_read e) c.from_residual.ensures.1
+          (unfetched_takes g.O.Oper.meaning c.args.object c.args.value.now old new before read e c.in_err-fetch.ensures.call c.in_err-fetch.ensures.cause (g.met.M.Machine.lawful c.fetch.new.machine));
+      in_world = λ p w shows.
+          at_err (λ r. HasMemberCause (meaning_in g.O.Oper.meaning p) w (log_length c.args.store.now) (Identity c.args.object c.args.value.now) r) c.from_residual.result (record_from_read e) c.from_residual.ensures.1
+          (unfetched_cause g.O.Oper.meaning c.args.object c.args.value.now old new c.args.store.now c.fetch.new.self e c.in_err-fetch.ensures.call c.in_err-fetch.ensures.cause p w shows);
+      quiet = λ short. c.in_err-fetch.ensures.call.read.stays;
+      untaken =
+          at_err (λ r. OnErr r ((next_of read ≡ next_of before) × (read.parts.volatile.objects.slots ≡ before.parts.volatile.objects.slots))) c.from_residual.result (record_from_read c.in_err-fetch.field-0.0) c.from_residual.ensures.1
+          (ap (λ (l : RecordLogView). l.next) c.in_err-fetch.ensures.call.log, c.in_err-fetch.ensures.call.read.fetched.slots);
+      cause =
+          let store : StoreView = c.args.store.now in
+          at_err (λ r. IfErr r (IsFollowFailure (meaning_in g.O.Oper.meaning (store_params store)) (Logged (next_of store) c.args.object c.args.value.now) (next_of store) old new store.parts.volatile.objects)) c.from_residual.result (record_from_read e)
+          c.from_residual.ensures.1 (unfetched_failure g.O.Oper.meaning c.args.object c.args.value.now old new store c.fetch.new.self e c.in_err-fetch.ensures.call c.in_err-fetch.ensures.cause);
+    }
 
 -- it is
 fetched : (g : Over) (c : In_ok-fetch g) → IsFetch (g.M.Machine.disk c.args.machine.now) (g.M.Machine.disk c.fetch.new.machine) c.args.store.now c.fetch.new.self ⊥
@@ -110,39 +92,24 @@ module _ (g : Over) (c : After-value-cached g) where
   next_is = search rules
 
 -- its value is another
-pub returns-then-ne-clause-call : goal.returns-then-ne-clause-call
-returns-then-ne-clause-call g c =
-    let in_goal = goal.at.returns-then-ne-clause-call g c in
+pub returns-then-ne : goal.returns-then-ne
+returns-then-ne g c =
+    let in_goal = goal.at.returns-then-ne g c in
     let at = in_goal.After-value-cached in
-    fetch_call g.O.Oper.meaning (old g at) (mid g at) (before g at) (read g at) ⊥ (StopsWithin log_limit) Ending.Done (fetched g in_goal.In_ok-fetch) (λ failed. failed, λ failed. failed) (λ stop ends. cc) (λ failed. absurd failed)
+    let other : bytes_eq c.args.value.now c.value-cached.result.now ≡ false = search rules in
+    record {
+      call = fetch_call g.O.Oper.meaning (old g at) (mid g at) (before g at) (read g at) ⊥ (StopsWithin log_limit) Ending.Done (fetched g in_goal.In_ok-fetch) (λ failed. failed, λ failed. failed) (λ stop ends. cc) (λ failed. absurd failed);
+      takes = other_takes g.O.Oper.meaning c.args.object c.args.value.now (old g at) (mid g at) (before g at) (read g at) (fetched g in_goal.In_ok-fetch) (pair g at).0 (pair g at).1 (differs g at other) (g.met.M.Machine.lawful c.fetch.new.machine);
+      in_world = λ p w shows. other_cause g.O.Oper.meaning c.args.object c.args.value.now (old g at) (mid g at) (before g at) (read g at) (fetched g in_goal.In_ok-fetch) (pair g at).0 (pair g at).1 (differs g at other) c.next-lsn.result (next_is g at) p w shows;
+      quiet = λ short. c.in_ok-fetch.ensures.call.read.stays;
+      untaken = (ap (λ (l : RecordLogView). l.next) c.in_ok-fetch.ensures.call.log, c.in_ok-fetch.ensures.call.read.fetched.slots);
+      cause =
+          let next = next_is g (goal.at.returns-then-ne g c).After-value-cached in
+          ((λ i. Some (sym next i)), next);
+    }
 
 differs : (g : Over) (at : After-value-cached g) → bytes_eq at.args.value.now at.value-cached.result.now ≡ false → bytes_eq at.args.value.now (pair g at).0.bytes ≡ false
 differs g at other = ap (λ (l : List ℕ). bytes_eq at.args.value.now l) (sym (value_is g at)) ∙ other
-
-pub returns-then-ne-clause-takes : goal.returns-then-ne-clause-takes
-returns-then-ne-clause-takes g c =
-    let in_goal = goal.at.returns-then-ne-clause-takes g c in
-    let at = in_goal.After-value-cached in
-    let other : bytes_eq c.args.value.now c.value-cached.result.now ≡ false = search rules in
-    other_takes g.O.Oper.meaning c.args.object c.args.value.now (old g at) (mid g at) (before g at) (read g at) (fetched g in_goal.In_ok-fetch) (pair g at).0 (pair g at).1 (differs g at other) (g.met.M.Machine.lawful c.fetch.new.machine)
-
-pub returns-then-ne-clause-in_world : goal.returns-then-ne-clause-in_world
-returns-then-ne-clause-in_world g c p w shows =
-    let in_goal = goal.at.returns-then-ne-clause-in_world g c in
-    let at = in_goal.After-value-cached in
-    let other : bytes_eq c.args.value.now c.value-cached.result.now ≡ false = search rules in
-    other_cause g.O.Oper.meaning c.args.object c.args.value.now (old g at) (mid g at) (before g at) (read g at) (fetched g in_goal.In_ok-fetch) (pair g at).0 (pair g at).1 (differs g at other) c.next-lsn.result (next_is g at) p w shows
-
-pub returns-then-ne-clause-quiet : goal.returns-then-ne-clause-quiet
-returns-then-ne-clause-quiet g c = λ short. c.in_ok-fetch.ensures.call.read.stays
-
-pub returns-then-ne-clause-untaken : goal.returns-then-ne-clause-untaken
-returns-then-ne-clause-untaken g c = (ap (λ (l : RecordLogView). l.next) c.in_ok-fetch.ensures.call.log, c.in_ok-fetch.ensures.call.read.fetched.slots)
-
-pub returns-then-ne-clause-cause : goal.returns-then-ne-clause-cause
-returns-then-ne-clause-cause g c =
-    let next = next_is g (goal.at.returns-then-ne-clause-cause g c).After-value-cached in
-    ((λ i. Some (sym next i)), next)
 
 -- its value is that
 pub require_room-requires-clause-unbroken : goal.require_room-requires-clause-unbroken
@@ -173,73 +140,45 @@ same_value : (g : Over) (c : Else-ne g) → bytes_eq c.args.value.now c.value-ca
 same_value g c = search rules
 
 -- it gets no room
-pub returns-in_err-require_room-clause-call : goal.returns-in_err-require_room-clause-call
-returns-in_err-require_room-clause-call g c =
-    let in_goal = goal.at.returns-in_err-require_room-clause-call g c in
+pub returns-in_err-require_room : goal.returns-in_err-require_room
+returns-in_err-require_room g c =
+    let in_goal = goal.at.returns-in_err-require_room g c in
     let at = in_goal.After-value-cached in
     let new = g.M.Machine.disk c.require_room.new.machine in
     let room : StoreView = c.require_room.new.store in
     let e = c.in_err-require_room.field-0.0 in
-    at_err (λ r. IsCall g.O.Oper.meaning (old g at) new (before g at) room (if is_ok r then 1 else 0) (StopsWithin log_limit) (ending_of_follow r)) c.from_residual-in_err-require_room.result e c.from_residual-in_err-require_room.ensures.1
-    (room_call g.O.Oper.meaning (old g at) (mid g at) new (before g at) (read g at) room (fetched g in_goal.In_ok-fetch) (ending_of_record_error e) c.in_err-require_room.ensures.call)
-
-pub returns-in_err-require_room-clause-takes : goal.returns-in_err-require_room-clause-takes
-returns-in_err-require_room-clause-takes g c =
-    let in_goal = goal.at.returns-in_err-require_room-clause-takes g c in
-    let at = in_goal.After-value-cached in
     let is = fetched g in_goal.In_ok-fetch in
     let same = same_value g in_goal.Else-ne in
-    let new = g.M.Machine.disk c.require_room.new.machine in
-    let room : StoreView = c.require_room.new.store in
-    let e = c.in_err-require_room.field-0.0 in
-    at_err (λ r. Takes g.O.Oper.meaning (old g at) new (before g at).parts room.parts (λ m w used. member_course m (Identity c.args.object c.args.value.now) w used) (ending_of_follow r)) c.from_residual-in_err-require_room.result e
-    c.from_residual-in_err-require_room.ensures.1
-    (roomless_takes g.O.Oper.meaning (n g at is same) (Identity c.args.object c.args.value.now) (old g at) (before g at).parts (comes g at is same) new room.parts (read g at).parts.log _ e c.in_err-require_room.ensures.cause
-    (takes_room g at is same new room (ending_of_record_error e) c.in_err-require_room.ensures.takes))
-
-pub returns-in_err-require_room-clause-in_world : goal.returns-in_err-require_room-clause-in_world
-returns-in_err-require_room-clause-in_world g c p w shows =
-    let in_goal = goal.at.returns-in_err-require_room-clause-in_world g c in
-    let at = in_goal.After-value-cached in
-    let is = fetched g in_goal.In_ok-fetch in
-    let same = same_value g in_goal.Else-ne in
-    let new = g.M.Machine.disk c.require_room.new.machine in
-    let room : StoreView = c.require_room.new.store in
-    let e = c.in_err-require_room.field-0.0 in
-    at_err (λ r. HasMemberCause (meaning_in g.O.Oper.meaning p) w (log_length (before g at)) (Identity c.args.object c.args.value.now) r) c.from_residual-in_err-require_room.result e c.from_residual-in_err-require_room.ensures.1
-    (roomless_cause g.O.Oper.meaning (n g at is same) (Identity c.args.object c.args.value.now) (old g at) (before g at).parts (comes g at is same) new room.parts (read g at).parts.log _ e c.in_err-require_room.ensures.cause
-    (takes_room g at is same new room (ending_of_record_error e) c.in_err-require_room.ensures.takes) p w shows)
-
-pub returns-in_err-require_room-clause-quiet : goal.returns-in_err-require_room-clause-quiet
-returns-in_err-require_room-clause-quiet g c =
-    let in_goal = goal.at.returns-in_err-require_room-clause-quiet g c in
-    stays g in_goal.After-value-cached (fetched g in_goal.In_ok-fetch) (same_value g in_goal.Else-ne) (g.M.Machine.disk c.require_room.new.machine) c.require_room.new.store
-    (λ short. ap (λ m. g.M.Machine.disk m) (c.in_err-require_room.ensures.quiet short))
-
-pub returns-in_err-require_room-clause-untaken : goal.returns-in_err-require_room-clause-untaken
-returns-in_err-require_room-clause-untaken g c =
-    let in_goal = goal.at.returns-in_err-require_room-clause-untaken g c in
-    let at = in_goal.After-value-cached in
-    let room : StoreView = c.require_room.new.store in
     let store : StoreView = c.args.store.now in
-    at_err (λ r. OnErr r ((next_of room ≡ next_of store) × (room.parts.volatile.objects.slots ≡ store.parts.volatile.objects.slots))) c.from_residual-in_err-require_room.result c.in_err-require_room.field-0.0
-    c.from_residual-in_err-require_room.ensures.1 (
-      room_next g.O.Oper.meaning (old g at) (mid g at) (g.M.Machine.disk c.require_room.new.machine) store (read g at) room (fetched g in_goal.In_ok-fetch) c.in_err-require_room.ensures.kept.1,
-      ap (λ (s : Volatile). s.objects.slots) c.in_err-require_room.ensures.kept.0 ∙ c.in_ok-fetch.ensures.call.read.fetched.slots,
-    )
-
-pub returns-in_err-require_room-clause-cause : goal.returns-in_err-require_room-clause-cause
-returns-in_err-require_room-clause-cause g c =
-    let in_goal = goal.at.returns-in_err-require_room-clause-cause g c in
-    let at = in_goal.After-value-cached in
-    let new = g.M.Machine.disk c.require_room.new.machine in
-    let e = c.in_err-require_room.field-0.0 in
-    let store : StoreView = c.args.store.now in
-    let m = meaning_in g.O.Oper.meaning (store_params store) in
-    at_err (λ r. IfErr r (IsFollowFailure m (Logged (next_of store) c.args.object c.args.value.now) (next_of store) (old g at) new store.parts.volatile.objects)) c.from_residual-in_err-require_room.result e
-    c.from_residual-in_err-require_room.ensures.1
-    (room_failure g.O.Oper.meaning (old g at) (mid g at) new store (read g at) c.require_room.new.store (fetched g in_goal.In_ok-fetch) m (Logged (next_of store) c.args.object c.args.value.now) store.parts.volatile.objects
-    (17 + length c.args.value.now) _ e refl c.in_err-require_room.ensures.cause c.in_err-require_room.ensures.call)
+    record {
+      call =
+          at_err (λ r. IsCall g.O.Oper.meaning (old g at) new (before g at) room (if is_ok r then 1 else 0) (StopsWithin log_limit) (ending_of_follow r)) c.from_residual-in_err-require_room.result e c.from_residual-in_err-require_room.ensures.1
+          (room_call g.O.Oper.meaning (old g at) (mid g at) new (before g at) (read g at) room (fetched g in_goal.In_ok-fetch) (ending_of_record_error e) c.in_err-require_room.ensures.call);
+      takes =
+          at_err (λ r. Takes g.O.Oper.meaning (old g at) new (before g at).parts room.parts (λ m w used. member_course m (Identity c.args.object c.args.value.now) w used) (ending_of_follow r)) c.from_residual-in_err-require_room.result e
+          c.from_residual-in_err-require_room.ensures.1
+          (roomless_takes g.O.Oper.meaning (n g at is same) (Identity c.args.object c.args.value.now) (old g at) (before g at).parts (comes g at is same) new room.parts (read g at).parts.log _ e c.in_err-require_room.ensures.cause
+          (takes_room g at is same new room (ending_of_record_error e) c.in_err-require_room.ensures.takes));
+      in_world = λ p w shows.
+          at_err (λ r. HasMemberCause (meaning_in g.O.Oper.meaning p) w (log_length (before g at)) (Identity c.args.object c.args.value.now) r) c.from_residual-in_err-require_room.result e c.from_residual-in_err-require_room.ensures.1
+          (roomless_cause g.O.Oper.meaning (n g at is same) (Identity c.args.object c.args.value.now) (old g at) (before g at).parts (comes g at is same) new room.parts (read g at).parts.log _ e c.in_err-require_room.ensures.cause
+          (takes_room g at is same new room (ending_of_record_error e) c.in_err-require_room.ensures.takes) p w shows);
+      quiet =
+          stays g in_goal.After-value-cached (fetched g in_goal.In_ok-fetch) (same_value g in_goal.Else-ne) (g.M.Machine.disk c.require_room.new.machine) c.require_room.new.store
+          (λ short. ap (λ m. g.M.Machine.disk m) (c.in_err-require_room.ensures.quiet short));
+      untaken =
+          at_err (λ r. OnErr r ((next_of room ≡ next_of store) × (room.parts.volatile.objects.slots ≡ store.parts.volatile.objects.slots))) c.from_residual-in_err-require_room.result c.in_err-require_room.field-0.0
+          c.from_residual-in_err-require_room.ensures.1 (
+            room_next g.O.Oper.meaning (old g at) (mid g at) (g.M.Machine.disk c.require_room.new.machine) store (read g at) room (fetched g in_goal.In_ok-fetch) c.in_err-require_room.ensures.kept.1,
+            ap (λ (s : Volatile). s.objects.slots) c.in_err-require_room.ensures.kept.0 ∙ c.in_ok-fetch.ensures.call.read.fetched.slots,
+          );
+      cause =
+          let m = meaning_in g.O.Oper.meaning (store_params store) in
+          at_err (λ r. IfErr r (IsFollowFailure m (Logged (next_of store) c.args.object c.args.value.now) (next_of store) (old g at) new store.parts.volatile.objects)) c.from_residual-in_err-require_room.result e
+          c.from_residual-in_err-require_room.ensures.1
+          (room_failure g.O.Oper.meaning (old g at) (mid g at) new store (read g at) c.require_room.new.store (fetched g in_goal.In_ok-fetch) m (Logged (next_of store) c.args.object c.args.value.now) store.parts.volatile.objects
+          (17 + length c.args.value.now) _ e refl c.in_err-require_room.ensures.cause c.in_err-require_room.ensures.call);
+    }
 
 -- it gets some
 module _ (g : Over) (c : In_ok-require_room g) where
@@ -281,103 +220,78 @@ append_identity-requires-clause-place g c = λ other had.
     subst (λ (k : ℕ). HasPlace c.require_room.new.store.parts.log.log k) (ap (λ (l : List ℕ). 17 + length l) value) c.in_ok-require_room.ensures.place
 
 -- there is no memory for it
-pub returns-in_err-append_identity-clause-call : goal.returns-in_err-append_identity-clause-call
-returns-in_err-append_identity-clause-call g c =
-    let in_goal = goal.at.returns-in_err-append_identity-clause-call g c in
+pub returns-in_err-append_identity : goal.returns-in_err-append_identity
+returns-in_err-append_identity g c =
+    let in_goal = goal.at.returns-in_err-append_identity g c in
     let at = in_goal.After-value-cached in
     let there = in_goal.In_ok-require_room in
     let after : StoreView = c.append_identity.new.self in
-    at_err (λ r. IsCall g.O.Oper.meaning (old g at) (new g there) (before g at) after (if is_ok r then 1 else 0) (StopsWithin log_limit) (ending_of_follow r)) c.from_residual-in_err-append_identity.result Memory
-    c.from_residual-in_err-append_identity.ensures.1
-    (then_call g.O.Oper.meaning (old g at) (mid g at) (new g there) (before g at) (read g at) (room g there) (fetched g in_goal.In_ok-fetch) after 0 Ending.Short c.in_ok-require_room.ensures.call
-    (left_call g.O.Oper.meaning (room g there) after (fine g there) (new g there) (g.met.M.Machine.lawful c.require_room.new.machine) c.in_err-append_identity.ensures))
+    let store : StoreView = c.args.store.now in
+    record {
+      call =
+          at_err (λ r. IsCall g.O.Oper.meaning (old g at) (new g there) (before g at) after (if is_ok r then 1 else 0) (StopsWithin log_limit) (ending_of_follow r)) c.from_residual-in_err-append_identity.result Memory
+          c.from_residual-in_err-append_identity.ensures.1
+          (then_call g.O.Oper.meaning (old g at) (mid g at) (new g there) (before g at) (read g at) (room g there) (fetched g in_goal.In_ok-fetch) after 0 Ending.Short c.in_ok-require_room.ensures.call
+          (left_call g.O.Oper.meaning (room g there) after (fine g there) (new g there) (g.met.M.Machine.lawful c.require_room.new.machine) c.in_err-append_identity.ensures));
+      takes =
+          let is = fetched g in_goal.In_ok-fetch in
+          let same = same_value g in_goal.Else-ne in
+          let member = Identity c.args.object c.args.value.now in
+          at_err (λ r. Takes g.O.Oper.meaning (old g at) (new g there) (before g at).parts after.parts (λ m w used. member_course m (Identity c.args.object c.args.value.now) w used) (ending_of_follow r)) c.from_residual-in_err-append_identity.result Memory
+          c.from_residual-in_err-append_identity.ensures.1
+          (as_member g.O.Oper.meaning (n g at is same) member (old g at) (before g at).parts (comes g at is same) (new g there) after.parts Ending.Short
+          (unappended_takes g.O.Oper.meaning (n g at is same) member (old g at) (new g there) (before g at).parts (room g there).parts after.parts (quiet_room g at is there c.in_ok-require_room.ensures.call)
+          (takes_room g at is same (new g there) (room g there) Ending.Done c.in_ok-require_room.ensures.takes)
+          (left_takes g.O.Oper.meaning (room g there) after (fine g there) (new g there) (g.met.M.Machine.lawful c.require_room.new.machine) c.in_err-append_identity.ensures (behind_room g.O.Oper.meaning (n g at is same) member))));
+      in_world = λ p w shows. at_err (λ r. HasMemberCause (meaning_in g.O.Oper.meaning p) w (log_length c.args.store.now) (Identity c.args.object c.args.value.now) r) c.from_residual-in_err-append_identity.result Memory c.from_residual-in_err-append_identity.ensures.1 tt;
+      quiet =
+          stays g in_goal.After-value-cached (fetched g in_goal.In_ok-fetch) (same_value g in_goal.Else-ne) (g.M.Machine.disk c.require_room.new.machine) c.require_room.new.store
+          (λ short. ap (λ m. g.M.Machine.disk m) (c.in_ok-require_room.ensures.quiet short));
+      untaken =
+          let there = (goal.at.returns-in_err-append_identity g c).In_ok-require_room in
+          let left = c.in_err-append_identity.ensures.untaken in
+          at_err (λ r. OnErr r ((next_of after ≡ next_of store) × (after.parts.volatile.objects.slots ≡ store.parts.volatile.objects.slots))) c.from_residual-in_err-append_identity.result Memory c.from_residual-in_err-append_identity.ensures.1 (
+            ap (λ (l : RecordLogView). l.next) left.log ∙ next_same g there,
+            left.slots ∙ ap (λ (l : Laid). l.slots) (same_objects g there) ∙ c.in_ok-fetch.ensures.call.read.fetched.slots,
+          );
+      cause =
+          let m = meaning_in g.O.Oper.meaning (store_params store) in
+          at_err (λ r. IfErr r (IsFollowFailure m (Logged (next_of store) c.args.object c.args.value.now) (next_of store) (g.M.Machine.disk c.args.machine.now) (g.M.Machine.disk c.require_room.new.machine) store.parts.volatile.objects))
+          c.from_residual-in_err-append_identity.result Memory c.from_residual-in_err-append_identity.ensures.1 refl;
+    }
 
 -- the moments of all before it
 quiet_room : (g : Over) (at : After-value-cached g) (is : IsFetch (old g at) (mid g at) (before g at) (read g at) ⊥) (there : In_ok-require_room g) → IsCall g.O.Oper.meaning (mid g at) (new g there) (read g at) (room g there) 0 (StopsWithin log_limit) Ending.Done
     → IsQuiet (old g at) (new g there)
 quiet_room g at is there made = let call = room_call g.O.Oper.meaning (old g at) (mid g at) (new g there) (before g at) (read g at) (room g there) is Ending.Done made in call.quiet
 
-pub returns-in_err-append_identity-clause-takes : goal.returns-in_err-append_identity-clause-takes
-returns-in_err-append_identity-clause-takes g c =
-    let in_goal = goal.at.returns-in_err-append_identity-clause-takes g c in
-    let at = in_goal.After-value-cached in
-    let there = in_goal.In_ok-require_room in
-    let is = fetched g in_goal.In_ok-fetch in
-    let same = same_value g in_goal.Else-ne in
-    let member = Identity c.args.object c.args.value.now in
-    let after : StoreView = c.append_identity.new.self in
-    at_err (λ r. Takes g.O.Oper.meaning (old g at) (new g there) (before g at).parts after.parts (λ m w used. member_course m (Identity c.args.object c.args.value.now) w used) (ending_of_follow r)) c.from_residual-in_err-append_identity.result Memory
-    c.from_residual-in_err-append_identity.ensures.1
-    (as_member g.O.Oper.meaning (n g at is same) member (old g at) (before g at).parts (comes g at is same) (new g there) after.parts Ending.Short
-    (unappended_takes g.O.Oper.meaning (n g at is same) member (old g at) (new g there) (before g at).parts (room g there).parts after.parts (quiet_room g at is there c.in_ok-require_room.ensures.call)
-    (takes_room g at is same (new g there) (room g there) Ending.Done c.in_ok-require_room.ensures.takes)
-    (left_takes g.O.Oper.meaning (room g there) after (fine g there) (new g there) (g.met.M.Machine.lawful c.require_room.new.machine) c.in_err-append_identity.ensures (behind_room g.O.Oper.meaning (n g at is same) member))))
-
-pub returns-in_err-append_identity-clause-in_world : goal.returns-in_err-append_identity-clause-in_world
-returns-in_err-append_identity-clause-in_world g c p w shows =
-    at_err (λ r. HasMemberCause (meaning_in g.O.Oper.meaning p) w (log_length c.args.store.now) (Identity c.args.object c.args.value.now) r) c.from_residual-in_err-append_identity.result Memory c.from_residual-in_err-append_identity.ensures.1 tt
-
-pub returns-in_err-append_identity-clause-quiet : goal.returns-in_err-append_identity-clause-quiet
-returns-in_err-append_identity-clause-quiet g c =
-    let in_goal = goal.at.returns-in_err-append_identity-clause-quiet g c in
-    stays g in_goal.After-value-cached (fetched g in_goal.In_ok-fetch) (same_value g in_goal.Else-ne) (g.M.Machine.disk c.require_room.new.machine) c.require_room.new.store
-    (λ short. ap (λ m. g.M.Machine.disk m) (c.in_ok-require_room.ensures.quiet short))
-
-pub returns-in_err-append_identity-clause-untaken : goal.returns-in_err-append_identity-clause-untaken
-returns-in_err-append_identity-clause-untaken g c =
-    let there = (goal.at.returns-in_err-append_identity-clause-untaken g c).In_ok-require_room in
-    let after : StoreView = c.append_identity.new.self in
-    let store : StoreView = c.args.store.now in
-    let left = c.in_err-append_identity.ensures.untaken in
-    at_err (λ r. OnErr r ((next_of after ≡ next_of store) × (after.parts.volatile.objects.slots ≡ store.parts.volatile.objects.slots))) c.from_residual-in_err-append_identity.result Memory c.from_residual-in_err-append_identity.ensures.1 (
-      ap (λ (l : RecordLogView). l.next) left.log ∙ next_same g there,
-      left.slots ∙ ap (λ (l : Laid). l.slots) (same_objects g there) ∙ c.in_ok-fetch.ensures.call.read.fetched.slots,
-    )
-
-pub returns-in_err-append_identity-clause-cause : goal.returns-in_err-append_identity-clause-cause
-returns-in_err-append_identity-clause-cause g c =
-    let store : StoreView = c.args.store.now in
-    let m = meaning_in g.O.Oper.meaning (store_params store) in
-    at_err (λ r. IfErr r (IsFollowFailure m (Logged (next_of store) c.args.object c.args.value.now) (next_of store) (g.M.Machine.disk c.args.machine.now) (g.M.Machine.disk c.require_room.new.machine) store.parts.volatile.objects))
-    c.from_residual-in_err-append_identity.result Memory c.from_residual-in_err-append_identity.ensures.1 refl
-
 -- it is taken
-pub returns-clause-call : goal.returns-clause-call
-returns-clause-call g c =
-    let in_goal = goal.at.returns-clause-call g c in
-    let at = in_goal.After-value-cached in
-    let there = in_goal.In_ok-require_room in
-    then_call g.O.Oper.meaning (old g at) (mid g at) (new g there) (before g at) (read g at) (room g there) (fetched g in_goal.In_ok-fetch) c.append_identity.new.self 1 Ending.Done c.in_ok-require_room.ensures.call
-    (write_call g.O.Oper.meaning (room g there) c.append_identity.new.self (fine g there) (new g there) (g.met.M.Machine.lawful c.require_room.new.machine) c.args.object c.in_ok-append_identity.ensures g.met.O.Oper.bounded)
-
-pub returns-clause-takes : goal.returns-clause-takes
-returns-clause-takes g c =
-    let in_goal = goal.at.returns-clause-takes g c in
+pub returns : goal.returns
+returns g c =
+    let in_goal = goal.at.returns g c in
     let at = in_goal.After-value-cached in
     let there = in_goal.In_ok-require_room in
     let is = fetched g in_goal.In_ok-fetch in
     let same = same_value g in_goal.Else-ne in
-    let member = Identity c.args.object c.args.value.now in
-    let after : StoreView = c.append_identity.new.self in
-    let lawful = g.met.M.Machine.lawful c.require_room.new.machine in
-    as_member g.O.Oper.meaning (n g at is same) member (old g at) (before g at).parts (comes g at is same) (new g there) after.parts Ending.Done
-    (appended_takes g.O.Oper.meaning (n g at is same) member (old g at) (new g there) (before g at).parts (room g there).parts after.parts (quiet_room g at is there c.in_ok-require_room.ensures.call)
-    (takes_room g at is same (new g there) (room g there) Ending.Done c.in_ok-require_room.ensures.takes) lawful
-    (identity_after g.O.Oper.meaning c.args.object c.args.value.now (old g at) (mid g at) (before g at) (read g at) is (pair g at).0 (pair g at).1 (equal g at is same) (bytes_are g at is same) (n g at is same) refl g.met.O.Oper.bounded
-    (new g there) lawful (room g there) after (fine g there) c.in_ok-append_identity.ensures c.append_keeps.ensures.identity))
-
-pub returns-clause-in_world : goal.returns-clause-in_world
-returns-clause-in_world g c p w shows =
-    let in_goal = goal.at.returns-clause-in_world g c in
-    let at = in_goal.After-value-cached in
-    let there = in_goal.In_ok-require_room in
-    let is = fetched g in_goal.In_ok-fetch in
-    let same = same_value g in_goal.Else-ne in
-    taken_cause g.O.Oper.meaning (n g at is same) (Identity c.args.object c.args.value.now) (old g at) (before g at).parts (comes g at is same) (new g there) (room g there).parts
-    (takes_room g at is same (new g there) (room g there) Ending.Done c.in_ok-require_room.ensures.takes) p w shows
-
-pub returns-clause-quiet : goal.returns-clause-quiet
-returns-clause-quiet g c =
-    let in_goal = goal.at.returns-clause-quiet g c in
-    stays g in_goal.After-value-cached (fetched g in_goal.In_ok-fetch) (same_value g in_goal.Else-ne) (g.M.Machine.disk c.require_room.new.machine) c.require_room.new.store
-    (λ short. ap (λ m. g.M.Machine.disk m) (c.in_ok-require_room.ensures.quiet short))
+    record {
+      call =
+          then_call g.O.Oper.meaning (old g at) (mid g at) (new g there) (before g at) (read g at) (room g there) (fetched g in_goal.In_ok-fetch) c.append_identity.new.self 1 Ending.Done c.in_ok-require_room.ensures.call
+          (write_call g.O.Oper.meaning (room g there) c.append_identity.new.self (fine g there) (new g there) (g.met.M.Machine.lawful c.require_room.new.machine) c.args.object c.in_ok-append_identity.ensures g.met.O.Oper.bounded);
+      takes =
+          let member = Identity c.args.object c.args.value.now in
+          let after : StoreView = c.append_identity.new.self in
+          let lawful = g.met.M.Machine.lawful c.require_room.new.machine in
+          as_member g.O.Oper.meaning (n g at is same) member (old g at) (before g at).parts (comes g at is same) (new g there) after.parts Ending.Done
+          (appended_takes g.O.Oper.meaning (n g at is same) member (old g at) (new g there) (before g at).parts (room g there).parts after.parts (quiet_room g at is there c.in_ok-require_room.ensures.call)
+          (takes_room g at is same (new g there) (room g there) Ending.Done c.in_ok-require_room.ensures.takes) lawful
+          (identity_after g.O.Oper.meaning c.args.object c.args.value.now (old g at) (mid g at) (before g at) (read g at) is (pair g at).0 (pair g at).1 (equal g at is same) (bytes_are g at is same) (n g at is same) refl g.met.O.Oper.bounded
+          (new g there) lawful (room g there) after (fine g there) c.in_ok-append_identity.ensures c.append_keeps.ensures.identity));
+      in_world = λ p w shows.
+          taken_cause g.O.Oper.meaning (n g at is same) (Identity c.args.object c.args.value.now) (old g at) (before g at).parts (comes g at is same) (new g there) (room g there).parts
+          (takes_room g at is same (new g there) (room g there) Ending.Done c.in_ok-require_room.ensures.takes) p w shows;
+      quiet =
+          stays g in_goal.After-value-cached (fetched g in_goal.In_ok-fetch) (same_value g in_goal.Else-ne) (g.M.Machine.disk c.require_room.new.machine) c.require_room.new.store
+          (λ short. ap (λ m. g.M.Machine.disk m) (c.in_ok-require_room.ensures.quiet short));
+      untaken = search rules;
+      cause = search rules;
+    }

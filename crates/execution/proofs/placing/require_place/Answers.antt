@@ -19,38 +19,31 @@ use Rattle.cache_manager.specs.Endings.{at_err}
 use Rattle.execution.proofs.Unplaced.{end_stops, failed_left, full_stops}
 use Rattle.execution.proofs.placing.require_place.Goals as goal
 
-pub returns-in_err-force_outside-clause-lacks : goal.returns-in_err-force_outside-clause-lacks
-returns-in_err-force_outside-clause-lacks g c =
-    let store : StoreView = c.args.store.now in
-    let limit = (store_params store).limit in
-    let over : limit < length_with store.parts.log c.args.length = search rules in
-    at_err (λ r. IfErr r (LacksPlace c.args.grouped limit store.parts.log c.args.length)) c.from_residual.result DiskFault c.from_residual.ensures.1 (c.in_err-force_outside.ensures.forced.0, inl over)
-
-pub returns-in_err-force_outside-clause-left : goal.returns-in_err-force_outside-clause-left
-returns-in_err-force_outside-clause-left g c =
+pub returns-in_err-force_outside : goal.returns-in_err-force_outside
+returns-in_err-force_outside g c =
     let before : StoreView = c.args.store.now in
     let after : StoreView = c.force_outside.new.store in
-    at_err (λ r. IfErr r (λ e. LogWithout c.args.grouped before.parts.log after.parts.log e × (after.parts.volatile ≡ before.parts.volatile))) c.from_residual.result DiskFault c.from_residual.ensures.1
-    (failed_left before after c.in_err-force_outside.ensures.forced.1)
-
-pub returns-in_err-force_outside-clause-call : goal.returns-in_err-force_outside-clause-call
-returns-in_err-force_outside-clause-call g c =
     let old = g.M.Machine.disk c.args.machine.now in
     let new = g.M.Machine.disk c.force_outside.new.machine in
-    let before : StoreView = c.args.store.now in
-    let after : StoreView = c.force_outside.new.store in
-    let stops = StopsCommand c.args.grouped (store_params before).limit in
-    at_err (λ r. IsCall g.O.Oper.meaning old new before after 0 stops (ending_of_exec r)) c.from_residual.result DiskFault c.from_residual.ensures.1
-    (call_as g.O.Oper.meaning old new before after 0 0 Never stops Ending.Failed refl (λ stop is. cc) c.in_err-force_outside.ensures.call)
-
-pub returns-in_err-force_outside-clause-takes : goal.returns-in_err-force_outside-clause-takes
-returns-in_err-force_outside-clause-takes g c =
-    let old = g.M.Machine.disk c.args.machine.now in
-    let new = g.M.Machine.disk c.force_outside.new.machine in
-    let before : StoreView = c.args.store.now in
-    let after : StoreView = c.force_outside.new.store in
-    at_err (λ r. IfErr r (λ e. Takes g.O.Oper.meaning old new before.parts after.parts (λ m w used. course (unplaced_steps m c.args.grouped w) used (stop_of_exec e)) (ending_of_exec r))) c.from_residual.result DiskFault c.from_residual.ensures.1
-    c.in_err-force_outside.ensures.takes
+    record {
+      has = search rules;
+      fits = search rules;
+      lacks =
+          let store : StoreView = c.args.store.now in
+          let limit = (store_params store).limit in
+          let over : limit < length_with store.parts.log c.args.length = search rules in
+          at_err (λ r. IfErr r (LacksPlace c.args.grouped limit store.parts.log c.args.length)) c.from_residual.result DiskFault c.from_residual.ensures.1 (c.in_err-force_outside.ensures.forced.0, inl over);
+      left =
+          at_err (λ r. IfErr r (λ e. LogWithout c.args.grouped before.parts.log after.parts.log e × (after.parts.volatile ≡ before.parts.volatile))) c.from_residual.result DiskFault c.from_residual.ensures.1
+          (failed_left before after c.in_err-force_outside.ensures.forced.1);
+      call =
+          let stops = StopsCommand c.args.grouped (store_params before).limit in
+          at_err (λ r. IsCall g.O.Oper.meaning old new before after 0 stops (ending_of_exec r)) c.from_residual.result DiskFault c.from_residual.ensures.1
+          (call_as g.O.Oper.meaning old new before after 0 0 Never stops Ending.Failed refl (λ stop is. cc) c.in_err-force_outside.ensures.call);
+      takes =
+          at_err (λ r. IfErr r (λ e. Takes g.O.Oper.meaning old new before.parts after.parts (λ m w used. course (unplaced_steps m c.args.grouped w) used (stop_of_exec e)) (ending_of_exec r))) c.from_residual.result DiskFault c.from_residual.ensures.1
+          c.in_err-force_outside.ensures.takes;
+    }
 
 pub returns-then-length-limit-clause-lacks : goal.returns-then-length-limit-clause-lacks
 returns-then-length-limit-clause-lacks g c = search rules
@@ -73,39 +66,32 @@ returns-then-length-limit-clause-takes g c =
     takes_stop g.O.Oper.meaning (g.M.Machine.disk c.args.machine.now) (g.M.Machine.disk c.force_outside.new.machine) c.args.store.now.parts c.force_outside.new.store.parts
     (λ m w. unplaced_steps m c.args.grouped w) (Full c.used-used.result c.needed-need.result c.params-limit.result.limit) c.in_ok-force_outside.ensures.takes
 
-pub returns-in_err-force_outside-2-clause-lacks : goal.returns-in_err-force_outside-2-clause-lacks
-returns-in_err-force_outside-2-clause-lacks g c =
-    let store : StoreView = c.args.store.now in
-    let limit = (store_params store).limit in
-    let last : 2 ^ 62 ≤ store.parts.log.next = omega (arith, c.if-lsn-ge-LSN_END.true, c.next-lsn.ensures, ap (λ (l : RecordLogView). l.next) c.log-2.ensures) in
-    at_err (λ r. IfErr r (LacksPlace c.args.grouped limit store.parts.log c.args.length)) c.from_residual-in_err-force_outside-2.result DiskFault c.from_residual-in_err-force_outside-2.ensures.1
-    (c.in_err-force_outside-2.ensures.forced.0, inr last)
-
-pub returns-in_err-force_outside-2-clause-left : goal.returns-in_err-force_outside-2-clause-left
-returns-in_err-force_outside-2-clause-left g c =
+pub returns-in_err-force_outside-2 : goal.returns-in_err-force_outside-2
+returns-in_err-force_outside-2 g c =
     let before : StoreView = c.args.store.now in
     let after : StoreView = c.force_outside-then-lsn-ge-LSN_END.new.store in
-    at_err (λ r. IfErr r (λ e. LogWithout c.args.grouped before.parts.log after.parts.log e × (after.parts.volatile ≡ before.parts.volatile))) c.from_residual-in_err-force_outside-2.result DiskFault c.from_residual-in_err-force_outside-2.ensures.1
-    (failed_left before after c.in_err-force_outside-2.ensures.forced.1)
-
-pub returns-in_err-force_outside-2-clause-call : goal.returns-in_err-force_outside-2-clause-call
-returns-in_err-force_outside-2-clause-call g c =
     let old = g.M.Machine.disk c.args.machine.now in
     let new = g.M.Machine.disk c.force_outside-then-lsn-ge-LSN_END.new.machine in
-    let before : StoreView = c.args.store.now in
-    let after : StoreView = c.force_outside-then-lsn-ge-LSN_END.new.store in
-    let stops = StopsCommand c.args.grouped (store_params before).limit in
-    at_err (λ r. IsCall g.O.Oper.meaning old new before after 0 stops (ending_of_exec r)) c.from_residual-in_err-force_outside-2.result DiskFault c.from_residual-in_err-force_outside-2.ensures.1
-    (call_as g.O.Oper.meaning old new before after 0 0 Never stops Ending.Failed refl (λ stop is. cc) c.in_err-force_outside-2.ensures.call)
-
-pub returns-in_err-force_outside-2-clause-takes : goal.returns-in_err-force_outside-2-clause-takes
-returns-in_err-force_outside-2-clause-takes g c =
-    let old = g.M.Machine.disk c.args.machine.now in
-    let new = g.M.Machine.disk c.force_outside-then-lsn-ge-LSN_END.new.machine in
-    let before : StoreView = c.args.store.now in
-    let after : StoreView = c.force_outside-then-lsn-ge-LSN_END.new.store in
-    at_err (λ r. IfErr r (λ e. Takes g.O.Oper.meaning old new before.parts after.parts (λ m w used. course (unplaced_steps m c.args.grouped w) used (stop_of_exec e)) (ending_of_exec r))) c.from_residual-in_err-force_outside-2.result DiskFault c.from_residual-in_err-force_outside-2.ensures.1
-    c.in_err-force_outside-2.ensures.takes
+    record {
+      has = search rules;
+      fits = search rules;
+      lacks =
+          let store : StoreView = c.args.store.now in
+          let limit = (store_params store).limit in
+          let last : 2 ^ 62 ≤ store.parts.log.next = omega (arith, c.if-lsn-ge-LSN_END.true, c.next-lsn.ensures, ap (λ (l : RecordLogView). l.next) c.log-2.ensures) in
+          at_err (λ r. IfErr r (LacksPlace c.args.grouped limit store.parts.log c.args.length)) c.from_residual-in_err-force_outside-2.result DiskFault c.from_residual-in_err-force_outside-2.ensures.1
+          (c.in_err-force_outside-2.ensures.forced.0, inr last);
+      left =
+          at_err (λ r. IfErr r (λ e. LogWithout c.args.grouped before.parts.log after.parts.log e × (after.parts.volatile ≡ before.parts.volatile))) c.from_residual-in_err-force_outside-2.result DiskFault c.from_residual-in_err-force_outside-2.ensures.1
+          (failed_left before after c.in_err-force_outside-2.ensures.forced.1);
+      call =
+          let stops = StopsCommand c.args.grouped (store_params before).limit in
+          at_err (λ r. IsCall g.O.Oper.meaning old new before after 0 stops (ending_of_exec r)) c.from_residual-in_err-force_outside-2.result DiskFault c.from_residual-in_err-force_outside-2.ensures.1
+          (call_as g.O.Oper.meaning old new before after 0 0 Never stops Ending.Failed refl (λ stop is. cc) c.in_err-force_outside-2.ensures.call);
+      takes =
+          at_err (λ r. IfErr r (λ e. Takes g.O.Oper.meaning old new before.parts after.parts (λ m w used. course (unplaced_steps m c.args.grouped w) used (stop_of_exec e)) (ending_of_exec r))) c.from_residual-in_err-force_outside-2.result DiskFault c.from_residual-in_err-force_outside-2.ensures.1
+          c.in_err-force_outside-2.ensures.takes;
+    }
 
 pub returns-then-lsn-ge-LSN_END-clause-lacks : goal.returns-then-lsn-ge-LSN_END-clause-lacks
 returns-then-lsn-ge-LSN_END-clause-lacks g c = search rules
