@@ -66,8 +66,8 @@ fn run_open<M: Machine, T: Machine, S: Source>(
     }
 }
 
-/// Opens the store with this budget, answers the lines of a script, notes them, and forces the log at its end. It is tended so meanwhile. Where there is no
-/// store to open it says a line.
+/// Opens the store with this budget, answers the lines of a script, notes them, and forces the log at its end. Meanwhile the store
+/// is tended so. Where there is no store to open it says a line.
 pub fn run<M: Machine, T: Machine, S: Source>(
     alloc: Global,
     budget: Budget,
