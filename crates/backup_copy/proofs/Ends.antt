@@ -8,7 +8,7 @@ use Rattle.oper_core.specs.Meaning.{Meaning}
 use Rattle.oper_core.specs.declared.bounds.Bounds.{Bounds}
 use Rattle.formats.specs.declared.read_err.ReadErr.{ReadErr}
 use Rattle.formats.specs.declared.read_err.ReadErr.TheVariants as of_read
-use Rattle.running_store.specs.LongSlot.{IsLongSlot}
+use Rattle.running_store.specs.Laid.LongSlot.{IsLongSlot}
 use Rattle.running_store.specs.Parts.{Parts}
 use Rattle.store_engine.specs.Engine.{EngineView, IsAttached}
 use Rattle.store_engine.specs.FailureLaws.{none_damaged}

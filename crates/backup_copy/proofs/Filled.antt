@@ -5,7 +5,7 @@ use Rattle.oper_core.specs.Cell.{Cell}
 use Rattle.formats.specs.Objects.{layout_in, place_in, slot_place}
 use Rattle.formats.specs.declared.layout.Layout.{Layout}
 use Rattle.formats.specs.declared.params.Params.{Params}
-use Rattle.stable_objects.specs.Filling.{IsFilledTo}
+use Rattle.stable_objects.specs.Upgrades.Filling.{IsFilledTo}
 use Rattle.stable_objects.specs.GateLaws.{kept_closed}
 use Rattle.stable_objects.specs.Layouts.{IsLayout, new_layout}
 use Rattle.stable_objects.specs.Making.{KeepsGate, opened}

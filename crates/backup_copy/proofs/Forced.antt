@@ -15,7 +15,7 @@ use Rattle.explain_core.specs.World.{World, Step, run, step}
 use Rattle.explain_core.specs.World.Step.{Block_gate}
 use Rattle.running_store.specs.Courses.{force_steps, waits}
 use Rattle.running_store.specs.Kept as of_parts
-use Rattle.running_store.specs.KeptLaws.{stays_log}
+use Rattle.running_store.specs.Kept.Laws.{stays_log}
 use Rattle.running_store.specs.Laid.{IsLaidOn}
 use Rattle.store_engine.specs.Calls.{IsForcing}
 use Rattle.store_engine.specs.Engine.{Between, EngineView, Holds, IsAttached, ShowsIn, forced_in, accepted_in}

@@ -9,7 +9,7 @@ use Rattle.formats.specs.Objects.{BeginsStore}
 use Rattle.formats.specs.declared.params.Params.{Params}
 use Rattle.log_blocks.specs.Creating.{LogsAlone, IsNewLog}
 use Rattle.log_blocks.specs.Laws.{log_stays}
-use Rattle.stable_objects.specs.Filling.{IsFilledTo}
+use Rattle.stable_objects.specs.Upgrades.Filling.{IsFilledTo}
 use Rattle.stable_objects.specs.GateLaws.{closed_begins, kept_closed, torn_begins}
 use Rattle.stable_objects.specs.Making.{IsClosedFile, IsLaidOut, IsNewFile, KeepsGate, opened}
 use Rattle.restart.specs.Starts.{OrAtStart, then_leaves}

@@ -11,7 +11,7 @@ use Rattle.formats.specs.Objects.{IsObjectsFile, cell_of, holder, place_in}
 use Rattle.formats.specs.declared.params.Params.{Params}
 use Rattle.explain_core.specs.World.{World}
 use Rattle.stable_objects.specs.SlotLaws.{closed_tells, closed_value, holder_below, open_tells}
-use Rattle.running_store.specs.Joins.{stored_here}
+use Rattle.running_store.specs.Parts.Joins.{stored_here}
 use Rattle.store_engine.specs.Engine.{EngineView, ShowsIn}
 use Rattle.backup_copy.specs.Target.{MayPut}
 use Rattle.backup_copy.proofs.Shown.{objects_shown}

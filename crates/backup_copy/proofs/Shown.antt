@@ -7,7 +7,7 @@ use Rattle.oper_core.specs.declared.bounds.Bounds.{Bounds}
 use Rattle.formats.specs.Objects.{IsObjectsFile, bounds_of}
 use Rattle.formats.specs.declared.params.Params.{Params}
 use Rattle.explain_core.specs.World.{World}
-use Rattle.running_store.specs.Among.{small_bounds}
+use Rattle.running_store.specs.Laid.Among.{small_bounds}
 use Rattle.store_engine.specs.Engine.{EngineView, ShowsIn}
 
 module _ {O : Type 0} (meaning : Bounds → Meaning O) (p : Params) (d : Disk) (engine : EngineView) (w : World O) (shows : ShowsIn meaning p d engine w) where

@@ -8,7 +8,7 @@ use Rattle.oper_core.specs.Meaning.{Meaning}
 use Rattle.oper_core.specs.declared.bounds.Bounds.{Bounds}
 use Rattle.formats.specs.Objects.{BeginsStore}
 use Rattle.formats.specs.declared.params.Params.{Params}
-use Rattle.running_store.specs.LongSlot.{IsLongSlot}
+use Rattle.running_store.specs.Laid.LongSlot.{IsLongSlot}
 use Rattle.store_engine.specs.Calls.{IsForcing}
 use Rattle.store_engine.specs.Engine.{EngineView, used_in}
 use Rattle.store_engine.specs.Store.{Stands}

@@ -11,7 +11,7 @@ use Rattle.explain_core.specs.Sound.{IsSound}
 use Rattle.explain_core.specs.World.{World}
 use Rattle.standing.specs.Standing.{FilesShow}
 use Rattle.log_blocks.specs.Creating.{IsNewLog}
-use Rattle.stable_objects.specs.Filling.{IsFilledTo}
+use Rattle.stable_objects.specs.Upgrades.Filling.{IsFilledTo}
 use Rattle.stable_objects.specs.Layouts.{new_layout}
 use Rattle.stable_objects.specs.Making.{IsClosedFile, opened}
 

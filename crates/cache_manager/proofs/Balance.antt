@@ -18,12 +18,12 @@ use Rattle.explain_core.specs.Sound.{IsSound}
 use Rattle.explain_core.specs.Turns.{count_below}
 use Rattle.explain_core.specs.World.{World, Step, step, run, end_of}
 use Rattle.explain_core.specs.World.Step.{Begin, End, Append, Block_gate, Checkpoint, Slot_gate, Removal, Header_gate, Replay, Crash}
-use Rattle.running_store.specs.Appended.{next_lsn}
+use Rattle.running_store.specs.Steps.Appended.{next_lsn}
 use Rattle.cache_manager.specs.InstallCourses.{logged_by, logged_in, members_removed, members_removed_by}
 use Rattle.running_store.specs.Parts.{Parts, Shows}
 use Rattle.running_store.specs.Running.{AreUpkeep, IsUpkeep}
 use Rattle.cache_manager.proofs.Lists.{AreApart}
-use Rattle.cache_manager.proofs.Planned.{rises_apart, rises_from_increasing}
+use Rattle.cache_manager.proofs.NextNode.Planned.{rises_apart, rises_from_increasing}
 
 -- so many pass, and the others do not
 count_parts : (n : ℕ) (p q : ℕ → Bool) → count_below n (λ k. p k && not (q k)) + count_below n (λ k. p k && q k) ≡ count_below n p

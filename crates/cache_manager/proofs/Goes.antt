@@ -8,7 +8,7 @@ use Rattle.explain_core.specs.World.{World, Step, Starts, step, run, end_of, Are
 use Rattle.explain_core.specs.World.Step.{Block_gate}
 use Rattle.running_store.specs.Courses.{Course, is_through, course, and_then, waits, buffered, grown, force_steps, force_course, room_steps, placed}
 use Rattle.running_store.specs.Courses.Stop.{Through, Full, At_end}
-use Rattle.running_store.specs.CourseLaws.{behind_both, through_is}
+use Rattle.running_store.specs.Courses.Laws.{behind_both, through_is}
 use Rattle.running_store.specs.Running.{IsRunning, running_after, KeepsSound}
 
 -- the steps of the course may be taken, and where nothing stops it the world after them has P

@@ -18,19 +18,19 @@ use Rattle.explain_core.specs.Turns.{free_gates, free_round, round_gates}
 use Rattle.explain_core.specs.World.{AreAllowed, IsAllStable, World, run}
 use Rattle.standing.specs.Moments.{TakesSome, moments_longer, moments_twice}
 use Rattle.running_store.specs.Courses.{is_identity_at}
-use Rattle.running_store.specs.Finished.{IsQuiet}
+use Rattle.running_store.specs.Steps.Finished.{IsQuiet}
 use Rattle.running_store.specs.Parts.{VolatileShows, meaning_in}
-use Rattle.running_store.specs.RoundImages.{objects_of}
+use Rattle.running_store.specs.Steps.RoundImages.{objects_of}
 use Rattle.running_store.specs.StoreView.{StoreView}
 use Rattle.running_store.specs.Taking.{Ending}
 use Rattle.running_store.specs.Taking.Ending.{Done}
 use Rattle.cache_manager.specs.DueNodes.{IsRoundFrom, gates_at}
 use Rattle.cache_manager.specs.InstallCourses.{may_flush}
 use Rattle.cache_manager.specs.RoundNodes.{AreNodesOf, AreRemoved}
-use Rattle.cache_manager.proofs.DueWorlds.{chosen_is}
-use Rattle.cache_manager.proofs.RoundTaken.{as_many, round_nodes}
-use Rattle.cache_manager.proofs.ThinWorlds.{store_small}
-use Rattle.cache_manager.proofs.WorkOf.{AreAlone}
+use Rattle.cache_manager.proofs.OneRound.DueWorlds.{chosen_is}
+use Rattle.cache_manager.proofs.OneRound.Taken.{as_many, round_nodes}
+use Rattle.cache_manager.proofs.ThinNode.Worlds.{store_small}
+use Rattle.cache_manager.proofs.NextNode.WorkOf.{AreAlone}
 
 none_below : (x : ℕ) → nat_lt x 0 ≡ false
 none_below x = le-ltb x 0 (omega arith)

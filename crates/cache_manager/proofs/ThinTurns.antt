@@ -16,8 +16,8 @@ use Rattle.running_store.specs.declared.store_err.StoreErr.{StoreErr}
 use Rattle.cache_manager.specs.DueNodes.{NamesDue}
 use Rattle.cache_manager.specs.InstallCourses.{removals}
 use Rattle.cache_manager.specs.Thin.{IsLeastThin, IsWork, NamesThin}
-use Rattle.cache_manager.proofs.Removals.{free_removes}
-use Rattle.cache_manager.proofs.ThinWorlds.{has_one, no_thin, none_shown, removal_may, turn_removes, turn_rounds}
+use Rattle.cache_manager.proofs.Removal.Members.{free_removes}
+use Rattle.cache_manager.proofs.ThinNode.Worlds.{has_one, no_thin, none_shown, removal_may, turn_removes, turn_rounds}
 
 -- a list of no item, and one of one
 pub none_in : (xs : List ℕ) → length xs ≡ 0 → xs ≡ []

@@ -10,7 +10,7 @@ use Rattle.explain_core.specs.World.{World, Step, run, end_of}
 use Rattle.explain_core.specs.World.Step.{Append, Block_gate}
 use Rattle.running_store.specs.Courses.{Course, and_then, buffered, cached_length, course, force_steps, grown, identity_length, identity_steps, placed, room_steps, waits}
 use Rattle.running_store.specs.Courses.Stop.{Through, Full, At_end}
-use Rattle.running_store.specs.CourseLaws.{behind_both}
+use Rattle.running_store.specs.Courses.Laws.{behind_both}
 use Rattle.cache_manager.specs.InstallCourses.{identities, identity_course}
 
 module _ {O : Type 0} (m : Meaning O) (P : Step O → Type 0) where

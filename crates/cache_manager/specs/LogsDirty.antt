@@ -6,7 +6,7 @@ use Rattle.oper_core.specs.State.{is_among}
 use Rattle.install_order.specs.declared.entry.Entry.{Entry}
 use Rattle.install_order.specs.Entries.{reads_at, writes_at}
 use Rattle.dirty_cache.specs.Contents.{is_dirty}
-use Rattle.running_store.specs.Flushed.{DirtiesNone}
+use Rattle.running_store.specs.Laid.Flushed.{DirtiesNone}
 use Rattle.running_store.specs.Parts.{Parts}
 
 -- the entries of identity writes of these objects, numbered from n on

@@ -10,7 +10,7 @@ use Rattle.write_graph.specs.Graph.{IsNodeNamed, NamesMinimal}
 use Rattle.explain_core.specs.RoundGates.{Gate, removals_of}
 use Rattle.explain_core.specs.World.{AreAllowed, World, run}
 use Rattle.standing.specs.Moments.{TakesSome}
-use Rattle.running_store.specs.Beside.{IsOnObjectsAlone}
+use Rattle.running_store.specs.Calls.Beside.{IsOnObjectsAlone}
 use Rattle.running_store.specs.Calls.{IsCall, Never}
 use Rattle.running_store.specs.Parts.{VolatileShows, meaning_in}
 use Rattle.running_store.specs.StoreView.{StoreView}

@@ -12,9 +12,9 @@ use Rattle.explain_core.specs.TurnLaws.{by_thin_turn}
 use Rattle.explain_core.specs.Turns.{free_gates, thin_node, thin_turn}
 use Rattle.explain_core.specs.World.{IsLive, Step, World, run, step}
 use Rattle.explain_core.specs.World.Step.{Removal}
-use Rattle.running_store.specs.Finished.{log_stays}
+use Rattle.running_store.specs.Steps.Finished.{log_stays}
 use Rattle.running_store.specs.Parts.{Parts, Shows, ShowsLog, Volatile, VolatileShows}
-use Rattle.running_store.specs.Stored.{log_flushed, log_removed}
+use Rattle.running_store.specs.Parts.Stored.{log_flushed, log_removed}
 
 -- what holds of the world after removals, where each keeps it
 module _ {O : Type 0} (m : Meaning O) (P : World O → Type 0) (removal : (w : World O) (node : ℕ → Bool) → P w → P (step m w (Removal node))) where

@@ -11,7 +11,7 @@ use Rattle.explain_core.specs.World.Step.{Block_gate}
 use Rattle.running_store.specs.Courses.{Course, course, and_then, waits, buffered, force_steps, room_steps, removal_steps}
 use Rattle.cache_manager.specs.InstallCourses.{identities, next_node, work, must_log, others, finish_steps, rounds, has_members, install_course, may_flush, round_steps, round_course, is_next_due, next_turn, turn_course, turns, all_turns, round_limit, drain_course}
 use Rattle.running_store.specs.Courses.Stop.{Through}
-use Rattle.running_store.specs.CourseLaws.{behind_both}
+use Rattle.running_store.specs.Courses.Laws.{behind_both}
 use Rattle.running_store.specs.Running.{AreUpkeep, IsUpkeep}
 use Rattle.cache_manager.specs.EachStep.{each_identities}
 

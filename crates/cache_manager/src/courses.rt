@@ -13,7 +13,7 @@ ghost use Rattle.running_store.specs.Courses.Stop.{Through};
 ghost use Rattle.explain_core.specs.Backup.{AreBeside};
 ghost use Rattle.cache_manager.specs.FewLogged.{AreFewLogged};
 ghost use Rattle.running_store.specs.Parts.{ShowsVolatile, Volatile, meaning_in};
-ghost use Rattle.running_store.specs.RoundImages.{objects_of};
+ghost use Rattle.running_store.specs.Steps.RoundImages.{objects_of};
 ghost use Rattle.running_store.specs.Running.{IsRunning, MayBeTaken, IsDrained};
 
 use oper_core::Oper;

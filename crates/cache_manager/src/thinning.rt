@@ -4,7 +4,7 @@ ghost use Rattle.formats.specs.declared.params.Params.{Params as Numbers};
 ghost use Rattle.explain_core.specs.Turns.{free_gates, free_round, has_thin, thin_turn};
 ghost use Rattle.explain_core.specs.World.{World, IsAllStable, run};
 ghost use Rattle.standing.specs.Moments.{TakesSome};
-ghost use Rattle.running_store.specs.Beside.{IsOnObjectsAlone};
+ghost use Rattle.running_store.specs.Calls.Beside.{IsOnObjectsAlone};
 ghost use Rattle.running_store.specs.Calls.{IsCall, Never, ending_of_store};
 ghost use Rattle.running_store.specs.Parts.{VolatileShows, meaning_in};
 ghost use Rattle.cache_manager.specs.DueNodes.{NamesDue};

@@ -10,8 +10,8 @@ use Rattle.running_store.specs.Courses.{Course, course, and_then, buffered, forc
 use Rattle.running_store.specs.Courses.Stop.{Through, Full, Worn}
 use Rattle.formats.specs.Limits.{log_limit, lsn_end}
 use Rattle.running_store.specs.Running.{AreUpkeep, IsRunning, KeepsSound, MayBeTaken, may_be_taken, running_after}
-use Rattle.running_store.specs.RewriteLaws.{gate_allowed}
-use Rattle.running_store.specs.Rewrites.{checkpoint_length, new_base, rewrite_within, trimmed, trimmed_file}
+use Rattle.running_store.specs.Calls.RewriteLaws.{gate_allowed}
+use Rattle.running_store.specs.Calls.Rewrites.{checkpoint_length, new_base, rewrite_within, trimmed, trimmed_file}
 use Rattle.cache_manager.specs.Upkeep.{upkeep_append}
 use Rattle.checkpointing.specs.Courses.{taking_course, checkpoint_steps, checkpoint_course, closing_course, logged_course, trim_within}
 

@@ -16,7 +16,7 @@ use Rattle.explain_core.specs.History.{Member, IsMember, value_at, writes_some}
 use Rattle.explain_core.specs.History.Member.{Command, Identity}
 use Rattle.explain_core.specs.Sound.{IsSound}
 use Rattle.explain_core.specs.World.{World, end_of, graph_access}
-use Rattle.running_store.specs.Rewrites.{new_base}
+use Rattle.running_store.specs.Calls.Rewrites.{new_base}
 
 -- the member at a place
 member_at : {X : Type 0} (h : List X) (k : ℕ) → k < length h → (x : X) × (slice_get h k ≡ Some x)

@@ -12,20 +12,20 @@ use Rattle.log_blocks.specs.LogView.{used_of, growth_of}
 use Rattle.log_records.specs.RecordLog.{RecordLogView}
 use Rattle.explain_core.specs.World.{World, Step, step, run, table_now}
 use Rattle.explain_core.specs.World.Step.{Block_gate, Checkpoint}
-use Rattle.running_store.specs.Appended.{next_lsn}
+use Rattle.running_store.specs.Steps.Appended.{next_lsn}
 use Rattle.running_store.specs.Calls.{IsForcedOrNot}
-use Rattle.running_store.specs.Checkpoints.{IsCheckpointHere, checkpoint_long}
+use Rattle.running_store.specs.Calls.Checkpoints.{IsCheckpointHere, checkpoint_long}
 use Rattle.running_store.specs.Courses.{Course, and_then, course, force_course, force_steps, grown, room_steps, waits}
 use Rattle.running_store.specs.Courses.Stop.{Through, Full}
-use Rattle.running_store.specs.Finished.{IsQuiet}
-use Rattle.running_store.specs.Growth.{growth_shown}
+use Rattle.running_store.specs.Steps.Finished.{IsQuiet}
+use Rattle.running_store.specs.Courses.Growth.{growth_shown}
 use Rattle.formats.specs.Limits.{log_limit}
 use Rattle.running_store.specs.Parts.{Parts, Shows, ShowsVolatile, Volatile, meaning_in}
-use Rattle.running_store.specs.Rewrites.{checkpoint_length}
+use Rattle.running_store.specs.Calls.Rewrites.{checkpoint_length}
 use Rattle.running_store.specs.StoreView.{StoreView}
 use Rattle.running_store.specs.Taking.{Ending, Takes}
 use Rattle.running_store.specs.Taking.Ending.{Done, Stopped}
-use Rattle.running_store.specs.TakesLaws.{takes_both, takes_none, takes_same, takes_stop}
+use Rattle.running_store.specs.Taking.Laws.{takes_both, takes_none, takes_same, takes_stop}
 use Rattle.checkpointing.specs.Checkpoints.{IsTableNow, IsTakenBy, IsTakenNow}
 use Rattle.checkpointing.specs.Courses.{logged_course}
 

@@ -13,12 +13,12 @@ use Rattle.explain_core.specs.RunLaws.{run-append}
 use Rattle.explain_core.specs.Taken.{IsAfterSome, after_longer}
 use Rattle.explain_core.specs.World.{World, Step, run}
 use Rattle.standing.specs.Moments.{TakesSome, moments_longer, moments_twice}
-use Rattle.running_store.specs.CallLaws.{unbroken_after}
+use Rattle.running_store.specs.Calls.Laws.{unbroken_after}
 use Rattle.running_store.specs.Calls.{IsCall, Never, call_as, call_twice, ending_of_store}
 use Rattle.running_store.specs.Courses.{Course, Stop, course, force_course, force_steps, is_through}
 use Rattle.running_store.specs.Courses.Stop.{Through, Full}
-use Rattle.running_store.specs.Finished.{IsQuiet}
-use Rattle.running_store.specs.Forced.{IsForced}
+use Rattle.running_store.specs.Steps.Finished.{IsQuiet}
+use Rattle.running_store.specs.Steps.Forced.{IsForced}
 use Rattle.running_store.specs.Kept.{StopsAt}
 use Rattle.formats.specs.Limits.{log_limit}
 use Rattle.running_store.specs.Parts.{Parts, Shows, meaning_in}

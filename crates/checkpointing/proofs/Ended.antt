@@ -7,9 +7,9 @@ use Rattle.log_records.specs.RecordLog.{RecordLogView}
 use Rattle.oper_core.specs.Meaning.{Meaning}
 use Rattle.oper_core.specs.declared.bounds.Bounds.{Bounds}
 use Rattle.running_store.specs.Calls.{IsCall, IsFailed, IsForce, IsRoomMade, Never, call_as, ending_of_store}
-use Rattle.running_store.specs.Checkpoints.{HasCheckpointed}
+use Rattle.running_store.specs.Calls.Checkpoints.{HasCheckpointed}
 use Rattle.running_store.specs.Courses.{Stop}
-use Rattle.running_store.specs.Rewrites.{HasRewritten}
+use Rattle.running_store.specs.Calls.Rewrites.{HasRewritten}
 use Rattle.running_store.specs.StoreView.{StoreView}
 use Rattle.running_store.specs.Taking.{Ending}
 use Rattle.running_store.specs.Taking.Ending.{Done, Stopped, Short, Failed}

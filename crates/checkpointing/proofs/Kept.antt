@@ -14,17 +14,17 @@ use Rattle.log_records.specs.declared.rewrite_err.RewriteErr.TheVariants as of_r
 use Rattle.explain_core.specs.History.{commands_of}
 use Rattle.explain_core.specs.RunLaws.{allowed-append, run-append}
 use Rattle.explain_core.specs.World.{World, Step, run}
-use Rattle.running_store.specs.CallLaws.{logging_none}
+use Rattle.running_store.specs.Calls.Laws.{logging_none}
 use Rattle.running_store.specs.Calls.{IsCall, Never, ending_of_read}
 use Rattle.running_store.specs.Courses.{Course, Stop}
-use Rattle.running_store.specs.Finished.{IsQuiet}
+use Rattle.running_store.specs.Steps.Finished.{IsQuiet}
 use Rattle.running_store.specs.Parts.{Parts, Shows, meaning_in}
-use Rattle.running_store.specs.Rewrites.{ending_of_rewrite}
+use Rattle.running_store.specs.Calls.Rewrites.{ending_of_rewrite}
 use Rattle.running_store.specs.Running.{IsRunning, KeepsSound, MayBeTaken, may_be_taken}
 use Rattle.running_store.specs.StoreView.{StoreView, log_length, logged_since, next_of}
 use Rattle.running_store.specs.Taking.{Ending, Follows, Takes}
 use Rattle.running_store.specs.Taking.Ending.{Done, Stopped, Short, Failed}
-use Rattle.running_store.specs.TakesLaws.{IsCut, takes_both, takes_first}
+use Rattle.running_store.specs.Taking.Laws.{IsCut, takes_both, takes_first}
 use Rattle.cache_manager.specs.Endings.{ending_of}
 use Rattle.cache_manager.specs.InstallCourses.{turn_course}
 use Rattle.cache_manager.specs.declared.install_err.InstallErr.{InstallErr}

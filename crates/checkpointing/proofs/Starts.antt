@@ -23,8 +23,8 @@ use Rattle.write_graph.specs.Objects.{IsWriter, IsWritten}
 use Rattle.explain_core.specs.GraphLaws.{graph-within}
 use Rattle.explain_core.specs.Sound.{IsSound}
 use Rattle.explain_core.specs.World.{World, graph_access}
-use Rattle.running_store.specs.Buffered.{start_bytes}
-use Rattle.running_store.specs.Checkpoints.{IsCheckpointHere}
+use Rattle.running_store.specs.Courses.Buffered.{start_bytes}
+use Rattle.running_store.specs.Calls.Checkpoints.{IsCheckpointHere}
 use Rattle.log_records.specs.RecordLog.{RecordLogView}
 use Rattle.checkpointing.specs.Checkpoints.{is_in_log}
 

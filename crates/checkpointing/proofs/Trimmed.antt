@@ -18,16 +18,16 @@ use Rattle.log_records.specs.declared.rewrite_err.RewriteErr.{RewriteErr}
 use Rattle.log_records.specs.declared.rewrite_err.RewriteErr.TheVariants.{Exhausted, DiskFault, Damaged, LogFull, Memory}
 use Rattle.explain_core.specs.World.{World}
 use Rattle.standing.specs.OneStable.{small_store}
-use Rattle.running_store.specs.Appended.{next_lsn}
-use Rattle.running_store.specs.Checkpoints.{IsCheckpointHere}
+use Rattle.running_store.specs.Steps.Appended.{next_lsn}
+use Rattle.running_store.specs.Calls.Checkpoints.{IsCheckpointHere}
 use Rattle.running_store.specs.Courses.{and_then, course, force_course}
 use Rattle.running_store.specs.Courses.Stop.{Worn}
-use Rattle.running_store.specs.Finished.{IsQuiet}
+use Rattle.running_store.specs.Steps.Finished.{IsQuiet}
 use Rattle.running_store.specs.Parts.{Parts, Shows, meaning_in}
-use Rattle.running_store.specs.Rewrites.{IsKeptFrom, rewrite_within}
+use Rattle.running_store.specs.Calls.Rewrites.{IsKeptFrom, rewrite_within}
 use Rattle.running_store.specs.Taking.{Ending, Takes}
 use Rattle.running_store.specs.Taking.Ending.{Done, Stopped, Failed}
-use Rattle.running_store.specs.TakesLaws.{takes_both, takes_first, takes_none, takes_same, takes_stop}
+use Rattle.running_store.specs.Taking.Laws.{takes_both, takes_first, takes_none, takes_same, takes_stop}
 use Rattle.checkpointing.specs.Checkpoints.{IsTakenBy}
 use Rattle.checkpointing.specs.Courses.{trim_within}
 use Rattle.checkpointing.specs.Left.{DamagedBy, IsTooLong}

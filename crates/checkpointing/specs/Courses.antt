@@ -7,7 +7,7 @@ use Rattle.explain_core.specs.World.Step.{Block_gate, Checkpoint}
 use Rattle.running_store.specs.Courses.{Course, is_through, course, and_then, grown, force_steps, force_course, room_steps}
 use Rattle.running_store.specs.Courses.Stop.{Through, Full, Worn}
 use Rattle.formats.specs.Limits.{log_limit, lsn_end}
-use Rattle.running_store.specs.Rewrites.{checkpoint_length, rewrite_within}
+use Rattle.running_store.specs.Calls.Rewrites.{checkpoint_length, rewrite_within}
 use Rattle.cache_manager.specs.InstallCourses.{turn_course}
 use Rattle.checkpointing.specs.declared.due.Due.{Due}
 

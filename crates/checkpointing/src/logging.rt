@@ -2,7 +2,7 @@
 ghost use Rattle.std.specs.Prelude.{◌≡◌, ◌+◌, ◌*◌, ◌≤◌, ◌^◌, false, length};
 ghost use Rattle.running_store.specs.Calls.{IsCall};
 ghost use Rattle.running_store.specs.Taking.{Takes};
-ghost use Rattle.running_store.specs.Checkpoints.{IsCheckpointHere};
+ghost use Rattle.running_store.specs.Calls.Checkpoints.{IsCheckpointHere};
 ghost use Rattle.checkpointing.specs.Checkpoints.{IsTableNow};
 ghost use Rattle.checkpointing.specs.Courses.{taking_course, logged_course};
 ghost use Rattle.checkpointing.specs.Left.{KeepsCounts, Overlong, checkpoint_ending};

@@ -1,7 +1,7 @@
 // The checkpoint that may be taken now, and where the log may begin.
 ghost use Rattle.std.specs.Prelude.{◌≡◌, ◌≤◌, ℕ, All, [], IfOk, false};
 ghost use Rattle.std.specs.List.{filter};
-ghost use Rattle.running_store.specs.Checkpoints.{IsCheckpointHere};
+ghost use Rattle.running_store.specs.Calls.Checkpoints.{IsCheckpointHere};
 ghost use Rattle.checkpointing.specs.Checkpoints.{is_in_log, IsTakenBy};
 
 use dirty_page_table::{DirtyPageTable, Starts};

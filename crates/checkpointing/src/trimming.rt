@@ -3,7 +3,7 @@ ghost use Rattle.std.specs.Prelude.{◌≡◌, ◌≤◌, ◌+◌, ◌^◌, [], 
 ghost use Rattle.log_records.specs.Loading.{IsTailFault};
 ghost use Rattle.running_store.specs.Calls.{IsCall};
 ghost use Rattle.running_store.specs.Kept.{HasLog, StopsAt};
-ghost use Rattle.running_store.specs.Rewrites.{ending_of_rewrite};
+ghost use Rattle.running_store.specs.Calls.Rewrites.{ending_of_rewrite};
 ghost use Rattle.running_store.specs.StoreView.{next_of};
 ghost use Rattle.running_store.specs.Taking.{Takes};
 ghost use Rattle.checkpointing.specs.Courses.{trim_within};

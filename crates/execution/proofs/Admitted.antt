@@ -12,9 +12,9 @@ use Rattle.oper_core.specs.declared.refusal.Refusal.{Refusal}
 use Rattle.formats.specs.Objects.{IsInRange, bounds_of}
 use Rattle.formats.specs.declared.params.Params.{Params}
 use Rattle.explain_core.specs.World.{World}
-use Rattle.running_store.specs.Among.{small_bounds}
-use Rattle.running_store.specs.Commands.{IsReady}
-use Rattle.running_store.specs.Joins.{cell_shown}
+use Rattle.running_store.specs.Laid.Among.{small_bounds}
+use Rattle.running_store.specs.Calls.Commands.{IsReady}
+use Rattle.running_store.specs.Parts.Joins.{cell_shown}
 use Rattle.running_store.specs.Laid.{Laid, IsLaidOn, values_in}
 use Rattle.running_store.specs.Parts.{Parts, Shows, meaning_in}
 use Rattle.execution.specs.Courses.{refusal_in}

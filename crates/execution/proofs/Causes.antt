@@ -8,10 +8,10 @@ use Rattle.oper_core.specs.declared.bounds.Bounds.{Bounds}
 use Rattle.formats.specs.declared.params.Params.{Params}
 use Rattle.log_blocks.specs.LogView.{used_of}
 use Rattle.explain_core.specs.World.{World}
-use Rattle.running_store.specs.Appended.{next_lsn}
-use Rattle.running_store.specs.Commands.{HasPlaceBelow, command_length}
+use Rattle.running_store.specs.Steps.Appended.{next_lsn}
+use Rattle.running_store.specs.Calls.Commands.{HasPlaceBelow, command_length}
 use Rattle.running_store.specs.Laid.{IsLaidOn, values_in}
-use Rattle.running_store.specs.LongSlot.{long_untold}
+use Rattle.running_store.specs.Laid.LongSlot.{long_untold}
 use Rattle.running_store.specs.Parts.{Parts, Shows, meaning_in}
 use Rattle.execution.specs.Answers.{HasCauseIn}
 use Rattle.execution.specs.Counted.{accepted_shown}

@@ -11,18 +11,18 @@ use Rattle.formats.specs.declared.record.Record.TheVariants.{Command as Logged}
 use Rattle.log_blocks.specs.LogView.{used_of}
 use Rattle.explain_core.specs.History.Member.{Command}
 use Rattle.explain_core.specs.World.{World}
-use Rattle.running_store.specs.AfterReads.{fetch_takes}
-use Rattle.running_store.specs.Appended.{next_lsn}
+use Rattle.running_store.specs.Calls.AfterReads.{fetch_takes}
+use Rattle.running_store.specs.Steps.Appended.{next_lsn}
 use Rattle.running_store.specs.Calls.{IsCall, IsFailed}
 use Rattle.running_store.specs.Courses.{Course, course}
 use Rattle.running_store.specs.Courses.Stop.{Through}
-use Rattle.running_store.specs.Fetches.{IsFetch, fetch_call}
+use Rattle.running_store.specs.Calls.Fetches.{IsFetch, fetch_call}
 use Rattle.running_store.specs.Laid.{IsLaidOn, values_in}
-use Rattle.running_store.specs.LongSlot.{long_untold}
+use Rattle.running_store.specs.Laid.LongSlot.{long_untold}
 use Rattle.running_store.specs.Parts.{Shows, meaning_in}
 use Rattle.running_store.specs.StoreView.{StoreView, log_length, next_of, store_params}
 use Rattle.running_store.specs.Taking.{Ending, Takes}
-use Rattle.running_store.specs.TakesLaws.{takes_failed, takes_none, takes_nothing, takes_same}
+use Rattle.running_store.specs.Taking.Laws.{takes_failed, takes_none, takes_nothing, takes_same}
 use Rattle.execution.specs.Answers.{ending_of_error}
 use Rattle.execution.specs.Failures.{IsAdmitFailure, IsAdmittedOn}
 use Rattle.execution.specs.Following.{HasMemberCause, IsFollowFailure, ending_of_record_error, member_course}

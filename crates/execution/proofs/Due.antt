@@ -15,10 +15,10 @@ use Rattle.explain_core.specs.History.{Member}
 use Rattle.explain_core.specs.History.Member.{Command, Identity}
 use Rattle.explain_core.specs.World.{World, end_of}
 use Rattle.running_store.specs.Courses.{record_length}
-use Rattle.running_store.specs.Appended.{next_lsn}
+use Rattle.running_store.specs.Steps.Appended.{next_lsn}
 use Rattle.running_store.specs.Parts.{Parts, Shows, meaning_in, record_of}
 use Rattle.running_store.specs.Taking.{Ending, Takes}
-use Rattle.running_store.specs.TakesLaws.{takes_same}
+use Rattle.running_store.specs.Taking.Laws.{takes_same}
 use Rattle.execution.specs.Following.{HasFollowCause, HasMemberCause, HasLsn, follow_course, grown_by, judge_in, judged_course, member_course}
 use Rattle.execution.specs.Judged.{Judged, judge_member, may_follow}
 use Rattle.execution.specs.Judged.Judged.{Passed, Taken, Gap, Differs}

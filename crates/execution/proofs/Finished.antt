@@ -17,22 +17,22 @@ use Rattle.explain_core.specs.World.Step.{Append}
 use Rattle.log_blocks.specs.LogView.{used_of, growth_of}
 use Rattle.log_records.specs.RecordLog.{RecordLogView}
 use Rattle.stable_objects.specs.SlotsView.{SlotsView}
-use Rattle.running_store.specs.AfterReads.{fetch_takes, fetch_then, fetch_unbroken, read_moments}
-use Rattle.running_store.specs.Appended.{appended_shows}
-use Rattle.running_store.specs.Among.{all_among}
+use Rattle.running_store.specs.Calls.AfterReads.{fetch_takes, fetch_then, fetch_unbroken, read_moments}
+use Rattle.running_store.specs.Steps.Appended.{appended_shows}
+use Rattle.running_store.specs.Laid.Among.{all_among}
 use Rattle.running_store.specs.Calls.{IsCall, Never, call_as}
-use Rattle.running_store.specs.Commands.{HasPlaceBelow, IsCommanded, IsLeft, IsReady, command_length, commanded_call, left_call, left_takes, length_with}
+use Rattle.running_store.specs.Calls.Commands.{HasPlaceBelow, IsCommanded, IsLeft, IsReady, command_length, commanded_call, left_call, left_takes, length_with}
 use Rattle.running_store.specs.Courses.{Course}
-use Rattle.running_store.specs.Fetched.{fetched-twice}
-use Rattle.running_store.specs.Fetches.{IsFetch}
-use Rattle.running_store.specs.Growth.{code_length, end_more}
+use Rattle.running_store.specs.Laid.Fetched.{fetched-twice}
+use Rattle.running_store.specs.Calls.Fetches.{IsFetch}
+use Rattle.running_store.specs.Courses.Growth.{code_length, end_more}
 use Rattle.running_store.specs.Laid.{IsLaidOn, values_in}
 use Rattle.running_store.specs.Parts.{IsAppended, Parts, Shows, meaning_in, record_of}
-use Rattle.running_store.specs.Reads.{read_shows, untaken_fetched, with_objects}
-use Rattle.running_store.specs.Stored.{run_one}
+use Rattle.running_store.specs.Parts.Reads.{read_shows, untaken_fetched, with_objects}
+use Rattle.running_store.specs.Parts.Stored.{run_one}
 use Rattle.running_store.specs.StoreView.{StoreView, log_length, store_params}
 use Rattle.running_store.specs.Taking.{Ending, Follows, Takes}
-use Rattle.running_store.specs.Unchanged.{IsSameLog}
+use Rattle.running_store.specs.Parts.Unchanged.{IsSameLog}
 use Rattle.execution.specs.Answers.{HasCauseIn}
 use Rattle.execution.specs.Courses.{exec_course, refusal_in}
 use Rattle.execution.specs.Done.{IsExecuted, IsOutcome}

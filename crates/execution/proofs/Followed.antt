@@ -12,15 +12,15 @@ use Rattle.explain_core.specs.RunLaws.{run-append}
 use Rattle.explain_core.specs.World.{World, Step, run}
 use Rattle.explain_core.specs.World.Step.{Append}
 use Rattle.standing.specs.Moments.{TakesSome, moments_longer, moments_twice}
-use Rattle.running_store.specs.CourseLaws.{behind_through}
+use Rattle.running_store.specs.Courses.Laws.{behind_through}
 use Rattle.running_store.specs.Courses.{Course, and_then, course, grown, is_through, room_steps}
 use Rattle.running_store.specs.Courses.Stop.{Through, Full}
-use Rattle.running_store.specs.Finished.{IsQuiet}
+use Rattle.running_store.specs.Steps.Finished.{IsQuiet}
 use Rattle.running_store.specs.Parts.{Parts, Shows, meaning_in}
-use Rattle.running_store.specs.Stored.{stays_shown, store_shown}
+use Rattle.running_store.specs.Parts.Stored.{stays_shown, store_shown}
 use Rattle.running_store.specs.Taking.{Follows, IsAfter, Takes}
 use Rattle.running_store.specs.Taking.Ending.{Done, Stopped, Short, Failed}
-use Rattle.running_store.specs.TakesLaws.{takes_both, takes_failed, takes_same}
+use Rattle.running_store.specs.Taking.Laws.{takes_both, takes_failed, takes_same}
 use Rattle.execution.specs.Following.{grown_by, room_course, roomed_course}
 use Rattle.execution.proofs.Roomed.{fits_is, over_is, room_and_then, stopped_over}
 

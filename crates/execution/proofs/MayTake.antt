@@ -11,7 +11,7 @@ use Rattle.explain_core.specs.Sound.{IsSound}
 use Rattle.explain_core.specs.StableLaws.{commands_of-append}
 use Rattle.explain_core.specs.World.{World, Step, step, run, end_of, AreAllowed, IsLive}
 use Rattle.explain_core.specs.World.Step.{Append}
-use Rattle.running_store.specs.Commands.{command_length}
+use Rattle.running_store.specs.Calls.Commands.{command_length}
 use Rattle.running_store.specs.Courses.{Course, course, force_steps, grown, is_through}
 use Rattle.running_store.specs.Courses.Stop.{Through}
 use Rattle.running_store.specs.Running.{IsRunning, KeepsSound, MayBeTaken}

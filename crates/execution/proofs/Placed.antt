@@ -10,11 +10,11 @@ use Rattle.log_blocks.specs.LogView.{used_of}
 use Rattle.explain_core.specs.History.Member.{Command}
 use Rattle.explain_core.specs.World.{World, end_of}
 use Rattle.explain_core.specs.World.Step.{Append}
-use Rattle.running_store.specs.Appended.{next_lsn}
-use Rattle.running_store.specs.Commands.{HasPlaceBelow, command_length, length_with}
+use Rattle.running_store.specs.Steps.Appended.{next_lsn}
+use Rattle.running_store.specs.Calls.Commands.{HasPlaceBelow, command_length, length_with}
 use Rattle.running_store.specs.Courses.{Course, course, grown}
 use Rattle.running_store.specs.Courses.Stop.{Through, Full, At_end}
-use Rattle.running_store.specs.Growth.{growth_shown}
+use Rattle.running_store.specs.Courses.Growth.{growth_shown}
 use Rattle.running_store.specs.Parts.{Parts, Shows}
 use Rattle.execution.specs.Courses.{append_course, exec_course, needed, refusal_in, unless_refused, unplaced_steps}
 use Rattle.execution.specs.Failures.{LacksPlace, needed_by}

@@ -9,9 +9,9 @@ use Rattle.formats.specs.Records.{lsn_of}
 use Rattle.formats.specs.declared.record.Record.{Record}
 use Rattle.log_records.specs.RecordLog.{RecordLogView}
 use Rattle.explain_core.specs.History.{Member}
-use Rattle.running_store.specs.AfterReads.{fetch_takes, fetch_then}
+use Rattle.running_store.specs.Calls.AfterReads.{fetch_takes, fetch_then}
 use Rattle.running_store.specs.Calls.{IsCall, Never, call_as, call_twice}
-use Rattle.running_store.specs.Fetches.{IsFetch}
+use Rattle.running_store.specs.Calls.Fetches.{IsFetch}
 use Rattle.running_store.specs.Laid.{Laid}
 use Rattle.running_store.specs.StoreView.{StoreView, next_of}
 use Rattle.running_store.specs.Taking.{Ending, Takes}

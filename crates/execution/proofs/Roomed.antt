@@ -10,10 +10,10 @@ use Rattle.log_records.specs.RecordLog.{RecordLogView}
 use Rattle.explain_core.specs.TurnLaws.{run_none}
 use Rattle.explain_core.specs.World.{World, Step, step, run}
 use Rattle.explain_core.specs.World.Step.{Block_gate}
-use Rattle.running_store.specs.Buffered.{buffered_shown}
+use Rattle.running_store.specs.Courses.Buffered.{buffered_shown}
 use Rattle.running_store.specs.Courses.{Course, and_then, buffered, course, force_steps, grown, room_steps, waits}
 use Rattle.running_store.specs.Courses.Stop.{Through, Full}
-use Rattle.running_store.specs.Growth.{growth_shown}
+use Rattle.running_store.specs.Courses.Growth.{growth_shown}
 use Rattle.running_store.specs.Parts.{ShowsLog}
 use Rattle.execution.specs.Courses.{needed}
 use Rattle.execution.specs.Following.{grown_by, room_course, roomed_course}

@@ -10,17 +10,17 @@ use Rattle.formats.specs.declared.params.Params.{Params}
 use Rattle.log_blocks.specs.LogView.{used_of, growth_of}
 use Rattle.log_records.specs.RecordLog.{RecordLogView}
 use Rattle.explain_core.specs.World.{Step, World}
-use Rattle.running_store.specs.Buffered.{room_force, room_none}
+use Rattle.running_store.specs.Courses.Buffered.{room_force, room_none}
 use Rattle.running_store.specs.Courses.{Course, course, force_course, force_steps, room_steps}
 use Rattle.running_store.specs.Courses.Stop.{Through, Full}
-use Rattle.running_store.specs.Forced.{IsForced}
-use Rattle.running_store.specs.Growth.{growth_some}
-use Rattle.running_store.specs.Logged.{HasPlace}
+use Rattle.running_store.specs.Steps.Forced.{IsForced}
+use Rattle.running_store.specs.Courses.Growth.{growth_some}
+use Rattle.running_store.specs.Calls.Logged.{HasPlace}
 use Rattle.running_store.specs.Parts.{Parts, Shows, meaning_in}
 use Rattle.running_store.specs.Taking.{Ending, Takes}
 use Rattle.running_store.specs.Taking.Ending.{Done, Stopped}
-use Rattle.running_store.specs.TakesLaws.{takes_none, takes_same, takes_stop}
-use Rattle.running_store.specs.Written.{room_is_place}
+use Rattle.running_store.specs.Taking.Laws.{takes_none, takes_same, takes_stop}
+use Rattle.running_store.specs.Steps.Written.{room_is_place}
 use Rattle.execution.specs.Following.{grown_by, room_course}
 use Rattle.execution.proofs.Roomed.{fits_is, grown_shown, over_is}
 

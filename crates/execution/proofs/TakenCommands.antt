@@ -15,13 +15,13 @@ use Rattle.explain_core.specs.Sound.{IsSound}
 use Rattle.explain_core.specs.World.{World, step, run, IsLive}
 use Rattle.explain_core.specs.World.Step.{Append}
 use Rattle.log_blocks.specs.LogView.{used_of}
-use Rattle.running_store.specs.Appended.{appended_shows}
-use Rattle.running_store.specs.Among.{all_among}
-use Rattle.running_store.specs.Commands.{IsCommanded, IsReady, command_length}
-use Rattle.running_store.specs.Growth.{growth_shown}
+use Rattle.running_store.specs.Steps.Appended.{appended_shows}
+use Rattle.running_store.specs.Laid.Among.{all_among}
+use Rattle.running_store.specs.Calls.Commands.{IsCommanded, IsReady, command_length}
+use Rattle.running_store.specs.Courses.Growth.{growth_shown}
 use Rattle.running_store.specs.Laid.{IsLaidOn, values_in}
 use Rattle.running_store.specs.Parts.{IsAppended, Shows, meaning_in}
-use Rattle.running_store.specs.Stored.{run_one}
+use Rattle.running_store.specs.Parts.Stored.{run_one}
 use Rattle.running_store.specs.StoreView.{StoreView, store_params}
 use Rattle.running_store.specs.Taking.{IsAfter}
 use Rattle.execution.specs.Courses.{refusal_in}

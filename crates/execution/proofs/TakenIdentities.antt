@@ -21,20 +21,20 @@ use Rattle.explain_core.specs.History.Member.{Identity}
 use Rattle.explain_core.specs.Sound.{IsSound}
 use Rattle.explain_core.specs.World.{World, step, run, IsLive, NoGroup}
 use Rattle.explain_core.specs.World.Step.{Append}
-use Rattle.running_store.specs.AfterReads.{fetch_shows, fetch_takes}
-use Rattle.running_store.specs.Appended.{next_lsn}
+use Rattle.running_store.specs.Calls.AfterReads.{fetch_shows, fetch_takes}
+use Rattle.running_store.specs.Steps.Appended.{next_lsn}
 use Rattle.running_store.specs.Calls.{IsCall}
 use Rattle.running_store.specs.Courses.{Course, course, grown, identity_length, written_course}
 use Rattle.running_store.specs.Courses.Stop.{Through}
-use Rattle.running_store.specs.Faults.{is_read_fault}
-use Rattle.running_store.specs.Fetches.{IsFetch, fetch_call}
-use Rattle.running_store.specs.Joins.{cached_shown}
-use Rattle.running_store.specs.LongSlot.{IsLongSlot, long_untold}
+use Rattle.running_store.specs.Calls.Faults.{is_read_fault}
+use Rattle.running_store.specs.Calls.Fetches.{IsFetch, fetch_call}
+use Rattle.running_store.specs.Parts.Joins.{cached_shown}
+use Rattle.running_store.specs.Laid.LongSlot.{IsLongSlot, long_untold}
 use Rattle.running_store.specs.Parts.{Shows, meaning_in}
 use Rattle.running_store.specs.StoreView.{StoreView, log_length, next_of, store_params}
 use Rattle.running_store.specs.Taking.{Ending, IsAfter, Takes}
-use Rattle.running_store.specs.TakesLaws.{takes_failed, takes_none, takes_nothing, takes_same}
-use Rattle.running_store.specs.Writes.{IsWritten, write_takes}
+use Rattle.running_store.specs.Taking.Laws.{takes_failed, takes_none, takes_nothing, takes_same}
+use Rattle.running_store.specs.Calls.Writes.{IsWritten, write_takes}
 use Rattle.execution.specs.Following.{HasMemberCause, IsFollowFailure, ending_of_record_error, member_course}
 use Rattle.execution.specs.Judged.{may_follow}
 use Rattle.execution.specs.RecordFailures.{record_from_read}

@@ -14,7 +14,7 @@ use Rattle.running_store.specs.Courses.{record_length}
 use Rattle.running_store.specs.Parts.{Parts, Shows, meaning_in}
 use Rattle.running_store.specs.Taking.{Ending, Takes}
 use Rattle.running_store.specs.Taking.Ending.{Done}
-use Rattle.running_store.specs.TakesLaws.{takes_same}
+use Rattle.running_store.specs.Taking.Laws.{takes_same}
 use Rattle.execution.specs.Following.{HasMemberCause, LacksRoom, ending_of_record_error, grown_by, member_course}
 use Rattle.execution.specs.Judged.{may_follow}
 use Rattle.execution.specs.declared.record_err.RecordErr.{RecordErr}

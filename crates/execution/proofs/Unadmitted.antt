@@ -12,17 +12,17 @@ use Rattle.formats.specs.declared.read_err.ReadErr.TheVariants as of_read
 use Rattle.log_blocks.specs.LogView.{used_of}
 use Rattle.log_records.specs.RecordLog.{RecordLogView}
 use Rattle.explain_core.specs.World.{World}
-use Rattle.running_store.specs.AfterReads.{fetch_takes}
+use Rattle.running_store.specs.Calls.AfterReads.{fetch_takes}
 use Rattle.running_store.specs.Calls.{IsCall, IsFailed}
 use Rattle.running_store.specs.Courses.{Course, Stop, course}
 use Rattle.running_store.specs.Courses.Stop.{Through}
-use Rattle.running_store.specs.Fetches.{IsFetch, fetch_call}
+use Rattle.running_store.specs.Calls.Fetches.{IsFetch, fetch_call}
 use Rattle.running_store.specs.Laid.{Laid, IsLaidOn, values_in}
-use Rattle.running_store.specs.LongSlot.{HasLongSlot}
+use Rattle.running_store.specs.Laid.LongSlot.{HasLongSlot}
 use Rattle.running_store.specs.Parts.{meaning_in}
 use Rattle.running_store.specs.StoreView.{StoreView, store_params}
 use Rattle.running_store.specs.Taking.{Ending, Takes}
-use Rattle.running_store.specs.TakesLaws.{takes_failed, takes_none, takes_nothing, takes_same}
+use Rattle.running_store.specs.Taking.Laws.{takes_failed, takes_none, takes_nothing, takes_same}
 use Rattle.execution.specs.Answers.{ending_of_error}
 use Rattle.execution.specs.Courses.{exec_course}
 use Rattle.execution.specs.Done.{IsOutcome, LogWithout}

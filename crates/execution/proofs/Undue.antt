@@ -10,14 +10,14 @@ use Rattle.formats.specs.declared.record.Record.{Record}
 use Rattle.log_blocks.specs.LogView.{used_of}
 use Rattle.explain_core.specs.History.{Member}
 use Rattle.explain_core.specs.World.{World, end_of}
-use Rattle.running_store.specs.Appended.{next_lsn}
+use Rattle.running_store.specs.Steps.Appended.{next_lsn}
 use Rattle.running_store.specs.Courses.{course}
 use Rattle.running_store.specs.Courses.Stop.{Through}
 use Rattle.running_store.specs.Laid.{Laid}
 use Rattle.running_store.specs.Parts.{Parts, Shows, meaning_in, record_of}
 use Rattle.running_store.specs.Taking.{Takes}
 use Rattle.running_store.specs.Taking.Ending.{Done}
-use Rattle.running_store.specs.TakesLaws.{takes_none, takes_same}
+use Rattle.running_store.specs.Taking.Laws.{takes_none, takes_same}
 use Rattle.execution.specs.Following.{HasFollowCause, IsFollowFailure, HasLsn, follow_course, judge_in, judged_course}
 use Rattle.execution.specs.Judged.{Judged}
 use Rattle.execution.specs.Judged.Judged.{Passed, Gap}

@@ -10,18 +10,18 @@ use Rattle.log_records.specs.RecordLog.{RecordLogView}
 use Rattle.stable_objects.specs.SlotsView.{SlotsView}
 use Rattle.explain_core.specs.World.{World, Step}
 use Rattle.standing.specs.Moments.{TakesSome}
-use Rattle.running_store.specs.AfterReads.{fetch_takes, fetch_then}
+use Rattle.running_store.specs.Calls.AfterReads.{fetch_takes, fetch_then}
 use Rattle.running_store.specs.Calls.{IsCall, IsFailed, IsForce, failed_of}
-use Rattle.running_store.specs.Commands.{command_length, length_with}
+use Rattle.running_store.specs.Calls.Commands.{command_length, length_with}
 use Rattle.running_store.specs.Courses.{Course, course}
 use Rattle.running_store.specs.Courses.Stop.{Full, At_end}
-use Rattle.running_store.specs.Fetched.{IsFetched}
-use Rattle.running_store.specs.Fetches.{IsFetch}
+use Rattle.running_store.specs.Laid.Fetched.{IsFetched}
+use Rattle.running_store.specs.Calls.Fetches.{IsFetch}
 use Rattle.running_store.specs.Parts.{Shows, Volatile, meaning_in}
 use Rattle.running_store.specs.StoreView.{StoreView, log_length, store_params}
 use Rattle.running_store.specs.Taking.{Ending, Takes}
-use Rattle.running_store.specs.TakesLaws.{takes_failed, takes_same}
-use Rattle.running_store.specs.Unchanged.{IsSameLog}
+use Rattle.running_store.specs.Taking.Laws.{takes_failed, takes_same}
+use Rattle.running_store.specs.Parts.Unchanged.{IsSameLog}
 use Rattle.cache_manager.specs.RecordPlace.{growth_low}
 use Rattle.execution.specs.Answers.{HasCauseIn, ending_of_error, stop_of_exec}
 use Rattle.execution.specs.Courses.{exec_course, refusal_in, unplaced_steps}

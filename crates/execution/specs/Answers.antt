@@ -7,7 +7,7 @@ use Rattle.running_store.specs.Courses.{Stop, grown}
 use Rattle.running_store.specs.Courses.Stop.{Through, Full, At_end}
 use Rattle.running_store.specs.Taking.{Ending}
 use Rattle.running_store.specs.Taking.Ending.{Done, Stopped, Short, Failed}
-use Rattle.running_store.specs.Commands.{command_length}
+use Rattle.running_store.specs.Calls.Commands.{command_length}
 use Rattle.execution.specs.Courses.{needed, refusal_in}
 use Rattle.execution.specs.declared.exec_err.ExecErr.{ExecErr}
 use Rattle.execution.specs.declared.exec_err.ExecErr.TheVariants.{Refused, DiskFault, Damaged, LogFull, LsnEnd, Memory}

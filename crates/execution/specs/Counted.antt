@@ -9,7 +9,7 @@ use Rattle.explain_core.specs.History.{Member, commands_of}
 use Rattle.explain_core.specs.StableLaws.{commands_of-append}
 use Rattle.explain_core.specs.World.{World}
 use Rattle.standing.specs.Members.{commands-members}
-use Rattle.running_store.specs.Forced.{all_members}
+use Rattle.running_store.specs.Steps.Forced.{all_members}
 use Rattle.running_store.specs.Parts.{Parts, Shows}
 
 -- so many commands were accepted since the store was made

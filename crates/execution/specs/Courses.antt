@@ -5,7 +5,7 @@ use Rattle.oper_core.specs.declared.refusal.Refusal.{Refusal}
 use Rattle.explain_core.specs.History.Member.{Command}
 use Rattle.explain_core.specs.World.{World, Step, end_of}
 use Rattle.explain_core.specs.World.Step.{Append}
-use Rattle.running_store.specs.Commands.{command_length}
+use Rattle.running_store.specs.Calls.Commands.{command_length}
 use Rattle.running_store.specs.Courses.{Course, course, force_steps, grown, waits}
 use Rattle.running_store.specs.Courses.Stop.{Through, Full, At_end}
 

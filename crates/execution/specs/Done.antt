@@ -8,13 +8,13 @@ use Rattle.formats.specs.declared.record.Record.TheVariants.{Command as Logged}
 use Rattle.log_records.specs.RecordLog.{RecordLogView}
 use Rattle.explain_core.specs.History.Member.{Command}
 use Rattle.running_store.specs.Calls.{failed_of, with_log}
-use Rattle.running_store.specs.Fetched.{IsFetched}
-use Rattle.running_store.specs.Forced.{IsForced}
+use Rattle.running_store.specs.Laid.Fetched.{IsFetched}
+use Rattle.running_store.specs.Steps.Forced.{IsForced}
 use Rattle.running_store.specs.Parts.{Parts, entry_of, meaning_in}
 use Rattle.running_store.specs.StoreView.{StoreView}
 use Rattle.execution.specs.Failures.{IsAdmissible, IsExecFailure}
-use Rattle.running_store.specs.Unchanged.{IsSameLog}
-use Rattle.running_store.specs.Commands.{command_length, HasPlaceBelow}
+use Rattle.running_store.specs.Parts.Unchanged.{IsSameLog}
+use Rattle.running_store.specs.Calls.Commands.{command_length, HasPlaceBelow}
 use Rattle.execution.specs.declared.exec_err.ExecErr.{ExecErr}
 use Rattle.execution.specs.declared.exec_err.ExecErr.TheVariants.{LogFull, LsnEnd}
 

@@ -4,7 +4,7 @@ use Rattle.std.specs.Prelude.{◌↔◌}
 use Rattle.formats.specs.declared.read_err.ReadErr.{ReadErr}
 use Rattle.formats.specs.declared.read_err.ReadErr.TheVariants as of_read
 use Rattle.running_store.specs.Calls.{IsFailed}
-use Rattle.running_store.specs.Faults.{is_read_fault}
+use Rattle.running_store.specs.Calls.Faults.{is_read_fault}
 use Rattle.execution.specs.Answers.{ending_of_error}
 use Rattle.execution.specs.Failures.{exec_from_read}
 

@@ -12,9 +12,9 @@ use Rattle.formats.specs.declared.read_err.ReadErr.TheVariants as of_read
 use Rattle.log_blocks.specs.LogView.{used_of, growth_of}
 use Rattle.log_records.specs.RecordLog.{RecordLogView}
 use Rattle.running_store.specs.Laid.{Laid}
-use Rattle.running_store.specs.LongSlot.{HasLongSlot}
+use Rattle.running_store.specs.Laid.LongSlot.{HasLongSlot}
 use Rattle.running_store.specs.Parts.{Parts, meaning_in}
-use Rattle.running_store.specs.Commands.{HasPlaceBelow, IsReady, command_length, length_with}
+use Rattle.running_store.specs.Calls.Commands.{HasPlaceBelow, IsReady, command_length, length_with}
 use Rattle.execution.specs.declared.exec_err.ExecErr.{ExecErr}
 use Rattle.execution.specs.declared.exec_err.ExecErr.TheVariants.{Refused, DiskFault, Damaged, LogFull, LsnEnd, Memory}
 

@@ -14,7 +14,7 @@ use Rattle.explain_core.specs.World.Step.{Append}
 use Rattle.running_store.specs.Courses.{Course, buffered, course, record_length, room_steps}
 use Rattle.running_store.specs.Courses.Stop.{Through, Full}
 use Rattle.running_store.specs.Laid.{Laid}
-use Rattle.running_store.specs.LongSlot.{HasLongSlot}
+use Rattle.running_store.specs.Laid.LongSlot.{HasLongSlot}
 use Rattle.running_store.specs.Taking.{Ending}
 use Rattle.running_store.specs.Taking.Ending.{Done, Stopped, Short, Failed}
 use Rattle.execution.specs.Courses.{needed}

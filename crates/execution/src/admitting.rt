@@ -4,12 +4,12 @@ ghost use Rattle.disk_model.specs.declared.machine.FileNo.TheVariants.{Objects a
 ghost use Rattle.oper_core.specs.Meaning.{IsInGrammar, read_values};
 ghost use Rattle.formats.specs.declared.params.Params.{Params as Numbers};
 ghost use Rattle.running_store.specs.Calls.{IsFailed};
-ghost use Rattle.running_store.specs.Fetches.{IsFetch};
+ghost use Rattle.running_store.specs.Calls.Fetches.{IsFetch};
 ghost use Rattle.running_store.specs.Laid.{IsLaidOn, values_in};
-ghost use Rattle.running_store.specs.Lent.{inputs_in};
+ghost use Rattle.running_store.specs.Laid.Lent.{inputs_in};
 ghost use Rattle.running_store.specs.Parts.{meaning_in};
 ghost use Rattle.running_store.specs.StoreView.{store_params};
-ghost use Rattle.running_store.specs.Commands.{command_length, IsReady};
+ghost use Rattle.running_store.specs.Calls.Commands.{command_length, IsReady};
 ghost use Rattle.execution.specs.Answers.{ending_of_exec};
 ghost use Rattle.execution.specs.Failures.{IsAdmitFailure, IsAdmittedOn};
 

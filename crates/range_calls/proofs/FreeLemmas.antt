@@ -2,7 +2,7 @@
 use Rattle.std.proofs.Common.{◌≡◌, ◌≢◌, ◌≤◌, ◌<◌, refl, sym, ap, ◌∙◌, ℕ, zero, suc, ◌+◌, ◌-◌, true, false, List, [], ◌∷◌, length, arith}
 use Rattle.std.proofs.lemmas.Bool.{cond-true, cond-false}
 use Rattle.oper_core.specs.State.{State}
-use Rattle.running_store.specs.Lengths.{IsFirstEmpty}
+use Rattle.running_store.specs.Laid.Lengths.{IsFirstEmpty}
 use Rattle.call_plans.specs.Free.{is_empty, free_from}
 use Rattle.range_calls.specs.Free.{free_between}
 

@@ -28,7 +28,7 @@ use Rattle.standing.specs.Standing.{stored}
 use Rattle.analysis_pass.specs.Analysis.{PlanView}
 use Rattle.running_store.specs.Courses.{is_identity_at}
 use Rattle.running_store.specs.Laid.{cell_or, object_lsn}
-use Rattle.running_store.specs.LaidLaws.{lsn_told}
+use Rattle.running_store.specs.Laid.Laws.{lsn_told}
 use Rattle.running_store.specs.Parts.{Volatile, ShowsVolatile}
 use Rattle.redo_pass.specs.Redo.{IsRedoDue}
 use Rattle.redo_pass.specs.Replayed.{IsNext, is_due}

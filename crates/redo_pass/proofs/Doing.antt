@@ -37,12 +37,12 @@ use Rattle.standing.specs.OneStable.{small_store}
 use Rattle.standing.specs.Shown.{IsUnseen}
 use Rattle.standing.specs.Standing.{FilesShow}
 use Rattle.analysis_pass.specs.Analysis.{PlanView}
-use Rattle.running_store.specs.Beside.{IsOnObjectsAlone, objects_none}
+use Rattle.running_store.specs.Calls.Beside.{IsOnObjectsAlone, objects_none}
 use Rattle.running_store.specs.Calls.{IsCall, Never, call_none, ending_of_read, ending_of_store}
-use Rattle.running_store.specs.Faults.{is_read_fault, read_from_store}
-use Rattle.running_store.specs.LongSlot.{HasLongSlot, IsLongSlot, long_untold}
+use Rattle.running_store.specs.Calls.Faults.{is_read_fault, read_from_store}
+use Rattle.running_store.specs.Laid.LongSlot.{HasLongSlot, IsLongSlot, long_untold}
 use Rattle.running_store.specs.Parts.{Parts, Volatile, ShowsVolatile, VolatileShows}
-use Rattle.running_store.specs.Stored.{keeps_beside}
+use Rattle.running_store.specs.Parts.Stored.{keeps_beside}
 use Rattle.running_store.specs.StoreView.{StoreView, next_of, store_params}
 use Rattle.running_store.specs.Taking.{ArePartsInUse, Ending}
 use Rattle.running_store.specs.Taking.Ending.{Done}

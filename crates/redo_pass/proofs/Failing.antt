@@ -7,7 +7,7 @@ use Rattle.formats.specs.declared.read_err.ReadErr.{ReadErr}
 use Rattle.formats.specs.declared.read_err.ReadErr.TheVariants.{DiskFault, Damaged, Memory}
 use Rattle.running_store.specs.Calls.{IsFailed, ending_of_read, ending_of_store}
 use Rattle.running_store.specs.Courses.{Stop}
-use Rattle.running_store.specs.Faults.{is_read_fault}
+use Rattle.running_store.specs.Calls.Faults.{is_read_fault}
 use Rattle.running_store.specs.Taking.Ending.{Stopped}
 use Rattle.running_store.specs.declared.store_err.StoreErr.{StoreErr}
 use Rattle.running_store.specs.declared.store_err.StoreErr.TheVariants as of_store

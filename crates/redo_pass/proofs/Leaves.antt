@@ -13,12 +13,12 @@ use Rattle.install_order.specs.declared.entry.Entry.{Entry}
 use Rattle.log_records.specs.RecordLog.{RecordLogView}
 use Rattle.stable_objects.specs.SlotsView.{SlotsView, layout_of}
 use Rattle.write_graph.specs.Graph.{lsns}
-use Rattle.running_store.specs.Beside.{IsOnObjects, objects_fetch, objects_twice}
+use Rattle.running_store.specs.Calls.Beside.{IsOnObjects, objects_fetch, objects_twice}
 use Rattle.running_store.specs.Calls.{IsCall, IsFailed, Never, call_twice, ending_of_read}
 use Rattle.running_store.specs.Courses.{Stop}
-use Rattle.running_store.specs.Entered.{IsEntry, IsNotEntered}
-use Rattle.running_store.specs.Fetched.{fetched-same}
-use Rattle.running_store.specs.Fetches.{IsFetch, fetch_call}
+use Rattle.running_store.specs.Calls.Entered.{IsEntry, IsNotEntered}
+use Rattle.running_store.specs.Laid.Fetched.{fetched-same}
+use Rattle.running_store.specs.Calls.Fetches.{IsFetch, fetch_call}
 use Rattle.running_store.specs.Kept.{HasLog}
 use Rattle.running_store.specs.Laid.{IsLaidOn}
 use Rattle.running_store.specs.StoreView.{StoreView}

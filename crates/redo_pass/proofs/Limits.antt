@@ -20,7 +20,7 @@ use Rattle.explain_core.specs.World.Step.{Removal}
 use Rattle.standing.specs.Moments.{TakesSome, moments_none, moments_install, moments_turns}
 use Rattle.standing.specs.OneStable.{small_store}
 use Rattle.standing.specs.Standing.{FilesShow}
-use Rattle.running_store.specs.Beside.{IsOnObjectsAlone, beside_none, beside_twice}
+use Rattle.running_store.specs.Calls.Beside.{IsOnObjectsAlone, beside_none, beside_twice}
 use Rattle.running_store.specs.Calls.{IsCall, Never, call_none, call_twice}
 use Rattle.running_store.specs.Laid.{Laid}
 use Rattle.running_store.specs.Parts.{Volatile, ShowsVolatile, VolatileShows}

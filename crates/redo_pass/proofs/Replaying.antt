@@ -20,10 +20,10 @@ use Rattle.explain_core.specs.History.{Member, with_lsn, reads_of, writes_of, ef
 use Rattle.explain_core.specs.Sound.{IsSound}
 use Rattle.explain_core.specs.World.{World, step, is_redone, plan_of}
 use Rattle.explain_core.specs.World.Step.{Replay}
-use Rattle.running_store.specs.Among.{all_among, slot_most}
-use Rattle.running_store.specs.Entered.{IsEntered}
-use Rattle.running_store.specs.Fetched.{IsFetched, fetched-shows}
-use Rattle.running_store.specs.Joins.{cell_shown}
+use Rattle.running_store.specs.Laid.Among.{all_among, slot_most}
+use Rattle.running_store.specs.Calls.Entered.{IsEntered}
+use Rattle.running_store.specs.Laid.Fetched.{IsFetched, fetched-shows}
+use Rattle.running_store.specs.Parts.Joins.{cell_shown}
 use Rattle.running_store.specs.Laid.{Laid, IsLaidOn, KeepsCells, object_lsn, lsn_or, values_in}
 use Rattle.running_store.specs.Parts.{Volatile, ShowsVolatile, AreInUse, entry_of, volatile}
 use Rattle.redo_pass.specs.Replayed.{IsNext, is_due, with_entry}

@@ -7,7 +7,7 @@ use Rattle.oper_core.specs.Meaning.{Meaning}
 use Rattle.log_blocks.specs.LogView.{LogView}
 use Rattle.log_records.specs.Loading.{IsTailFault}
 use Rattle.stable_objects.specs.SlotsView.{SlotsView, AreOf, layout_of}
-use Rattle.running_store.specs.LongSlot.{IsLongSlot}
+use Rattle.running_store.specs.Laid.LongSlot.{IsLongSlot}
 
 -- A slot is damaged: never on a machine that reports its files, where the slots before were those of the file. On each machine
 -- it is the slot of some object, by the slots after, and its value is too long; the slots stand where they stood.

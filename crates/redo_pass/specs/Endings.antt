@@ -5,7 +5,7 @@ use Rattle.disk_model.specs.declared.machine.FileNo.{FileNo}
 use Rattle.formats.specs.Reading.{FailsBy}
 use Rattle.formats.specs.declared.read_err.ReadErr.{ReadErr}
 use Rattle.running_store.specs.Calls.{IsFailed, ending_of_read, ending_of_store}
-use Rattle.running_store.specs.Faults.{read_from_store}
+use Rattle.running_store.specs.Calls.Faults.{read_from_store}
 use Rattle.running_store.specs.declared.store_err.StoreErr.{StoreErr}
 use Rattle.running_store.specs.declared.store_err.StoreErr.TheVariants.{DiskFault, Memory}
 

@@ -16,7 +16,7 @@ use Rattle.explain_core.specs.History.Member.{Command as a_command, Identity as 
 use Rattle.explain_core.specs.World.{World, step, is_redone, plan_of}
 use Rattle.explain_core.specs.World.Step.{Replay}
 use Rattle.standing.specs.Members.{table_of}
-use Rattle.running_store.specs.Fetches.{IsFetch}
+use Rattle.running_store.specs.Calls.Fetches.{IsFetch}
 use Rattle.running_store.specs.Laid.{IsLaidOn, Laid, object_lsn}
 use Rattle.running_store.specs.Parts.{Volatile, entry_of}
 use Rattle.running_store.specs.StoreView.{StoreView}

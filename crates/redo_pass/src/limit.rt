@@ -5,7 +5,7 @@ ghost use Rattle.formats.specs.declared.params.Params.{Params};
 ghost use Rattle.explain_core.specs.Turns.{turns};
 ghost use Rattle.explain_core.specs.World.{World, IsAllStable};
 ghost use Rattle.standing.specs.Moments.{TakesSome};
-ghost use Rattle.running_store.specs.Beside.{IsOnObjectsAlone};
+ghost use Rattle.running_store.specs.Calls.Beside.{IsOnObjectsAlone};
 ghost use Rattle.running_store.specs.Calls.{IsCall, Never, ending_of_store};
 ghost use Rattle.running_store.specs.Parts.{VolatileShows};
 ghost use Rattle.redo_pass.specs.Progress.{IsLimited};

@@ -7,7 +7,7 @@ ghost use Rattle.formats.specs.declared.params.Params.{Params};
 ghost use Rattle.dirty_cache.specs.Contents.{held};
 ghost use Rattle.explain_core.specs.World.{World};
 ghost use Rattle.standing.specs.Moments.{TakesSome};
-ghost use Rattle.running_store.specs.Beside.{IsOnObjects};
+ghost use Rattle.running_store.specs.Calls.Beside.{IsOnObjects};
 ghost use Rattle.running_store.specs.Calls.{IsCall, Never, ending_of_read};
 ghost use Rattle.redo_pass.specs.Causes.{IsRedoFault};
 ghost use Rattle.redo_pass.specs.Redo.{IsLogDue, IsRedone, redo_steps};

@@ -13,7 +13,7 @@ ghost use Rattle.explain_core.specs.Sound.{IsSound};
 ghost use Rattle.explain_core.specs.World.{World, step};
 ghost use Rattle.explain_core.specs.World.Step.{Replay};
 ghost use Rattle.running_store.specs.Calls.{IsFailed, ending_of_read};
-ghost use Rattle.running_store.specs.LongSlot.{HasLongSlot};
+ghost use Rattle.running_store.specs.Laid.LongSlot.{HasLongSlot};
 ghost use Rattle.running_store.specs.Parts.{ShowsVolatile};
 ghost use Rattle.running_store.specs.StoreView.{next_of, store_params};
 ghost use Rattle.redo_pass.specs.Progress.{IsAbove};

@@ -1,7 +1,7 @@
 // A store whose log is done again.
 ghost use Rattle.std.specs.Prelude.{◌≡◌, ◌<◌, ◌≤◌, ◌^◌, ℕ, None, [], false, IfNone, IfOk};
 ghost use Rattle.dirty_cache.specs.Contents.{held};
-ghost use Rattle.running_store.specs.Flushed.{AreEarly};
+ghost use Rattle.running_store.specs.Laid.Flushed.{AreEarly};
 
 use analysis_pass::{Plan, analyse};
 use dirty_page_table::DirtyPageTable;

@@ -14,7 +14,7 @@ use Rattle.formats.specs.Reading.{FailsBy}
 use Rattle.stable_objects.specs.Reading.{IsNoDamage, OpensNot}
 use Rattle.stable_objects.specs.declared.open_err.OpenErr.{OpenErr}
 use Rattle.stable_objects.specs.declared.open_err.OpenErr.TheVariants.{DiskFault, NotAStore, Damaged, Memory}
-use Rattle.running_store.specs.Finished.{IsQuiet}
+use Rattle.running_store.specs.Steps.Finished.{IsQuiet}
 use Rattle.running_store.specs.Kept.{IsAttached}
 use Rattle.running_store.specs.Parts.{Parts}
 use Rattle.running_store.specs.Taking.{ArePartsInUse}

@@ -38,7 +38,7 @@ use Rattle.log_records.specs.RecordReader.{AreAll}
 use Rattle.log_records.specs.Uniqueness.{one_grouping}
 use Rattle.analysis_pass.specs.Analysis.{PlanView, table_or, least_start}
 use Rattle.write_graph.specs.Graph.{lsns}
-use Rattle.running_store.specs.Early as early
+use Rattle.running_store.specs.Laid.Early as early
 use Rattle.running_store.specs.Laid.{Laid, IsLaidOn}
 use Rattle.running_store.specs.Parts.{Parts, meaning_in, parts}
 use Rattle.running_store.specs.StoreView.{StoreView, view_of}

@@ -36,11 +36,11 @@ use Rattle.standing.specs.Moments.{TakesSome, moments_longer, moments_twice}
 use Rattle.standing.specs.Standing.{FilesShow}
 use Rattle.analysis_pass.specs.Analysis.{PlanView, plan_table, least_start}
 use Rattle.stable_objects.specs.SlotLaws.{place_of_file}
-use Rattle.running_store.specs.Beside.{IsOnObjects}
+use Rattle.running_store.specs.Calls.Beside.{IsOnObjects}
 use Rattle.running_store.specs.Calls.{IsCall, Never}
 use Rattle.running_store.specs.Courses.{Course}
 use Rattle.running_store.specs.Parts.{Parts, Shows, ShowsLog, meaning_in}
-use Rattle.running_store.specs.Stored.{keeps_beside}
+use Rattle.running_store.specs.Parts.Stored.{keeps_beside}
 use Rattle.running_store.specs.StoreView.{StoreView}
 use Rattle.running_store.specs.Taking.{Ending, IsAfter, Takes}
 use Rattle.running_store.specs.Taking.Ending.{Done}

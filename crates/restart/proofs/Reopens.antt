@@ -11,7 +11,7 @@ use Rattle.explain_core.specs.World.Step.{Block_gate, Crash}
 use Rattle.standing.specs.Crashed.{crashed-stable}
 use Rattle.running_store.specs.Courses.{Course, course, waits, buffered, force_steps, room_steps, grown}
 use Rattle.running_store.specs.Courses.Stop.{Through, Full}
-use Rattle.running_store.specs.Rewrites.{checkpoint_length}
+use Rattle.running_store.specs.Calls.Rewrites.{checkpoint_length}
 use Rattle.running_store.specs.Running.{IsRunning, MayBeTaken}
 use Rattle.checkpointing.specs.Courses.{checkpoint_steps, logged_course, closing_course}
 use Rattle.redo_pass.specs.Redo.{redo_steps, redone_world}

@@ -7,7 +7,7 @@ use Rattle.explain_core.specs.World.{World, step}
 use Rattle.explain_core.specs.World.Step.{Crash}
 use Rattle.running_store.specs.Courses.{Course, course, and_then}
 use Rattle.running_store.specs.Courses.Stop.{Through}
-use Rattle.running_store.specs.Limits.{objects_within}
+use Rattle.running_store.specs.Laid.Limits.{objects_within}
 use Rattle.checkpointing.specs.Courses.{closing_course}
 use Rattle.redo_pass.specs.Redo.{redo_steps}
 use Rattle.restart.specs.declared.tuning.Tuning.{Tuning}

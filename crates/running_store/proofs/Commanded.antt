@@ -16,14 +16,14 @@ use Rattle.dirty_cache.specs.Contents.{held, is_dirty}
 use Rattle.dirty_cache.specs.declared.entry.Entry.{Entry as Pair}
 use Rattle.explain_core.specs.History.{Member, writes_of}
 use Rattle.explain_core.specs.History.Member.{Command, Identity}
-use Rattle.running_store.specs.Among.{all_among, slot_most}
-use Rattle.running_store.specs.Entered.{IsEntered}
+use Rattle.running_store.specs.Laid.Among.{all_among, slot_most}
+use Rattle.running_store.specs.Calls.Entered.{IsEntered}
 use Rattle.running_store.specs.Laid.{object_lsn, lsn_or}
 use Rattle.running_store.specs.Parts.{AreInUse, IsAppended, Parts, Volatile, entry_of}
-use Rattle.running_store.specs.Reads.{untaken_in_use}
+use Rattle.running_store.specs.Parts.Reads.{untaken_in_use}
 use Rattle.running_store.specs.StoreView.{IsUsable}
 use Rattle.running_store.specs.Taking.{ArePartsInUse}
-use Rattle.running_store.specs.Unchanged.{IsUntaken}
+use Rattle.running_store.specs.Parts.Unchanged.{IsUntaken}
 
 -- a pair that is set is the one that is held
 lsn_of : (lsn : ℕ) (bytes : List ℕ) (o : Option Pair) (pair : Pair) → o ≡ Some (record { lsn = lsn; bytes = bytes }) → o ≡ Some pair → pair.lsn ≡ lsn

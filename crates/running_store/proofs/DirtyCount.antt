@@ -10,9 +10,9 @@ use Rattle.dirty_cache.specs.Contents.{AreDirty}
 use Rattle.explain_core.specs.CountLaws.{count_same, count_none, count_more}
 use Rattle.explain_core.specs.Turns.{count_below, is_dirty_in, dirty_in}
 use Rattle.explain_core.specs.World.{World}
-use Rattle.running_store.specs.Joins.{dirty_shown}
+use Rattle.running_store.specs.Parts.Joins.{dirty_shown}
 use Rattle.running_store.specs.Parts.{Volatile, ShowsVolatile}
-use Rattle.running_store.specs.InUse.{dirty_held}
+use Rattle.running_store.specs.Parts.InUse.{dirty_held}
 
 none_equal : (y : ℕ) (ys : List ℕ) → AllByRecursion (λ z. nat_eq y z ≡ false) ys → list_any (nat_eq y) ys ≡ false
 none_equal y [] all = refl

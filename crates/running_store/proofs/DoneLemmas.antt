@@ -11,15 +11,15 @@ use Rattle.dirty_cache.specs.Places.{bytes_or}
 use Rattle.dirty_cache.specs.declared.entry.Entry.{Entry}
 use Rattle.number_lists.specs.Marks.{mark_at}
 use Rattle.stable_objects.specs.SlotsView.{SlotsView, length_in}
-use Rattle.running_store.specs.Among.{all_among}
-use Rattle.running_store.specs.Fetched.{IsFetched, fetched-same}
+use Rattle.running_store.specs.Laid.Among.{all_among}
+use Rattle.running_store.specs.Laid.Fetched.{IsFetched, fetched-same}
 use Rattle.running_store.specs.Laid.{IsLaidOn, Laid, with_entries}
-use Rattle.running_store.specs.LengthLaws.{dirty_length}
-use Rattle.running_store.specs.Lengths.{AreKept, entry_length, length_at, with_marks}
-use Rattle.running_store.specs.Commands.{IsReady}
-use Rattle.running_store.specs.Lent.{KeepsOthers, cached_values, inputs_in}
+use Rattle.running_store.specs.Laid.LengthLaws.{dirty_length}
+use Rattle.running_store.specs.Laid.Lengths.{AreKept, entry_length, length_at, with_marks}
+use Rattle.running_store.specs.Calls.Commands.{IsReady}
+use Rattle.running_store.specs.Laid.Lent.{KeepsOthers, cached_values, inputs_in}
 use Rattle.running_store.specs.Parts.{meaning_in}
-use Rattle.running_store.specs.Ran.{HasRun}
+use Rattle.running_store.specs.Laid.Ran.{HasRun}
 use Rattle.running_store.proofs.LentLemmas.{inputs_same, or_false}
 
 same_else : {A : Type 0} (b : Bool) (a c d : A) → (b ≡ false → c ≡ d) → (if b then a else c) ≡ (if b then a else d)

@@ -17,14 +17,14 @@ use Rattle.stable_objects.specs.Reading.{FailsAt, IsLongValue}
 use Rattle.stable_objects.specs.SlotsView.{SlotsView, AreOf, place_of, holder_in, lsn_in}
 use Rattle.stable_objects.specs.SlotLaws.{lsn_is}
 use Rattle.dirty_cache.specs.Contents.{held}
-use Rattle.running_store.specs.Faults.{has_failed, is_read_fault}
-use Rattle.running_store.specs.Fetched.{IsFetched, fetched-twice}
-use Rattle.running_store.specs.Fetches.{IsFetch}
+use Rattle.running_store.specs.Calls.Faults.{has_failed, is_read_fault}
+use Rattle.running_store.specs.Laid.Fetched.{IsFetched, fetched-twice}
+use Rattle.running_store.specs.Calls.Fetches.{IsFetch}
 use Rattle.running_store.specs.Laid.{Laid, IsLaidOn, KeepsCells, values_in}
-use Rattle.running_store.specs.LaidLaws.{cells_same, cells_twice}
-use Rattle.running_store.specs.LongSlot.{HasLongSlot, IsLongSlot}
+use Rattle.running_store.specs.Laid.Laws.{cells_same, cells_twice}
+use Rattle.running_store.specs.Laid.LongSlot.{HasLongSlot, IsLongSlot}
 use Rattle.running_store.specs.StoreView.{StoreView}
-use Rattle.running_store.specs.Unchanged.{HasRead}
+use Rattle.running_store.specs.Parts.Unchanged.{HasRead}
 use Rattle.running_store.proofs.LentLemmas.{values_kept}
 
 -- the pair that was read is that of the slots

@@ -23,17 +23,17 @@ use Rattle.explain_core.specs.Sound.{IsSound}
 use Rattle.explain_core.specs.World.{World, Step, step, run, AreAllowed, IsAllowed}
 use Rattle.explain_core.specs.World.Step.{Slot_gate, Removal}
 use Rattle.standing.specs.Moments.{TakesSome}
-use Rattle.running_store.specs.Beside.{IsOnObjectsAlone}
+use Rattle.running_store.specs.Calls.Beside.{IsOnObjectsAlone}
 use Rattle.running_store.specs.Calls.{IsCall, Never}
 use Rattle.running_store.specs.Courses.{flush_steps, removal_steps}
-use Rattle.running_store.specs.Flushed.{IsFlushed}
-use Rattle.running_store.specs.InUse.{flushed_early, flushed_in_use, lsns_within, removed_in_use}
-use Rattle.running_store.specs.Keeping.{flushed_laid}
+use Rattle.running_store.specs.Laid.Flushed.{IsFlushed}
+use Rattle.running_store.specs.Parts.InUse.{flushed_early, flushed_in_use, lsns_within, removed_in_use}
+use Rattle.running_store.specs.Kept.Keeping.{flushed_laid}
 use Rattle.running_store.specs.Kept.{KeepsLog}
-use Rattle.running_store.specs.KeptLaws.{beside_log}
+use Rattle.running_store.specs.Kept.Laws.{beside_log}
 use Rattle.running_store.specs.Laid.{IsLaidOn, Laid}
 use Rattle.running_store.specs.Parts.{AreInUse, Volatile, VolatileShows, meaning_in, parts, volatile}
-use Rattle.running_store.specs.Stored.{flush_moments, flush_shows, removal_shows, run_one}
+use Rattle.running_store.specs.Parts.Stored.{flush_moments, flush_shows, removal_shows, run_one}
 use Rattle.running_store.specs.StoreView.{IsUsable, StoreView, view_of}
 use Rattle.running_store.specs.Taking.Ending.{Done}
 use Rattle.running_store.proofs.Inside.{call_inside, quiet_one}

@@ -20,21 +20,21 @@ use Rattle.standing.specs.Moments.{TakesSome}
 use Rattle.stable_objects.specs.SlotsView.{layout_of}
 use Rattle.running_store.specs.Calls.{IsCall, IsFailed, IsForce, IsRoomMade, Never, ending_of_force, failed_of, with_log}
 use Rattle.running_store.specs.Courses.{Course, Stop, course, force_course, force_steps}
-use Rattle.running_store.specs.Faults.{has_failed}
-use Rattle.running_store.specs.Fetches.{IsFetch}
-use Rattle.running_store.specs.Finished.{IsQuiet}
-use Rattle.running_store.specs.Forced.{IsForced, force_is_gate, force_moments, forced_shows}
-use Rattle.running_store.specs.Keeping.{forced_attached}
+use Rattle.running_store.specs.Calls.Faults.{has_failed}
+use Rattle.running_store.specs.Calls.Fetches.{IsFetch}
+use Rattle.running_store.specs.Steps.Finished.{IsQuiet}
+use Rattle.running_store.specs.Steps.Forced.{IsForced, force_is_gate, force_moments, forced_shows}
+use Rattle.running_store.specs.Kept.Keeping.{forced_attached}
 use Rattle.running_store.specs.Kept.{IsAttached, KeepsLog}
-use Rattle.running_store.specs.KeptLaws.{forced_log}
+use Rattle.running_store.specs.Kept.Laws.{forced_log}
 use Rattle.running_store.specs.Laid.{Laid}
 use Rattle.running_store.specs.Parts.{Parts, Shows, Volatile, meaning_in, parts, volatile}
-use Rattle.running_store.specs.Reads.{read_in_use}
+use Rattle.running_store.specs.Parts.Reads.{read_in_use}
 use Rattle.running_store.specs.StoreView.{IsUsable, StoreView, view_of}
 use Rattle.running_store.specs.Taking.{Ending, Takes}
 use Rattle.running_store.specs.Taking.Ending.{Done, Stopped, Failed}
-use Rattle.running_store.specs.TakesLaws.{takes_failed}
-use Rattle.running_store.specs.Unchanged.{HasRead}
+use Rattle.running_store.specs.Taking.Laws.{takes_failed}
+use Rattle.running_store.specs.Parts.Unchanged.{HasRead}
 
 -- a call on one file is quiet
 pub quiet_one : (old new : Disk) (file : _) → Runs (In file Any) Same old new → IsQuiet old new

@@ -16,8 +16,8 @@ use Rattle.dirty_cache.specs.Places.{entry_at}
 use Rattle.dirty_cache.specs.declared.entry.Entry.{Entry}
 use Rattle.number_lists.specs.Marks.{mark_at}
 use Rattle.running_store.specs.Laid.{Laid, AreCached, IsLaidOn, KeepsCells, cell_or}
-use Rattle.running_store.specs.LengthLaws.{clean_length, dirty_length}
-use Rattle.running_store.specs.Lengths.{AreEmpties, AreKept, entry_length, length_at}
+use Rattle.running_store.specs.Laid.LengthLaws.{clean_length, dirty_length}
+use Rattle.running_store.specs.Laid.Lengths.{AreEmpties, AreKept, entry_length, length_at}
 
 -- an option is not both
 not_both : {A B : Type 0} (o : Option A) (a : A) → o ≡ None → o ≡ Some a → B

@@ -17,7 +17,7 @@ use Rattle.dirty_cache.specs.Contents.{Contents, held, IsSwapped, KeepsRooms}
 use Rattle.dirty_cache.specs.Places.{bytes_or, with_bytes}
 use Rattle.dirty_cache.specs.declared.entry.Entry.{Entry}
 use Rattle.running_store.specs.Laid.{KeepsCells, Laid, cell_or, values_in}
-use Rattle.running_store.specs.Lent.{KeepsOthers, cached_values, inputs_in}
+use Rattle.running_store.specs.Laid.Lent.{KeepsOthers, cached_values, inputs_in}
 
 pub or_false : (a b : Bool) → (a || b) ≡ false → (a ≡ false) × (b ≡ false)
 or_false true b h = cc

@@ -7,13 +7,8 @@ pub mod DirtyCount
 pub mod Commanded
 pub mod FlushLemmas
 pub mod Tails
-pub mod Rewritten
-pub mod RewriteEnds
+pub mod OfRewrites
 pub mod PrepareLemmas
-pub mod RoundHolds
-pub mod RoundFills
-pub mod RoundFlushed
-pub mod RoundShows
-pub mod RoundEnds
+pub mod OfRounds
 mod LentLemmas
 mod DoneLemmas

@@ -23,21 +23,21 @@ use Rattle.explain_core.specs.TurnLaws.{run_none}
 use Rattle.explain_core.specs.World.{World}
 use Rattle.standing.specs.Moments.{TakesSome, moments_none}
 use Rattle.standing.specs.Standing.{FilesShow, stored}
-use Rattle.running_store.specs.Beside.{IsOnObjectsAlone}
+use Rattle.running_store.specs.Calls.Beside.{IsOnObjectsAlone}
 use Rattle.running_store.specs.Calls.{IsCall, Never, ending_of_force}
 use Rattle.running_store.specs.Courses.{course}
 use Rattle.running_store.specs.Courses.Stop.{Through}
-use Rattle.running_store.specs.Faults.{has_failed}
-use Rattle.running_store.specs.Joins.{stored_here}
+use Rattle.running_store.specs.Calls.Faults.{has_failed}
+use Rattle.running_store.specs.Parts.Joins.{stored_here}
 use Rattle.running_store.specs.Kept.{KeepsLog}
-use Rattle.running_store.specs.KeptLaws.{beside_log}
+use Rattle.running_store.specs.Kept.Laws.{beside_log}
 use Rattle.running_store.specs.Laid.{HasClosedSpare, IsLaidOn, Laid, cell_or}
 use Rattle.running_store.specs.Parts.{AreInUse, Shows, ShowsLog, Volatile, VolatileShows, meaning_in, parts, volatile}
-use Rattle.running_store.specs.Stored.{keeps_beside, store_shown, unflushed_files}
+use Rattle.running_store.specs.Parts.Stored.{keeps_beside, store_shown, unflushed_files}
 use Rattle.running_store.specs.StoreView.{IsUsable, StoreView, view_of}
 use Rattle.running_store.specs.Taking.{Takes}
 use Rattle.running_store.specs.Taking.Ending.{Done, Failed}
-use Rattle.running_store.specs.TakesLaws.{takes_failed}
+use Rattle.running_store.specs.Taking.Laws.{takes_failed}
 use Rattle.running_store.proofs.Inside.{call_inside, flag_before, quiet_one}
 
 -- a closed spare slot stays so

@@ -11,7 +11,7 @@ use Rattle.oper_core.specs.State.{is_among, value_for}
 use Rattle.dirty_cache.specs.declared.entry.Entry.{Entry}
 use Rattle.number_lists.specs.Marks.{mark_at}
 use Rattle.running_store.specs.Laid.{with_chosen, with_entries}
-use Rattle.running_store.specs.Lengths.{with_marks}
+use Rattle.running_store.specs.Laid.Lengths.{with_marks}
 
 -- the values that are left after the last is taken
 pub record IsTaken (values left : List (List ℕ)) (v : List ℕ) : Type 0 where

@@ -18,7 +18,7 @@ use Rattle.write_graph.specs.Objects.{IsWriter, IsWritten}
 use Rattle.explain_core.specs.Sound.{IsSound}
 use Rattle.explain_core.specs.World.{World, table_now, end_of, graph_access}
 use Rattle.standing.specs.Members.{table_of}
-use Rattle.running_store.specs.Buffered.{start_absent}
+use Rattle.running_store.specs.Courses.Buffered.{start_absent}
 
 module _ (other : ℕ) where
   -- x has a pair, and its number is what all numbers beside x are

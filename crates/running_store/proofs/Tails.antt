@@ -12,7 +12,7 @@ use Rattle.explain_core.specs.History.{Member, commands_of}
 use Rattle.explain_core.specs.History.Member.{Command, Identity}
 use Rattle.standing.specs.Members.{members_of, tables_in}
 use Rattle.running_store.specs.Courses.{record_length}
-use Rattle.running_store.specs.Growth.{code_length}
+use Rattle.running_store.specs.Courses.Growth.{code_length}
 
 module _ {O : Type 0} (m : Meaning O) (from : ℕ) where
   stays : (r : Record O) (records : List (Record O)) → is_from_lsn from r ≡ true → from_lsn from (r ∷ records) ≡ r ∷ from_lsn from records

@@ -1,4 +1,18 @@
 -- What holds on every machine of the calls on a running store, one after the other.
+pub mod Laws
+pub mod Faults
+pub mod Beside
+pub mod AfterReads
+pub mod Fetches
+pub mod Commands
+pub mod Checkpoints
+pub mod Writes
+pub mod Logged
+pub mod Entered
+pub mod LogReads
+pub mod Rewrites
+pub mod RewriteLaws
+pub mod RoundCalls
 use Rattle.std.proofs.Common.{◌≡◌, ◌∙◌, ◌+◌, ◌≤◌, ◌⊎◌, ⊎_elim, inl, inr, ℕ, true, false, refl, arith}
 use Rattle.std.specs.Prelude.{◌↔◌, ⊤, Result, Ok, Err}
 use Rattle.std.proofs.lemmas.Bool.{both_ways}
@@ -10,10 +24,10 @@ use Rattle.formats.specs.declared.read_err.ReadErr.{ReadErr}
 use Rattle.formats.specs.declared.read_err.ReadErr.TheVariants as of_read
 use Rattle.log_records.specs.RecordLog.{RecordLogView}
 use Rattle.running_store.specs.Courses.{Stop}
-use Rattle.running_store.specs.Finished.{IsQuiet}
-use Rattle.running_store.specs.Forced.{IsForced}
+use Rattle.running_store.specs.Steps.Finished.{IsQuiet}
+use Rattle.running_store.specs.Steps.Forced.{IsForced}
 use Rattle.running_store.specs.Kept.{IsAttached, KeepsLog}
-use Rattle.running_store.specs.Logged.{IsAsLong}
+use Rattle.running_store.specs.Calls.Logged.{IsAsLong}
 use Rattle.running_store.specs.StoreView.{StoreView, next_of, store_layout}
 use Rattle.running_store.specs.Taking.{Ending}
 use Rattle.running_store.specs.Taking.Ending.{Done, Stopped, Short, Failed}

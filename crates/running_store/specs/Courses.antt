@@ -1,5 +1,8 @@
 -- What a call does, as a function of the world and of the log's length: the steps that it takes, the length after them, and
 -- what stops them. Nothing in it is chosen.
+pub mod Laws
+pub mod Buffered
+pub mod Growth
 use Rattle.std.specs.Prelude.{◌+◌, ◌*◌, ◌^◌, ℕ, nat_lt, nat_le, Bool, true, false, ◌&&◌, ◌||◌, if◌then◌else◌, Option, None, Some, List, [], ◌∷◌, ◌++◌, length, drop}
 use Rattle.oper_core.specs.Meaning.{Meaning}
 use Rattle.explain_core.specs.History.{Member, with_lsn}

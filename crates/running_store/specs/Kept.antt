@@ -1,4 +1,6 @@
 -- What a call leaves of the parts of a store on every machine, and what it says of a stop.
+pub mod Laws
+pub mod Keeping
 use Rattle.std.specs.Prelude.{◌≡◌, ◌+◌, ◌<◌, ◌^◌, ℕ, List, [], length}
 use Rattle.disk_model.specs.Disk.{Disk}
 use Rattle.disk_model.specs.declared.machine.FileNo.TheVariants.{Objects}

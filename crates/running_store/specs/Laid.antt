@@ -1,4 +1,15 @@
 -- The objects of a store in use: a cache, laid over the slots.
+pub mod Laws
+pub mod Lengths
+pub mod LengthLaws
+pub mod LongSlot
+pub mod Lent
+pub mod Limits
+pub mod Among
+pub mod Early
+pub mod Flushed
+pub mod Fetched
+pub mod Ran
 use Rattle.std.specs.Prelude.{◌≡◌, ◌<◌, ◌≤◌, ℕ, IsSome, if◌then◌else◌, List, length, Option, None, Some, false}
 use Rattle.oper_core.specs.State.{State, value_for, is_among}
 use Rattle.oper_core.specs.Cell.{Cell}

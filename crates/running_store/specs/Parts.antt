@@ -1,4 +1,9 @@
 -- Which world the parts of a running store show.
+pub mod InUse
+pub mod Joins
+pub mod Stored
+pub mod Reads
+pub mod Unchanged
 use Rattle.std.specs.Prelude.{◌≡◌, ◌≢◌, ◌+◌, ◌-◌, ◌<◌, ◌≤◌, ◌^◌, ◌||◌, ◌&&◌, ◌==◌, ℕ, Bool, true, false, All, Some, List, [], ◌∷◌, ◌++◌, take, drop}
 use Rattle.std.specs.List.{list_any}
 use Rattle.disk_model.specs.Disk.{Disk, IsSettled}

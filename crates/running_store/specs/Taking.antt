@@ -1,4 +1,6 @@
 -- What a call on parts that show a world takes of its course, and how it ends.
+pub mod Laws
+pub mod Rests
 use Rattle.std.specs.Prelude.{◌≡◌, ⊤, ℕ}
 use Rattle.disk_model.specs.Disk.{Disk}
 use Rattle.oper_core.specs.Meaning.{Meaning}
@@ -11,7 +13,7 @@ use Rattle.explain_core.specs.World.{World, run}
 use Rattle.standing.specs.Moments.{TakesSome}
 use Rattle.running_store.specs.Courses.{Course, Stop}
 use Rattle.running_store.specs.Courses.Stop.{Through}
-use Rattle.running_store.specs.Flushed.{AreEarly}
+use Rattle.running_store.specs.Laid.Flushed.{AreEarly}
 use Rattle.running_store.specs.Parts.{AreInUse, Parts, Shows, meaning_in}
 
 -- how a call ended: well, stopped, short of memory, or by a fault of the disk

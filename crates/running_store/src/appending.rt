@@ -3,9 +3,9 @@ ghost use Rattle.std.specs.Prelude.{◌≡◌, ◌<◌, ◌^◌, Some, IsSome, l
 ghost use Rattle.dirty_cache.specs.Contents.{held};
 ghost use Rattle.dirty_cache.specs.declared.entry.Entry.{Entry as Pair};
 ghost use Rattle.running_store.specs.Courses.{identity_length};
-ghost use Rattle.running_store.specs.Logged.{HasPlace};
+ghost use Rattle.running_store.specs.Calls.Logged.{HasPlace};
 ghost use Rattle.running_store.specs.StoreView.{next_of};
-ghost use Rattle.running_store.specs.Writes.{HasWritten};
+ghost use Rattle.running_store.specs.Calls.Writes.{HasWritten};
 
 use crate::store::Store;
 use formats::Record;

@@ -4,7 +4,7 @@ ghost use Rattle.formats.specs.Objects.{cell_of};
 ghost use Rattle.dirty_cache.specs.Contents.{held, is_dirty, HasRoom, KeepsRooms};
 ghost use Rattle.oper_core.specs.State.{is_among};
 ghost use Rattle.stable_objects.specs.SlotsView.{lsn_in};
-ghost use Rattle.running_store.specs.Fetched.{IsFetched};
+ghost use Rattle.running_store.specs.Laid.Fetched.{IsFetched};
 ghost use Rattle.running_store.specs.Laid.{IsLaidOn, KeepsCells};
 
 use crate::empties::note_value;

@@ -1,7 +1,7 @@
 // A checkpoint is appended to the log's buffer.
 ghost use Rattle.std.specs.Prelude.{◌≡◌, ◌+◌, ◌*◌, false, length};
-ghost use Rattle.running_store.specs.Checkpoints.{HasCheckpointed, IsCheckpointHere};
-ghost use Rattle.running_store.specs.Logged.{HasPlace};
+ghost use Rattle.running_store.specs.Calls.Checkpoints.{HasCheckpointed, IsCheckpointHere};
+ghost use Rattle.running_store.specs.Calls.Logged.{HasPlace};
 
 use crate::store::Store;
 use dirty_page_table::DirtyPageTable;

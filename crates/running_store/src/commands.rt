@@ -2,9 +2,9 @@
 ghost use Rattle.std.specs.Prelude.{◌≡◌, ◌<◌, ◌^◌, ℕ, List, false};
 ghost use Rattle.std.specs.Result.{result_err};
 ghost use Rattle.oper_core.specs.Meaning.{FitsReads, IsInGrammar};
-ghost use Rattle.running_store.specs.Commands.{HasCommanded, IsLeft, IsReady, command_length};
-ghost use Rattle.running_store.specs.Lent.{inputs_in};
-ghost use Rattle.running_store.specs.Logged.{HasPlace};
+ghost use Rattle.running_store.specs.Calls.Commands.{HasCommanded, IsLeft, IsReady, command_length};
+ghost use Rattle.running_store.specs.Laid.Lent.{inputs_in};
+ghost use Rattle.running_store.specs.Calls.Logged.{HasPlace};
 ghost use Rattle.running_store.specs.Parts.{meaning_in};
 ghost use Rattle.running_store.specs.StoreView.{next_of, store_params};
 

@@ -5,13 +5,13 @@ ghost use Rattle.oper_core.specs.Meaning.{FitsReads, IsInGrammar};
 ghost use Rattle.oper_core.specs.State.{is_among};
 ghost use Rattle.number_lists.specs.Marks.{mark_at};
 ghost use Rattle.dirty_cache.specs.Contents.{held, is_dirty, HasRoom, KeepsRooms};
-ghost use Rattle.running_store.specs.Commands.{IsReady};
-ghost use Rattle.running_store.specs.Fetched.{IsFetched};
+ghost use Rattle.running_store.specs.Calls.Commands.{IsReady};
+ghost use Rattle.running_store.specs.Laid.Fetched.{IsFetched};
 ghost use Rattle.running_store.specs.Laid.{IsLaidOn, with_entries};
-ghost use Rattle.running_store.specs.Lengths.{with_marks};
-ghost use Rattle.running_store.specs.Lent.{cached_values, inputs_in};
+ghost use Rattle.running_store.specs.Laid.Lengths.{with_marks};
+ghost use Rattle.running_store.specs.Laid.Lent.{cached_values, inputs_in};
 ghost use Rattle.running_store.specs.Parts.{meaning_in};
-ghost use Rattle.running_store.specs.Ran.{HasRun};
+ghost use Rattle.running_store.specs.Laid.Ran.{HasRun};
 
 use crate::empties::note_value;
 use crate::lending::{apply_inputs, check_inputs};

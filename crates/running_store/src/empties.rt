@@ -1,7 +1,7 @@
 // The objects whose values are empty.
 ghost use Rattle.std.specs.Prelude.{◌≡◌, ◌==◌, ◌<◌, length, slice_set, IfOk};
 ghost use Rattle.stable_objects.specs.SlotsView.{length_in};
-ghost use Rattle.running_store.specs.Lengths.{AreEmpties, IsNextEmpty, length_at};
+ghost use Rattle.running_store.specs.Laid.Lengths.{AreEmpties, IsNextEmpty, length_at};
 
 use crate::objects::Objects;
 use crate::store::Store;

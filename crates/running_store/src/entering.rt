@@ -1,7 +1,7 @@
 // What a redo enters of a record.
 ghost use Rattle.std.specs.Prelude.{◌≡◌, ◌<◌, ◌≤◌, false, All, length};
 ghost use Rattle.write_graph.specs.Graph.{lsns};
-ghost use Rattle.running_store.specs.Entered.{HasEntered};
+ghost use Rattle.running_store.specs.Calls.Entered.{HasEntered};
 ghost use Rattle.running_store.specs.Laid.{object_lsn};
 ghost use Rattle.running_store.specs.StoreView.{next_of, store_params};
 

@@ -1,6 +1,6 @@
 // Whether a call failed with the disk.
 ghost use Rattle.std.specs.Prelude.{◌≡◌, ◌||◌, Bool, true};
-ghost use Rattle.running_store.specs.Faults.{has_failed, is_copy_fault, is_read_fault, is_rewrite_fault};
+ghost use Rattle.running_store.specs.Calls.Faults.{has_failed, is_copy_fault, is_read_fault, is_rewrite_fault};
 
 use disk_model::Failed;
 use formats::ReadErr;

@@ -5,11 +5,11 @@ ghost use Rattle.disk_model.specs.declared.machine.FileNo.TheVariants.{Objects a
 ghost use Rattle.formats.specs.Reading.{FailsBy};
 ghost use Rattle.dirty_cache.specs.Contents.{held};
 ghost use Rattle.stable_objects.specs.SlotsView.{lsn_in};
-ghost use Rattle.running_store.specs.Faults.{has_failed, is_read_fault};
-ghost use Rattle.running_store.specs.Fetches.{IsFetch};
+ghost use Rattle.running_store.specs.Calls.Faults.{has_failed, is_read_fault};
+ghost use Rattle.running_store.specs.Calls.Fetches.{IsFetch};
 ghost use Rattle.running_store.specs.Laid.{IsLaidOn, values_in};
-ghost use Rattle.running_store.specs.Lent.{inputs_in};
-ghost use Rattle.running_store.specs.LongSlot.{HasLongSlot, IsLongSlot};
+ghost use Rattle.running_store.specs.Laid.Lent.{inputs_in};
+ghost use Rattle.running_store.specs.Laid.LongSlot.{HasLongSlot, IsLongSlot};
 ghost use Rattle.running_store.specs.StoreView.{store_params};
 
 use crate::fault::note;

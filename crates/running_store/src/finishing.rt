@@ -6,10 +6,10 @@ ghost use Rattle.dirty_cache.specs.Contents.{is_dirty};
 ghost use Rattle.write_graph.specs.Graph.{IsNodeNamed, NamesMinimal};
 ghost use Rattle.explain_core.specs.World.{World, run, AreAllowed};
 ghost use Rattle.standing.specs.Moments.{TakesSome};
-ghost use Rattle.running_store.specs.Beside.{IsOnObjectsAlone};
+ghost use Rattle.running_store.specs.Calls.Beside.{IsOnObjectsAlone};
 ghost use Rattle.running_store.specs.Calls.{IsCall, Never, ending_of_force};
 ghost use Rattle.running_store.specs.Courses.{flush_steps, removal_steps};
-ghost use Rattle.running_store.specs.Flushed.{DirtiesNone};
+ghost use Rattle.running_store.specs.Laid.Flushed.{DirtiesNone};
 ghost use Rattle.running_store.specs.Parts.{VolatileShows, meaning_in};
 
 use crate::fault::note;

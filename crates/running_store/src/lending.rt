@@ -5,7 +5,7 @@ ghost use Rattle.std.specs.Result.{result_err};
 ghost use Rattle.oper_core.specs.Meaning.{FitsReads, IsInGrammar, IsSmall};
 ghost use Rattle.oper_core.specs.State.{is_among, value_for};
 ghost use Rattle.dirty_cache.specs.Contents.{held};
-ghost use Rattle.running_store.specs.Lent.{KeepsOthers, cached_values, inputs_in};
+ghost use Rattle.running_store.specs.Laid.Lent.{KeepsOthers, cached_values, inputs_in};
 
 use dirty_cache::Cache;
 use oper_core::{Bounds, ByteList, Memory, Oper, Refusal, Values};

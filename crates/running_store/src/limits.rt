@@ -1,7 +1,7 @@
 // How many objects may be in memory at a time.
 ghost use Rattle.std.specs.Prelude.{◌≡◌, ◌<◌};
 ghost use Rattle.formats.specs.Objects.{IsInRange};
-ghost use Rattle.running_store.specs.Limits.{objects_within as within, clean_limit as clean};
+ghost use Rattle.running_store.specs.Laid.Limits.{objects_within as within, clean_limit as clean};
 
 use formats::Params;
 

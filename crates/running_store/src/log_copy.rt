@@ -8,8 +8,8 @@ ghost use Rattle.log_records.specs.Loading.{IsTailFault};
 ghost use Rattle.log_records.specs.LogCopy.{copied_length, CopyFails, CopyFindsDamage, HoldsCopy, IsCopyLength, IsCopyWithin, IsTooLong};
 ghost use Rattle.log_records.specs.RecordLog.{Keeps};
 ghost use Rattle.log_records.specs.declared.copy_err.CopyErr.TheVariants as of_copy;
-ghost use Rattle.running_store.specs.Faults.{has_failed, is_copy_fault};
-ghost use Rattle.running_store.specs.LogReads.{IsLogRead};
+ghost use Rattle.running_store.specs.Calls.Faults.{has_failed, is_copy_fault};
+ghost use Rattle.running_store.specs.Calls.LogReads.{IsLogRead};
 
 use crate::fault::note;
 use crate::store::Store;

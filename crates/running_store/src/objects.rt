@@ -10,9 +10,9 @@ ghost use Rattle.stable_objects.specs.Reading.{FailsAt, IsDamagedAt, IsNoDamage,
 ghost use Rattle.stable_objects.specs.SlotsView.{IsLate, place_of};
 ghost use Rattle.oper_core.specs.State.{is_among};
 ghost use Rattle.dirty_cache.specs.Contents.{held, is_dirty, AreDirty, HasRoom};
-ghost use Rattle.running_store.specs.Fetched.{IsFetched};
+ghost use Rattle.running_store.specs.Laid.Fetched.{IsFetched};
 ghost use Rattle.running_store.specs.Laid.{IsLaidOn, values_in, object_lsn, with_chosen};
-ghost use Rattle.running_store.specs.Limits.{clean_limit as clean_objects};
+ghost use Rattle.running_store.specs.Laid.Limits.{clean_limit as clean_objects};
 
 use crate::empties::empty_objects;
 use crate::limits::clean_limit;
@@ -37,7 +37,7 @@ pub struct Objects {
 
 impl Model for Objects {
     ghost use Rattle.running_store.specs.Laid.{Laid};
-    ghost use Rattle.running_store.specs.Lengths.{AreKept};
+    ghost use Rattle.running_store.specs.Laid.Lengths.{AreKept};
 
     ghost Value = { Laid };
 

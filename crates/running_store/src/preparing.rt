@@ -8,13 +8,13 @@ ghost use Rattle.stable_objects.specs.SlotsView.{AreOf};
 ghost use Rattle.stable_objects.specs.Spares.{IsClosing, IsUnseen, IsUnseenSince, KeepsButGates, KeepsButSpares};
 ghost use Rattle.explain_core.specs.World.{World};
 ghost use Rattle.standing.specs.Moments.{TakesSome};
-ghost use Rattle.running_store.specs.Beside.{IsOnObjectsAlone};
+ghost use Rattle.running_store.specs.Calls.Beside.{IsOnObjectsAlone};
 ghost use Rattle.running_store.specs.Calls.{IsCall, Never, ending_of_force};
 ghost use Rattle.running_store.specs.Courses.{course};
 ghost use Rattle.running_store.specs.Courses.Stop.{Through};
 ghost use Rattle.running_store.specs.Laid.{HasClosedSpare, IsLaidOn};
 ghost use Rattle.running_store.specs.Parts.{VolatileShows, meaning_in};
-ghost use Rattle.running_store.specs.RoundCalls.{AreFilled};
+ghost use Rattle.running_store.specs.Calls.RoundCalls.{AreFilled};
 ghost use Rattle.running_store.specs.Taking.{Takes};
 
 use crate::fault::note;

@@ -10,8 +10,8 @@ ghost use Rattle.log_records.specs.BlockReader.{HasGivenBlock, IsReadingBlocks};
 ghost use Rattle.log_records.specs.Loading.{IsTailFault};
 ghost use Rattle.log_records.specs.LsnReader.{IsReadingFromLsn, HasGiven, left_of};
 ghost use Rattle.log_records.specs.RecordLog.{RecordLogView};
-ghost use Rattle.running_store.specs.Faults.{has_failed, is_read_fault};
-ghost use Rattle.running_store.specs.LogReads.{IsLogRead, IsReaderOf, IsSameReader};
+ghost use Rattle.running_store.specs.Calls.Faults.{has_failed, is_read_fault};
+ghost use Rattle.running_store.specs.Calls.LogReads.{IsLogRead, IsReaderOf, IsSameReader};
 ghost use Rattle.running_store.specs.StoreView.{next_of};
 
 use crate::fault::note;

@@ -8,7 +8,7 @@ ghost use Rattle.explain_core.specs.World.{World};
 ghost use Rattle.running_store.specs.Calls.{IsCall};
 ghost use Rattle.running_store.specs.Kept.{HasLog, StopsAt};
 ghost use Rattle.running_store.specs.Parts.{Shows, meaning_in};
-ghost use Rattle.running_store.specs.Rewrites.{HasRewritten, IsKeptFrom, ending_of_rewrite, rewrite_within};
+ghost use Rattle.running_store.specs.Calls.Rewrites.{HasRewritten, IsKeptFrom, ending_of_rewrite, rewrite_within};
 ghost use Rattle.running_store.specs.Taking.{Takes};
 
 use crate::fault::note;

@@ -11,13 +11,13 @@ ghost use Rattle.stable_objects.specs.SlotsView.{layout_of};
 ghost use Rattle.explain_core.specs.RoundGates.{Gate, gates_of};
 ghost use Rattle.explain_core.specs.World.{World, run, AreAllowed};
 ghost use Rattle.standing.specs.Moments.{TakesSome};
-ghost use Rattle.running_store.specs.Beside.{IsOnObjectsAlone};
+ghost use Rattle.running_store.specs.Calls.Beside.{IsOnObjectsAlone};
 ghost use Rattle.running_store.specs.Calls.{IsCall, Never, ending_of_force};
-ghost use Rattle.running_store.specs.Flushed.{IsFlushed};
+ghost use Rattle.running_store.specs.Laid.Flushed.{IsFlushed};
 ghost use Rattle.running_store.specs.Laid.{IsLaidOn};
 ghost use Rattle.running_store.specs.Parts.{VolatileShows, meaning_in};
-ghost use Rattle.running_store.specs.RoundCalls.{AreFlushed, AreGatesFor, AreLater, cached_in, gates_course};
-ghost use Rattle.running_store.specs.RoundImages.{objects_of};
+ghost use Rattle.running_store.specs.Calls.RoundCalls.{AreFlushed, AreGatesFor, AreLater, cached_in, gates_course};
+ghost use Rattle.running_store.specs.Steps.RoundImages.{objects_of};
 ghost use Rattle.running_store.specs.StoreView.{next_of};
 ghost use Rattle.running_store.specs.Taking.{Takes};
 

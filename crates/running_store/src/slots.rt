@@ -4,10 +4,10 @@ ghost use Rattle.disk_model.specs.Disk.{Rises};
 ghost use Rattle.disk_model.specs.declared.machine.FileNo.TheVariants.{Objects as ObjectsFile};
 ghost use Rattle.formats.specs.Objects.{cell_of};
 ghost use Rattle.formats.specs.Reading.{FailsBy};
-ghost use Rattle.running_store.specs.Faults.{has_failed, is_read_fault};
+ghost use Rattle.running_store.specs.Calls.Faults.{has_failed, is_read_fault};
 ghost use Rattle.running_store.specs.Laid.{IsLaidOn};
-ghost use Rattle.running_store.specs.LogReads.{IsLogRead};
-ghost use Rattle.running_store.specs.LongSlot.{IsLongSlot};
+ghost use Rattle.running_store.specs.Calls.LogReads.{IsLogRead};
+ghost use Rattle.running_store.specs.Laid.LongSlot.{IsLongSlot};
 ghost use Rattle.running_store.specs.StoreView.{store_params};
 
 use crate::fault::note;

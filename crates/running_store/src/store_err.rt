@@ -1,5 +1,5 @@
 ghost use Rattle.std.specs.Prelude.{◌≡◌};
-ghost use Rattle.running_store.specs.Faults.{read_from_store};
+ghost use Rattle.running_store.specs.Calls.Faults.{read_from_store};
 ghost use Rattle.running_store.specs.declared.store_err.StoreErr.TheVariants.{DiskFault, Memory as OutOfMemory};
 
 use disk_model::Failed;

@@ -19,7 +19,7 @@ ghost use Rattle.standing.specs.Members.{table_of};
 ghost use Rattle.standing.specs.Moments.{ShowsSome};
 ghost use Rattle.standing.specs.Standing.{FilesShow};
 ghost use Rattle.running_store.specs.Parts.{Volatile, ShowsVolatile};
-ghost use Rattle.running_store.specs.RoundImages.{objects_of};
+ghost use Rattle.running_store.specs.Steps.RoundImages.{objects_of};
 
 use oper_core::Oper;
 

@@ -14,7 +14,7 @@ use Rattle.explain_core.specs.World.{World, end_of}
 use Rattle.running_store.specs.Courses.{Course, Stop, course, grown}
 use Rattle.running_store.specs.Courses.Stop.{Through, Full, At_end, Worn}
 use Rattle.store_engine.specs.Lists.{commands_course}
-use Rattle.running_store.specs.Commands.{command_length}
+use Rattle.running_store.specs.Calls.Commands.{command_length}
 use Rattle.execution.specs.Courses.{append_course, needed}
 use Rattle.store_engine.specs.Engine.{needed_in, so_far}
 use Rattle.script_lines.specs.declared.answer.StatLine.{StatLine}

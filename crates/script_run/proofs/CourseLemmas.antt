@@ -11,10 +11,10 @@ use Rattle.explain_core.specs.World.Step.{Append, Begin, Block_gate, Header_gate
 use Rattle.running_store.specs.Courses.{Course, course, is_through, and_then, waits, buffered, grown, force_steps, force_course, room_steps, placed, cached_length, identity_length, identity_steps}
 use Rattle.cache_manager.specs.InstallCourses.{identity_course, identities, must_log, others, finish_steps, rounds, has_members, install_course, round_limit, round_course, is_next_due, next_turn, turns, logged_by, logged_in}
 use Rattle.running_store.specs.Courses.Stop.{Through, Full, At_end}
-use Rattle.running_store.specs.CourseLaws.{behind_both}
+use Rattle.running_store.specs.Courses.Laws.{behind_both}
 use Rattle.running_store.specs.Running.{AreUpkeep}
-use Rattle.running_store.specs.Rewrites.{checkpoint_length, new_base, rewrite_course, rewrite_within, trimmed, trimmed_file}
-use Rattle.running_store.specs.Commands.{command_length}
+use Rattle.running_store.specs.Calls.Rewrites.{checkpoint_length, new_base, rewrite_course, rewrite_within, trimmed, trimmed_file}
+use Rattle.running_store.specs.Calls.Commands.{command_length}
 use Rattle.cache_manager.specs.Upkeep.{upkeep_append, upkeep_either, upkeep_then, upkeep_force, upkeep_room, upkeep_install, upkeep_turn, upkeep_drain}
 use Rattle.formats.specs.Limits.{lsn_end}
 use Rattle.checkpointing.specs.Courses.{taking_course, checkpoint_steps, checkpoint_course, logged_course, trim_course, trim_due, trim_within, turn_due, unstopped, upkeep_course as tending_course}

@@ -24,7 +24,7 @@ use Rattle.explain_core.specs.World.{World, Step, step, run, end_of, IsLive}
 use Rattle.explain_core.specs.World.Step.{Append, Block_gate}
 use Rattle.standing.specs.Moments.{TakesSome}
 use Rattle.running_store.specs.Calls.{IsFailed}
-use Rattle.running_store.specs.Appended.{next_lsn}
+use Rattle.running_store.specs.Steps.Appended.{next_lsn}
 use Rattle.running_store.specs.Courses.{Course, Stop, course, grown, waits, force_steps, force_course}
 use Rattle.cache_manager.specs.InstallCourses.{logged_in}
 use Rattle.running_store.specs.Courses.Stop.{Through, Full, At_end, Worn}
@@ -32,7 +32,7 @@ use Rattle.running_store.specs.Kept.{StopsAt}
 use Rattle.running_store.specs.Running.{AreUpkeep, run_upkept}
 use Rattle.running_store.specs.Taking.{Ending}
 use Rattle.running_store.specs.Taking.Ending.{Done, Stopped, Short, Failed}
-use Rattle.running_store.specs.Commands.{command_length}
+use Rattle.running_store.specs.Calls.Commands.{command_length}
 use Rattle.cache_manager.specs.Upkeep.{upkeep_force}
 use Rattle.execution.specs.Answers as of_world
 use Rattle.execution.specs.Answers.{ending_of_exec}

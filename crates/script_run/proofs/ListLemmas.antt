@@ -29,14 +29,14 @@ use Rattle.explain_core.specs.History.Member.{Command as Logged, Identity}
 use Rattle.explain_core.specs.RunLaws.{run-append}
 use Rattle.explain_core.specs.World.{World, step, run, end_of}
 use Rattle.running_store.specs.Calls.{IsFailed}
-use Rattle.running_store.specs.CourseLaws.{behind_both, through_is}
+use Rattle.running_store.specs.Courses.Laws.{behind_both, through_is}
 use Rattle.running_store.specs.Courses.{Course, Stop, behind, grown}
 use Rattle.cache_manager.specs.InstallCourses.{logged_in}
 use Rattle.running_store.specs.Courses.Stop.{Through, Full, At_end}
 use Rattle.running_store.specs.Taking.{Ending}
 use Rattle.running_store.specs.Taking.Ending.{Done, Stopped, Short, Failed}
 use Rattle.store_engine.specs.Lists.{AddsFront, AreCalls, HasReached, IsBehind, IsStoppedAt, IsUndamaged as IsSound, commands_course, ending_of, larger}
-use Rattle.running_store.specs.Commands.{command_length}
+use Rattle.running_store.specs.Calls.Commands.{command_length}
 use Rattle.execution.specs.Courses.{append_course}
 use Rattle.execution.specs.declared.exec_err.ExecErr.{ExecErr}
 use Rattle.execution.specs.declared.exec_err.ExecErr.TheVariants as exec_errors

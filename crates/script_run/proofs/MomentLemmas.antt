@@ -12,7 +12,7 @@ use Rattle.standing.specs.Moments.{ShowsSome, TakesSome}
 use Rattle.standing.specs.Standing.{FilesShow}
 use Rattle.running_store.specs.Courses.{Course, course}
 use Rattle.running_store.specs.Courses.Stop.{Through}
-use Rattle.running_store.specs.Forced.{files_shown}
+use Rattle.running_store.specs.Steps.Forced.{files_shown}
 use Rattle.script_lines.specs.Replies.{Reply, said_line}
 use Rattle.store_engine.specs.Engine.{EngineView}
 use Rattle.store_engine.specs.Grouping.{ungrouped}

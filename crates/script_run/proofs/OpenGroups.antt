@@ -13,7 +13,7 @@ use Rattle.explain_core.specs.History.Member.{Command as Logged_command, Identit
 use Rattle.explain_core.specs.Sound.{IsGroup, IsSound}
 use Rattle.explain_core.specs.StableLaws.{commands_of-append}
 use Rattle.explain_core.specs.World.{World, end_of}
-use Rattle.running_store.specs.Appended.{next_lsn}
+use Rattle.running_store.specs.Steps.Appended.{next_lsn}
 use Rattle.store_engine.specs.Engine.{EngineView, commands_since, group_size}
 use Rattle.store_engine.specs.Grouping.{ungrouped}
 use Rattle.shell_base.specs.Store.{Command, ShowsIn, meaning_in}

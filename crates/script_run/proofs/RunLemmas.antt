@@ -15,7 +15,7 @@ use Rattle.standing.specs.Moments.{ShowsSome, TakesSome}
 use Rattle.standing.specs.Standing.{FilesShow}
 use Rattle.running_store.specs.Courses.{course}
 use Rattle.running_store.specs.Courses.Stop.{Through}
-use Rattle.running_store.specs.Forced.{files_shown}
+use Rattle.running_store.specs.Steps.Forced.{files_shown}
 use Rattle.oper_core.specs.Meaning.{Meaning}
 use Rattle.script_lines.specs.Grammar.{Request, AsksFor}
 use Rattle.script_lines.specs.Replies.{Reply, forced, said_line}

@@ -17,8 +17,8 @@ use Rattle.explain_core.specs.World.{World, Step, run}
 use Rattle.standing.specs.Moments.{ShowsSome}
 use Rattle.running_store.specs.Calls.{IsFailed, ending_of_read}
 use Rattle.running_store.specs.Courses.{Course}
-use Rattle.running_store.specs.Limits.{objects_within}
-use Rattle.running_store.specs.Appended.{next_lsn}
+use Rattle.running_store.specs.Laid.Limits.{objects_within}
+use Rattle.running_store.specs.Steps.Appended.{next_lsn}
 use Rattle.running_store.specs.Running.{IsRunning, run_upkept}
 use Rattle.cache_manager.specs.InstallCourses.{logged_in}
 use Rattle.checkpointing.specs.Courses.{upkeep_course as tending_course}

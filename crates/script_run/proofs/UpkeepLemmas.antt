@@ -12,7 +12,7 @@ use Rattle.log_records.specs.declared.rewrite_err.RewriteErr.{RewriteErr}
 use Rattle.log_records.specs.declared.rewrite_err.RewriteErr.TheVariants as of_rewrite
 use Rattle.running_store.specs.Calls.{IsFailed}
 use Rattle.running_store.specs.Courses.Stop.{Through, Full, At_end, Worn}
-use Rattle.running_store.specs.Rewrites.{ending_of_rewrite}
+use Rattle.running_store.specs.Calls.Rewrites.{ending_of_rewrite}
 use Rattle.cache_manager.specs.Endings.{ending_of}
 use Rattle.running_store.specs.Taking.{Ending}
 use Rattle.running_store.specs.Taking.Ending.{Done, Stopped, Short, Failed}

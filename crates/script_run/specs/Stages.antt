@@ -22,7 +22,7 @@ use Rattle.script_lines.specs.declared.backup_denial.BackupDenial.TheVariants.{I
 use Rattle.script_lines.specs.declared.answer.StatLine.{StatLine}
 use Rattle.checkpointing.specs.Courses.{checkpoint_course, trim_course, upkeep_course as tending_course}
 use Rattle.checkpointing.specs.declared.due.Due.{Due}
-use Rattle.running_store.specs.Limits.{objects_within}
+use Rattle.running_store.specs.Laid.Limits.{objects_within}
 use Rattle.store_engine.specs.Calls.{begin_course, end_course}
 use Rattle.store_engine.specs.Engine.{is_name, so_far}
 use Rattle.backup_copy.specs.Length.{backup_length}

@@ -8,7 +8,7 @@ use Rattle.formats.specs.declared.params.Params.{Params}
 use Rattle.log_records.specs.RecordLaws.{keeps_stay}
 use Rattle.op_codec.specs.AllOps.{all_meaning}
 use Rattle.explain_core.specs.World.{World}
-use Rattle.running_store.specs.KeptLaws.{shown_attached, stays_log}
+use Rattle.running_store.specs.Kept.Laws.{shown_attached, stays_log}
 use Rattle.running_store.specs.Laid.{IsLaidOn, values_in}
 use Rattle.running_store.specs.Parts.{ShowsVolatile}
 use Rattle.store_engine.specs.Engine.{EngineView, InEachImage, forced_in, used_in}

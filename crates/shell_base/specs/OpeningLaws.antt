@@ -10,7 +10,7 @@ use Rattle.std.proofs.Math.Path.{fun_ext}
 use Rattle.disk_model.specs.declared.machine.FileNo.{FileNo}
 use Rattle.disk_model.specs.Moments.{runs_on, weaker}
 use Rattle.standing.specs.Standing.{FilesShow}
-use Rattle.running_store.specs.Forced.{files_shown}
+use Rattle.running_store.specs.Steps.Forced.{files_shown}
 use Rattle.store_engine.specs.Engine.{EngineView, InEachImage, forced_in}
 use Rattle.store_engine.specs.Grouping.{ungrouped}
 use Rattle.shell_base.specs.Store.{Command, IsWellFormed, Stands, Opens, Between, meaning_in, Holds}

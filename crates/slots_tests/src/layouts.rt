@@ -1,7 +1,7 @@
 // The objects file in versions 2 and 3, and a file that is laid out and filled before it is opened: worked bytes and places.
 ghost use Rattle.std.specs.Prelude.{◌≡◌, IsTrue, false};
-ghost use Rattle.stable_objects.specs.Admitting.{IsSecond};
-ghost use Rattle.stable_objects.specs.Larger.{IsFirst, IsLarger};
+ghost use Rattle.stable_objects.specs.Upgrades.Admitting.{IsSecond};
+ghost use Rattle.stable_objects.specs.Upgrades.Larger.{IsFirst, IsLarger};
 
 use disk_model::{FileNo, Machine, MemMachine};
 use formats::Params;

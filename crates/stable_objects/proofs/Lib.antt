@@ -13,13 +13,7 @@ pub mod Headed
 pub mod Changed
 pub mod Replaced
 pub mod Holding
-pub mod Filled
-pub mod Behind
-pub mod Staying
-pub mod Uncut
-pub mod Moved
-pub mod Grown
-pub mod Admitted
+pub mod Upgraded
 pub mod Compared
 pub mod Spares
 pub mod Closing

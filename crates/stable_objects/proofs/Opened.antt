@@ -14,7 +14,7 @@ use Rattle.stable_objects.specs.Replacing.{AgreesOutside, spare_in}
 use Rattle.stable_objects.specs.SlotLaws.{layout_of_file, place_of_file}
 use Rattle.stable_objects.specs.SlotsView.{SlotsView, AreOf, head, layout_of, length_in, place_of}
 use Rattle.stable_objects.specs.Spares.{spare_place}
-use Rattle.stable_objects.proofs.Behind.{front_agrees}
+use Rattle.stable_objects.proofs.Upgraded.Behind.{front_agrees}
 use Rattle.stable_objects.proofs.Cells.{AreWholeBy, whole_by, whole_cell, open_cell, closed_cell, greater, cell_is_held, held_in, closed_where_none, less_where_open}
 use Rattle.stable_objects.proofs.Changed.{SlotStays, apart_here}
 use Rattle.stable_objects.proofs.Headed.{headed, layout_kept}

@@ -13,7 +13,7 @@ use Rattle.stable_objects.specs.Replacing.{AgreesOutside, spare_in}
 use Rattle.stable_objects.specs.SlotLaws.{closed_tells, layout_of_file, place_of_file}
 use Rattle.stable_objects.specs.SlotsView.{SlotsView, AreOf, head, layout_of, place_of}
 use Rattle.stable_objects.specs.Spares.{IsSpareByte, IsSpareGate, IsUnseen, KeepsBut, spare_lsn, spare_place}
-use Rattle.stable_objects.proofs.Behind.{front_agrees}
+use Rattle.stable_objects.proofs.Upgraded.Behind.{front_agrees}
 use Rattle.stable_objects.proofs.Bytes.{number_same}
 use Rattle.stable_objects.proofs.Cells.{AreWholeBy, whole_by, whole_cell, open_cell, closed_cell, cell_is_held, held_in, closed_where_none, open_where_some, less_where_open}
 use Rattle.stable_objects.proofs.Changed.{IsLower, SlotStays, apart_here, closed_lower}

@@ -6,10 +6,7 @@ pub mod Heads
 pub mod Reading
 pub mod Making
 pub mod GateLaws
-pub mod Filling
-pub mod Larger
-pub mod Growing
-pub mod Admitting
+pub mod Upgrades
 pub mod Laws
 pub mod SlotLaws
 pub mod Replacing

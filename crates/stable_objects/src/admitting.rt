@@ -2,8 +2,8 @@
 ghost use Rattle.std.specs.Prelude.{◌≡◌, false, OnOk, IsErr};
 ghost use Rattle.disk_model.specs.Disk.{IsSettled, LeavesOnly, Rises, Runs, In, Same, Torn};
 ghost use Rattle.disk_model.specs.declared.machine.FileNo.TheVariants.{Objects};
-ghost use Rattle.stable_objects.specs.Admitting.{IsSecond, switch_place, with_more};
-ghost use Rattle.stable_objects.specs.Growing.{IsGrown, IsGrowing, IsStillOrGrown};
+ghost use Rattle.stable_objects.specs.Upgrades.Admitting.{IsSecond, switch_place, with_more};
+ghost use Rattle.stable_objects.specs.Upgrades.Growing.{IsGrown, IsGrowing, IsStillOrGrown};
 ghost use Rattle.stable_objects.specs.SlotsView.{AreOf};
 
 use crate::Slots;

@@ -3,9 +3,9 @@ ghost use Rattle.std.specs.Prelude.{◌<◌, ◌+◌, ℕ, List, OnOk, IfErr};
 ghost use Rattle.disk_model.specs.Disk.{Runs, Stays, In, Any, Same, IsSettled, LeavesOnly};
 ghost use Rattle.disk_model.specs.declared.machine.FileNo.TheVariants.{Objects};
 ghost use Rattle.formats.specs.Objects.{IsInRange};
-ghost use Rattle.stable_objects.specs.Filling.{IsFilledTo};
-ghost use Rattle.stable_objects.specs.Growing.{GrowsNot, IsGrown, IsGrowing, IsStillOrGrown, MovesNot, pair_before};
-ghost use Rattle.stable_objects.specs.Larger.{IsFirst, IsLarger, IsStill, HasLastHead, end_of_slots, seconded};
+ghost use Rattle.stable_objects.specs.Upgrades.Filling.{IsFilledTo};
+ghost use Rattle.stable_objects.specs.Upgrades.Growing.{GrowsNot, IsGrown, IsGrowing, IsStillOrGrown, MovesNot, pair_before};
+ghost use Rattle.stable_objects.specs.Upgrades.Larger.{IsFirst, IsLarger, IsStill, HasLastHead, end_of_slots, seconded};
 ghost use Rattle.stable_objects.specs.Making.{KeepsFront};
 ghost use Rattle.stable_objects.specs.SlotsView.{AreOf};
 

@@ -3,7 +3,7 @@ ghost use Rattle.std.specs.Prelude.{◌≡◌, ◌↔◌, OnOk, IsErr, IsTrue};
 ghost use Rattle.disk_model.specs.Disk.{Rises, Runs, In, Torn, Same, IsSettled};
 ghost use Rattle.disk_model.specs.declared.machine.FileNo.TheVariants.{Objects};
 ghost use Rattle.formats.specs.Objects.{IsInRange, bounds_of, second_form as version_two};
-ghost use Rattle.stable_objects.specs.Larger.{IsFirst, IsLarger, larger_layout, end_of_slots, seconded};
+ghost use Rattle.stable_objects.specs.Upgrades.Larger.{IsFirst, IsLarger, larger_layout, end_of_slots, seconded};
 ghost use Rattle.stable_objects.specs.Layouts.{IsForm, IsLayout};
 ghost use Rattle.stable_objects.specs.Making.{KeepsFront, IsNewFile};
 ghost use Rattle.stable_objects.specs.SlotsView.{AreOf};

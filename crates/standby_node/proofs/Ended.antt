@@ -23,7 +23,7 @@ use Rattle.explain_core.specs.Sound.{IsSound}
 use Rattle.explain_core.specs.Turns.{has_thin, thin_turn}
 use Rattle.explain_core.specs.World.{Step, World, run}
 use Rattle.execution.specs.Judged.{first_refused, follows}
-use Rattle.running_store.specs.Buffered.{buffered_shown}
+use Rattle.running_store.specs.Courses.Buffered.{buffered_shown}
 use Rattle.running_store.specs.Calls.{IsFailed, ending_of_store}
 use Rattle.running_store.specs.Courses.{force_steps, records_length}
 use Rattle.running_store.specs.Parts.{ShowsVolatile}

@@ -20,7 +20,7 @@ use Rattle.explain_core.specs.Sound.{IsSound}
 use Rattle.explain_core.specs.World.{World}
 use Rattle.execution.specs.Counted.{accepted_shown}
 use Rattle.execution.specs.Judged.{first_refused, follows}
-use Rattle.running_store.specs.Forced.{files_shown}
+use Rattle.running_store.specs.Steps.Forced.{files_shown}
 use Rattle.running_store.specs.Parts.{Shows}
 use Rattle.standing.specs.Standing.{FilesShow, StandsFor}
 use Rattle.store_engine.specs.Counts.{forced_shown, take-commands}

@@ -17,7 +17,7 @@ use Rattle.frame_stream.specs.FrameBuffer.{FrameBufferView, HasPassed, taken_by}
 use Rattle.explain_core.specs.History.{Member, commands_of}
 use Rattle.execution.specs.Counted.{accepted_shown}
 use Rattle.execution.specs.Judged.{Judged, follows}
-use Rattle.running_store.specs.Buffered.{buffered_shown}
+use Rattle.running_store.specs.Courses.Buffered.{buffered_shown}
 use Rattle.running_store.specs.Courses.{records_length, tables_length}
 use Rattle.store_engine.specs.Engine.{accepted_in, forced_in}
 use Rattle.store_engine.specs.Grouping.{ungrouped}

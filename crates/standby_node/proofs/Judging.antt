@@ -13,7 +13,7 @@ use Rattle.explain_core.specs.History.Member.{Command, Identity}
 use Rattle.execution.specs.Judged.{Judged, first_refused, follows, is_refused, judge, judge_behind, judge_member, may_follow, with_judged}
 use Rattle.execution.specs.Judged.Judged.{Passed, Taken, Gap, Differs}
 use Rattle.running_store.specs.Courses.{record_length, records_length}
-use Rattle.running_store.specs.Growth.{code_length}
+use Rattle.running_store.specs.Courses.Growth.{code_length}
 use Rattle.running_store.specs.Parts.{record_of}
 
 module _ {O : Type 0} (m : Meaning O) where

@@ -28,12 +28,12 @@ use Rattle.execution.specs.Judged.{Judged, first_refused, follows, is_refused, j
 use Rattle.execution.specs.Judged.Judged.{Passed, Taken, Gap, Differs}
 use Rattle.execution.specs.declared.record_err.RecordErr.{RecordErr}
 use Rattle.execution.specs.declared.record_err.RecordErr.TheVariants as of_record
-use Rattle.running_store.specs.Appended.{next_lsn}
-use Rattle.running_store.specs.Buffered.{buffered_shown, room_none}
+use Rattle.running_store.specs.Steps.Appended.{next_lsn}
+use Rattle.running_store.specs.Courses.Buffered.{buffered_shown, room_none}
 use Rattle.running_store.specs.Calls.{IsFailed}
 use Rattle.running_store.specs.Courses.{Course, buffered, course, record_length, records_length, room_steps, tables_length, waits}
 use Rattle.running_store.specs.Courses.Stop.{Through, Full}
-use Rattle.running_store.specs.Growth.{growth_shown}
+use Rattle.running_store.specs.Courses.Growth.{growth_shown}
 use Rattle.running_store.specs.Parts.{Shows}
 use Rattle.store_engine.specs.Counts.{forced_shown}
 use Rattle.store_engine.specs.Engine.{EngineView, IsAttached, ShowsIn, forced_in, params_of, used_in}

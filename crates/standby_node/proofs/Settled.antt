@@ -13,7 +13,7 @@ use Rattle.explain_core.specs.World.{Starts, Step, World, run, step}
 use Rattle.explain_core.specs.World.Step.{Begin, End, Append, Block_gate, Checkpoint, Slot_gate, Removal, Header_gate, Replay, Crash}
 use Rattle.running_store.specs.Courses.{Course, buffered, course, force_steps, grown, is_through, room_steps, waits}
 use Rattle.running_store.specs.Courses.Stop.{Full, Through, Worn}
-use Rattle.running_store.specs.Rewrites.{checkpoint_length, new_base, rewrite_course, trimmed, trimmed_file}
+use Rattle.running_store.specs.Calls.Rewrites.{checkpoint_length, new_base, rewrite_course, trimmed, trimmed_file}
 use Rattle.checkpointing.specs.Courses.{taking_course, checkpoint_steps, checkpoint_course, logged_course, trim_course}
 use Rattle.redo_pass.specs.Redo.{redo_steps}
 use Rattle.restart.specs.Courses.{redo_course, restart_course}

@@ -28,7 +28,7 @@ use Rattle.standby_node.specs.declared.follow_err.FollowErr.TheVariants as error
 use Rattle.store_engine.specs.Engine.{EngineView, InEachImage, forced_in}
 use Rattle.store_engine.specs.Engine as of_engine
 use Rattle.store_engine.specs.Grouping.{ungrouped}
-use Rattle.running_store.specs.Forced.{files_shown}
+use Rattle.running_store.specs.Steps.Forced.{files_shown}
 use Rattle.standing.specs.Standing.{FilesShow}
 use Rattle.disk_model.specs.declared.machine.FileNo.{FileNo}
 use Rattle.script_lines.specs.declared.read_error.ReadError.{ReadError}

@@ -15,8 +15,8 @@ use Rattle.formats.specs.Records.{HoldsRecordLog, IsRecordLog}
 use Rattle.formats.specs.declared.params.Params.{Params}
 use Rattle.formats.specs.declared.record.Record.{Record}
 use Rattle.explain_core.specs.Stable.{Stable}
-use Rattle.stable_objects.specs.Growing.{IsGrown}
-use Rattle.stable_objects.specs.Larger.{IsLarger}
+use Rattle.stable_objects.specs.Upgrades.Growing.{IsGrown}
+use Rattle.stable_objects.specs.Upgrades.Larger.{IsLarger}
 use Rattle.standing.specs.Standing.{HoldsStable, StandsFor, stored}
 use Rattle.standing.proofs.WiderLog.{log_wider}
 

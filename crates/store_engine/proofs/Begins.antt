@@ -16,7 +16,7 @@ use Rattle.explain_core.specs.Sound.{IsSound}
 use Rattle.explain_core.specs.World.{World, Step, Starts, step, run, IsAllowed}
 use Rattle.explain_core.specs.World.Step.{Begin, End, Block_gate}
 use Rattle.standing.specs.Moments.{moments_longer}
-use Rattle.running_store.specs.Appended.{next_lsn}
+use Rattle.running_store.specs.Steps.Appended.{next_lsn}
 use Rattle.running_store.specs.Courses.{force_steps, waits}
 use Rattle.running_store.specs.Taking.Ending.{Done, Failed}
 use Rattle.cache_manager.specs.Upkeep.{upkeep_force}

@@ -22,7 +22,7 @@ use Rattle.explain_core.specs.World.Step.{Begin}
 use Rattle.running_store.specs.Calls.{IsFailed}
 use Rattle.running_store.specs.Courses.{Course, and_then, course, force_steps, grown, is_through, room_steps}
 use Rattle.running_store.specs.Courses.Stop.{Through, Full}
-use Rattle.running_store.specs.Rewrites.{checkpoint_length}
+use Rattle.running_store.specs.Calls.Rewrites.{checkpoint_length}
 use Rattle.running_store.specs.Running.{IsRunning}
 use Rattle.running_store.specs.Taking.{Ending}
 use Rattle.running_store.specs.Taking.Ending.{Done, Stopped, Short, Failed}

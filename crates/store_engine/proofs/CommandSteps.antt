@@ -8,7 +8,7 @@ use Rattle.explain_core.specs.History.{Member}
 use Rattle.explain_core.specs.History.Member.{Command}
 use Rattle.explain_core.specs.World.{World, Step, end_of}
 use Rattle.explain_core.specs.World.Step.{Append, Block_gate}
-use Rattle.running_store.specs.Commands.{command_length}
+use Rattle.running_store.specs.Calls.Commands.{command_length}
 use Rattle.running_store.specs.Courses.{course, grown}
 use Rattle.running_store.specs.Courses.Stop.{Through, Full, At_end}
 use Rattle.cache_manager.specs.EachStep.{each_either, each_force, each_then}

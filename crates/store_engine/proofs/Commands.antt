@@ -24,13 +24,13 @@ use Rattle.explain_core.specs.World.{World, Step, Starts, step, run, end_of, IsL
 use Rattle.explain_core.specs.World.Step.{Append, Block_gate}
 use Rattle.standing.specs.Moments.{ShowsSome, TakesSome}
 use Rattle.standing.specs.Standing.{FilesShow}
-use Rattle.running_store.specs.Appended.{next_lsn}
+use Rattle.running_store.specs.Steps.Appended.{next_lsn}
 use Rattle.running_store.specs.Courses.{Course, force_steps, grown, is_through, waits}
 use Rattle.running_store.specs.Parts.{Shows}
 use Rattle.running_store.specs.StoreView.{StoreView, log_length}
 use Rattle.running_store.specs.Taking.{Ending, Follows, Takes}
 use Rattle.running_store.specs.Taking.Ending.{Done, Stopped, Short, Failed}
-use Rattle.running_store.specs.Commands.{command_length}
+use Rattle.running_store.specs.Calls.Commands.{command_length}
 use Rattle.cache_manager.specs.Upkeep.{upkeep_force}
 use Rattle.execution.specs.Answers as of_world
 use Rattle.execution.specs.Answers.{ending_of_exec}

@@ -12,7 +12,7 @@ use Rattle.explain_core.specs.World.{World, Step, step, run, end_of}
 use Rattle.explain_core.specs.World.Step.{Block_gate, Header_gate}
 use Rattle.running_store.specs.Courses.{Course, force_steps, waits}
 use Rattle.running_store.specs.Courses.Stop.{Through}
-use Rattle.running_store.specs.Rewrites.{new_base, rewrite_course, trimmed_file}
+use Rattle.running_store.specs.Calls.Rewrites.{new_base, rewrite_course, trimmed_file}
 use Rattle.formats.specs.Limits.{lsn_end}
 use Rattle.checkpointing.specs.Courses.{trim_course}
 use Rattle.store_engine.specs.Emptied.{IsEmptied}

@@ -15,8 +15,8 @@ use Rattle.formats.specs.declared.form.Form.{Form}
 use Rattle.formats.specs.declared.params.Params.{Params}
 use Rattle.formats.specs.declared.read_err.ReadErr.{ReadErr}
 use Rattle.formats.specs.declared.read_err.ReadErr.TheVariants as of_read
-use Rattle.stable_objects.specs.Growing.{GrowsNot, IsCutAt, IsGrown, IsGrowing, IsStillOrGrown}
-use Rattle.stable_objects.specs.Larger.{IsFirst, IsLarger}
+use Rattle.stable_objects.specs.Upgrades.Growing.{GrowsNot, IsCutAt, IsGrown, IsGrowing, IsStillOrGrown}
+use Rattle.stable_objects.specs.Upgrades.Larger.{IsFirst, IsLarger}
 use Rattle.stable_objects.specs.LayoutLaws.{first_in, second_in}
 use Rattle.stable_objects.specs.SlotsView.{SlotsView, AreOf}
 use Rattle.running_store.specs.Parts.{Shows}

@@ -15,13 +15,13 @@ use Rattle.stable_objects.specs.SlotsView.{SlotsView}
 use Rattle.dirty_cache.specs.Contents.{held}
 use Rattle.dirty_cache.specs.declared.entry.Entry.{Entry as Pair}
 use Rattle.explain_core.specs.World.{World}
-use Rattle.running_store.specs.Faults.{has_failed, is_read_fault}
-use Rattle.running_store.specs.Fetches as of_store
+use Rattle.running_store.specs.Calls.Faults.{has_failed, is_read_fault}
+use Rattle.running_store.specs.Calls.Fetches as of_store
 use Rattle.running_store.specs.Kept as of_parts
 use Rattle.running_store.specs.Laid.{cell_or, values_in}
-use Rattle.running_store.specs.LongSlot.{IsLongSlot}
+use Rattle.running_store.specs.Laid.LongSlot.{IsLongSlot}
 use Rattle.running_store.specs.Parts.{Parts, Shows, parts}
-use Rattle.running_store.specs.Reads.{read_attached, read_shows, with_objects}
+use Rattle.running_store.specs.Parts.Reads.{read_attached, read_shows, with_objects}
 use Rattle.running_store.specs.StoreView.{StoreView}
 use Rattle.store_engine.specs.Commands.{HasFetched}
 use Rattle.store_engine.specs.Engine.{EngineView, Holds, IsEngineFetch, ShowsIn, engine_of, params_of}

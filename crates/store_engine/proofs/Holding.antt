@@ -19,9 +19,9 @@ use Rattle.explain_core.specs.Sound.{IsGroup, IsSound}
 use Rattle.explain_core.specs.World.{World, IsLive, end_of}
 use Rattle.standing.specs.Members.{members_of}
 use Rattle.standing.specs.Standing.{FilesShow, StandsFor}
-use Rattle.running_store.specs.Appended.{next_lsn}
-use Rattle.running_store.specs.Forced.{files_shown}
-use Rattle.running_store.specs.Joins.{cell_shown}
+use Rattle.running_store.specs.Steps.Appended.{next_lsn}
+use Rattle.running_store.specs.Steps.Forced.{files_shown}
+use Rattle.running_store.specs.Parts.Joins.{cell_shown}
 use Rattle.running_store.specs.Laid.{values_in}
 use Rattle.running_store.specs.Parts.{Shows}
 use Rattle.execution.specs.Counted.{accepted_shown}

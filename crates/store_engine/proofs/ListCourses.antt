@@ -11,14 +11,14 @@ use Rattle.explain_core.specs.StableLaws.{commands_of-append}
 use Rattle.explain_core.specs.Taken.{IsAfterSome, after_all, after_behind, after_longer}
 use Rattle.explain_core.specs.World.{World, Step, run, step, end_of, IsLive}
 use Rattle.explain_core.specs.World.Step.{Append, Block_gate}
-use Rattle.running_store.specs.CourseLaws.{behind_both, behind_stopped, behind_through, joined}
+use Rattle.running_store.specs.Courses.Laws.{behind_both, behind_stopped, behind_through, joined}
 use Rattle.running_store.specs.Courses.{Course, behind, course, force_steps, grown, is_through, waits}
 use Rattle.cache_manager.specs.InstallCourses.{logged_by, logged_in}
 use Rattle.running_store.specs.Courses.Stop.{Through, Full, At_end}
 use Rattle.running_store.specs.Running.{run_upkept}
 use Rattle.running_store.specs.Taking.{Ending}
 use Rattle.running_store.specs.Taking.Ending.{Done, Stopped, Short, Failed}
-use Rattle.running_store.specs.Commands.{command_length}
+use Rattle.running_store.specs.Calls.Commands.{command_length}
 use Rattle.cache_manager.specs.Upkeep.{upkeep_force}
 use Rattle.execution.specs.Courses.{append_course, needed, unplaced_steps}
 use Rattle.store_engine.specs.Lists.{EndsBy, IsBehind, commands_course}

@@ -14,7 +14,7 @@ use Rattle.explain_core.specs.History.{commands_of}
 use Rattle.explain_core.specs.World.{World}
 use Rattle.standing.specs.Moments.{ShowsSome, TakesSome, moments_longer, moments_twice}
 use Rattle.standing.specs.Standing.{StandsFor}
-use Rattle.running_store.specs.CourseLaws.{joined}
+use Rattle.running_store.specs.Courses.Laws.{joined}
 use Rattle.running_store.specs.Courses.{Course, Stop}
 use Rattle.running_store.specs.Taking.{Ending}
 use Rattle.running_store.specs.Taking.Ending.{Done, Stopped, Short, Failed}

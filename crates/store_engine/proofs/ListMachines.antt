@@ -14,7 +14,7 @@ use Rattle.formats.specs.declared.read_err.ReadErr.{ReadErr}
 use Rattle.formats.specs.declared.read_err.ReadErr.TheVariants as of_read
 use Rattle.stable_objects.specs.SlotsView.{SlotsView, holder_in, place_of}
 use Rattle.running_store.specs.Courses.{Stop}
-use Rattle.running_store.specs.LongSlot.{IsLongSlot}
+use Rattle.running_store.specs.Laid.LongSlot.{IsLongSlot}
 use Rattle.running_store.specs.Taking.{Ending}
 use Rattle.running_store.specs.Taking.Ending.{Stopped}
 use Rattle.execution.specs.Answers.{ending_of_exec}

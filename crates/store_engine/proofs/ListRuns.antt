@@ -16,10 +16,10 @@ use Rattle.explain_core.specs.Sound.{IsGroup}
 use Rattle.explain_core.specs.Taken.{IsAfterSome, after_longer}
 use Rattle.explain_core.specs.World.{World, Step, run}
 use Rattle.standing.specs.Moments.{TakesSome, moments_longer}
-use Rattle.running_store.specs.CourseLaws.{behind_both}
+use Rattle.running_store.specs.Courses.Laws.{behind_both}
 use Rattle.running_store.specs.Courses.{Course, Stop, course, is_through}
 use Rattle.running_store.specs.Courses.Stop.{Through, Full, At_end}
-use Rattle.running_store.specs.Appended.{next_lsn}
+use Rattle.running_store.specs.Steps.Appended.{next_lsn}
 use Rattle.running_store.specs.Taking.{Ending}
 use Rattle.running_store.specs.Taking.Ending.{Done, Stopped, Short, Failed}
 use Rattle.execution.specs.Counted.{accepted_shown}

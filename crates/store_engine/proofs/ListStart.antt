@@ -13,7 +13,7 @@ use Rattle.explain_core.specs.Taken.{after_none}
 use Rattle.explain_core.specs.World.{run}
 use Rattle.standing.specs.Moments.{ShowsSome}
 use Rattle.standing.specs.Standing.{FilesShow}
-use Rattle.running_store.specs.Forced.{files_shown}
+use Rattle.running_store.specs.Steps.Forced.{files_shown}
 use Rattle.running_store.specs.Taking.Ending.{Done}
 use Rattle.store_engine.specs.Engine.{EngineView, Between, Holds, Says, forced_in, group_size}
 use Rattle.store_engine.specs.Grouping.{ungrouped}

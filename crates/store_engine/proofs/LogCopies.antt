@@ -3,7 +3,7 @@ use Rattle.std.proofs.Common.{◌≡◌, true, refl}
 use Rattle.std.specs.Prelude.{◌↔◌, Result, Ok, Err, IsErrOf}
 use Rattle.log_records.specs.declared.copy_err.CopyErr.{CopyErr}
 use Rattle.log_records.specs.declared.copy_err.CopyErr.TheVariants.{LogFull, DiskFault, TargetFault, Damaged, Memory}
-use Rattle.running_store.specs.Faults.{has_failed, is_copy_fault}
+use Rattle.running_store.specs.Calls.Faults.{has_failed, is_copy_fault}
 
 -- the log's own disk failed exactly where the answer says so
 pub copy_fails_so : {T : Type 0} (r : Result T CopyErr) → (has_failed is_copy_fault r ≡ true) ↔ IsErrOf r DiskFault

@@ -12,7 +12,7 @@ use Rattle.explain_core.specs.World.Step.{Replay, Header_gate}
 use Rattle.running_store.specs.Courses.{Course, course, grown, is_through, force_steps, force_course, room_steps}
 use Rattle.running_store.specs.Courses.Stop.{Through, Full}
 use Rattle.running_store.specs.Running.{AreUpkeep}
-use Rattle.running_store.specs.Rewrites.{checkpoint_length, new_base, rewrite_within, trimmed, trimmed_file}
+use Rattle.running_store.specs.Calls.Rewrites.{checkpoint_length, new_base, rewrite_within, trimmed, trimmed_file}
 use Rattle.cache_manager.specs.Upkeep.{upkeep_append, upkeep_either, upkeep_force, upkeep_room, upkeep_then, upkeep_turn}
 use Rattle.formats.specs.Limits.{lsn_end}
 use Rattle.checkpointing.specs.Courses.{taking_course, checkpoint_steps, checkpoint_course, closing_course, logged_course, trim_due, trim_within, turn_due, unstopped, upkeep_course}

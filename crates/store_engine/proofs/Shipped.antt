@@ -21,7 +21,7 @@ use Rattle.log_records.specs.CodecLaws.{HasCodes}
 use Rattle.log_records.specs.Loading.{IsTailFault}
 use Rattle.log_records.specs.Uniqueness.{no_record_fault}
 use Rattle.restart.specs.DamageLaws.{codes_in}
-use Rattle.running_store.specs.Faults.{is_read_fault}
+use Rattle.running_store.specs.Calls.Faults.{is_read_fault}
 use Rattle.running_store.specs.Parts.{Parts}
 use Rattle.running_store.specs.Taking.{ArePartsInUse}
 use Rattle.store_engine.specs.Engine.{EngineView, IsAttached, IsEngineRead}

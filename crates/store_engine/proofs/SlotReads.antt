@@ -13,16 +13,16 @@ use Rattle.formats.specs.declared.params.Params.{Params}
 use Rattle.formats.specs.declared.read_err.ReadErr.{ReadErr}
 use Rattle.formats.specs.declared.read_err.ReadErr.TheVariants.{DiskFault, Damaged, Memory}
 use Rattle.explain_core.specs.World.{World}
-use Rattle.running_store.specs.Faults.{has_failed, is_read_fault}
-use Rattle.running_store.specs.Fetched.{fetched-same}
-use Rattle.running_store.specs.Joins.{stored_here}
+use Rattle.running_store.specs.Calls.Faults.{has_failed, is_read_fault}
+use Rattle.running_store.specs.Laid.Fetched.{fetched-same}
+use Rattle.running_store.specs.Parts.Joins.{stored_here}
 use Rattle.running_store.specs.Laid.{Laid, IsLaidOn}
-use Rattle.running_store.specs.LogReads.{IsLogRead}
-use Rattle.running_store.specs.LongSlot.{IsLongSlot}
+use Rattle.running_store.specs.Calls.LogReads.{IsLogRead}
+use Rattle.running_store.specs.Laid.LongSlot.{IsLongSlot}
 use Rattle.running_store.specs.Parts.{Parts, Shows}
-use Rattle.running_store.specs.Reads.{read_shows}
+use Rattle.running_store.specs.Parts.Reads.{read_shows}
 use Rattle.running_store.specs.StoreView.{StoreView, store_params}
-use Rattle.running_store.specs.Unchanged.{HasRead}
+use Rattle.running_store.specs.Parts.Unchanged.{HasRead}
 use Rattle.store_engine.specs.Engine.{IsAttached, IsEngineRead, ShowsIn, engine_of}
 use Rattle.store_engine.specs.FailureLaws.{none_damaged}
 use Rattle.store_engine.specs.Grouping.{ungrouped}

@@ -17,8 +17,8 @@ use Rattle.explain_core.specs.History.Member.{Command, Identity}
 use Rattle.explain_core.specs.Sound.{IsGroup}
 use Rattle.explain_core.specs.World.{World}
 use Rattle.standing.specs.Members.{next-members}
-use Rattle.running_store.specs.Appended.{base_below, next_lsn}
-use Rattle.running_store.specs.Buffered.{buffered_shown}
+use Rattle.running_store.specs.Steps.Appended.{base_below, next_lsn}
+use Rattle.running_store.specs.Courses.Buffered.{buffered_shown}
 use Rattle.running_store.specs.Courses.{Stop, records_length, tables_length}
 use Rattle.running_store.specs.Courses.Stop.{Through, Full, At_end, Worn}
 use Rattle.running_store.specs.Kept.{StopsAt}

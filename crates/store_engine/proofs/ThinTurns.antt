@@ -24,7 +24,7 @@ use Rattle.standing.specs.Moments.{ShowsSome, TakesSome}
 use Rattle.running_store.specs.Calls as of_store
 use Rattle.running_store.specs.Calls.{Never, ending_of_store}
 use Rattle.running_store.specs.Parts.{Parts, Shows, VolatileShows}
-use Rattle.running_store.specs.Stored.{store_shown}
+use Rattle.running_store.specs.Parts.Stored.{store_shown}
 use Rattle.running_store.specs.StoreView.{StoreView}
 use Rattle.running_store.specs.Taking.{Follows, Takes}
 use Rattle.running_store.specs.declared.store_err.StoreErr.{StoreErr}

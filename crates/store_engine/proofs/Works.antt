@@ -22,7 +22,7 @@ use Rattle.running_store.specs.Courses.{force_course}
 use Rattle.cache_manager.specs.InstallCourses.{drain_course, install_course, removals, turn_course}
 use Rattle.running_store.specs.Kept.{HasLog, StopsAt}
 use Rattle.running_store.specs.Parts.{Shows}
-use Rattle.running_store.specs.Rewrites.{ending_of_rewrite}
+use Rattle.running_store.specs.Calls.Rewrites.{ending_of_rewrite}
 use Rattle.running_store.specs.Running.{IsRunning}
 use Rattle.running_store.specs.StoreView.{StoreView, log_length, logged_since, next_of}
 use Rattle.running_store.specs.Taking.{Takes}

@@ -18,7 +18,7 @@ use Rattle.running_store.specs.Courses.{Course, course, force_course, force_step
 use Rattle.cache_manager.specs.InstallCourses.{install_course, drain_course, removals, turn_course}
 use Rattle.running_store.specs.Courses.Stop.{Through}
 use Rattle.running_store.specs.Calls.{ending_of_force}
-use Rattle.running_store.specs.Rewrites.{ending_of_rewrite}
+use Rattle.running_store.specs.Calls.Rewrites.{ending_of_rewrite}
 use Rattle.cache_manager.specs.Endings.{ending_of}
 use Rattle.cache_manager.specs.Told.{IsInstall, TellsParts, TellsTend}
 use Rattle.cache_manager.specs.declared.install.Install.{Install}

@@ -11,7 +11,7 @@ use Rattle.explain_core.specs.History.Member.{Command, Identity}
 use Rattle.explain_core.specs.StableLaws.{commands_of-append}
 use Rattle.explain_core.specs.World.{World}
 use Rattle.standing.specs.Members.{commands-members}
-use Rattle.running_store.specs.Appended.{base_below}
+use Rattle.running_store.specs.Steps.Appended.{base_below}
 use Rattle.running_store.specs.Parts.{Parts, Shows}
 
 module _ {O : Type 0} where

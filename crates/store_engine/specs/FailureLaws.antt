@@ -6,7 +6,7 @@ use Rattle.disk_model.specs.declared.machine.FileNo.TheVariants.{Objects}
 use Rattle.oper_core.specs.Meaning.{Meaning}
 use Rattle.oper_core.specs.declared.bounds.Bounds.{Bounds}
 use Rattle.stable_objects.specs.SlotsView.{SlotsView, AreOf}
-use Rattle.running_store.specs.LongSlot.{IsLongSlot, long_never, long_untold}
+use Rattle.running_store.specs.Laid.LongSlot.{IsLongSlot, long_never, long_untold}
 use Rattle.running_store.specs.Kept.{IsAttached}
 use Rattle.running_store.specs.Parts.{Parts}
 

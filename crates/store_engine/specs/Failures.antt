@@ -3,7 +3,7 @@ use Rattle.std.specs.Prelude.{◌<◌, ℕ}
 use Rattle.disk_model.specs.Disk.{Disk, Rises}
 use Rattle.formats.specs.Reading.{FailsBy}
 use Rattle.formats.specs.declared.read_err.ReadErr.{ReadErr}
-use Rattle.running_store.specs.LongSlot.{IsLongSlot}
+use Rattle.running_store.specs.Laid.LongSlot.{IsLongSlot}
 use Rattle.store_engine.specs.Engine.{EngineView, params_of}
 
 -- there is such an object, and its slot is not read: the disk fails, the value there is too long, or memory runs out

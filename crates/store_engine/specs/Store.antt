@@ -8,7 +8,7 @@ use Rattle.disk_model.specs.Disk.{Files}
 use Rattle.formats.specs.Objects.{bounds_of}
 use Rattle.formats.specs.declared.params.Params.{Params}
 use Rattle.standing.specs.Standing.{StandsFor}
-use Rattle.running_store.specs.Commands.{command_length}
+use Rattle.running_store.specs.Calls.Commands.{command_length}
 use Rattle.restart.specs.WellFormed as of_files
 
 module _ {O : Type 0} (meaning : Bounds → Meaning O) where

@@ -10,8 +10,8 @@ use Rattle.formats.specs.Objects.{is_second}
 use Rattle.formats.specs.declared.params.Params.{Params}
 use Rattle.formats.specs.declared.read_err.ReadErr.{ReadErr}
 use Rattle.formats.specs.declared.read_err.ReadErr.TheVariants as of_read
-use Rattle.stable_objects.specs.Growing.{IsCutAt, IsGrowing}
-use Rattle.stable_objects.specs.Larger.{IsFirst, IsLarger, HasLastHead}
+use Rattle.stable_objects.specs.Upgrades.Growing.{IsCutAt, IsGrowing}
+use Rattle.stable_objects.specs.Upgrades.Larger.{IsFirst, IsLarger, HasLastHead}
 use Rattle.store_engine.specs.Engine.{EngineView, Holds, InEachImage, IsAttached, forced_in, params_of}
 use Rattle.store_engine.specs.Store.{Stands}
 use Rattle.store_engine.specs.declared.upgrade_err.UpgradeErr.{UpgradeErr}

@@ -10,7 +10,7 @@ use Rattle.formats.specs.declared.read_err.ReadErr.{ReadErr}
 use Rattle.formats.specs.declared.read_err.ReadErr.TheVariants.{Damaged}
 use Rattle.explain_core.specs.World.{World}
 use Rattle.running_store.specs.Calls.{ending_of_read}
-use Rattle.running_store.specs.Limits.{objects_within}
+use Rattle.running_store.specs.Laid.Limits.{objects_within}
 use Rattle.checkpointing.specs.Courses.{upkeep_course}
 use Rattle.checkpointing.specs.Told.{TellsUpkeep}
 use Rattle.checkpointing.specs.declared.due.Due.{Due}

@@ -1,7 +1,7 @@
 // Which objects are empty, as far as memory tells.
 ghost use Rattle.std.specs.Prelude.{◌≡◌, ◌==◌, ◌<◌, ℕ, List, Option, length};
 ghost use Rattle.formats.specs.declared.params.Params.{Params};
-ghost use Rattle.running_store.specs.Lengths.{IsNextEmpty, length_at};
+ghost use Rattle.running_store.specs.Laid.Lengths.{IsNextEmpty, length_at};
 ghost use Rattle.store_engine.specs.Engine.{Holds, params_of};
 ghost use Rattle.store_engine.specs.Store.{state_of};
 

@@ -1,7 +1,7 @@
 // A store of version 1 becomes a larger one of version 2.
 ghost use Rattle.std.specs.Prelude.{◌↔◌, IsTrue};
 ghost use Rattle.formats.specs.Objects.{IsInRange};
-ghost use Rattle.stable_objects.specs.Larger.{IsLarger};
+ghost use Rattle.stable_objects.specs.Upgrades.Larger.{IsLarger};
 ghost use Rattle.store_engine.specs.Upgrading.{IsUpgrading};
 
 use crate::Engine;

@@ -1,6 +1,6 @@
 // Upkeep, at a pace.
 ghost use Rattle.std.specs.Prelude.{◌≡◌, ◌≤◌, ◌^◌, ◌/◌, false, min, None, IfSome};
-ghost use Rattle.running_store.specs.Limits.{objects_within};
+ghost use Rattle.running_store.specs.Laid.Limits.{objects_within};
 ghost use Rattle.store_engine.specs.Engine.{group_size, params_of, used_in};
 ghost use Rattle.store_engine.specs.Upkept.{IsKeptUp, IsLeftAlone, IsModest};
 

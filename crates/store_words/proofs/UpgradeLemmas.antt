@@ -15,10 +15,10 @@ use Rattle.restart.specs.Starts.{OrAtStart, or_weaker, from_settled}
 use Rattle.restart.specs.Opening.{KeepsLayout}
 use Rattle.restart.specs.WellFormed.{opens_gate}
 use Rattle.op_codec.specs.AllOps.{all_meaning}
-use Rattle.stable_objects.specs.Growing.{IsGrown, IsGrowing, IsStillOrGrown}
-use Rattle.stable_objects.specs.Larger.{IsLarger}
+use Rattle.stable_objects.specs.Upgrades.Growing.{IsGrown, IsGrowing, IsStillOrGrown}
+use Rattle.stable_objects.specs.Upgrades.Larger.{IsLarger}
 use Rattle.stable_objects.specs.SlotsView.{SlotsView}
-use Rattle.running_store.specs.Forced.{files_shown}
+use Rattle.running_store.specs.Steps.Forced.{files_shown}
 use Rattle.standing.specs.Standing.{FilesShow}
 use Rattle.store_engine.specs.Engine.{EngineView, InEachImage, forced_in, params_of}
 use Rattle.store_engine.specs.Grouping.{ungrouped}

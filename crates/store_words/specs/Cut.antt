@@ -3,7 +3,7 @@ use Rattle.std.specs.Prelude.{◌≡◌, ◌⊎◌, ◌+◌, ◌++◌, ℕ, List
 use Rattle.disk_model.specs.Disk.{Files, Disk}
 use Rattle.disk_model.specs.declared.machine.FileNo.TheVariants.{Objects}
 use Rattle.formats.specs.Objects.{last_slot, layout_in}
-use Rattle.stable_objects.specs.Larger.{HasLastHead}
+use Rattle.stable_objects.specs.Upgrades.Larger.{HasLastHead}
 use Rattle.stable_objects.specs.SlotsView.{SlotsView, AreOf}
 use Rattle.shell_base.specs.Notices as notices
 use Rattle.shell_base.specs.Store.{IsWellFormed}

@@ -4,8 +4,8 @@ use Rattle.disk_model.specs.Disk.{Files, Disk, LeavesOnly, IsSettled, OthersStay
 use Rattle.disk_model.specs.declared.machine.FileNo.TheVariants.{Objects}
 use Rattle.formats.specs.Objects.{IsObjectsFile, cell_of}
 use Rattle.formats.specs.declared.params.Params.{Params}
-use Rattle.stable_objects.specs.Growing.{IsGrown}
-use Rattle.stable_objects.specs.Larger.{IsLarger}
+use Rattle.stable_objects.specs.Upgrades.Growing.{IsGrown}
+use Rattle.stable_objects.specs.Upgrades.Larger.{IsLarger}
 use Rattle.explain_core.specs.World.{World}
 use Rattle.standing.specs.Standing.{FilesShow}
 use Rattle.restart.specs.Starts.{OrAtStart}

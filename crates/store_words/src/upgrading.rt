@@ -4,7 +4,7 @@ ghost use Rattle.disk_model.specs.Disk.{Passes, Rises, Runs, Same, SaysFront};
 ghost use Rattle.disk_model.specs.declared.machine.FileNo.TheVariants.{Objects};
 ghost use Rattle.formats.specs.Objects.{IsInRange};
 ghost use Rattle.formats.specs.declared.params.Params.{Params as Numbers};
-ghost use Rattle.stable_objects.specs.Larger.{IsLarger};
+ghost use Rattle.stable_objects.specs.Upgrades.Larger.{IsLarger};
 ghost use Rattle.store_engine.specs.Engine.{InEachImage, forced_in};
 ghost use Rattle.store_engine.specs.Upgrading.{IsSecond, IsUncut};
 ghost use Rattle.shell_base.specs.Judging.{CountsFaults};

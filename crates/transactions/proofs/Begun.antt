@@ -10,7 +10,7 @@ use Rattle.formats.specs.declared.params.Params.{Params}
 use Rattle.explain_core.specs.History.{Member, commands_of}
 use Rattle.explain_core.specs.World.{World, Step, run, step}
 use Rattle.explain_core.specs.World.Step.{Begin, Block_gate}
-use Rattle.running_store.specs.Appended.{next_lsn}
+use Rattle.running_store.specs.Steps.Appended.{next_lsn}
 use Rattle.running_store.specs.Courses.{force_steps, waits}
 use Rattle.store_engine.specs.Calls.{IsBeginning, work_of_force}
 use Rattle.store_engine.specs.declared.work_err.WorkErr.{WorkErr}

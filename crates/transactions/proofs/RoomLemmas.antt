@@ -9,7 +9,7 @@ use Rattle.formats.specs.declared.params.Params.{Params}
 use Rattle.explain_core.specs.History.Member.{Command}
 use Rattle.explain_core.specs.World.{World, run, step, end_of}
 use Rattle.explain_core.specs.World.Step.{Append}
-use Rattle.running_store.specs.Commands.{command_length}
+use Rattle.running_store.specs.Calls.Commands.{command_length}
 use Rattle.running_store.specs.Courses.{Course, Stop, and_then, course, grown, waits}
 use Rattle.running_store.specs.Courses.Stop.{Through}
 use Rattle.running_store.specs.Taking.Ending.{Stopped}

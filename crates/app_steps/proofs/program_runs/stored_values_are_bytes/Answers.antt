@@ -1,6 +1,6 @@
 use Rattle.std.proofs.Common.{◌∙◌}
 use Rattle.formats.specs.Objects.{bounds_of}
-use Rattle.running_store.specs.Among.{small_bounds}
+use Rattle.running_store.specs.Laid.Among.{small_bounds}
 use Rattle.app_steps.proofs.Given.{value_bytes}
 use Rattle.app_steps.proofs.program_runs.stored_values_are_bytes.Goals as goal
 

@@ -2,7 +2,7 @@ use Rattle.std.proofs.Common.{◌∙◌, subst, List}
 use Rattle.oper_core.specs.State.{start}
 use Rattle.formats.specs.Objects.{IsInRange, bounds_of}
 use Rattle.op_codec.specs.AllOps.{AllOps, all_meaning}
-use Rattle.running_store.specs.Among.{small_bounds}
+use Rattle.running_store.specs.Laid.Among.{small_bounds}
 use Rattle.store_engine.specs.Store.{meaning_in}
 use Rattle.app_steps.specs.Programs.{AreOfBytes}
 use Rattle.app_steps.proofs.Accepted.{AreAccepted, back_accepted, history_accepted}

@@ -1,8 +1,8 @@
 use Rattle.std.proofs.Common.{◌<◌, ◌^◌, ap, arith, length}
 use Rattle.write_graph.specs.Graph.{lsns}
-use Rattle.running_store.specs.Among.{all_among}
+use Rattle.running_store.specs.Laid.Among.{all_among}
 use Rattle.running_store.specs.Parts.{volatile}
-use Rattle.cache_manager.proofs.DueNodes.{chosen_full, chosen_next, chosen_over, chosen_start}
+use Rattle.cache_manager.proofs.OneRound.DueNodes.{chosen_full, chosen_next, chosen_over, chosen_start}
 use Rattle.cache_manager.proofs.choosing.choose_round.Goals as goal
 
 pub loop-name-init : goal.loop-name-init

@@ -1,6 +1,6 @@
 use Rattle.std.proofs.Common.{◌-◌, ◌^◌, ◌≤◌, length}
 use Rattle.running_store.specs.Parts.{volatile}
-use Rattle.cache_manager.proofs.DueNodes.{IsChosen}
+use Rattle.cache_manager.proofs.OneRound.DueNodes.{IsChosen}
 use Rattle.cache_manager.proofs.choosing.choose_round.Given as goal
 
 abbrev pub invariant-loop-name : goal.invariant-loop-name

@@ -3,7 +3,7 @@ use Rattle.write_graph.specs.Graph.{IsNodeNamed}
 use Rattle.running_store.specs.Parts.{volatile}
 use Rattle.cache_manager.specs.Beside.{IsFresh}
 use Rattle.cache_manager.specs.Thin.{IsWork}
-use Rattle.cache_manager.proofs.DueNodes.{first_due, not_due}
+use Rattle.cache_manager.proofs.OneRound.DueNodes.{first_due, not_due}
 use Rattle.cache_manager.proofs.choosing.only_object.Goals as goal
 
 pub returns-then-not-may_finish-clause-none : goal.returns-then-not-may_finish-clause-none

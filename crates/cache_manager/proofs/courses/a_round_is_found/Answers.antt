@@ -1,7 +1,7 @@
 use Rattle.formats.specs.Objects.{bounds_of}
 use Rattle.running_store.specs.Parts.{meaning_in}
-use Rattle.cache_manager.proofs.DueWorlds.{chosen_is}
-use Rattle.cache_manager.proofs.ThinWorlds.{store_small}
+use Rattle.cache_manager.proofs.OneRound.DueWorlds.{chosen_is}
+use Rattle.cache_manager.proofs.ThinNode.Worlds.{store_small}
 use Rattle.cache_manager.proofs.courses.a_round_is_found.Goals as goal
 
 pub returns : goal.returns

@@ -1,5 +1,5 @@
 use Rattle.cache_manager.specs.InstallCourses.{may_flush}
-use Rattle.cache_manager.proofs.RoundFull.{full_or_all}
+use Rattle.cache_manager.proofs.OneRound.Full.{full_or_all}
 use Rattle.cache_manager.proofs.courses.a_round_is_full.Goals as goal
 
 pub returns : goal.returns

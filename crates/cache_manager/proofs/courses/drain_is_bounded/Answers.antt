@@ -1,9 +1,9 @@
 use Rattle.std.proofs.Common.{arith}
 use Rattle.running_store.specs.Running.{KeepsSound}
 use Rattle.cache_manager.specs.InstallCourses.{round_limit}
-use Rattle.cache_manager.proofs.InstallsLog.{turns_logging}
-use Rattle.cache_manager.proofs.RoundGoes.{MayRound}
-use Rattle.cache_manager.proofs.DrainTurns.{all_turns_remove}
+use Rattle.cache_manager.proofs.OneInstall.Logs.{turns_logging}
+use Rattle.cache_manager.proofs.OneRound.Goes.{MayRound}
+use Rattle.cache_manager.proofs.FullDrain.Turns.{all_turns_remove}
 use Rattle.cache_manager.proofs.courses.drain_is_bounded.Goals as goal
 
 pub returns : goal.returns

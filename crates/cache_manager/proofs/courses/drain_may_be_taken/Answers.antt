@@ -2,8 +2,8 @@ use Rattle.std.proofs.Common.{arith}
 use Rattle.cache_manager.specs.InstallCourses.{drain_course, round_limit}
 use Rattle.running_store.specs.Running.{KeepsSound, may_be_taken}
 use Rattle.cache_manager.specs.Upkeep.{upkeep_drain}
-use Rattle.cache_manager.proofs.RoundGoes.{MayRound}
-use Rattle.cache_manager.proofs.DrainTurns.{all_turns_go}
+use Rattle.cache_manager.proofs.OneRound.Goes.{MayRound}
+use Rattle.cache_manager.proofs.FullDrain.Turns.{all_turns_go}
 use Rattle.cache_manager.proofs.courses.drain_may_be_taken.Goals as goal
 
 pub returns : goal.returns

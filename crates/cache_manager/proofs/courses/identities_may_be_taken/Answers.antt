@@ -3,7 +3,7 @@ use Rattle.std.specs.Prelude.{All}
 use Rattle.cache_manager.specs.InstallCourses.{identities}
 use Rattle.running_store.specs.Running.{KeepsSound, may_be_taken}
 use Rattle.cache_manager.specs.Upkeep.{upkeep_identities}
-use Rattle.cache_manager.proofs.Logging.{identities_run}
+use Rattle.cache_manager.proofs.IdentityWrite.Logging.{identities_run}
 use Rattle.cache_manager.proofs.courses.identities_may_be_taken.Goals as goal
 
 pub returns : goal.returns

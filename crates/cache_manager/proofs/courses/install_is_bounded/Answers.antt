@@ -1,6 +1,6 @@
 use Rattle.running_store.specs.Running.{KeepsSound}
-use Rattle.cache_manager.proofs.InstallsLog.{install_logging}
-use Rattle.cache_manager.proofs.Removals.{install_removes, install_removes_one}
+use Rattle.cache_manager.proofs.OneInstall.Logs.{install_logging}
+use Rattle.cache_manager.proofs.Removal.Members.{install_removes, install_removes_one}
 use Rattle.cache_manager.proofs.courses.install_is_bounded.Goals as goal
 
 pub returns : goal.returns

@@ -1,7 +1,7 @@
 use Rattle.cache_manager.specs.InstallCourses.{install_course}
 use Rattle.running_store.specs.Running.{KeepsSound, may_be_taken}
 use Rattle.cache_manager.specs.Upkeep.{upkeep_install}
-use Rattle.cache_manager.proofs.Installs.{install_allowed}
+use Rattle.cache_manager.proofs.OneInstall.Goes.{install_allowed}
 use Rattle.cache_manager.proofs.courses.install_may_be_taken.Goals as goal
 
 pub returns : goal.returns

@@ -1,6 +1,6 @@
 use Rattle.running_store.specs.Running.{KeepsSound}
-use Rattle.cache_manager.proofs.Copying.{drain_beside, install_beside, turn_beside}
-use Rattle.cache_manager.proofs.RoundGoes.{MayRound}
+use Rattle.cache_manager.proofs.OneInstall.Copying.{drain_beside, install_beside, turn_beside}
+use Rattle.cache_manager.proofs.OneRound.Goes.{MayRound}
 use Rattle.cache_manager.proofs.courses.installs_go_beside_a_copy.Goals as goal
 
 pub returns : goal.returns

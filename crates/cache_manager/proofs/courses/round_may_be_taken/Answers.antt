@@ -1,7 +1,7 @@
 use Rattle.running_store.specs.Running.{KeepsSound, may_be_taken}
 use Rattle.cache_manager.specs.InstallCourses.{round_steps}
 use Rattle.cache_manager.specs.Upkeep.{upkeep_round}
-use Rattle.cache_manager.proofs.RoundGoes.{MayRound, round_goes}
+use Rattle.cache_manager.proofs.OneRound.Goes.{MayRound, round_goes}
 use Rattle.cache_manager.proofs.courses.round_may_be_taken.Goals as goal
 
 pub returns : goal.returns

@@ -1,8 +1,8 @@
 use Rattle.cache_manager.specs.InstallCourses.{turn_course}
 use Rattle.running_store.specs.Running.{KeepsSound, may_be_taken}
 use Rattle.cache_manager.specs.Upkeep.{upkeep_turn}
-use Rattle.cache_manager.proofs.DrainTurns.{turn_goes}
-use Rattle.cache_manager.proofs.RoundGoes.{MayRound}
+use Rattle.cache_manager.proofs.FullDrain.Turns.{turn_goes}
+use Rattle.cache_manager.proofs.OneRound.Goes.{MayRound}
 use Rattle.cache_manager.proofs.courses.turn_may_be_taken.Goals as goal
 
 pub returns : goal.returns

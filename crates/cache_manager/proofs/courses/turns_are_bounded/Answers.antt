@@ -1,7 +1,7 @@
 use Rattle.running_store.specs.Running.{KeepsSound}
-use Rattle.cache_manager.proofs.DrainTurns.{all_turns_go}
-use Rattle.cache_manager.proofs.InstallsLog.{turns_logging}
-use Rattle.cache_manager.proofs.RoundGoes.{MayRound}
+use Rattle.cache_manager.proofs.FullDrain.Turns.{all_turns_go}
+use Rattle.cache_manager.proofs.OneInstall.Logs.{turns_logging}
+use Rattle.cache_manager.proofs.OneRound.Goes.{MayRound}
 use Rattle.cache_manager.proofs.courses.turns_are_bounded.Goals as goal
 
 pub returns : goal.returns

@@ -5,7 +5,7 @@ use Rattle.write_graph.specs.Graph.{lsns}
 use Rattle.oper_core.specs.Meaning.{IsSmall}
 use Rattle.oper_core.specs.declared.bounds.Bounds.{Bounds}
 use Rattle.explain_core.specs.World.{run}
-use Rattle.running_store.specs.CallLaws.{IsLogging, logging_none, logging_twice, unbroken_after}
+use Rattle.running_store.specs.Calls.Laws.{IsLogging, logging_none, logging_twice, unbroken_after}
 use Rattle.running_store.specs.Calls.{Never, call_none}
 use Rattle.running_store.specs.Courses.{Course, course}
 use Rattle.cache_manager.specs.InstallCourses.{drain_course, removals, round_limit, turn_course}
@@ -13,17 +13,17 @@ use Rattle.running_store.specs.Courses.Stop.{Through}
 use Rattle.running_store.specs.Kept.{StopsAt}
 use Rattle.formats.specs.Limits.{log_limit}
 use Rattle.running_store.specs.Parts.{Parts, meaning_in}
-use Rattle.running_store.specs.Rests.{rest_next, rest_same}
+use Rattle.running_store.specs.Taking.Rests.{rest_next, rest_same}
 use Rattle.running_store.specs.Running.{KeepsSound}
 use Rattle.running_store.specs.StoreView.{log_length, logged_since}
 use Rattle.running_store.specs.Taking.{Ending, Takes}
 use Rattle.running_store.specs.Taking.Ending.{Done}
-use Rattle.running_store.specs.TakesLaws.{both, takes_both, takes_first, takes_none, takes_same}
+use Rattle.running_store.specs.Taking.Laws.{both, takes_both, takes_first, takes_none, takes_same}
 use Rattle.cache_manager.specs.Endings.{err_cuts, same_ends}
 use Rattle.cache_manager.specs.Told.{TellsTurn, installed}
-use Rattle.cache_manager.proofs.DirtyLogs.{logs_few, logs_none, logs_twice}
-use Rattle.cache_manager.proofs.DrainTaken.{all_clean, drained, few_entries, removes, turns}
-use Rattle.cache_manager.proofs.RoundGoes.{MayRound}
+use Rattle.cache_manager.proofs.ToLog.DirtyLogs.{logs_few, logs_none, logs_twice}
+use Rattle.cache_manager.proofs.FullDrain.Taken.{all_clean, drained, few_entries, removes, turns}
+use Rattle.cache_manager.proofs.OneRound.Goes.{MayRound}
 use Rattle.cache_manager.proofs.draining.drain.Goals as goal
 
 -- what a turn tells that installed nodes, and one that found none

@@ -1,13 +1,13 @@
 use Rattle.std.proofs.Common.{◌≡◌, ◌+◌, ◌*◌, ◌-◌, ◌≤◌, ◌^◌, length}
 use Rattle.formats.specs.declared.params.Params.{Params}
 use Rattle.explain_core.specs.World.{World}
-use Rattle.running_store.specs.CallLaws.{IsLogging}
+use Rattle.running_store.specs.Calls.Laws.{IsLogging}
 use Rattle.cache_manager.specs.InstallCourses.{drain_course, removals}
 use Rattle.cache_manager.specs.LogsDirty.{LogsDirty}
 use Rattle.running_store.specs.Kept.{StopsAt}
 use Rattle.formats.specs.Limits.{log_limit}
 use Rattle.running_store.specs.Parts.{Shows, meaning_in}
-use Rattle.running_store.specs.Rests.{IsRest}
+use Rattle.running_store.specs.Taking.Rests.{IsRest}
 use Rattle.running_store.specs.StoreView.{log_length, next_of}
 use Rattle.running_store.specs.Taking.Ending.{Done}
 use Rattle.cache_manager.proofs.draining.drain.Given as goal

@@ -2,11 +2,11 @@ use Rattle.std.proofs.Common.{◌≡◌, ◌∙◌, ap, subst, ℕ, arith}
 use Rattle.std.specs.Prelude.{IfOk}
 use Rattle.running_store.specs.Parts.{meaning_in}
 use Rattle.running_store.specs.StoreView.{log_length}
-use Rattle.running_store.specs.TakesLaws.{takes_same}
+use Rattle.running_store.specs.Taking.Laws.{takes_same}
 use Rattle.cache_manager.specs.Endings.{ending_of}
 use Rattle.cache_manager.specs.InstallCourses.{removals, round_limit, turn_course}
 use Rattle.cache_manager.specs.Told.{installed}
-use Rattle.cache_manager.proofs.TurnTaken.{limit_is}
+use Rattle.cache_manager.proofs.FullDrain.TurnTaken.{limit_is}
 use Rattle.cache_manager.proofs.draining.take_full_turn.Goals as goal
 
 pub take_turn-requires-clause-some : goal.take_turn-requires-clause-some

@@ -1,7 +1,7 @@
 use Rattle.std.proofs.Common.{◌∙◌, sym, ap, ℕ, List, [], ◌∷◌, ◌++◌, length, map, take, slice_index}
 use Rattle.std.proofs.lemmas.List.{map-append, take_all, take_more}
 use Rattle.running_store.specs.Laid.{values_in}
-use Rattle.running_store.specs.InUse.{dirty_cached}
+use Rattle.running_store.specs.Parts.InUse.{dirty_cached}
 use Rattle.cache_manager.proofs.identities.lengths_of.Goals as goal
 
 pub value-requires : goal.value-requires

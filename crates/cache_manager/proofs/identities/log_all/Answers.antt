@@ -1,18 +1,18 @@
 use Rattle.std.proofs.Common.{◌≡◌, ◌∙◌, sym, subst, ap, ℕ, ◌+◌, suc, List, [], ◌∷◌, ◌++◌, append_assoc, drop, slice_index, length, refl, arith}
 use Rattle.std.proofs.lemmas.List.{append-nil, drop_all}
 use Rattle.install_order.specs.declared.entry.Entry.{Entry}
-use Rattle.running_store.specs.CallLaws.{IsLogging, logging_none, logging_twice, unbroken_after}
+use Rattle.running_store.specs.Calls.Laws.{IsLogging, logging_none, logging_twice, unbroken_after}
 use Rattle.running_store.specs.Calls.{Never, call_none}
 use Rattle.cache_manager.specs.InstallCourses.{identities, identity_course}
 use Rattle.cache_manager.specs.LogsDirty.{identity_entries}
-use Rattle.running_store.specs.Keeping.{longer_here, longer_twice}
+use Rattle.running_store.specs.Kept.Keeping.{longer_here, longer_twice}
 use Rattle.running_store.specs.Kept.{IsLonger, StopsAt}
 use Rattle.formats.specs.Limits.{log_limit}
-use Rattle.running_store.specs.Rests.{IsRest, rest_next}
+use Rattle.running_store.specs.Taking.Rests.{IsRest, rest_next}
 use Rattle.running_store.specs.StoreView.{logged_since, next_of}
 use Rattle.running_store.specs.Taking.{Ending, Takes}
 use Rattle.running_store.specs.Taking.Ending.{Done}
-use Rattle.running_store.specs.TakesLaws.{takes_first, takes_none}
+use Rattle.running_store.specs.Taking.Laws.{takes_first, takes_none}
 use Rattle.cache_manager.specs.Endings.{err_cuts, same_ends}
 use Rattle.cache_manager.proofs.Lists.{first_left}
 use Rattle.cache_manager.proofs.identities.log_all.Goals as goal

@@ -1,10 +1,10 @@
 use Rattle.std.proofs.Common.{◌≡◌, ◌++◌, drop}
-use Rattle.running_store.specs.CallLaws.{IsLogging}
+use Rattle.running_store.specs.Calls.Laws.{IsLogging}
 use Rattle.cache_manager.specs.InstallCourses.{identities}
 use Rattle.cache_manager.specs.LogsDirty.{identity_entries}
 use Rattle.running_store.specs.Kept.{IsLonger, StopsAt}
 use Rattle.formats.specs.Limits.{log_limit}
-use Rattle.running_store.specs.Rests.{IsRest}
+use Rattle.running_store.specs.Taking.Rests.{IsRest}
 use Rattle.running_store.specs.StoreView.{next_of}
 use Rattle.running_store.specs.Taking.Ending.{Done}
 use Rattle.cache_manager.proofs.identities.log_all.Given as goal

@@ -8,7 +8,7 @@ use Rattle.disk_model.specs.declared.machine.FileNo.TheVariants.{Objects}
 use Rattle.identity_writes.specs.Plan.{IsKeptBeside, but_kept}
 use Rattle.log_blocks.specs.LogView.{used_of}
 use Rattle.dirty_cache.specs.Contents.{is_dirty}
-use Rattle.running_store.specs.CallLaws.{IsLogging, call_short, logging_none}
+use Rattle.running_store.specs.Calls.Laws.{IsLogging, call_short, logging_none}
 use Rattle.running_store.specs.Calls.{Never, call_none}
 use Rattle.running_store.specs.Courses.{cached_length}
 use Rattle.cache_manager.specs.InstallCourses.{but_longest, identities}
@@ -20,9 +20,9 @@ use Rattle.formats.specs.Limits.{log_limit}
 use Rattle.running_store.specs.Parts.{Parts, meaning_in}
 use Rattle.running_store.specs.Taking.{Ending, Takes}
 use Rattle.running_store.specs.Taking.Ending.{Short}
-use Rattle.running_store.specs.TakesLaws.{takes_nothing, takes_same}
+use Rattle.running_store.specs.Taking.Laws.{takes_nothing, takes_same}
 use Rattle.cache_manager.specs.Endings.{ending_of, short_ends}
-use Rattle.cache_manager.proofs.Planned.{planned_others, logged_some, others_all, lengths_shown}
+use Rattle.cache_manager.proofs.NextNode.Planned.{planned_others, logged_some, others_all, lengths_shown}
 use Rattle.cache_manager.proofs.identities.log_others.Goals as goal
 
 pub lengths_of-requires : goal.lengths_of-requires

@@ -3,27 +3,27 @@ use Rattle.std.specs.Prelude.{◌^◌}
 use Rattle.disk_model.specs.Disk.{Disk, IsDisk}
 use Rattle.dirty_cache.specs.Contents.{held, is_dirty}
 use Rattle.log_records.specs.RecordLog.{RecordLogView}
-use Rattle.running_store.specs.AfterReads.{call_stopped}
-use Rattle.running_store.specs.CallLaws.{IsLogging, logging_none, logging_twice, unbroken_after}
+use Rattle.running_store.specs.Calls.AfterReads.{call_stopped}
+use Rattle.running_store.specs.Calls.Laws.{IsLogging, logging_none, logging_twice, unbroken_after}
 use Rattle.running_store.specs.Calls.{IsForcedOrNot, Never, call_as}
-use Rattle.running_store.specs.Commands.{left_call, left_takes}
+use Rattle.running_store.specs.Calls.Commands.{left_call, left_takes}
 use Rattle.running_store.specs.Courses.{identity_length}
 use Rattle.cache_manager.specs.InstallCourses.{identity_course}
-use Rattle.running_store.specs.InUse.{dirty_cached}
-use Rattle.running_store.specs.Keeping.{appended_longer}
+use Rattle.running_store.specs.Parts.InUse.{dirty_cached}
+use Rattle.running_store.specs.Kept.Keeping.{appended_longer}
 use Rattle.running_store.specs.Kept.{StopsAt}
 use Rattle.running_store.specs.Laid.{Laid}
 use Rattle.formats.specs.Limits.{log_limit}
 use Rattle.running_store.specs.StoreView.{StoreView, logged_since, next_of}
 use Rattle.running_store.specs.Taking.{Ending, Takes}
 use Rattle.running_store.specs.Taking.Ending.{Done, Stopped, Failed, Short}
-use Rattle.running_store.specs.TakesLaws.{takes_both, takes_first}
-use Rattle.running_store.specs.Writes.{write_call, write_longer, write_takes}
-use Rattle.running_store.specs.Written.{room_is_place, value_cached}
+use Rattle.running_store.specs.Taking.Laws.{takes_both, takes_first}
+use Rattle.running_store.specs.Calls.Writes.{write_call, write_longer, write_takes}
+use Rattle.running_store.specs.Steps.Written.{room_is_place, value_cached}
 use Rattle.cache_manager.specs.Endings.{failed_ends, short_ends}
 use Rattle.cache_manager.specs.LogsDirty.{identity_entries}
 use Rattle.cache_manager.specs.RecordPlace.{HasRecordPlace, LacksRecordPlace}
-use Rattle.cache_manager.proofs.IdentityTakes.{length_shown, place, refused, room, takes_identity, takes_refused, takes_unforced, takes_written}
+use Rattle.cache_manager.proofs.IdentityWrite.Taken.{length_shown, place, refused, room, takes_identity, takes_refused, takes_unforced, takes_written}
 use Rattle.cache_manager.proofs.identity.log_identity.Given.{Over}
 use Rattle.cache_manager.proofs.identity.log_identity.Goals.{In-Some, In_ok-make_block_room}
 use Rattle.cache_manager.proofs.identity.log_identity.Goals as goal

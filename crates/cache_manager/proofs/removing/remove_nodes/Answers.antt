@@ -1,12 +1,12 @@
 use Rattle.std.proofs.Common.{sym, subst, ℕ, ◌+◌, List, drop, slice_index}
 use Rattle.std.proofs.lemmas.List.{drop_all}
-use Rattle.running_store.specs.CallLaws.{failed_force, unbroken_after}
+use Rattle.running_store.specs.Calls.Laws.{failed_force, unbroken_after}
 use Rattle.running_store.specs.Calls.{Never}
 use Rattle.running_store.specs.Taking.{Ending}
 use Rattle.running_store.specs.Taking.Ending.{Done, Failed}
 use Rattle.cache_manager.specs.RoundNodes.{AreRemoved, NameMinimal}
 use Rattle.cache_manager.proofs.Lists.{first_left}
-use Rattle.cache_manager.proofs.NodesLeave.{minimal_left, removed_failed, removed_next, removed_none}
+use Rattle.cache_manager.proofs.Removal.Entries.{minimal_left, removed_failed, removed_next, removed_none}
 use Rattle.cache_manager.proofs.removing.remove_nodes.Goals as goal
 
 pub loop-n-init : goal.loop-n-init

@@ -6,18 +6,18 @@ use Rattle.log_records.specs.RecordLog.{RecordLogView}
 use Rattle.install_order.specs.declared.entry.Entry.{Entry}
 use Rattle.write_graph.specs.Graph.{IsNodeNamed, NamesMinimal, lsns}
 use Rattle.dirty_cache.specs.Contents.{is_dirty}
-use Rattle.running_store.specs.CallLaws.{failed_force, unbroken_after}
+use Rattle.running_store.specs.Calls.Laws.{failed_force, unbroken_after}
 use Rattle.running_store.specs.Calls.{IsCall, Never, call_twice}
 use Rattle.running_store.specs.Courses.{course}
-use Rattle.running_store.specs.Flushed.{DirtiesNone}
+use Rattle.running_store.specs.Laid.Flushed.{DirtiesNone}
 use Rattle.cache_manager.specs.InstallCourses.{finish_steps}
 use Rattle.running_store.specs.Courses.Stop.{Through}
 use Rattle.running_store.specs.StoreView.{StoreView, next_of}
 use Rattle.running_store.specs.Taking.{Ending, Takes}
 use Rattle.running_store.specs.Taking.Ending.{Done, Failed}
-use Rattle.cache_manager.proofs.DirtyLogs.{logs_removal}
-use Rattle.cache_manager.proofs.NextTaken.{takes_finished, takes_unfinished, takes_unforced}
-use Rattle.cache_manager.proofs.NextWork.{work_dirty}
+use Rattle.cache_manager.proofs.ToLog.DirtyLogs.{logs_removal}
+use Rattle.cache_manager.proofs.NextNode.Taken.{takes_finished, takes_unfinished, takes_unforced}
+use Rattle.cache_manager.proofs.NextNode.Work.{work_dirty}
 use Rattle.cache_manager.proofs.rounds.finish_next.Goals as goal
 
 pub finish-requires-clause-unbroken : goal.finish-requires-clause-unbroken

@@ -12,26 +12,26 @@ use Rattle.log_records.specs.RecordLog.{RecordLogView}
 use Rattle.install_order.specs.declared.entry.Entry.{Entry}
 use Rattle.write_graph.specs.Graph.{IsLeast, NamesMinimal, lsns}
 use Rattle.explain_core.specs.World.{World, run}
-use Rattle.running_store.specs.CallLaws.{IsLogging, call_short, logging_none, logging_twice, unbroken_after}
+use Rattle.running_store.specs.Calls.Laws.{IsLogging, call_short, logging_none, logging_twice, unbroken_after}
 use Rattle.running_store.specs.Calls.{IsCall, Never, call_none}
 use Rattle.running_store.specs.Courses.{Course, cached_length, course}
 use Rattle.running_store.specs.Courses.Stop.{Through}
-use Rattle.running_store.specs.Keeping.{longer_here, longer_twice}
+use Rattle.running_store.specs.Kept.Keeping.{longer_here, longer_twice}
 use Rattle.running_store.specs.Kept.{StopsAt}
 use Rattle.running_store.specs.Parts.{Shows, meaning_in}
-use Rattle.running_store.specs.Rests.{rest_next, rest_same}
+use Rattle.running_store.specs.Taking.Rests.{rest_next, rest_same}
 use Rattle.running_store.specs.Running.{KeepsSound}
 use Rattle.running_store.specs.StoreView.{log_length, logged_since}
 use Rattle.running_store.specs.Taking.{Ending, Takes}
 use Rattle.running_store.specs.Taking.Ending.{Done, Failed, Short}
-use Rattle.running_store.specs.TakesLaws.{both, takes_first, takes_none, takes_nothing, takes_same}
+use Rattle.running_store.specs.Taking.Laws.{both, takes_first, takes_none, takes_nothing, takes_same}
 use Rattle.cache_manager.specs.Beside.{HasCopied, IsFresh}
 use Rattle.cache_manager.specs.Endings.{err_cuts, failed_ends, same_ends, short_ends}
 use Rattle.cache_manager.specs.InstallCourses.{but_longest, finish_steps, flushed_in, identities, install_course}
-use Rattle.cache_manager.proofs.DirtyLogs.{logs_none, logs_round, logs_twice}
-use Rattle.cache_manager.proofs.NextWork.{work_dirty}
-use Rattle.cache_manager.proofs.RoundsTaken.{IsNext, finish_flush, finishes, logs, logs_flush, next_here, none_left}
-use Rattle.cache_manager.proofs.Telling.{tells_none, told_done, told_none}
+use Rattle.cache_manager.proofs.ToLog.DirtyLogs.{logs_none, logs_round, logs_twice}
+use Rattle.cache_manager.proofs.NextNode.Work.{work_dirty}
+use Rattle.cache_manager.proofs.OneInstall.Taken.{IsNext, finish_flush, finishes, logs, logs_flush, next_here, none_left}
+use Rattle.cache_manager.proofs.OneInstall.Telling.{tells_none, told_done, told_none}
 use Rattle.cache_manager.proofs.rounds.install_one.Given.{Over}
 use Rattle.cache_manager.proofs.rounds.install_one.Goals.{After-finish_next, After-graph-in-Some-2, After-log_others, After-next}
 use Rattle.cache_manager.proofs.rounds.install_one.Goals as goal

@@ -1,13 +1,13 @@
 use Rattle.std.proofs.Common.{◌≡◌, ◌+◌, ◌-◌, ◌^◌, ℕ, []}
 use Rattle.formats.specs.declared.params.Params.{Params}
 use Rattle.explain_core.specs.World.{World}
-use Rattle.running_store.specs.CallLaws.{IsLogging}
+use Rattle.running_store.specs.Calls.Laws.{IsLogging}
 use Rattle.cache_manager.specs.InstallCourses.{flushed_in, install_course}
 use Rattle.cache_manager.specs.LogsDirty.{LogsDirty}
 use Rattle.running_store.specs.Kept.{IsLonger, StopsAt}
 use Rattle.formats.specs.Limits.{log_limit}
 use Rattle.running_store.specs.Parts.{Shows, meaning_in}
-use Rattle.running_store.specs.Rests.{IsRest}
+use Rattle.running_store.specs.Taking.Rests.{IsRest}
 use Rattle.running_store.specs.StoreView.{log_length, next_of}
 use Rattle.running_store.specs.Taking.Ending.{Done}
 use Rattle.cache_manager.proofs.rounds.install_one.Given as goal

@@ -1,7 +1,7 @@
 use Rattle.std.proofs.Common.{◌≡◌, ◌∙◌, sym, subst, ap, ℕ, ◌≤◌, length, arith, Option, None, Some, refl}
 use Rattle.std.specs.Prelude.{IfOk, max}
 use Rattle.formats.specs.Limits.{log_limit}
-use Rattle.running_store.specs.CallLaws.{IsLogging}
+use Rattle.running_store.specs.Calls.Laws.{IsLogging}
 use Rattle.running_store.specs.Kept.{StopsAt}
 use Rattle.running_store.specs.Parts.{Parts, meaning_in}
 use Rattle.running_store.specs.StoreView.{log_length}

@@ -1,8 +1,8 @@
 use Rattle.std.proofs.Common.{◌<◌, ◌^◌, refl, arith}
 use Rattle.write_graph.specs.Graph.{lsns}
-use Rattle.running_store.specs.Among.{all_among}
+use Rattle.running_store.specs.Laid.Among.{all_among}
 use Rattle.running_store.specs.Parts.{volatile}
-use Rattle.cache_manager.proofs.ThinNodes.{thin_found, thin_behind, thin_none}
+use Rattle.cache_manager.proofs.ThinNode.Nodes.{thin_found, thin_behind, thin_none}
 use Rattle.cache_manager.proofs.thin.least_thin.Goals as goal
 
 pub returns-then-len-le-THIN-clause-some : goal.returns-then-len-le-THIN-clause-some

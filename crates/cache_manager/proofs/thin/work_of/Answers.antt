@@ -3,7 +3,7 @@ use Rattle.std.specs.List.{filter}
 use Rattle.std.proofs.lemmas.Fn.{filter_same}
 use Rattle.dirty_cache.specs.Contents.{is_dirty}
 use Rattle.running_store.specs.Parts.{volatile}
-use Rattle.cache_manager.proofs.ThinNodes.{work_listed}
+use Rattle.cache_manager.proofs.ThinNode.Nodes.{work_listed}
 use Rattle.cache_manager.proofs.thin.work_of.Goals as goal
 
 pub returns : goal.returns

@@ -5,18 +5,18 @@ use Rattle.install_order.specs.declared.entry.Entry.{Entry}
 use Rattle.write_graph.specs.Graph.{lsns}
 use Rattle.dirty_cache.specs.Contents.{is_dirty}
 use Rattle.explain_core.specs.Turns.{free_round}
-use Rattle.running_store.specs.Beside.{beside_none, beside_twice}
-use Rattle.running_store.specs.CallLaws.{call_short, unbroken_after}
+use Rattle.running_store.specs.Calls.Beside.{beside_none, beside_twice}
+use Rattle.running_store.specs.Calls.Laws.{call_short, unbroken_after}
 use Rattle.running_store.specs.Calls.{IsCall, Never, call_none, call_twice, ending_of_store}
 use Rattle.running_store.specs.Laid.{Laid}
 use Rattle.running_store.specs.Parts.{Volatile, meaning_in, volatile}
-use Rattle.running_store.specs.Stored.{stays_shown}
+use Rattle.running_store.specs.Parts.Stored.{stays_shown}
 use Rattle.running_store.specs.Taking.Ending.{Done, Failed}
 use Rattle.running_store.specs.declared.store_err.StoreErr.TheVariants.{DiskFault, Memory}
 use Rattle.cache_manager.specs.DueNodes.{IsRoundFrom}
 use Rattle.cache_manager.specs.Endings.{at_err}
 use Rattle.cache_manager.specs.RoundNodes.{NameMinimal}
-use Rattle.cache_manager.proofs.RoundTaken.{round_dirty, round_few, round_has, round_minimal}
+use Rattle.cache_manager.proofs.OneRound.Taken.{round_dirty, round_few, round_has, round_minimal}
 use Rattle.cache_manager.proofs.ThinRounds.{free_count, free_moments, free_shown, free_unflushed}
 use Rattle.cache_manager.proofs.thinning.install_due.Given.{Over}
 use Rattle.cache_manager.proofs.thinning.install_due.Goals.{In_ok-round}

@@ -6,17 +6,17 @@ use Rattle.disk_model.specs.declared.machine.FileNo.TheVariants.{Objects}
 use Rattle.install_order.specs.declared.entry.Entry.{Entry}
 use Rattle.write_graph.specs.Graph.{lsns}
 use Rattle.explain_core.specs.Turns.{thin_turn}
-use Rattle.running_store.specs.Beside.{beside_none}
-use Rattle.running_store.specs.CallLaws.{call_short}
+use Rattle.running_store.specs.Calls.Beside.{beside_none}
+use Rattle.running_store.specs.Calls.Laws.{call_short}
 use Rattle.running_store.specs.Calls.{IsCall, Never, call_none, ending_of_store}
 use Rattle.running_store.specs.Laid.{Laid}
 use Rattle.running_store.specs.Parts.{Volatile, meaning_in, volatile}
-use Rattle.running_store.specs.Stored.{stays_shown}
+use Rattle.running_store.specs.Parts.Stored.{stays_shown}
 use Rattle.running_store.specs.declared.store_err.StoreErr.TheVariants.{DiskFault, Memory}
 use Rattle.cache_manager.specs.Endings.{at_err}
 use Rattle.cache_manager.specs.Thin.{IsLeastThin, NamesThin}
 use Rattle.cache_manager.proofs.ThinTurns.{max_left, no_count, no_turn, none_in, one_in, removal_count, removal_moments, removal_shown, round_count, round_moments, round_shown, thin_is_due}
-use Rattle.cache_manager.proofs.ThinWorlds.{store_lawful}
+use Rattle.cache_manager.proofs.ThinNode.Worlds.{store_lawful}
 use Rattle.cache_manager.proofs.thinning.tend_thin.Given.{Over}
 use Rattle.cache_manager.proofs.thinning.tend_thin.Goals.{In-Some, In_default}
 use Rattle.cache_manager.proofs.thinning.tend_thin.Goals as goal

@@ -7,22 +7,22 @@ use Rattle.install_order.specs.declared.entry.Entry.{Entry}
 use Rattle.write_graph.specs.Graph.{lsns}
 use Rattle.dirty_cache.specs.Contents.{is_dirty}
 use Rattle.log_records.specs.RecordLog.{RecordLogView}
-use Rattle.running_store.specs.CallLaws.{call_short, unbroken_after}
+use Rattle.running_store.specs.Calls.Laws.{call_short, unbroken_after}
 use Rattle.running_store.specs.Calls.{IsCall, Never, call_none, call_twice}
 use Rattle.running_store.specs.Laid.{Laid}
 use Rattle.running_store.specs.Parts.{Volatile, volatile}
 use Rattle.running_store.specs.Running.{KeepsSound}
 use Rattle.running_store.specs.Taking.{Takes}
 use Rattle.running_store.specs.Taking.Ending.{Done, Failed}
-use Rattle.running_store.specs.TakesLaws.{takes_nothing}
+use Rattle.running_store.specs.Taking.Laws.{takes_nothing}
 use Rattle.cache_manager.specs.DueNodes.{IsRoundFrom}
 use Rattle.cache_manager.specs.Endings.{at_err, ending_of}
 use Rattle.cache_manager.specs.InstallCourses.{round_course}
 use Rattle.cache_manager.specs.RoundNodes.{NameMinimal}
 use Rattle.cache_manager.specs.declared.install_err.InstallErr.TheVariants.{DiskFault, Memory}
-use Rattle.cache_manager.proofs.DirtyLogs.{logs_flushed, logs_twice}
-use Rattle.cache_manager.proofs.RoundGoes.{MayRound}
-use Rattle.cache_manager.proofs.RoundTaken.{are_gates, gates_in, how_many, round_dirty, round_few, round_has, round_minimal, takes_round, takes_unflushed, takes_unremoved}
+use Rattle.cache_manager.proofs.ToLog.DirtyLogs.{logs_flushed, logs_twice}
+use Rattle.cache_manager.proofs.OneRound.Goes.{MayRound}
+use Rattle.cache_manager.proofs.OneRound.Taken.{are_gates, gates_in, how_many, round_dirty, round_few, round_has, round_minimal, takes_round, takes_unflushed, takes_unremoved}
 use Rattle.cache_manager.proofs.turning.install_round.Given.{Over}
 use Rattle.cache_manager.proofs.turning.install_round.Goals.{In_ok-round}
 use Rattle.cache_manager.proofs.turning.install_round.Goals as goal

@@ -4,7 +4,7 @@ use Rattle.oper_core.specs.State.{is_among}
 use Rattle.formats.specs.Limits.{log_limit}
 use Rattle.install_order.specs.declared.entry.Entry.{Entry}
 use Rattle.write_graph.specs.Graph.{IsLeast, NamesMinimal, lsns}
-use Rattle.running_store.specs.CallLaws.{IsLogging, call_short, logging_none}
+use Rattle.running_store.specs.Calls.Laws.{IsLogging, call_short, logging_none}
 use Rattle.running_store.specs.Calls.{Never, call_none}
 use Rattle.running_store.specs.Courses.{Course, course}
 use Rattle.running_store.specs.Courses.Stop.{Through}
@@ -14,15 +14,15 @@ use Rattle.running_store.specs.Parts.{Parts, Volatile, meaning_in, volatile}
 use Rattle.running_store.specs.StoreView.{log_length}
 use Rattle.running_store.specs.Taking.{Ending, Takes}
 use Rattle.running_store.specs.Taking.Ending.{Done, Short}
-use Rattle.running_store.specs.TakesLaws.{takes_none, takes_nothing, takes_same}
+use Rattle.running_store.specs.Taking.Laws.{takes_none, takes_nothing, takes_same}
 use Rattle.cache_manager.specs.DueNodes.{NamesDue}
 use Rattle.cache_manager.specs.Endings.{same_ends, short_ends}
 use Rattle.cache_manager.specs.InstallCourses.{install_course, removals, round_course, turn_course}
 use Rattle.cache_manager.specs.Told.{TellsParts}
 use Rattle.cache_manager.specs.declared.install.Install.{Install}
-use Rattle.cache_manager.proofs.DirtyLogs.{logs_none}
-use Rattle.cache_manager.proofs.Removals.{round_removes}
-use Rattle.cache_manager.proofs.TurnTaken.{alone_removes, turn_alone, turn_due, turn_none}
+use Rattle.cache_manager.proofs.ToLog.DirtyLogs.{logs_none}
+use Rattle.cache_manager.proofs.Removal.Members.{round_removes}
+use Rattle.cache_manager.proofs.FullDrain.TurnTaken.{alone_removes, turn_alone, turn_due, turn_none}
 use Rattle.cache_manager.proofs.turning.take_turn.Goals as goal
 
 -- what is said of the objects and the entries of a store, as its methods answer them

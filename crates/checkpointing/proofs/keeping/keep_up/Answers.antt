@@ -1,5 +1,5 @@
 use Rattle.disk_model.specs.Disk.{Disk}
-use Rattle.running_store.specs.CallLaws.{logging_twice}
+use Rattle.running_store.specs.Calls.Laws.{logging_twice}
 use Rattle.running_store.specs.Calls.{IsCall, Never, ending_of_read}
 use Rattle.running_store.specs.StoreView.{logged_since}
 use Rattle.running_store.specs.Taking.{Takes}

@@ -6,7 +6,7 @@ use Rattle.running_store.specs.Parts.{meaning_in}
 use Rattle.running_store.specs.StoreView.{log_length}
 use Rattle.running_store.specs.Taking.{Takes}
 use Rattle.running_store.specs.Taking.Ending.{Done}
-use Rattle.running_store.specs.TakesLaws.{takes_none}
+use Rattle.running_store.specs.Taking.Laws.{takes_none}
 use Rattle.checkpointing.specs.Courses.{trim_due, trim_within, unstopped}
 use Rattle.checkpointing.specs.Told.{stop_of}
 use Rattle.checkpointing.proofs.Kept.{trimmed_call, trimmed_takes, trimmed_told}

@@ -5,7 +5,7 @@ use Rattle.running_store.specs.Parts.{meaning_in}
 use Rattle.running_store.specs.StoreView.{log_length}
 use Rattle.running_store.specs.Taking.{Takes}
 use Rattle.running_store.specs.Taking.Ending.{Done}
-use Rattle.running_store.specs.TakesLaws.{takes_none}
+use Rattle.running_store.specs.Taking.Laws.{takes_none}
 use Rattle.cache_manager.specs.InstallCourses.{turn_course}
 use Rattle.checkpointing.specs.Courses.{turn_due, unstopped}
 use Rattle.checkpointing.specs.Told.{stop_of}

@@ -1,16 +1,16 @@
 use Rattle.std.proofs.Common.{◌≡◌, ◌∙◌, ap, ℕ, ◌+◌, ◌-◌, ◌*◌, ◌<◌, ◌≤◌, length, refl, arith}
 use Rattle.log_blocks.specs.LogView.{used_of, growth_of}
 use Rattle.log_records.specs.RecordLog.{RecordLogView}
-use Rattle.running_store.specs.CallLaws.{unbroken_after}
+use Rattle.running_store.specs.Calls.Laws.{unbroken_after}
 use Rattle.running_store.specs.Calls.{IsCall, Never, call_none, call_twice}
-use Rattle.running_store.specs.Checkpoints.{checkpointed_call, checkpointed_takes}
+use Rattle.running_store.specs.Calls.Checkpoints.{checkpointed_call, checkpointed_takes}
 use Rattle.running_store.specs.Courses.Stop.{Full}
-use Rattle.running_store.specs.Growth.{growth_some}
+use Rattle.running_store.specs.Courses.Growth.{growth_some}
 use Rattle.formats.specs.Limits.{log_limit}
 use Rattle.running_store.specs.Taking.{Takes}
 use Rattle.running_store.specs.Taking.Ending.{Done, Short, Failed, Stopped}
-use Rattle.running_store.specs.Writes.{unwritten_call, unwritten_takes}
-use Rattle.running_store.specs.Written.{room_is_place}
+use Rattle.running_store.specs.Calls.Writes.{unwritten_call, unwritten_takes}
+use Rattle.running_store.specs.Steps.Written.{room_is_place}
 use Rattle.running_store.specs.declared.store_err.StoreErr.TheVariants.{DiskFault, Memory}
 use Rattle.cache_manager.specs.Endings.{at_err}
 use Rattle.cache_manager.specs.RecordPlace.{growth_low}

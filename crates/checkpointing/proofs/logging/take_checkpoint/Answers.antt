@@ -1,8 +1,8 @@
-use Rattle.running_store.specs.CallLaws.{unbroken_after}
+use Rattle.running_store.specs.Calls.Laws.{unbroken_after}
 use Rattle.running_store.specs.Calls.{IsCall, Never, call_none, call_twice}
 use Rattle.running_store.specs.Taking.{Takes}
 use Rattle.running_store.specs.Taking.Ending.{Done, Short, Failed}
-use Rattle.running_store.specs.TakesLaws.{takes_both, takes_first, takes_nothing}
+use Rattle.running_store.specs.Taking.Laws.{takes_both, takes_first, takes_nothing}
 use Rattle.running_store.specs.declared.store_err.StoreErr.TheVariants.{DiskFault, Memory}
 use Rattle.cache_manager.specs.Endings.{at_err}
 use Rattle.checkpointing.specs.Courses.{taking_course, logged_course}

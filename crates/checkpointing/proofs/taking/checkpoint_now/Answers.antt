@@ -12,7 +12,7 @@ use Rattle.write_graph.specs.Graph.{Lists, IsLeast}
 use Rattle.write_graph.specs.Objects.{IsWriter, IsWritten}
 use Rattle.standing.specs.OneStable.{small_store}
 use Rattle.running_store.specs.StoreView.{store_params}
-use Rattle.running_store.specs.Checkpoints.{IsCheckpointHere}
+use Rattle.running_store.specs.Calls.Checkpoints.{IsCheckpointHere}
 use Rattle.checkpointing.specs.Checkpoints.{is_in_log}
 use Rattle.checkpointing.proofs.Starts.{firsts, checkpoint_here, no_starts, starts_in_log}
 use Rattle.checkpointing.proofs.taking.checkpoint_now.Goals as goal

@@ -6,15 +6,15 @@ use Rattle.log_records.specs.Loading.{IsTailFault}
 use Rattle.log_records.specs.RecordLog.{RecordLogView}
 use Rattle.log_records.specs.Rewriting.{IsNewLength}
 use Rattle.log_records.specs.declared.rewrite_err.RewriteErr.TheVariants.{DiskFault, Memory}
-use Rattle.running_store.specs.CallLaws.{call_short, unbroken_after}
+use Rattle.running_store.specs.Calls.Laws.{call_short, unbroken_after}
 use Rattle.running_store.specs.Calls.{IsCall, Never, call_none, call_twice}
 use Rattle.running_store.specs.Courses.Stop.{Worn}
 use Rattle.running_store.specs.Kept.{StopsAt}
-use Rattle.running_store.specs.Rewrites.{ending_of_rewrite, rewrite_within}
+use Rattle.running_store.specs.Calls.Rewrites.{ending_of_rewrite, rewrite_within}
 use Rattle.running_store.specs.StoreView.{StoreView}
 use Rattle.running_store.specs.Taking.{Takes}
 use Rattle.running_store.specs.Taking.Ending.{Done, Failed, Short, Stopped}
-use Rattle.running_store.specs.TakesLaws.{takes_nothing}
+use Rattle.running_store.specs.Taking.Laws.{takes_nothing}
 use Rattle.cache_manager.specs.Endings.{at_err}
 use Rattle.checkpointing.specs.Courses.{trim_within}
 use Rattle.checkpointing.specs.Left.{DamagedBy, IsTooLong, KeepsCounts}

@@ -10,11 +10,11 @@ use Rattle.oper_core.specs.Meaning.{FitsReads, IsInGrammar, read_values}
 use Rattle.oper_core.specs.declared.bounds.Bounds.{Bounds}
 use Rattle.oper_core.specs.declared.refusal.Refusal.{Refusal}
 use Rattle.stable_objects.specs.SlotsView.{SlotsView}
-use Rattle.running_store.specs.AfterReads.{fetch_as, fetch_left, fetch_unbroken}
-use Rattle.running_store.specs.Commands.{IsLeft, IsReady}
-use Rattle.running_store.specs.Lent.{inputs_in}
+use Rattle.running_store.specs.Calls.AfterReads.{fetch_as, fetch_left, fetch_unbroken}
+use Rattle.running_store.specs.Calls.Commands.{IsLeft, IsReady}
+use Rattle.running_store.specs.Laid.Lent.{inputs_in}
 use Rattle.running_store.specs.Parts.{meaning_in}
-use Rattle.running_store.specs.Fetches.{IsFetch}
+use Rattle.running_store.specs.Calls.Fetches.{IsFetch}
 use Rattle.running_store.specs.Calls.{IsFailed}
 use Rattle.running_store.specs.Laid.{IsLaidOn, Laid, values_in}
 use Rattle.running_store.specs.StoreView.{StoreView, store_params}

@@ -5,12 +5,12 @@ use Rattle.formats.specs.declared.params.Params.{Params}
 use Rattle.log_records.specs.RecordLog.{RecordLogView}
 use Rattle.stable_objects.specs.SlotsView.{SlotsView}
 use Rattle.explain_core.specs.World.{World}
-use Rattle.running_store.specs.AfterReads.{fetch_unbroken}
+use Rattle.running_store.specs.Calls.AfterReads.{fetch_unbroken}
 use Rattle.running_store.specs.Calls.{IsCall, IsFailed}
-use Rattle.running_store.specs.Commands.{HasPlaceBelow, IsCommanded, IsReady, command_length}
-use Rattle.running_store.specs.Fetches.{IsFetch}
-use Rattle.running_store.specs.Lent.{inputs_in}
-use Rattle.running_store.specs.Logged.{HasPlace}
+use Rattle.running_store.specs.Calls.Commands.{HasPlaceBelow, IsCommanded, IsReady, command_length}
+use Rattle.running_store.specs.Calls.Fetches.{IsFetch}
+use Rattle.running_store.specs.Laid.Lent.{inputs_in}
+use Rattle.running_store.specs.Calls.Logged.{HasPlace}
 use Rattle.running_store.specs.Parts.{Shows, meaning_in}
 use Rattle.running_store.specs.StoreView.{StoreView, log_length, next_of, store_params}
 use Rattle.running_store.specs.Taking.{Takes}

@@ -7,12 +7,12 @@ use Rattle.formats.specs.declared.record.Record.TheVariants.{Command as Logged}
 use Rattle.log_records.specs.RecordLog.{RecordLogView}
 use Rattle.stable_objects.specs.SlotsView.{SlotsView}
 use Rattle.explain_core.specs.History.Member.{Command}
-use Rattle.running_store.specs.AfterReads.{fetch_unbroken}
-use Rattle.running_store.specs.CallLaws.{unbroken_after}
+use Rattle.running_store.specs.Calls.AfterReads.{fetch_unbroken}
+use Rattle.running_store.specs.Calls.Laws.{unbroken_after}
 use Rattle.running_store.specs.Calls.{IsCall}
-use Rattle.running_store.specs.Commands.{IsCommanded, IsReady, command_length, commanded_call, left_call, left_takes}
-use Rattle.running_store.specs.Lent.{inputs_in}
-use Rattle.running_store.specs.Logged.{HasPlace}
+use Rattle.running_store.specs.Calls.Commands.{IsCommanded, IsReady, command_length, commanded_call, left_call, left_takes}
+use Rattle.running_store.specs.Laid.Lent.{inputs_in}
+use Rattle.running_store.specs.Calls.Logged.{HasPlace}
 use Rattle.running_store.specs.Parts.{Volatile, meaning_in}
 use Rattle.running_store.specs.StoreView.{StoreView, log_length, next_of, store_params}
 use Rattle.running_store.specs.Taking.{Ending, Takes}

@@ -9,21 +9,21 @@ use Rattle.log_records.specs.RecordLog.{RecordLogView}
 use Rattle.dirty_cache.specs.Contents.{held}
 use Rattle.dirty_cache.specs.declared.entry.Entry.{Entry as Pair}
 use Rattle.explain_core.specs.History.Member.{Identity}
-use Rattle.running_store.specs.AfterReads.{fetch_as, fetch_unbroken}
-use Rattle.running_store.specs.CallLaws.{unbroken_after}
+use Rattle.running_store.specs.Calls.AfterReads.{fetch_as, fetch_unbroken}
+use Rattle.running_store.specs.Calls.Laws.{unbroken_after}
 use Rattle.running_store.specs.Calls.{IsCall}
-use Rattle.running_store.specs.Commands.{left_call, left_takes}
+use Rattle.running_store.specs.Calls.Commands.{left_call, left_takes}
 use Rattle.running_store.specs.Courses.{identity_length}
-use Rattle.running_store.specs.Fetches.{IsFetch, fetch_call}
-use Rattle.running_store.specs.Finished.{IsQuiet}
-use Rattle.running_store.specs.InUse.{cached_pair}
+use Rattle.running_store.specs.Calls.Fetches.{IsFetch, fetch_call}
+use Rattle.running_store.specs.Steps.Finished.{IsQuiet}
+use Rattle.running_store.specs.Parts.InUse.{cached_pair}
 use Rattle.running_store.specs.Laid.{Laid}
-use Rattle.running_store.specs.Logged.{HasPlace}
+use Rattle.running_store.specs.Calls.Logged.{HasPlace}
 use Rattle.running_store.specs.Parts.{Volatile, meaning_in}
 use Rattle.running_store.specs.StoreView.{StoreView, log_length, next_of, store_params}
 use Rattle.running_store.specs.Taking.{Ending, Takes}
-use Rattle.running_store.specs.Writes.{write_call}
-use Rattle.running_store.specs.Written.{value_cached}
+use Rattle.running_store.specs.Calls.Writes.{write_call}
+use Rattle.running_store.specs.Steps.Written.{value_cached}
 use Rattle.execution.specs.Following.{HasMemberCause, IsFollowFailure, ending_of_follow, ending_of_record_error, member_course}
 use Rattle.execution.specs.RecordFailures.{record_from_read}
 use Rattle.execution.specs.Stops.{StopsWithin}

@@ -4,7 +4,7 @@ use Rattle.running_store.specs.Courses.{course}
 use Rattle.running_store.specs.Courses.Stop.{Through}
 use Rattle.running_store.specs.Taking.{Takes}
 use Rattle.running_store.specs.Taking.Ending.{Done}
-use Rattle.running_store.specs.TakesLaws.{takes_none}
+use Rattle.running_store.specs.Taking.Laws.{takes_none}
 use Rattle.execution.specs.Courses.{unplaced_steps}
 use Rattle.execution.specs.Done.{IsUnplaced}
 use Rattle.execution.proofs.Unplaced.{forced_outside}

@@ -1,14 +1,14 @@
 use Rattle.std.proofs.Common.{◌≡◌, ap, ◌<◌, ◌≤◌, arith, inl, inr, refl, rules}
 use Rattle.std.specs.Prelude.{◌^◌, IfErr}
 use Rattle.log_records.specs.RecordLog.{RecordLogView}
-use Rattle.running_store.specs.AfterReads.{call_stopped}
+use Rattle.running_store.specs.Calls.AfterReads.{call_stopped}
 use Rattle.running_store.specs.Calls.{IsCall, Never, call_as, call_none}
-use Rattle.running_store.specs.Commands.{has_place, length_with}
+use Rattle.running_store.specs.Calls.Commands.{has_place, length_with}
 use Rattle.running_store.specs.Courses.{course}
 use Rattle.running_store.specs.Courses.Stop.{Full, At_end}
 use Rattle.running_store.specs.StoreView.{StoreView, store_params}
 use Rattle.running_store.specs.Taking.{Ending, Takes}
-use Rattle.running_store.specs.TakesLaws.{takes_stop}
+use Rattle.running_store.specs.Taking.Laws.{takes_stop}
 use Rattle.execution.specs.Answers.{ending_of_exec, stop_of_exec}
 use Rattle.execution.specs.Courses.{unplaced_steps}
 use Rattle.execution.specs.Done.{LogWithout}

@@ -4,7 +4,7 @@ use Rattle.std.proofs.lemmas.Bool.{false_from_ne_true}
 use Rattle.formats.specs.Objects.{bounds_of}
 use Rattle.explain_core.specs.Turns.{turns}
 use Rattle.explain_core.specs.World.{run}
-use Rattle.running_store.specs.Beside.{beside_twice}
+use Rattle.running_store.specs.Calls.Beside.{beside_twice}
 use Rattle.running_store.specs.Calls.{IsCall, Never, call_twice, ending_of_store}
 use Rattle.running_store.specs.Taking.{Ending}
 use Rattle.running_store.specs.Taking.Ending.{Done}

@@ -13,7 +13,7 @@ use Rattle.log_records.specs.LsnReader.{LsnReaderView, IsReadingFromLsn}
 use Rattle.standing.specs.Crashed.{crashed-stable}
 use Rattle.standing.specs.OneStable.{small_store}
 use Rattle.running_store.specs.Calls.{IsCall, Never, ending_of_read}
-use Rattle.running_store.specs.Faults.{read_from_store}
+use Rattle.running_store.specs.Calls.Faults.{read_from_store}
 use Rattle.running_store.specs.StoreView.{StoreView}
 use Rattle.redo_pass.specs.Endings.{as_error, error_fails, store_fails}
 use Rattle.redo_pass.proofs.Doing.{IsAt, all_done, done_none, done_on, done_still, moments_on, next_above, next_given, next_in_grammar, none_given, part_log, part_on, part_thin, reads_on, slot_fault, steps_of, still_moments}

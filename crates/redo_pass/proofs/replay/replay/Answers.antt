@@ -10,7 +10,7 @@ use Rattle.formats.specs.declared.record.Record.TheVariants.{Identity}
 use Rattle.explain_core.specs.Sound.{IsSound}
 use Rattle.explain_core.specs.World.{World}
 use Rattle.running_store.specs.Calls.{IsFailed, ending_of_read}
-use Rattle.running_store.specs.LongSlot.{HasLongSlot}
+use Rattle.running_store.specs.Laid.LongSlot.{HasLongSlot}
 use Rattle.running_store.specs.Parts.{ShowsVolatile}
 use Rattle.redo_pass.specs.Replayed.{IsNextRecord, IsReplay, after_record, read_by}
 use Rattle.redo_pass.specs.Rising.{IsBelow}

@@ -15,10 +15,10 @@ use Rattle.log_records.specs.RecordLog.{RecordLogView}
 use Rattle.stable_objects.specs.SlotsView.{SlotsView}
 use Rattle.write_graph.specs.Graph.{lsns}
 use Rattle.explain_core.specs.History.Member.{Command}
-use Rattle.running_store.specs.Among.{small_bounds}
-use Rattle.running_store.specs.Entered.{IsEntered}
+use Rattle.running_store.specs.Laid.Among.{small_bounds}
+use Rattle.running_store.specs.Calls.Entered.{IsEntered}
 use Rattle.running_store.specs.Laid.{Laid, values_in}
-use Rattle.running_store.specs.LongSlot.{HasLongSlot}
+use Rattle.running_store.specs.Laid.LongSlot.{HasLongSlot}
 use Rattle.running_store.specs.Parts.{entry_of, volatile}
 use Rattle.redo_pass.specs.Endings.{error_fails}
 use Rattle.redo_pass.specs.Replayed.{is_due}

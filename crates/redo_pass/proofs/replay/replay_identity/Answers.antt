@@ -5,7 +5,7 @@ use Rattle.formats.specs.Objects.{bounds_of}
 use Rattle.formats.specs.declared.params.Params.{Params}
 use Rattle.install_order.specs.declared.entry.Entry.{Entry}
 use Rattle.explain_core.specs.History.Member.{Identity}
-use Rattle.running_store.specs.Fetched.{fetched-same}
+use Rattle.running_store.specs.Laid.Fetched.{fetched-same}
 use Rattle.running_store.specs.Parts.{entry_of}
 use Rattle.redo_pass.specs.Replayed.{is_due}
 use Rattle.redo_pass.proofs.Leaves.{memory_entered, memory_none}

@@ -3,7 +3,7 @@ use Rattle.std.specs.Prelude.{All, IfSome}
 use Rattle.std.proofs.lemmas.List.Elements.{All-nil}
 use Rattle.dirty_cache.specs.Contents.{held}
 use Rattle.install_order.specs.declared.entry.Entry.{Entry}
-use Rattle.running_store.specs.Flushed.{AreEarly}
+use Rattle.running_store.specs.Laid.Flushed.{AreEarly}
 use Rattle.running_store.specs.StoreView.{StoreView}
 use Rattle.write_graph.specs.Graph.{lsns}
 use Rattle.redo_tests.proofs.redone.begun.Goals as goal

@@ -5,7 +5,7 @@ use Rattle.log_blocks.specs.Reading.{fails_on}
 use Rattle.standing.specs.Crashed.{crashed-stable}
 use Rattle.standing.specs.OneStable.{small_store}
 use Rattle.running_store.specs.Calls.{IsCall, IsFailed, Never, call_twice, ending_of_read}
-use Rattle.running_store.specs.Faults.{read_from_store}
+use Rattle.running_store.specs.Calls.Faults.{read_from_store}
 use Rattle.running_store.specs.Taking.{Ending}
 use Rattle.redo_pass.specs.Endings.{as_error, error_fails, store_ends, store_fails}
 use Rattle.restart.specs.DamageLaws.{codes_in}

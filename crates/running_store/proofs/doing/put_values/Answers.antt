@@ -3,7 +3,7 @@ use Rattle.oper_core.specs.State.{is_among}
 use Rattle.dirty_cache.specs.Contents.{held, is_dirty}
 use Rattle.number_lists.specs.Marks.{mark_at}
 use Rattle.running_store.specs.Laid.{with_entries}
-use Rattle.running_store.specs.Lengths.{with_marks}
+use Rattle.running_store.specs.Laid.Lengths.{with_marks}
 use Rattle.running_store.proofs.SetLemmas.{taken, set_back, dirty_set, marks_set}
 use Rattle.running_store.proofs.doing.put_values.Goals as goal
 

@@ -3,7 +3,7 @@ use Rattle.oper_core.specs.State.{is_among}
 use Rattle.dirty_cache.specs.Contents.{held, is_dirty, HasRoom}
 use Rattle.number_lists.specs.Marks.{mark_at}
 use Rattle.running_store.specs.Laid.{with_entries}
-use Rattle.running_store.specs.Lengths.{with_marks}
+use Rattle.running_store.specs.Laid.Lengths.{with_marks}
 use Rattle.running_store.proofs.doing.put_values.Given as goal
 
 abbrev pub invariant-loop-value : goal.invariant-loop-value

@@ -1,5 +1,5 @@
 use Rattle.stable_objects.specs.SlotsView.{length_in}
-use Rattle.running_store.specs.Lengths.{AreEmpties}
+use Rattle.running_store.specs.Laid.Lengths.{AreEmpties}
 use Rattle.running_store.proofs.empties.empty_objects.Given as goal
 
 abbrev pub invariant-loop-object : goal.invariant-loop-object

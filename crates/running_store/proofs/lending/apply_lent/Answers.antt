@@ -4,7 +4,7 @@ use Rattle.std.proofs.lemmas.List.{length-map}
 use Rattle.std.proofs.lemmas.Result.{IfOk-weaker, on_err_weaker, on_ok_weaker}
 use Rattle.oper_core.specs.Meaning.{FitsReads, KeepsUnwritten, Meaning}
 use Rattle.oper_core.specs.State.{is_among, value_for}
-use Rattle.running_store.specs.Lent.{KeepsOthers, cached_values}
+use Rattle.running_store.specs.Laid.Lent.{KeepsOthers, cached_values}
 use Rattle.running_store.proofs.LentLemmas.{beside, either_way, lent_back, unwritten}
 use Rattle.running_store.proofs.lending.apply_lent.Given.{Over}
 use Rattle.running_store.proofs.lending.apply_lent.Goals.{After-give_back}

@@ -3,7 +3,7 @@ use Rattle.std.specs.List.{IsDistinct}
 use Rattle.std.proofs.lemmas.List.{length-map}
 use Rattle.oper_core.specs.Meaning.{FitsReads}
 use Rattle.oper_core.specs.State.{value_for}
-use Rattle.running_store.specs.Lent.{KeepsOthers, cached_values}
+use Rattle.running_store.specs.Laid.Lent.{KeepsOthers, cached_values}
 use Rattle.running_store.proofs.LentLemmas.{beside, lent_back}
 use Rattle.running_store.proofs.lending.check_lent.Goals as goal
 

@@ -1,7 +1,7 @@
 use Rattle.std.proofs.Common.{◌≡◌, ◌∙◌, ◌<◌, ℕ, suc, List, [], ◌∷◌, true, IsSome, length, drop, drop-cons, slice_index, ap, sym, subst, arith, length-append}
 use Rattle.oper_core.specs.State.{is_among, value_for}
 use Rattle.dirty_cache.specs.Contents.{held, IsSwapped}
-use Rattle.running_store.specs.Lent.{KeepsOthers, cached_values}
+use Rattle.running_store.specs.Laid.Lent.{KeepsOthers, cached_values}
 use Rattle.running_store.proofs.LentLemmas.{among_front, back_more, keeps_more}
 use Rattle.running_store.proofs.SetLemmas.{taken}
 use Rattle.running_store.proofs.lending.give_back.Goals as goal

@@ -1,7 +1,7 @@
 use Rattle.std.proofs.Common.{◌≡◌, ◌≤◌, ℕ, true, IsSome, length, take, drop}
 use Rattle.oper_core.specs.State.{is_among, value_for}
 use Rattle.dirty_cache.specs.Contents.{held}
-use Rattle.running_store.specs.Lent.{KeepsOthers, cached_values}
+use Rattle.running_store.specs.Laid.Lent.{KeepsOthers, cached_values}
 use Rattle.running_store.proofs.lending.give_back.Given as goal
 
 abbrev pub invariant-loop-value : goal.invariant-loop-value

@@ -3,7 +3,7 @@ use Rattle.std.proofs.lemmas.List.{take_more}
 use Rattle.oper_core.specs.State.{is_among}
 use Rattle.dirty_cache.specs.Contents.{held}
 use Rattle.dirty_cache.specs.Places.{bytes_or}
-use Rattle.running_store.specs.Lent.{cached_values}
+use Rattle.running_store.specs.Laid.Lent.{cached_values}
 use Rattle.running_store.proofs.LentLemmas.{among_behind, apart_before, keeps_more, lent_more}
 use Rattle.running_store.proofs.lending.lend.Goals as goal
 

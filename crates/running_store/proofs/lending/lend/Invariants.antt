@@ -1,5 +1,5 @@
 use Rattle.std.proofs.Common.{◌≡◌, map, take}
-use Rattle.running_store.specs.Lent.{KeepsOthers, cached_values}
+use Rattle.running_store.specs.Laid.Lent.{KeepsOthers, cached_values}
 use Rattle.running_store.proofs.lending.lend.Given as goal
 
 abbrev pub invariant-loop-object : goal.invariant-loop-object

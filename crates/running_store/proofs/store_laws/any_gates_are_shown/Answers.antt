@@ -1,5 +1,5 @@
 use Rattle.formats.specs.Objects.{bounds_of}
-use Rattle.running_store.specs.RoundImages.{image_of_gates}
+use Rattle.running_store.specs.Steps.RoundImages.{image_of_gates}
 use Rattle.running_store.proofs.store_laws.any_gates_are_shown.Goals as goal
 
 pub returns : goal.returns

@@ -1,6 +1,6 @@
 use Rattle.std.proofs.Common.{◌≡◌, ◌∙◌, sym, ap, refl, inl, arith, [], length, take, List}
 use Rattle.std.proofs.lemmas.List.{append-nil, length-take-le}
-use Rattle.running_store.specs.Forced.{files_shown}
+use Rattle.running_store.specs.Steps.Forced.{files_shown}
 use Rattle.explain_core.specs.History.{commands_of}
 use Rattle.store_engine.specs.Engine.{forced_in}
 use Rattle.store_engine.specs.Grouping.{ungrouped}

@@ -1,7 +1,7 @@
 use Rattle.std.proofs.Common.{[], ◌∷◌, refl, sym}
 use Rattle.disk_model.specs.Disk.{written_over}
 use Rattle.stable_objects.proofs.Bytes.{held_first}
-use Rattle.stable_objects.proofs.Filled.{put_with_byte}
+use Rattle.stable_objects.proofs.Upgraded.Filled.{put_with_byte}
 use Rattle.stable_objects.proofs.slot_laws.a_byte_is_written_later.Goals as goal
 
 pub returns-clause-put : goal.returns-clause-put

@@ -1,4 +1,4 @@
-use Rattle.stable_objects.proofs.Filled.{filled_none, filled_more, filled_past}
+use Rattle.stable_objects.proofs.Upgraded.Filled.{filled_none, filled_more, filled_past}
 use Rattle.stable_objects.proofs.slot_laws.a_file_is_filled.Goals as goal
 
 pub returns-clause-begins : goal.returns-clause-begins

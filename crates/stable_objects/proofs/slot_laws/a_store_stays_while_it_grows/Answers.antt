@@ -1,4 +1,4 @@
-use Rattle.stable_objects.proofs.Staying.{still_in_front, still_headed}
+use Rattle.stable_objects.proofs.Upgraded.Staying.{still_in_front, still_headed}
 use Rattle.stable_objects.proofs.slot_laws.a_store_stays_while_it_grows.Goals as goal
 
 pub returns : goal.returns

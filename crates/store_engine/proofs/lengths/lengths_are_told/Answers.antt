@@ -2,8 +2,8 @@ use Rattle.std.proofs.Common.{◌≡◌, ◌∙◌, ap, sym, subst, ℕ, ◌<◌
 use Rattle.disk_model.specs.declared.machine.FileNo.TheVariants.{Objects}
 use Rattle.formats.specs.Objects.{bounds_of}
 use Rattle.formats.specs.declared.params.Params.{Params}
-use Rattle.running_store.specs.LengthLaws.{length_told, next_same}
-use Rattle.running_store.specs.Lengths.{IsNextEmpty, length_at}
+use Rattle.running_store.specs.Laid.LengthLaws.{length_told, next_same}
+use Rattle.running_store.specs.Laid.Lengths.{IsNextEmpty, length_at}
 use Rattle.store_engine.specs.Engine.{Holds}
 use Rattle.store_engine.specs.Store.{state_of}
 use Rattle.store_engine.proofs.Holding.{holds_map}

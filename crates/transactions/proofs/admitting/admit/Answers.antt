@@ -2,7 +2,7 @@ use Rattle.std.proofs.Common.{◌≡◌, ◌∙◌, ap, subst, sym, None, Some, 
 use Rattle.oper_core.specs.State.{State}
 use Rattle.formats.specs.Objects.{bounds_of}
 use Rattle.formats.specs.declared.params.Params.{Params}
-use Rattle.running_store.specs.Among.{small_bounds}
+use Rattle.running_store.specs.Laid.Among.{small_bounds}
 use Rattle.store_engine.specs.Engine.{params_of}
 use Rattle.store_engine.specs.Store.{meaning_in, state_of}
 use Rattle.transactions.specs.Staged.{overlaid}

@@ -3,9 +3,9 @@ use Rattle.formats.specs.Objects.{bounds_of}
 use Rattle.oper_core.specs.Meaning.{FitsReads, IsInGrammar, IsSmall}
 use Rattle.oper_core.specs.declared.bounds.Bounds.{Bounds}
 use Rattle.dirty_cache.specs.Contents.{Contents}
-use Rattle.running_store.specs.Among.{small_bounds}
+use Rattle.running_store.specs.Laid.Among.{small_bounds}
 use Rattle.running_store.specs.Laid.{Laid}
-use Rattle.running_store.specs.Lent.{inputs_in}
+use Rattle.running_store.specs.Laid.Lent.{inputs_in}
 use Rattle.running_store.proofs.DoneLemmas.{same_fetched, same_held, same_kept, same_laid}
 use Rattle.running_store.proofs.objects.Objects.check.Goals as goal
 

@@ -1,7 +1,7 @@
 use Rattle.std.proofs.Common.{◌∙◌, sym}
 use Rattle.std.specs.Prelude.{IsSome, is_some}
 use Rattle.dirty_cache.specs.Contents.{held}
-use Rattle.running_store.specs.InUse.{cached_pair}
+use Rattle.running_store.specs.Parts.InUse.{cached_pair}
 use Rattle.running_store.proofs.objects.Objects.close_spare.Goals as goal
 
 -- what is cached is of an object that there is

@@ -5,7 +5,7 @@ use Rattle.dirty_cache.specs.declared.entry.Entry.{Entry as Pair}
 use Rattle.stable_objects.specs.Replacing.{IsFilled}
 use Rattle.stable_objects.specs.Spares.{KeepsFilledBut, spare_lsn, spare_place}
 use Rattle.running_store.specs.Laid.{AreCached, Laid}
-use Rattle.running_store.proofs.RoundFills.{filled_absent, filled_next}
+use Rattle.running_store.proofs.OfRounds.Fills.{filled_absent, filled_next}
 use Rattle.running_store.proofs.objects.Objects.fill_spare.Goals as goal
 
 pub returns-in_default-clause-filled : goal.returns-in_default-clause-filled

@@ -7,7 +7,7 @@ use Rattle.disk_model.specs.declared.machine.FileNo.TheVariants.{Objects}
 use Rattle.stable_objects.specs.SlotsView.{layout_of}
 use Rattle.stable_objects.specs.SpareLaws.{keeps_none, spares_run, sync_settles}
 use Rattle.stable_objects.specs.Spares.{IsSpareByte, KeepsButSpares}
-use Rattle.running_store.proofs.RoundFills.{fills_more, fills_synced}
+use Rattle.running_store.proofs.OfRounds.Fills.{fills_more, fills_synced}
 use Rattle.running_store.proofs.objects.Objects.fill_spares.Goals as goal
 
 pub loop-object-init : goal.loop-object-init

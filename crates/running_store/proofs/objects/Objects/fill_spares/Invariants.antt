@@ -1,5 +1,5 @@
 use Rattle.std.proofs.Common.{take}
-use Rattle.running_store.proofs.RoundFills.{HaveFilled}
+use Rattle.running_store.proofs.OfRounds.Fills.{HaveFilled}
 use Rattle.running_store.proofs.objects.Objects.fill_spares.Given as goal
 
 abbrev pub invariant-loop-object : goal.invariant-loop-object

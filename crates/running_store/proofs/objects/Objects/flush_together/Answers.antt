@@ -5,8 +5,8 @@ use Rattle.oper_core.specs.Cell.{Cell}
 use Rattle.stable_objects.specs.Ready.{AreOldOrNewSince, AreOpened, AreReady, KeepsButGatesOf}
 use Rattle.stable_objects.specs.SlotsView.{AreOf}
 use Rattle.running_store.specs.Laid.{AreCached, IsLaidOn, Laid}
-use Rattle.running_store.specs.RoundCalls.{cached_in}
-use Rattle.running_store.proofs.RoundFlushed.{all_below, together_any, together_flushed, together_moments, together_replaced, unopened}
+use Rattle.running_store.specs.Calls.RoundCalls.{cached_in}
+use Rattle.running_store.proofs.OfRounds.Flushed.{all_below, together_any, together_flushed, together_moments, together_replaced, unopened}
 use Rattle.running_store.proofs.objects.Objects.flush_together.Given.{Over}
 use Rattle.running_store.proofs.objects.Objects.flush_together.Goals.{After-open_gates}
 use Rattle.running_store.proofs.objects.Objects.flush_together.Goals as goal

@@ -2,7 +2,7 @@ use Rattle.std.proofs.Common.{◌≡◌, ◌∙◌, Some, true, ap, length, sym,
 use Rattle.dirty_cache.specs.Contents.{held, is_dirty}
 use Rattle.dirty_cache.specs.declared.entry.Entry.{Entry as Pair}
 use Rattle.running_store.specs.Laid.{Laid}
-use Rattle.running_store.specs.RoundCalls.{AreLater}
+use Rattle.running_store.specs.Calls.RoundCalls.{AreLater}
 use Rattle.running_store.proofs.LaidLemmas.{kept_flushed}
 use Rattle.running_store.proofs.objects.Objects.hold.Goals as goal
 

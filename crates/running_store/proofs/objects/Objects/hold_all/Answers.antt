@@ -1,8 +1,8 @@
 use Rattle.std.proofs.Common.{List, ℕ, take, subst}
 use Rattle.std.proofs.lemmas.List.{take_all}
 use Rattle.stable_objects.specs.Ready.{AreHeld}
-use Rattle.running_store.specs.RoundCalls.{AreFlushed, cached_in}
-use Rattle.running_store.proofs.RoundHolds.{have_more, have_none, still_later}
+use Rattle.running_store.specs.Calls.RoundCalls.{AreFlushed, cached_in}
+use Rattle.running_store.proofs.OfRounds.Holds.{have_more, have_none, still_later}
 use Rattle.running_store.proofs.objects.Objects.hold_all.Goals as goal
 
 pub loop-object-init : goal.loop-object-init

@@ -1,5 +1,5 @@
 use Rattle.std.proofs.Common.{take}
-use Rattle.running_store.proofs.RoundHolds.{HaveHeld}
+use Rattle.running_store.proofs.OfRounds.Holds.{HaveHeld}
 use Rattle.running_store.proofs.objects.Objects.hold_all.Given as goal
 
 abbrev pub invariant-loop-object : goal.invariant-loop-object

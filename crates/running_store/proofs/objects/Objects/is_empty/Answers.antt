@@ -1,6 +1,6 @@
 use Rattle.std.proofs.Common.{◌∙◌, ◌<◌, ◌==◌, ap, sym, subst, arith}
 use Rattle.running_store.specs.Laid.{Laid}
-use Rattle.running_store.specs.Lengths.{length_at}
+use Rattle.running_store.specs.Laid.Lengths.{length_at}
 use Rattle.running_store.proofs.objects.Objects.is_empty.Goals as goal
 
 pub contains-requires : goal.contains-requires

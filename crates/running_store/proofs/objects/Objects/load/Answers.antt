@@ -3,7 +3,7 @@ use Rattle.std.proofs.lemmas.Result.{err_from_is_err_and}
 use Rattle.disk_model.specs.declared.machine.FileNo.TheVariants.{Objects}
 use Rattle.dirty_cache.specs.Contents.{Contents}
 use Rattle.running_store.specs.Laid.{IsLaidOn}
-use Rattle.running_store.specs.Lengths.{AreKept}
+use Rattle.running_store.specs.Laid.Lengths.{AreKept}
 use Rattle.running_store.proofs.objects.Objects.load.Goals as goal
 
 pub returns-in_err-empties-clause-whole : goal.returns-in_err-empties-clause-whole

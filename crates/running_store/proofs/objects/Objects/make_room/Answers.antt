@@ -1,7 +1,7 @@
 use Rattle.std.proofs.Common.{◌∙◌, All, List, ℕ, subst}
 use Rattle.std.proofs.lemmas.List.{take_all}
 use Rattle.dirty_cache.specs.Contents.{HasRoom}
-use Rattle.running_store.specs.Fetched.{fetched-same, fetched-twice}
+use Rattle.running_store.specs.Laid.Fetched.{fetched-same, fetched-twice}
 use Rattle.running_store.proofs.SetLemmas.{all_next}
 use Rattle.running_store.proofs.objects.Objects.make_room.Goals as goal
 

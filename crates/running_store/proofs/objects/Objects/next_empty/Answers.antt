@@ -1,7 +1,7 @@
 use Rattle.std.proofs.Common.{subst}
 use Rattle.running_store.specs.Laid.{Laid}
-use Rattle.running_store.specs.Lengths.{IsNextEmpty, length_at}
-use Rattle.running_store.specs.LengthLaws.{next_marked}
+use Rattle.running_store.specs.Laid.Lengths.{IsNextEmpty, length_at}
+use Rattle.running_store.specs.Laid.LengthLaws.{next_marked}
 use Rattle.running_store.proofs.objects.Objects.next_empty.Goals as goal
 
 pub returns : goal.returns

@@ -4,10 +4,10 @@ use Rattle.oper_core.specs.Meaning.{FitsReads, IsInGrammar, IsLawful, IsSmall, M
 use Rattle.oper_core.specs.declared.bounds.Bounds.{Bounds}
 use Rattle.oper_core.specs.State.{is_among}
 use Rattle.dirty_cache.specs.Contents.{Contents, HasRoom, held, is_dirty}
-use Rattle.running_store.specs.Among.{small_bounds}
+use Rattle.running_store.specs.Laid.Among.{small_bounds}
 use Rattle.running_store.specs.Laid.{Laid, with_entries}
-use Rattle.running_store.specs.Lent.{KeepsOthers, inputs_in}
-use Rattle.running_store.specs.Ran.{HasRun}
+use Rattle.running_store.specs.Laid.Lent.{KeepsOthers, inputs_in}
+use Rattle.running_store.specs.Laid.Ran.{HasRun}
 use Rattle.running_store.proofs.DoneLemmas.{dirty_done, entries_done, kept_done, laid_done, same_fetched, same_held, same_kept, same_laid}
 use Rattle.running_store.proofs.LentLemmas.{on_err}
 use Rattle.running_store.proofs.objects.Objects.run.Given.{Over}

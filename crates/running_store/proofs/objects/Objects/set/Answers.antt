@@ -1,7 +1,7 @@
 use Rattle.std.proofs.Common.{◌∙◌, ◌<◌, ◌≤◌, ◌==◌, Bool, length, List, ℕ, sym, subst, ap, arith}
 use Rattle.std.specs.Prelude.{slice_set}
 use Rattle.running_store.specs.Laid.{Laid}
-use Rattle.running_store.specs.Lengths.{AreKept}
+use Rattle.running_store.specs.Laid.Lengths.{AreKept}
 use Rattle.running_store.proofs.LaidLemmas.{dirty_set, kept_set, laid_set}
 use Rattle.running_store.proofs.objects.Objects.set.Goals as goal
 

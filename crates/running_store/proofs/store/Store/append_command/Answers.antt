@@ -7,13 +7,13 @@ use Rattle.install_order.specs.declared.entry.Entry.{Entry}
 use Rattle.log_records.specs.RecordLog.{RecordLogView}
 use Rattle.dirty_cache.specs.Contents.{HasRoom}
 use Rattle.explain_core.specs.History.Member.{Command}
-use Rattle.running_store.specs.Among.{small_bounds}
-use Rattle.running_store.specs.Commands.{IsCommanded, IsLeft, IsReady}
-use Rattle.running_store.specs.Lent.{inputs_in}
+use Rattle.running_store.specs.Laid.Among.{small_bounds}
+use Rattle.running_store.specs.Calls.Commands.{IsCommanded, IsLeft, IsReady}
+use Rattle.running_store.specs.Laid.Lent.{inputs_in}
 use Rattle.running_store.specs.Parts.{IsAppended, Parts, parts}
-use Rattle.running_store.specs.Ran.{HasRun}
+use Rattle.running_store.specs.Laid.Ran.{HasRun}
 use Rattle.running_store.specs.StoreView.{IsUsable, StoreView, next_of, store_params, view_of}
-use Rattle.running_store.specs.Unchanged.{IsSameLog, IsUntaken}
+use Rattle.running_store.specs.Parts.Unchanged.{IsSameLog, IsUntaken}
 use Rattle.running_store.proofs.Commanded.{command_usable, left_usable}
 use Rattle.running_store.proofs.DoneLemmas.{ran_from, ready_from}
 use Rattle.running_store.proofs.Inside.{usable_before}

@@ -11,16 +11,16 @@ use Rattle.stable_objects.specs.SlotsView.{SlotsView}
 use Rattle.dirty_cache.specs.Contents.{held}
 use Rattle.dirty_cache.specs.declared.entry.Entry.{Entry as Pair}
 use Rattle.explain_core.specs.History.Member.{Identity}
-use Rattle.running_store.specs.Commands.{IsLeft}
+use Rattle.running_store.specs.Calls.Commands.{IsLeft}
 use Rattle.running_store.specs.Courses.{identity_length}
-use Rattle.running_store.specs.InUse.{cached_pair}
+use Rattle.running_store.specs.Parts.InUse.{cached_pair}
 use Rattle.running_store.specs.Laid.{Laid, values_in}
-use Rattle.running_store.specs.Logged.{HasPlace}
+use Rattle.running_store.specs.Calls.Logged.{HasPlace}
 use Rattle.running_store.specs.Parts.{IsAppended, Parts, parts}
 use Rattle.running_store.specs.StoreView.{IsUsable, StoreView, next_of, view_of}
-use Rattle.running_store.specs.Unchanged.{IsSameLog, IsUntaken}
-use Rattle.running_store.specs.Writes.{IsWritten}
-use Rattle.running_store.specs.Written.{value_cached}
+use Rattle.running_store.specs.Parts.Unchanged.{IsSameLog, IsUntaken}
+use Rattle.running_store.specs.Calls.Writes.{IsWritten}
+use Rattle.running_store.specs.Steps.Written.{value_cached}
 use Rattle.running_store.proofs.Commanded.{left_usable, write_usable}
 use Rattle.running_store.proofs.Inside.{usable_before}
 use Rattle.running_store.proofs.SetLemmas.{entries_cons, entry_of}

@@ -1,11 +1,11 @@
 use Rattle.std.proofs.Common.{◌≡◌, sym, subst, ap, refl}
 use Rattle.std.specs.Result.{result_err}
 use Rattle.oper_core.specs.Meaning.{FitsReads, IsInGrammar}
-use Rattle.running_store.specs.Commands.{IsLeft}
-use Rattle.running_store.specs.Lent.{inputs_in}
+use Rattle.running_store.specs.Calls.Commands.{IsLeft}
+use Rattle.running_store.specs.Laid.Lent.{inputs_in}
 use Rattle.running_store.specs.Parts.{Parts, meaning_in, parts}
 use Rattle.running_store.specs.StoreView.{StoreView, store_params, view_of}
-use Rattle.running_store.specs.Unchanged.{IsUntaken}
+use Rattle.running_store.specs.Parts.Unchanged.{IsUntaken}
 use Rattle.running_store.proofs.Commanded.{left_usable}
 use Rattle.running_store.proofs.Inside.{usable_before}
 use Rattle.running_store.proofs.LentLemmas.{inputs_same}

@@ -5,7 +5,7 @@ use Rattle.dirty_cache.specs.Contents.{held, is_dirty}
 use Rattle.dirty_cache.specs.declared.entry.Entry.{Entry as Pair}
 use Rattle.install_order.specs.declared.entry.Entry.{Entry}
 use Rattle.write_graph.specs.Graph.{lsns}
-use Rattle.running_store.specs.Entered.{IsEntered, IsEntry}
+use Rattle.running_store.specs.Calls.Entered.{IsEntered, IsEntry}
 use Rattle.running_store.specs.Laid.{object_lsn, with_chosen}
 use Rattle.running_store.specs.Parts.{Parts, parts}
 use Rattle.running_store.specs.StoreView.{StoreView, next_of, view_of}

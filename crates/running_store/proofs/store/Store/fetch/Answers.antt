@@ -2,12 +2,12 @@ use Rattle.std.proofs.Common.{◌≡◌, ◌∙◌, ◌<◌, Bool, true, false, 
 use Rattle.std.proofs.lemmas.Result.{err_from_is_err_and}
 use Rattle.disk_model.specs.Disk.{Disk, Rises, Stays}
 use Rattle.disk_model.specs.Moments.{stays_here}
-use Rattle.running_store.specs.Faults.{has_failed, is_read_fault}
-use Rattle.running_store.specs.Fetches.{IsFetch}
+use Rattle.running_store.specs.Calls.Faults.{has_failed, is_read_fault}
+use Rattle.running_store.specs.Calls.Fetches.{IsFetch}
 use Rattle.running_store.specs.Laid.{Laid}
 use Rattle.running_store.specs.Parts.{parts}
 use Rattle.running_store.specs.StoreView.{IsUsable, StoreView, store_params, view_of}
-use Rattle.running_store.specs.Unchanged.{HasRead}
+use Rattle.running_store.specs.Parts.Unchanged.{HasRead}
 use Rattle.running_store.proofs.FetchLemmas.{handed_on, kept_read, looked_read, read_fails}
 use Rattle.running_store.proofs.Inside.{fetch_inside, fetch_usable, flag_after, flag_before, usable_before}
 use Rattle.running_store.proofs.store.Store.fetch.Given.{Over}

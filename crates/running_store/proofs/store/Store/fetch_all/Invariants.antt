@@ -1,6 +1,6 @@
 use Rattle.std.proofs.Common.{◌≡◌, All, false, true}
 use Rattle.stable_objects.specs.SlotsView.{lsn_in}
-use Rattle.running_store.specs.Fetches.{IsFetch}
+use Rattle.running_store.specs.Calls.Fetches.{IsFetch}
 use Rattle.running_store.proofs.store.Store.fetch_all.Given as goal
 
 abbrev pub invariant-loop-object : goal.invariant-loop-object

@@ -15,13 +15,13 @@ use Rattle.explain_core.specs.TurnLaws.{run_none}
 use Rattle.explain_core.specs.World.{World, Step, run}
 use Rattle.standing.specs.Moments.{TakesSome}
 use Rattle.running_store.specs.Courses.{flush_steps}
-use Rattle.running_store.specs.Faults.{has_failed}
-use Rattle.running_store.specs.Flushed.{IsFlushed}
-use Rattle.running_store.specs.InUse.{dirty_held, none_some}
+use Rattle.running_store.specs.Calls.Faults.{has_failed}
+use Rattle.running_store.specs.Laid.Flushed.{IsFlushed}
+use Rattle.running_store.specs.Parts.InUse.{dirty_held, none_some}
 use Rattle.running_store.specs.Laid.{Laid, lsn_or}
-use Rattle.running_store.specs.Lengths.{AreKept}
+use Rattle.running_store.specs.Laid.Lengths.{AreKept}
 use Rattle.running_store.specs.Parts.{VolatileShows, meaning_in, parts}
-use Rattle.running_store.specs.Stored.{stays_shown}
+use Rattle.running_store.specs.Parts.Stored.{stays_shown}
 use Rattle.running_store.specs.StoreView.{IsUsable, StoreView, view_of}
 use Rattle.running_store.proofs.FlushLemmas.{EndsFlush, first_dirty, flush_ends, flush_none, flush_taken}
 use Rattle.running_store.proofs.Inside.{flag_after, usable_before}

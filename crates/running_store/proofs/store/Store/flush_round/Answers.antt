@@ -2,13 +2,13 @@ use Rattle.std.proofs.Common.{rules, ◌≡◌, ◌∙◌, ap, sym, subst, true}
 use Rattle.std.specs.Prelude.{All}
 use Rattle.log_records.specs.RecordLog.{RecordLogView}
 use Rattle.dirty_cache.specs.Contents.{is_dirty}
-use Rattle.running_store.specs.CallLaws.{failed_force, unbroken_after}
+use Rattle.running_store.specs.Calls.Laws.{failed_force, unbroken_after}
 use Rattle.running_store.specs.Calls.{IsCall, Never, call_twice}
-use Rattle.running_store.specs.RoundCalls.{AreFlushed, gates_course}
+use Rattle.running_store.specs.Calls.RoundCalls.{AreFlushed, gates_course}
 use Rattle.running_store.specs.StoreView.{StoreView, next_of}
 use Rattle.running_store.specs.Taking.{Ending, Takes}
 use Rattle.running_store.specs.Taking.Ending.{Done, Failed}
-use Rattle.running_store.proofs.RoundEnds.{round_taken, round_unforced, round_unopened}
+use Rattle.running_store.proofs.OfRounds.Ends.{round_taken, round_unforced, round_unopened}
 use Rattle.running_store.proofs.store.Store.flush_round.Goals as goal
 
 pub flush_together-requires-clause-unbroken : goal.flush_together-requires-clause-unbroken

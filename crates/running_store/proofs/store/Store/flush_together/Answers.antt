@@ -7,10 +7,10 @@ use Rattle.explain_core.specs.RoundGates.{Gate, gates_of}
 use Rattle.explain_core.specs.World.{World}
 use Rattle.standing.specs.Moments.{TakesSome}
 use Rattle.running_store.specs.Parts.{VolatileShows, meaning_in}
-use Rattle.running_store.specs.RoundImages.{objects_of}
+use Rattle.running_store.specs.Steps.RoundImages.{objects_of}
 use Rattle.running_store.specs.StoreView.{StoreView, view_of}
 use Rattle.running_store.proofs.Inside.{usable_before}
-use Rattle.running_store.proofs.RoundEnds.{EndsTogether, ends_together, taken_together, used_later}
+use Rattle.running_store.proofs.OfRounds.Ends.{EndsTogether, ends_together, taken_together, used_later}
 use Rattle.running_store.proofs.store.Store.flush_together.Given.{Over}
 use Rattle.running_store.proofs.store.Store.flush_together.Goals.{After-note}
 use Rattle.running_store.proofs.store.Store.flush_together.Goals as goal

@@ -4,9 +4,9 @@ use Rattle.std.proofs.lemmas.List.{length-map}
 use Rattle.std.proofs.lemmas.Result.{err_from_is_err_and}
 use Rattle.disk_model.specs.declared.machine.FileNo.TheVariants.{Objects}
 use Rattle.stable_objects.specs.SlotsView.{SlotsView, lsn_in}
-use Rattle.running_store.specs.AfterReads.{fetch_as, fetch_unbroken}
+use Rattle.running_store.specs.Calls.AfterReads.{fetch_as, fetch_unbroken}
 use Rattle.running_store.specs.Laid.{Laid}
-use Rattle.running_store.specs.Lent.{cached_values}
+use Rattle.running_store.specs.Laid.Lent.{cached_values}
 use Rattle.running_store.specs.StoreView.{StoreView}
 use Rattle.running_store.proofs.FetchLemmas.{fetch_twice, handed_on, later_fails, read_later}
 use Rattle.running_store.proofs.LentLemmas.{cached_short, values_cached, values_kept}

@@ -5,8 +5,8 @@ use Rattle.oper_core.specs.Meaning.{Meaning}
 use Rattle.oper_core.specs.declared.bounds.Bounds.{Bounds}
 use Rattle.log_records.specs.LsnReader.{IsReadingFromLsn, LsnReaderView}
 use Rattle.log_records.specs.RecordLog.{RecordLogView}
-use Rattle.running_store.specs.Faults.{has_failed, is_read_fault}
-use Rattle.running_store.specs.LogReads.{IsReaderOf}
+use Rattle.running_store.specs.Calls.Faults.{has_failed, is_read_fault}
+use Rattle.running_store.specs.Calls.LogReads.{IsReaderOf}
 use Rattle.running_store.specs.StoreView.{StoreView}
 use Rattle.running_store.proofs.Inside.{read_same}
 use Rattle.running_store.proofs.store.Store.log_reader.Goals as goal

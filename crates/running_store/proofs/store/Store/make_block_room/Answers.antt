@@ -3,12 +3,12 @@ use Rattle.std.specs.Prelude.{◌^◌}
 use Rattle.explain_core.specs.World.{Step}
 use Rattle.log_blocks.specs.LogView.{used_of}
 use Rattle.log_records.specs.RecordLog.{RecordLogView}
-use Rattle.running_store.specs.Buffered.{room_force, room_none}
+use Rattle.running_store.specs.Courses.Buffered.{room_force, room_none}
 use Rattle.running_store.specs.Calls.{ending_of_force}
 use Rattle.running_store.specs.Courses.{course, force_steps, room_steps}
 use Rattle.running_store.specs.Courses.Stop.{Through}
 use Rattle.running_store.specs.Taking.Ending.{Done}
-use Rattle.running_store.specs.TakesLaws.{takes_none, takes_same}
+use Rattle.running_store.specs.Taking.Laws.{takes_none, takes_same}
 use Rattle.running_store.proofs.Inside.{forced_or_not}
 use Rattle.running_store.proofs.store.Store.make_block_room.Goals as goal
 

@@ -1,4 +1,4 @@
-use Rattle.running_store.specs.Faults.{has_failed, is_read_fault}
+use Rattle.running_store.specs.Calls.Faults.{has_failed, is_read_fault}
 use Rattle.running_store.proofs.Inside.{read_same}
 use Rattle.running_store.proofs.store.Store.read_log.Goals as goal
 

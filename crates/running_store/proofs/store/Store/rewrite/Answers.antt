@@ -6,7 +6,7 @@ use Rattle.log_records.specs.Rewriting.{FindsDamage, IsNewLength, IsRewritable, 
 use Rattle.running_store.specs.Kept.{HasLog}
 use Rattle.running_store.specs.StoreView.{StoreView, view_of}
 use Rattle.running_store.proofs.Inside.{usable_before}
-use Rattle.running_store.proofs.RewriteEnds.{EndsRewrite, all_stable_of, rewrite_ends}
+use Rattle.running_store.proofs.OfRewrites.Ends.{EndsRewrite, all_stable_of, rewrite_ends}
 use Rattle.running_store.proofs.store.Store.rewrite.Given.{Over}
 use Rattle.running_store.proofs.store.Store.rewrite.Goals.{After-note}
 use Rattle.running_store.proofs.store.Store.rewrite.Goals as goal

@@ -1,7 +1,7 @@
 use Rattle.std.proofs.Common.{◌≡◌, ◌≤◌, All, length, map, take, false, true}
 use Rattle.disk_model.specs.declared.machine.FileNo.TheVariants.{Objects}
 use Rattle.stable_objects.specs.SlotsView.{lsn_in}
-use Rattle.running_store.specs.Fetches.{IsFetch}
+use Rattle.running_store.specs.Calls.Fetches.{IsFetch}
 use Rattle.running_store.specs.Laid.{IsLaidOn, values_in}
 use Rattle.running_store.specs.StoreView.{store_params}
 use Rattle.running_store.proofs.store.Store.values_of.Given as goal

@@ -1,7 +1,7 @@
 use Rattle.std.proofs.Common.{ℕ, [], ◌∷◌, subst}
 use Rattle.disk_model.specs.Disk.{HoldsAt}
 use Rattle.disk_model.specs.declared.machine.FileNo.TheVariants.{Objects}
-use Rattle.stable_objects.proofs.Admitted.{admitting, at_switch, either_version, now_set}
+use Rattle.stable_objects.proofs.Upgraded.Admitted.{admitting, at_switch, either_version, now_set}
 use Rattle.stable_objects.proofs.slots.Slots.admit_more.Goals as goal
 
 pub returns-in_err-write_through-clause-runs : goal.returns-in_err-write_through-clause-runs

@@ -5,7 +5,7 @@ use Rattle.formats.specs.declared.layout.Layout.{Layout}
 use Rattle.stable_objects.specs.SlotGates.{slot_gate}
 use Rattle.stable_objects.specs.SlotsView.{SlotsView}
 use Rattle.std.proofs.lemmas.List.{get_or_default}
-use Rattle.stable_objects.proofs.Uncut.{closed_last, cut_head, last_gate, long_enough}
+use Rattle.stable_objects.proofs.Upgraded.Uncut.{closed_last, cut_head, last_gate, long_enough}
 use Rattle.stable_objects.proofs.slots.Slots.find_last_head.Goals as goal
 
 pub returns-then-index-eq0-clause-whole : goal.returns-then-index-eq0-clause-whole

@@ -2,10 +2,10 @@ use Rattle.std.proofs.Common.{rules, ℕ, List, inl, refl, sym, subst, arith}
 use Rattle.std.proofs.lemmas.Result.{err_from_is_err_and}
 use Rattle.disk_model.specs.Disk.{Files}
 use Rattle.disk_model.specs.declared.machine.FileNo.TheVariants.{Objects}
-use Rattle.stable_objects.specs.Growing.{IsGrown}
-use Rattle.stable_objects.specs.Larger.{IsStill, end_of_slots}
-use Rattle.stable_objects.proofs.Grown.{all_moved, behind_any, behind_none, behind_settled, either, fails_later, grows_not, looking, moving, now_grown, run_all, run_laid, run_moved, still_none, version_any, writing}
-use Rattle.stable_objects.proofs.Staying.{still_in_front}
+use Rattle.stable_objects.specs.Upgrades.Growing.{IsGrown}
+use Rattle.stable_objects.specs.Upgrades.Larger.{IsStill, end_of_slots}
+use Rattle.stable_objects.proofs.Upgraded.Grown.{all_moved, behind_any, behind_none, behind_settled, either, fails_later, grows_not, looking, moving, now_grown, run_all, run_laid, run_moved, still_none, version_any, writing}
+use Rattle.stable_objects.proofs.Upgraded.Staying.{still_in_front}
 use Rattle.stable_objects.proofs.slots.Slots.grow.Goals as goal
 
 pub returns-in_err-find_last_head-clause-runs : goal.returns-in_err-find_last_head-clause-runs

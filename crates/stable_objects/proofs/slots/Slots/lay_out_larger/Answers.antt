@@ -4,9 +4,9 @@ use Rattle.disk_model.specs.declared.machine.FileNo.TheVariants.{Objects}
 use Rattle.formats.specs.Objects.{bounds_of, second_form, number_fields}
 use Rattle.formats.specs.declared.form.Form.{Form}
 use Rattle.formats.specs.declared.layout.Layout.{Layout}
-use Rattle.stable_objects.specs.Larger.{end_of_slots}
+use Rattle.stable_objects.specs.Upgrades.Larger.{end_of_slots}
 use Rattle.stable_objects.specs.Making.{KeepsFront, HasClosedSlots}
-use Rattle.stable_objects.proofs.Behind.{larger_laid}
+use Rattle.stable_objects.proofs.Upgraded.Behind.{larger_laid}
 use Rattle.stable_objects.proofs.Made.{front_less, run_front}
 use Rattle.stable_objects.proofs.slots.Slots.lay_out_larger.Goals as goal
 

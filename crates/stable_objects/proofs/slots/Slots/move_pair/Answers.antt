@@ -5,12 +5,12 @@ use Rattle.disk_model.specs.Moments.{told_agrees}
 use Rattle.disk_model.specs.declared.machine.FileNo.TheVariants.{Objects}
 use Rattle.formats.specs.Objects.{slot_place}
 use Rattle.formats.specs.declared.layout.Layout.{Layout}
-use Rattle.stable_objects.specs.Filling.{IsFilledTo}
-use Rattle.stable_objects.specs.Growing.{pair_before}
-use Rattle.stable_objects.specs.Larger.{end_of_slots, larger_layout, seconded}
+use Rattle.stable_objects.specs.Upgrades.Filling.{IsFilledTo}
+use Rattle.stable_objects.specs.Upgrades.Growing.{pair_before}
+use Rattle.stable_objects.specs.Upgrades.Larger.{end_of_slots, larger_layout, seconded}
 use Rattle.stable_objects.specs.Replacing.{IsPut}
-use Rattle.stable_objects.proofs.Grown.{behind_none, behind_twice, behind_write, read_fails}
-use Rattle.stable_objects.proofs.Moved.{passed_over, put_over}
+use Rattle.stable_objects.proofs.Upgraded.Grown.{behind_none, behind_twice, behind_write, read_fails}
+use Rattle.stable_objects.proofs.Upgraded.Moved.{passed_over, put_over}
 use Rattle.stable_objects.proofs.slots.Slots.move_pair.Goals as goal
 
 pub returns-in_err-lsn-clause-cause : goal.returns-in_err-lsn-clause-cause

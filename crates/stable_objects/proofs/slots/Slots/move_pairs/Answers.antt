@@ -1,13 +1,13 @@
 use Rattle.std.proofs.Common.{◌≡◌, ℕ, ap, subst, arith}
 use Rattle.std.proofs.lemmas.Result.{err_from_is_err_and}
 use Rattle.disk_model.specs.declared.machine.FileNo.TheVariants.{Objects}
-use Rattle.stable_objects.specs.Filling.{IsFilledTo}
-use Rattle.stable_objects.specs.Growing.{pair_before}
-use Rattle.stable_objects.specs.Larger.{end_of_slots, seconded}
+use Rattle.stable_objects.specs.Upgrades.Filling.{IsFilledTo}
+use Rattle.stable_objects.specs.Upgrades.Growing.{pair_before}
+use Rattle.stable_objects.specs.Upgrades.Larger.{end_of_slots, seconded}
 use Rattle.stable_objects.specs.SlotsView.{SlotsView}
 use Rattle.disk_model.specs.Moments.{stays_here}
-use Rattle.stable_objects.proofs.Grown.{behind_none, behind_twice, fails_later, still_twice}
-use Rattle.stable_objects.proofs.Staying.{still_in_front}
+use Rattle.stable_objects.proofs.Upgraded.Grown.{behind_none, behind_twice, fails_later, still_twice}
+use Rattle.stable_objects.proofs.Upgraded.Staying.{still_in_front}
 use Rattle.stable_objects.proofs.slots.Slots.move_pairs.Goals as goal
 
 pub loop-object-init : goal.loop-object-init

@@ -2,11 +2,11 @@ use Rattle.std.proofs.Common.{◌≤◌, ℕ, List}
 use Rattle.disk_model.specs.Disk.{Disk}
 use Rattle.disk_model.specs.declared.machine.FileNo.TheVariants.{Objects}
 use Rattle.formats.specs.declared.params.Params.{Params}
-use Rattle.stable_objects.specs.Filling.{IsFilledTo}
-use Rattle.stable_objects.specs.Growing.{pair_before}
-use Rattle.stable_objects.specs.Larger.{IsStill, HasLastHead, end_of_slots, seconded}
+use Rattle.stable_objects.specs.Upgrades.Filling.{IsFilledTo}
+use Rattle.stable_objects.specs.Upgrades.Growing.{pair_before}
+use Rattle.stable_objects.specs.Upgrades.Larger.{IsStill, HasLastHead, end_of_slots, seconded}
 use Rattle.stable_objects.specs.SlotsView.{SlotsView}
-use Rattle.stable_objects.proofs.Grown.{RunsBehind}
+use Rattle.stable_objects.proofs.Upgraded.Grown.{RunsBehind}
 use Rattle.stable_objects.proofs.slots.Slots.move_pairs.Given as goal
 
 -- the pairs of the first n objects are moved

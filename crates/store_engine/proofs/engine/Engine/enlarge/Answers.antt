@@ -3,7 +3,7 @@ use Rattle.std.proofs.lemmas.Bool.{both_ways}
 use Rattle.std.proofs.lemmas.Result.{err_from_is_err_and}
 use Rattle.formats.specs.declared.params.Params.{Params}
 use Rattle.running_store.specs.Laid.{Laid}
-use Rattle.stable_objects.specs.Larger.{IsLarger}
+use Rattle.stable_objects.specs.Upgrades.Larger.{IsLarger}
 use Rattle.stable_objects.specs.SlotsView.{SlotsView}
 use Rattle.store_engine.specs.Engine.{EngineView}
 use Rattle.store_engine.proofs.Enlarged.{already_two, done, failed, too_small}

@@ -1,7 +1,7 @@
 use Rattle.std.proofs.Common.{◌≡◌, subst, true, false}
 use Rattle.std.specs.Prelude.{IsErrOf, Ok}
 use Rattle.disk_model.specs.Disk.{Disk}
-use Rattle.running_store.specs.Faults.{is_read_fault}
+use Rattle.running_store.specs.Calls.Faults.{is_read_fault}
 use Rattle.store_engine.specs.Engine.{EngineView, IsEngineRead, engine_of}
 use Rattle.store_engine.specs.declared.ship_err.ShipErr.TheVariants.{DiskFault}
 use Rattle.store_engine.proofs.Shipped.{read_fails}

@@ -1,0 +1,4 @@
+-- All nodes are installed, by turns.
+pub mod Turns
+pub mod Taken
+pub mod TurnTaken

@@ -1,0 +1,3 @@
+-- One identity write.
+pub mod Taken
+pub mod Logging

@@ -1,0 +1,4 @@
+-- Nodes leave the graph.
+pub mod Members
+pub mod Entries
+pub mod LeftNodes

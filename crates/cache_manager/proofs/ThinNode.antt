@@ -1,0 +1,3 @@
+-- The thin node of the least name.
+pub mod Nodes
+pub mod Worlds

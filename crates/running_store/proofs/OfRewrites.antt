@@ -1,0 +1,3 @@
+-- A log is rewritten.
+pub mod Log
+pub mod Ends
