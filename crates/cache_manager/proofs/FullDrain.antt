@@ -2,3 +2,4 @@
 pub mod Turns
 pub mod Taken
 pub mod TurnTaken
+pub mod GoesOn

@@ -25,17 +25,23 @@ module _ {O : Type 0} (m : Meaning O) where
   stopped w c P not_through may = record { allowed = may; through = λ e. absurd (both_ways (is_through c.stop) not_through (ap is_through e)) }
 
   -- one course, and another in the world that the first leaves
-  pub goes_then : (w : World O) (first : Course O) (next : World O → ℕ → Course O) (P Q : World O → Type 0) → Goes m w first P → ((v : World O) → P v → Goes m v (next v first.used) Q) → Goes m w (and_then m w first next) Q
-  goes_then w first next P Q goes more =
+  pub goes_next : (w : World O) (first : Course O) (next : World O → ℕ → Course O) (P Q : World O → Type 0) → Goes m w first P
+      → (first.stop ≡ Through → P (run m w first.steps) → Goes m (run m w first.steps) (next (run m w first.steps) first.used) Q) → Goes m w (and_then m w first next) Q
+  goes_next w first next P Q goes more =
       let second = next (run m w first.steps) first.used in
       behind_both (λ (c : Course O). Goes m w c Q) first second first.stop
       (λ on.
-      let rest = more (run m w first.steps) (goes.through (through_is first.stop on)) in
+      let through = through_is first.stop on in
+      let rest = more through (goes.through through) in
       record {
         allowed = allowed-append m w first.steps second.steps goes.allowed rest.allowed;
         through = λ s. subst Q (sym (run-append m w first.steps second.steps)) (rest.through s);
       })
       (λ ends. stopped w first Q ends goes.allowed)
+
+  -- or in each in which the same holds
+  pub goes_then : (w : World O) (first : Course O) (next : World O → ℕ → Course O) (P Q : World O → Type 0) → Goes m w first P → ((v : World O) → P v → Goes m v (next v first.used) Q) → Goes m w (and_then m w first next) Q
+  goes_then w first next P Q goes more = goes_next w first next P Q goes (λ through there. more (run m w first.steps) there)
 
   pub goes_none : (w : World O) (used : ℕ) (P : World O → Type 0) → P w → Goes m w (course [] used Through) P
   unfolding run

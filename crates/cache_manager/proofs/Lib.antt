@@ -8,7 +8,9 @@ pub mod ThinNode
 pub mod Removal
 pub mod IdentityWrite
 pub mod Balance
+pub mod WorklessTaken
 pub mod ToLog
+pub mod NextWorkless
 pub mod FullDrain
 pub mod OneRound
 pub mod ThinRounds

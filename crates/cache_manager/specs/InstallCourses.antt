@@ -1,5 +1,5 @@
 -- What an install and a drain do, as functions of the world and of the log's length. No group is open in the world.
-use Rattle.std.specs.Prelude.{◌+◌, ◌^◌, ◌/◌, ℕ, zero, suc, nat_lt, nat_le, Bool, not, ◌&&◌, ◌||◌, true, if◌then◌else◌, Option, None, Some, List, [], ◌∷◌, ◌++◌, length, max}
+use Rattle.std.specs.Prelude.{◌+◌, ◌-◌, ◌^◌, ◌/◌, ◌==◌, ℕ, zero, suc, nat_lt, nat_le, Bool, not, ◌&&◌, ◌||◌, true, if◌then◌else◌, Option, None, Some, List, [], ◌∷◌, ◌++◌, length, max}
 use Rattle.std.specs.List.{filter, list_any}
 use Rattle.oper_core.specs.Meaning.{Meaning}
 use Rattle.install_order.specs.Computed.{some_below, least_below}
@@ -71,6 +71,19 @@ module _ {O : Type 0} (m : Meaning O) where
   abbrev pub has_members : World O → Bool
   has_members w = some_below (end_of w) w.graph
 
+  -- there is a next node, and it has no object to flush
+  abbrev pub is_next_workless : World O → Bool
+  is_next_workless w = has_members w && (length (work w) == 0)
+
+  -- such a node is finished
+  abbrev pub workless_course : World O → ℕ → Course O
+  workless_course w used = course (if is_next_workless w then finish_steps w else []) used Through
+
+  -- and so on while there is one, so many at most
+  abbrev pub workless_nodes : ℕ → World O → ℕ → Course O
+  workless_nodes zero w used = course [] used Through
+  workless_nodes (suc n) w used = if is_next_workless w then and_then m w (course (finish_steps w) used Through) (λ v used. workless_nodes n v used) else course [] used Through
+
   -- Beside a copy of the slots that has the objects below a number.
   module _ (copied : ℕ) where
     -- an object is copied, and its version in the cache is of a command
@@ -113,9 +126,13 @@ module _ {O : Type 0} (m : Meaning O) where
 
     -- In a turn of at most so many nodes
     module _ (most : ℕ) where
-      -- a round is taken, where the next node is due, else an install,
+      -- the next node is installed, and behind it those that have no object to flush while they are next,
+      abbrev pub installs : World O → ℕ → Course O
+      installs w used = and_then m w (rounds m.objects w used) (λ v used. workless_nodes (most - 1) v used)
+
+      -- or a round is taken, where the next node is due,
       abbrev pub next_turn : World O → ℕ → Course O
-      next_turn w used = if is_next_due w then round_course most w used else rounds m.objects w used
+      next_turn w used = if is_next_due w then round_course most w used else installs w used
 
       -- if something is left.
       abbrev pub turn_course : World O → ℕ → Course O

@@ -1,5 +1,5 @@
 -- The courses of forces, installs and drains add no command.
-use Rattle.std.proofs.Common.{ℕ, zero, suc, ◌+◌, Bool, List, [], ◌∷◌, ◌++◌}
+use Rattle.std.proofs.Common.{ℕ, zero, suc, ◌+◌, ◌-◌, Bool, List, [], ◌∷◌, ◌++◌}
 use Rattle.std.specs.Prelude.{◌^◌, nat_lt, if◌then◌else◌}
 use Rattle.std.specs.List.{AllByRecursion}
 use Rattle.std.proofs.lemmas.Bool.{cond_both}
@@ -9,7 +9,7 @@ use Rattle.explain_core.specs.Turns.{count_below, dirty_in, round_gates}
 use Rattle.explain_core.specs.World.{World, Step, run, end_of}
 use Rattle.explain_core.specs.World.Step.{Block_gate}
 use Rattle.running_store.specs.Courses.{Course, course, and_then, waits, buffered, force_steps, room_steps, removal_steps}
-use Rattle.cache_manager.specs.InstallCourses.{identities, next_node, work, must_log, others, finish_steps, rounds, has_members, install_course, may_flush, round_steps, round_course, is_next_due, next_turn, turn_course, turns, all_turns, round_limit, drain_course}
+use Rattle.cache_manager.specs.InstallCourses.{identities, next_node, work, must_log, others, finish_steps, rounds, has_members, is_next_workless, workless_nodes, install_course, may_flush, round_steps, round_course, is_next_due, installs, next_turn, turn_course, turns, all_turns, round_limit, drain_course}
 use Rattle.running_store.specs.Courses.Stop.{Through}
 use Rattle.running_store.specs.Courses.Laws.{behind_both}
 use Rattle.running_store.specs.Running.{AreUpkeep, IsUpkeep}
@@ -74,8 +74,17 @@ module _ {O : Type 0} (m : Meaning O) where
       let gates = round_gates m (may_flush m copied) most w in
       upkeep_append (force_steps m w) (gates_of gates ++ removals_of gates) (upkeep_force w) (upkeep_append (gates_of gates) (removals_of gates) (upkeep_gates gates) (upkeep_removals gates))
 
+  upkeep_nodes : (n : ℕ) (w : World O) (used : ℕ) → AreUpkeep (workless_nodes m n w used).steps
+  upkeep_nodes zero w used = tt
+  upkeep_nodes (suc n) w used =
+      let one = course (finish_steps m w) used Through in
+      upkeep_either (is_next_workless m w) (and_then m w one (λ v used. workless_nodes m n v used)) (course [] used Through) (upkeep_then w one (λ v used. workless_nodes m n v used) (upkeep_finish w) (λ v used. upkeep_nodes n v used)) tt
+
+  upkeep_installs : (copied most : ℕ) (w : World O) (used : ℕ) → AreUpkeep (installs m copied most w used).steps
+  upkeep_installs copied most w used = upkeep_then w (rounds m copied m.objects w used) (λ v used. workless_nodes m (most - 1) v used) (upkeep_rounds copied m.objects w used) (λ v used. upkeep_nodes (most - 1) v used)
+
   upkeep_next : (copied most : ℕ) (w : World O) (used : ℕ) → AreUpkeep (next_turn m copied most w used).steps
-  upkeep_next copied most w used = upkeep_either (is_next_due m copied w) (round_course m copied most w used) (rounds m copied m.objects w used) (upkeep_round copied most w) (upkeep_rounds copied m.objects w used)
+  upkeep_next copied most w used = upkeep_either (is_next_due m copied w) (round_course m copied most w used) (installs m copied most w used) (upkeep_round copied most w) (upkeep_installs copied most w used)
 
   pub upkeep_turn : (copied most : ℕ) (w : World O) (used : ℕ) → AreUpkeep (turn_course m copied most w used).steps
   upkeep_turn copied most w used = upkeep_either (has_members m w) (next_turn m copied most w used) (course [] used Through) (upkeep_next copied most w used) tt

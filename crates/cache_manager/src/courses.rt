@@ -1,4 +1,4 @@
-ghost use Rattle.std.specs.Prelude.{◌≡◌, ◌⊎◌, ◌+◌, ◌<◌, ◌≤◌, ℕ, IsTrue, All, List, length};
+ghost use Rattle.std.specs.Prelude.{◌≡◌, ◌⊎◌, ◌+◌, ◌<◌, ◌≤◌, ℕ, IsTrue, IsFalse, All, List, length};
 ghost use Rattle.formats.specs.declared.params.Params.{Params as Numbers};
 ghost use Rattle.oper_core.specs.Meaning.{IsSmall};
 ghost use Rattle.oper_core.specs.declared.bounds.Bounds.{Bounds};
@@ -7,7 +7,7 @@ ghost use Rattle.explain_core.specs.Sound.{IsSound};
 ghost use Rattle.explain_core.specs.Turns.{count_below, dirty_in, gate_at, is_due, round_gates};
 ghost use Rattle.explain_core.specs.World.{World, run, end_of};
 ghost use Rattle.running_store.specs.Courses.{force_course};
-ghost use Rattle.cache_manager.specs.InstallCourses.{all_turns, identities, has_members, install_course, drain_course, logged_in, flushed_in, may_flush, removals, round_course, turn_course};
+ghost use Rattle.cache_manager.specs.InstallCourses.{all_turns, identities, has_members, install_course, drain_course, logged_in, flushed_in, is_next_due, is_next_workless, may_flush, removals, round_course, turn_course};
 ghost use Rattle.cache_manager.specs.DueNodes.{IsRoundFrom, gates_at};
 ghost use Rattle.running_store.specs.Courses.Stop.{Through};
 ghost use Rattle.explain_core.specs.Backup.{AreBeside};
@@ -88,7 +88,8 @@ pub fn drain_is_bounded<O: Oper>()
     install_order::last_blind_write_is_alone();
 }
 
-/// A turn may be made, of so many nodes at most, also where it is stopped.
+/// A turn may be made, of so many nodes at most, also where it is stopped: a round, or an install and the removals of nodes that have
+/// no object to flush.
 pub fn turn_may_be_taken<O: Oper>()
     ensures { (b : Bounds) (copied most : ℕ) (w : World O) (used : ℕ) → IsSmall b → IsRunning (O.meaning b) w →
         MayBeTaken (O.meaning b) w (turn_course (O.meaning b) copied most w used).steps }
@@ -97,6 +98,16 @@ pub fn turn_may_be_taken<O: Oper>()
     explain_core::a_round_may_be_taken::<O>();
     install_order::last_blind_write_is_alone();
 }
+
+/// Where the next node is not due for a round, a turn that nothing stops has as many nodes as it may have, or the next one behind it has
+/// an object to flush, or none is left. Where the next node has no object to flush, it is not due, and nothing stops the turn.
+pub fn a_turn_goes_on<O: Oper>()
+    ensures far { (b : Bounds) (copied most : ℕ) (w : World O) (used : ℕ) → let m = O.meaning b in let turn = turn_course m copied most w used in
+        0 < most → IsFalse (is_next_due m copied w) → turn.stop ≡ Through →
+        (removals turn.steps ≡ most) ⊎ IsFalse (is_next_workless m (run m w turn.steps)) }
+    ensures through { (b : Bounds) (copied most : ℕ) (w : World O) (used : ℕ) → let m = O.meaning b in
+        IsTrue (is_next_workless m w) → IsFalse (is_next_due m copied w) × ((turn_course m copied most w used).stop ≡ Through) }
+{}
 
 /// Turns of one node or more come to an end: so many as the graph has members and there are dirty objects together leave nothing in
 /// the graph and no object dirty, unless one of them is stopped. What they log is bounded as of a drain.

@@ -1,4 +1,4 @@
-// A turn: nodes are installed together, or one is.
+// A turn: nodes are installed together, or one is and then those that have no object to flush.
 ghost use Rattle.std.specs.Prelude.{◌≡◌, ◌+◌, ◌<◌, ◌≤◌, ℕ, false, length, IsFalse, IsTrue, IfOk, OnOk};
 ghost use Rattle.formats.specs.declared.params.Params.{Params as Numbers};
 ghost use Rattle.write_graph.specs.Graph.{NamesMinimal};
@@ -20,6 +20,7 @@ use crate::InstallErr;
 use crate::choosing::{choose_round, only_object};
 use crate::removing::remove_nodes;
 use crate::rounds::install_one;
+use crate::workless::finish_all_workless;
 use disk_model::Machine;
 use oper_core::{Memory, Oper};
 use running_store::{Objects, Store};
@@ -68,8 +69,9 @@ fn is_due(objects: &Objects, graph: &WriteGraph, n: NodeNo, copied: u32) -> Resu
     Ok(true)
 }
 
-/// Where the minimal node of the least name has one object to flush, that and others like it are installed together, so many at
-/// most; else it is installed alone. It answers how many nodes were installed, if there was one.
+/// Where the minimal node of the least name has one object to flush, that and others like it are installed together; else it is
+/// installed alone, and those behind it that have no object to flush leave the graph after it: so many nodes at most. It answers
+/// how many nodes were installed, if there was one.
 pub(crate) fn take_turn<O: Oper, M: Machine>(
     store: &mut Store<O>,
     machine: &mut M,
@@ -97,5 +99,6 @@ pub(crate) fn take_turn<O: Oper, M: Machine>(
         return Ok(Some(n));
     }
     install_one(store, machine, copied)?;
-    Ok(Some(1))
+    let more = finish_all_workless(store, machine, most - 1)?;
+    Ok(Some(1 + more))
 }

@@ -17,11 +17,11 @@ fn lines(alloc: Global, times: u32) -> Result<Vec<u8>, AllocError> {
     Ok(script)
 }
 
-// A put for each of so many objects.
-fn puts(alloc: Global, objects: u32) -> Result<Vec<u8>, AllocError> {
+// So many puts to the objects from 0 on, and from the last one on to that.
+fn puts(alloc: Global, count: u32, last: u32) -> Result<Vec<u8>, AllocError> {
     let mut script = Vec::new(alloc);
-    for object in 0..objects {
-        let number = object.to_string(alloc)?;
+    for n in 0..count {
+        let number = n.min(last).to_string(alloc)?;
         script.extend_from_slice(b"put ")?;
         script.extend_from_slice(number.as_str().as_bytes())?;
         script.extend_from_slice(b" 0001020304050607\n")?;
@@ -58,8 +58,8 @@ fn a_tended_run_says_the_same(rt: HostRuntime) -> Result<(), Fail> {
 }
 
 // Whether a run is answered `full` where nobody trims, and not where the store is tended.
-fn is_never_full(alloc: Global, init: &str) -> Result<bool, AllocError> {
-    let script = puts(alloc, 400)?;
+fn is_never_full(alloc: Global, init: &str, last: u32) -> Result<bool, AllocError> {
+    let script = puts(alloc, 400, last)?;
     let (first, _) = answers(alloc, init, "redo run", script.as_slice())?;
     let (second, _) = answers(alloc, init, "redo run --tend", script.as_slice())?;
     Ok((first == Status::DoneWithRefusals) & (second == Status::Done))
@@ -67,6 +67,8 @@ fn is_never_full(alloc: Global, init: &str) -> Result<bool, AllocError> {
 
 #[test]
 fn a_tended_log_is_never_full(rt: HostRuntime) -> Result<(), Fail> {
-    assert!(rt; is_never_full(rt.alloc(), "redo init 400 64 8192")?);
+    for last in [399, 7, 0] {
+        assert!(rt; is_never_full(rt.alloc(), "redo init 400 64 8192", last)?);
+    }
     Ok(())
 }

@@ -1,19 +1,19 @@
 -- All turns are a turn, and all turns again. Each turn leaves less to do, so all of them leave nothing.
-use Rattle.std.proofs.Common.{◌≡◌, ◌∙◌, sym, subst, ap, ℕ, zero, suc, ◌+◌, ◌<◌, ◌≤◌, [], length, refl, arith, inl, inr}
+use Rattle.std.proofs.Common.{◌≡◌, ◌∙◌, sym, subst, ap, ℕ, zero, suc, ◌+◌, ◌-◌, ◌<◌, ◌≤◌, [], length, refl, arith, inl, inr}
 use Rattle.std.specs.Prelude.{IsTrue, IsFalse}
 use Rattle.std.proofs.lemmas.Bool.{both_ways, cases_Bool, cond-false, cond-true, cond_both, false_from_ne_true}
 use Rattle.oper_core.specs.Meaning.{Meaning, IsLawful}
 use Rattle.install_order.specs.NodeLaws.{some-gives}
 use Rattle.explain_core.specs.Turns.{count_below, dirty_in, round_gates}
 use Rattle.explain_core.specs.World.{World, end_of, run}
-use Rattle.running_store.specs.Courses.Laws.{behind_both, through_is}
+use Rattle.running_store.specs.Courses.Laws.{behind_both, behind_through, through_is}
 use Rattle.running_store.specs.Courses.{Course, and_then, course, is_through}
 use Rattle.running_store.specs.Courses.Stop.{Through}
 use Rattle.running_store.specs.Running.{IsDrained, IsRunning, KeepsSound}
-use Rattle.cache_manager.specs.InstallCourses.{all_turns, has_members, is_next_due, may_flush, must_log, finish_steps, identities, others, next_turn, removals, round_course, round_limit, rounds, turn_course, turns}
+use Rattle.cache_manager.specs.InstallCourses.{all_turns, has_members, is_next_due, may_flush, must_log, finish_steps, identities, installs, others, next_turn, removals, round_course, rounds, turn_course, turns, workless_nodes}
 use Rattle.cache_manager.proofs.Counts.{count_one}
 use Rattle.cache_manager.proofs.NextNode.Finishing.{IsInstalled}
-use Rattle.cache_manager.proofs.Goes.{Goes, goes_if, goes_none, goes_then, goes_weaker}
+use Rattle.cache_manager.proofs.Goes.{Goes, goes_if, goes_next, goes_none, goes_then, goes_weaker}
 use Rattle.cache_manager.proofs.OneInstall.Goes.{by_some, install_goes, none_left}
 use Rattle.cache_manager.proofs.OneInstall.Loops.{then_same}
 use Rattle.cache_manager.proofs.OneRound.NextDue.{round_some}
@@ -21,36 +21,50 @@ use Rattle.cache_manager.proofs.Plain.{left_in, plain_below}
 use Rattle.cache_manager.proofs.Removal.Members.{removals-append, round_removes, rounds_remove}
 use Rattle.cache_manager.proofs.OneRound.Goes.{IsRounded, MayRound, round_goes}
 use Rattle.cache_manager.proofs.NextNode.WorkOf.{AreAlone}
+use Rattle.cache_manager.proofs.NextWorkless.{by_nodes, nodes_go, nodes_through}
 
 module _ {O : Type 0} (m : Meaning O) (copied : ℕ) (lawful : IsLawful m) (keeps : KeepsSound m) (alone : AreAlone) (rounds_may : MayRound m) (most : ℕ) where
+  -- a turn leaves less to do, and removes no more than that
+  record IsTurned (w : World O) (count : ℕ) (v : World O) : Type 0 where
+    running : IsRunning m v
+    less : left_in m v < left_in m w
+    removed : left_in m v + count ≤ left_in m w
+
+  -- an install, and nodes behind it
+  installs_go : (w : World O) (used : ℕ) → IsRunning m w → IsTrue (has_members m w) → Goes m w (installs m copied most w used) (IsTurned w (removals (installs m copied most w used).steps))
+  installs_go w used is some =
+      let one = rounds m copied m.objects w used in
+      let v = run m w one.steps in
+      let rest = workless_nodes m (most - 1) v one.used in
+      let Q : World O → Type 0 = IsTurned w (removals (installs m copied most w used).steps) in
+      goes_next m w one (λ v used. workless_nodes m (most - 1) v used) (IsInstalled m w) Q (install_goes m copied lawful keeps alone w used is some)
+      (λ through first.
+      let count : removals (installs m copied most w used).steps ≡ removals one.steps + removals rest.steps =
+      ap (λ (c : Course O). removals c.steps) (behind_through one rest one.stop (ap is_through through)) ∙ removals-append one.steps rest.steps in
+      let few = (rounds_remove m copied m.objects w used).removed in
+      goes_weaker m v rest (λ u. IsRounded m v u (removals rest.steps)) Q
+      (λ u done. record { running = done.running; less = omega (arith, first.less, done.less); removed = omega (arith, first.less, done.less, count, few) })
+      (nodes_go m lawful keeps (most - 1) v one.used first.running))
+
   -- a turn may be taken
   next_runs : (w : World O) (used : ℕ) → IsRunning m w → IsTrue (has_members m w) → Goes m w (next_turn m copied most w used) (IsRunning m)
   next_runs w used is some =
       let round = round_course m copied most w used in
-      let one = rounds m copied m.objects w used in
+      let one = installs m copied most w used in
       goes_if m w (is_next_due m copied w) round one (IsRunning m)
       (λ due. goes_weaker m w round (λ u. IsRounded m w u (length (round_gates m (may_flush m copied) most w))) (IsRunning m) (λ v done. done.running) (round_goes m keeps rounds_may copied most w used is))
-      (λ off. goes_weaker m w one (IsInstalled m w) (IsRunning m) (λ v done. done.running) (install_goes m copied lawful keeps alone w used is some))
+      (λ off. goes_weaker m w one (IsTurned w (removals one.steps)) (IsRunning m) (λ v done. done.running) (installs_go w used is some))
 
   pub turn_goes : (w : World O) (used : ℕ) → IsRunning m w → Goes m w (turn_course m copied most w used) (IsRunning m)
   turn_goes w used is = goes_if m w (has_members m w) (next_turn m copied most w used) (course [] used Through) (IsRunning m) (next_runs w used is) (λ empty. goes_none m w used (IsRunning m) is)
 
   module _ (some_in : 0 < most) where
-    -- a turn leaves less to do, and removes no more than that
-    record IsTurned (w : World O) (count : ℕ) (v : World O) : Type 0 where
-      running : IsRunning m v
-      less : left_in m v < left_in m w
-      removed : left_in m v + count ≤ left_in m w
-
-    turned : (w v : World O) (count : ℕ) → count ≤ 1 → IsInstalled m w v → IsTurned w count v
-    turned w v count one done = record { running = done.running; less = done.less; removed = omega (arith, done.less, one) }
-
     next_goes : (w : World O) (used : ℕ) → IsRunning m w → IsTrue (has_members m w) → Goes m w (next_turn m copied most w used) (IsTurned w (removals (next_turn m copied most w used).steps))
     next_goes w used is some = elim (cases_Bool (is_next_due m copied w)) [
       | inl due ↦
           let gates = round_gates m (may_flush m copied) most w in
           let round = round_course m copied most w used in
-          let same : next_turn m copied most w used ≡ round = cond-true (is_next_due m copied w) round (rounds m copied m.objects w used) due in
+          let same : next_turn m copied most w used ≡ round = cond-true (is_next_due m copied w) round (installs m copied most w used) due in
           let many = round_some m lawful w is.sound copied due most some_in in
           let count = round_removes m copied most w in
           subst (λ (c : Course O). Goes m w c (IsTurned w (removals c.steps))) (sym same)
@@ -58,10 +72,9 @@ module _ {O : Type 0} (m : Meaning O) (copied : ℕ) (lawful : IsLawful m) (keep
           (λ v done. record { running = done.running; less = omega (arith, done.less, many); removed = omega (arith, done.less, count) })
           (round_goes m keeps rounds_may copied most w used is))
       | inr off ↦
-          let one = rounds m copied m.objects w used in
+          let one = installs m copied most w used in
           let same : next_turn m copied most w used ≡ one = cond-false (is_next_due m copied w) (round_course m copied most w used) one off in
-          subst (λ (c : Course O). Goes m w c (IsTurned w (removals c.steps))) (sym same)
-          (goes_weaker m w one (IsInstalled m w) (IsTurned w (removals one.steps)) (λ v done. turned w v (removals one.steps) (rounds_remove m copied m.objects w used).removed done) (install_goes m copied lawful keeps alone w used is some))
+          subst (λ (c : Course O). Goes m w c (IsTurned w (removals c.steps))) (sym same) (installs_go w used is some)
     ]
 
     nothing_left : (w : World O) → left_in m w ≤ 0 → IsFalse (has_members m w)
@@ -88,8 +101,13 @@ module _ {O : Type 0} (m : Meaning O) (copied : ℕ) (lawful : IsLawful m) (keep
 
     -- a turn that is cut is an install
     cut_removes : (w : World O) (used : ℕ) → IsFalse (is_through (next_turn m copied most w used).stop) → removals (next_turn m copied most w used).steps ≤ 1
-    cut_removes w used = cond_both (is_next_due m copied w) (round_course m copied most w used) (rounds m copied m.objects w used) (λ (c : Course O). IsFalse (is_through c.stop) → removals c.steps ≤ 1)
-        (λ due cut. absurd (both_ways _ cut refl)) (λ off cut. (rounds_remove m copied m.objects w used).removed)
+    cut_removes w used =
+        let one = rounds m copied m.objects w used in
+        let v = run m w one.steps in
+        cond_both (is_next_due m copied w) (round_course m copied most w used) (installs m copied most w used) (λ (c : Course O). IsFalse (is_through c.stop) → removals c.steps ≤ 1)
+        (λ due cut. absurd (both_ways _ cut refl))
+        (λ off. behind_both (λ (c : Course O). IsFalse (is_through c.stop) → removals c.steps ≤ 1) one (workless_nodes m (most - 1) v one.used) one.stop
+        (λ on cut. absurd (both_ways _ cut (ap is_through (nodes_through m (most - 1) v one.used)))) (λ ends cut. (rounds_remove m copied m.objects w used).removed))
 
     -- turns remove no more nodes than there is left to do
     turns_remove : (n : ℕ) (w : World O) (used : ℕ) → IsRunning m w → removals (turns m copied most n w used).steps ≤ left_in m w
@@ -165,7 +183,11 @@ module _ {O : Type 0} (m : Meaning O) (copied : ℕ) (lawful : IsLawful m) (keep
       (then : (w : World O) (first : Course O) (next : World O → ℕ → Course O) (P : World O → Type 0) → Goes m w first P → Q w first → ((v : World O) → P v → Q v (next v first.used)) → Q w (and_then m w first next))
       (round : (w : World O) (used : ℕ) → IsRunning m w → Q w (round_course m copied most w used)) where
     by_next : (w : World O) (used : ℕ) → IsRunning m w → IsTrue (has_members m w) → Q w (next_turn m copied most w used)
-    by_next w used is some = cond_both (is_next_due m copied w) (round_course m copied most w used) (rounds m copied m.objects w used) (Q w) (λ due. round w used is) (λ off. by_some m copied lawful keeps alone Q none finish log then w used is some)
+    by_next w used is some =
+        let one = rounds m copied m.objects w used in
+        cond_both (is_next_due m copied w) (round_course m copied most w used) (installs m copied most w used) (Q w) (λ due. round w used is)
+        (λ off. then w one (λ v used. workless_nodes m (most - 1) v used) (IsInstalled m w) (install_goes m copied lawful keeps alone w used is some) (by_some m copied lawful keeps alone Q none finish log then w used is some)
+        (λ v done. by_nodes m lawful keeps copied Q none finish then (most - 1) v one.used done.running))
 
     pub by_turn : (w : World O) (used : ℕ) → IsRunning m w → Q w (turn_course m copied most w used)
     by_turn w used is = cond_both (has_members m w) (next_turn m copied most w used) (course [] used Through) (Q w) (λ some. by_next w used is some) (λ empty. none w used)
@@ -175,7 +197,7 @@ module _ {O : Type 0} (m : Meaning O) (copied : ℕ) (lawful : IsLawful m) (keep
     by_turns some_in (suc n) w used is =
         let first = next_turn m copied most w used in
         cond_both (has_members m w) (and_then m w first (λ v used. turns m copied most n v used)) (course [] used Through) (Q w)
-        (λ some. then w first (λ v used. turns m copied most n v used) (IsTurned some_in w (removals first.steps)) (next_goes some_in w used is some) (by_next w used is some) (λ v done. by_turns some_in n v first.used done.running))
+        (λ some. then w first (λ v used. turns m copied most n v used) (IsTurned w (removals first.steps)) (next_goes some_in w used is some) (by_next w used is some) (λ v done. by_turns some_in n v first.used done.running))
         (λ empty. none w used)
 
     pub by_all_turns : 0 < most → (w : World O) (used : ℕ) → IsRunning m w → Q w (all_turns m copied most w used)

@@ -46,7 +46,7 @@ module _ {O : Type 0} (m : Meaning O) where
   pub none_identities : (objects : List ℕ) (w : World O) (used : ℕ) → RemoveNone (identities m objects w used).steps
   none_identities objects w used = none_each (identities m objects w used).steps (each_identities m RemovesNothing (refl, refl) objects (λ x there value. (refl, refl)) w used)
 
-  one_finish : (w : World O) (used : ℕ) → RemovesOne (course (finish_steps m w) used Through)
+  pub one_finish : (w : World O) (used : ℕ) → RemovesOne (course (finish_steps m w) used Through)
   one_finish w used =
       let node = next_node m w in
       let rest = listed node (work m w) in

@@ -1,28 +1,33 @@
-use Rattle.std.proofs.Common.{◌≡◌, ◌∙◌, sym, subst, ap, ℕ, ◌+◌, ◌≤◌, List, [], refl, arith, length}
+use Rattle.std.proofs.Common.{◌≡◌, ◌∙◌, sym, subst, ap, ℕ, ◌+◌, ◌-◌, ◌≤◌, List, [], refl, arith, length}
 use Rattle.std.proofs.lemmas.Bool.{both_ways}
+use Rattle.oper_core.specs.Meaning.{Meaning}
 use Rattle.oper_core.specs.State.{is_among}
 use Rattle.formats.specs.Limits.{log_limit}
+use Rattle.formats.specs.declared.params.Params.{Params}
 use Rattle.install_order.specs.declared.entry.Entry.{Entry}
 use Rattle.write_graph.specs.Graph.{IsLeast, NamesMinimal, lsns}
-use Rattle.running_store.specs.Calls.Laws.{IsLogging, call_short, logging_none}
+use Rattle.explain_core.specs.World.{World, run}
+use Rattle.running_store.specs.Calls.Laws.{IsLogging, call_short, logging_none, logging_twice, unbroken_after}
 use Rattle.running_store.specs.Calls.{Never, call_none}
 use Rattle.running_store.specs.Courses.{Course, course}
 use Rattle.running_store.specs.Courses.Stop.{Through}
 use Rattle.running_store.specs.Kept.{StopsAt}
 use Rattle.running_store.specs.Laid.{Laid}
-use Rattle.running_store.specs.Parts.{Parts, Volatile, meaning_in, volatile}
-use Rattle.running_store.specs.StoreView.{log_length}
+use Rattle.running_store.specs.Parts.{Parts, Shows, Volatile, meaning_in, volatile}
+use Rattle.running_store.specs.StoreView.{log_length, logged_since}
 use Rattle.running_store.specs.Taking.{Ending, Takes}
 use Rattle.running_store.specs.Taking.Ending.{Done, Short}
-use Rattle.running_store.specs.Taking.Laws.{takes_none, takes_nothing, takes_same}
+use Rattle.running_store.specs.Taking.Laws.{both, takes_both, takes_first, takes_none, takes_nothing, takes_same}
 use Rattle.cache_manager.specs.DueNodes.{NamesDue}
-use Rattle.cache_manager.specs.Endings.{same_ends, short_ends}
-use Rattle.cache_manager.specs.InstallCourses.{install_course, removals, round_course, turn_course}
+use Rattle.cache_manager.specs.Endings.{err_cuts, same_ends, short_ends}
+use Rattle.cache_manager.specs.InstallCourses.{install_course, removals, round_course, turn_course, workless_nodes}
 use Rattle.cache_manager.specs.Told.{TellsParts}
 use Rattle.cache_manager.specs.declared.install.Install.{Install}
-use Rattle.cache_manager.proofs.ToLog.DirtyLogs.{logs_none}
+use Rattle.cache_manager.proofs.ToLog.DirtyLogs.{logs_none, logs_twice}
 use Rattle.cache_manager.proofs.Removal.Members.{round_removes}
 use Rattle.cache_manager.proofs.FullDrain.TurnTaken.{alone_removes, turn_alone, turn_due, turn_none}
+use Rattle.cache_manager.proofs.turning.take_turn.Given.{Over}
+use Rattle.cache_manager.proofs.turning.take_turn.Goals.{After-install_one}
 use Rattle.cache_manager.proofs.turning.take_turn.Goals as goal
 
 -- what is said of the objects and the entries of a store, as its methods answer them
@@ -175,7 +180,34 @@ returns-then-due-clause-tells g c =
 pub returns-then-due-clause-most : goal.returns-then-due-clause-most
 returns-then-due-clause-most g c = c.in_ok-n.ensures.most
 
--- an install
+-- an install, and nodes behind it
+module _ (g : Over) (c : After-install_one g) where
+  abbrev one : Meaning g.row.O.Denot → World g.row.O.Denot → ℕ → Course g.row.O.Denot
+  one m w used = install_course m c.args.copied w used
+
+  abbrev rest : Meaning g.row.O.Denot → World g.row.O.Denot → ℕ → Course g.row.O.Denot
+  rest m w used = workless_nodes m (c.args.most - 1) w used
+
+  least : IsLeast (NamesMinimal c.args.store.now.parts.volatile.entries) c.in-Some.name
+  least = least_here c.graph.result.now.entries c.args.store.now.parts c.in-Some.name c.graph.ensures c.in-Some.ensures.some
+
+  none : NamesDue c.args.store.now.parts.volatile c.args.copied c.in-Some.name → ⊥
+  none = not_due_here c.objects.result.now c.graph-2.result.now.entries c.args.store.now.parts.volatile c.args.copied c.in-Some.name c.objects.ensures c.graph-2.ensures (c.in_ok-due.ensures.not_due c.if-due.false)
+
+  module _ (p : Params) (w : World g.row.O.Denot) (shows : Shows (meaning_in g.O.Oper.meaning p) p (g.M.Machine.disk c.args.machine.now) c.args.store.now.parts w) where
+    abbrev m : Meaning g.row.O.Denot
+    m = meaning_in g.O.Oper.meaning p
+
+    -- they are the turn
+    are_turn : both g.O.Oper.meaning one rest m w (log_length c.args.store.now) ≡ turn_course m c.args.copied c.args.most w (log_length c.args.store.now)
+    are_turn = sym (turn_alone g.O.Oper.meaning g.met.O.Oper.lawful c.last_blind_write_is_alone.ensures c.args.copied c.args.most (g.M.Machine.disk c.args.machine.now) c.args.store.now.parts c.in-Some.name least p w shows none (log_length c.args.store.now))
+
+    -- one node, and so many
+    removed : let u = one m w (log_length c.args.store.now) in
+        u.stop ≡ Through → removals (turn_course m c.args.copied c.args.most w (log_length c.args.store.now)).steps ≡ 1 + removals (rest m (run m w u.steps) u.used).steps
+    removed = alone_removes g.O.Oper.meaning g.met.O.Oper.lawful c.last_blind_write_is_alone.ensures c.args.copied c.args.most (g.M.Machine.disk c.args.machine.now) c.args.store.now.parts c.in-Some.name least p w shows none (log_length c.args.store.now)
+
+-- the install is cut short
 pub returns-in_err-install_one-clause-call : goal.returns-in_err-install_one-clause-call
 returns-in_err-install_one-clause-call g c =
     let old = g.M.Machine.disk c.args.machine.now in
@@ -185,53 +217,96 @@ returns-in_err-install_one-clause-call g c =
 
 pub returns-in_err-install_one-clause-takes : goal.returns-in_err-install_one-clause-takes
 returns-in_err-install_one-clause-takes g c =
+    let at = (goal.at.returns-in_err-install_one-clause-takes g c).After-install_one in
     let meaning = g.O.Oper.meaning in
     let old = g.M.Machine.disk c.args.machine.now in
     let new = g.M.Machine.disk c.install_one.new.machine in
     let before = c.args.store.now.parts in
     let after = c.install_one.new.store.parts in
-    let copied = c.args.copied in
-    let most = c.args.most in
-    let name = c.in-Some.name in
-    let least = least_here c.graph.result.now.entries before name c.graph.ensures c.in-Some.ensures.some in
-    let none = not_due_here c.objects.result.now c.graph-2.result.now.entries before.volatile copied name c.objects.ensures c.graph-2.ensures (c.in_ok-due.ensures.not_due c.if-due.false) in
-    subst (λ (k : Ending). Takes meaning old new before after (λ m w used. turn_course m copied most w used) k) (same_ends c.from_residual-in_err-install_one.result c.in_err-install_one.field-0.0 c.from_residual-in_err-install_one.ensures.1)
-    (takes_same meaning old new before after (λ m w used. install_course m copied w used) (λ m w used. turn_course m copied most w used) _
-    (λ p w shows. sym (turn_alone meaning g.met.O.Oper.lawful c.last_blind_write_is_alone.ensures copied most old before name least p w shows none (log_length c.args.store.now))) c.in_err-install_one.ensures.takes)
+    let e = c.in_err-install_one.field-0.0 in
+    subst (λ (k : Ending). Takes meaning old new before after (λ m w used. turn_course m c.args.copied c.args.most w used) k) (same_ends c.from_residual-in_err-install_one.result e c.from_residual-in_err-install_one.ensures.1)
+    (takes_same meaning old new before after (both meaning (one g at) (rest g at)) (λ m w used. turn_course m c.args.copied c.args.most w used) _ (are_turn g at)
+    (takes_first meaning (one g at) (rest g at) old new before after _ (err_cuts e) c.in_err-install_one.ensures.takes))
+
+pub finish_all_workless-requires : goal.finish_all_workless-requires
+finish_all_workless-requires g c =
+    let before = c.args.store.now in
+    let here = c.install_one.new.store in
+    record { unbroken = unbroken_after g.O.Oper.meaning _ _ before here (logged_since before here) (StopsAt log_limit) c.in_ok-install_one.ensures.call }
+
+-- the disk fails behind it
+pub returns-in_err-more-clause-call : goal.returns-in_err-more-clause-call
+returns-in_err-more-clause-call g c =
+    let meaning = g.O.Oper.meaning in
+    let mid = g.M.Machine.disk c.install_one.new.machine in
+    let new = g.M.Machine.disk c.finish_all_workless.new.machine in
+    let here = c.install_one.new.store in
+    let after = c.finish_all_workless.new.store in
+    let old = g.M.Machine.disk c.args.machine.now in
+    subst (λ (k : Ending). IsLogging meaning old new c.args.store.now after (StopsAt log_limit) k) (same_ends c.from_residual-in_err-more.result c.in_err-more.field-0.0 c.from_residual-in_err-more.ensures.1)
+    (logging_twice meaning old mid new c.args.store.now here after (StopsAt log_limit) _ c.in_ok-install_one.ensures.call
+    (logging_none meaning mid new here after (StopsAt log_limit) _ c.finish_all_workless.ensures.next c.in_err-more.ensures.call))
+
+pub returns-in_err-more-clause-takes : goal.returns-in_err-more-clause-takes
+returns-in_err-more-clause-takes g c =
+    let at = (goal.at.returns-in_err-more-clause-takes g c).After-install_one in
+    let meaning = g.O.Oper.meaning in
+    let old = g.M.Machine.disk c.args.machine.now in
+    let mid = g.M.Machine.disk c.install_one.new.machine in
+    let new = g.M.Machine.disk c.finish_all_workless.new.machine in
+    let before = c.args.store.now.parts in
+    let here = c.install_one.new.store.parts in
+    let after = c.finish_all_workless.new.store.parts in
+    let done = c.in_ok-install_one.ensures in
+    subst (λ (k : Ending). Takes meaning old new before after (λ m w used. turn_course m c.args.copied c.args.most w used) k) (same_ends c.from_residual-in_err-more.result c.in_err-more.field-0.0 c.from_residual-in_err-more.ensures.1)
+    (takes_same meaning old new before after (both meaning (one g at) (rest g at)) (λ m w used. turn_course m c.args.copied c.args.most w used) _ (are_turn g at)
+    (takes_both meaning (one g at) (rest g at) old mid new before here after _ done.call.quiet done.takes c.in_err-more.ensures.takes))
+
+-- it is done
+pub returns-clause-call : goal.returns-clause-call
+returns-clause-call g c =
+    let meaning = g.O.Oper.meaning in
+    let mid = g.M.Machine.disk c.install_one.new.machine in
+    let new = g.M.Machine.disk c.finish_all_workless.new.machine in
+    let here = c.install_one.new.store in
+    let after = c.finish_all_workless.new.store in
+    logging_twice meaning (g.M.Machine.disk c.args.machine.now) mid new c.args.store.now here after (StopsAt log_limit) Done c.in_ok-install_one.ensures.call
+    (logging_none meaning mid new here after (StopsAt log_limit) Done c.finish_all_workless.ensures.next c.in_ok-more.ensures.call)
 
 pub returns-clause-takes : goal.returns-clause-takes
 returns-clause-takes g c =
+    let at = (goal.at.returns-clause-takes g c).After-install_one in
     let meaning = g.O.Oper.meaning in
     let old = g.M.Machine.disk c.args.machine.now in
-    let new = g.M.Machine.disk c.install_one.new.machine in
+    let mid = g.M.Machine.disk c.install_one.new.machine in
+    let new = g.M.Machine.disk c.finish_all_workless.new.machine in
     let before = c.args.store.now.parts in
-    let after = c.install_one.new.store.parts in
-    let copied = c.args.copied in
-    let most = c.args.most in
-    let name = c.in-Some.name in
-    let least = least_here c.graph.result.now.entries before name c.graph.ensures c.in-Some.ensures.some in
-    let none = not_due_here c.objects.result.now c.graph-2.result.now.entries before.volatile copied name c.objects.ensures c.graph-2.ensures (c.in_ok-due.ensures.not_due c.if-due.false) in
-    takes_same meaning old new before after (λ m w used. install_course m copied w used) (λ m w used. turn_course m copied most w used) Done
-    (λ p w shows. sym (turn_alone meaning g.met.O.Oper.lawful c.last_blind_write_is_alone.ensures copied most old before name least p w shows none (log_length c.args.store.now))) c.in_ok-install_one.ensures.takes
+    let here = c.install_one.new.store.parts in
+    let after = c.finish_all_workless.new.store.parts in
+    let done = c.in_ok-install_one.ensures in
+    takes_same meaning old new before after (both meaning (one g at) (rest g at)) (λ m w used. turn_course m c.args.copied c.args.most w used) Done (are_turn g at)
+    (takes_both meaning (one g at) (rest g at) old mid new before here after Done done.call.quiet done.takes c.in_ok-more.ensures.takes)
 
 pub returns-clause-count : goal.returns-clause-count
 returns-clause-count g c = λ p w shows.
-    let meaning = g.O.Oper.meaning in
-    let old = g.M.Machine.disk c.args.machine.now in
-    let before = c.args.store.now.parts in
-    let copied = c.args.copied in
-    let most = c.args.most in
-    let name = c.in-Some.name in
-    let least = least_here c.graph.result.now.entries before name c.graph.ensures c.in-Some.ensures.some in
-    let none = not_due_here c.objects.result.now c.graph-2.result.now.entries before.volatile copied name c.objects.ensures c.graph-2.ensures (c.in_ok-due.ensures.not_due c.if-due.false) in
-    sym (alone_removes meaning g.met.O.Oper.lawful c.last_blind_write_is_alone.ensures copied most old before name least p w shows none (log_length c.args.store.now) (c.in_ok-install_one.ensures.takes.follows p w shows).0)
+    let at = (goal.at.returns-clause-count g c).After-install_one in
+    let m = meaning_in g.O.Oper.meaning p in
+    let u = one g at m w (log_length c.args.store.now) in
+    let taken = c.in_ok-install_one.ensures.takes.follows p w shows in
+    let more = c.in_ok-more.ensures.count p (run m w u.steps) taken.1.shows ∙ ap (λ (k : ℕ). removals (rest g at m (run m w u.steps) k).steps) taken.1.used in
+    ap (λ (k : ℕ). 1 + k) more ∙ sym (removed g at p w shows taken.0)
 
 pub returns-clause-tells : goal.returns-clause-tells
 returns-clause-tells g c =
     let before = c.args.store.now.parts in
     let least = least_here c.graph.result.now.entries before c.in-Some.name c.graph.ensures c.in-Some.ensures.some in
     let told = some_installed before c.install_one.new.store.parts c.in-Some.name _ least c.in_ok-install_one.ensures.tells in
-    (omega arith, told.0, told.1, some_entry before c.in-Some.name least)
+    let next = c.finish_all_workless.ensures.next in
+    let fewer = c.in_ok-more.ensures.fewer in
+    (omega arith, omega (arith, told.0, next), omega (arith, told.1, next, fewer), some_entry before c.in-Some.name least)
 
 pub returns-clause-most : goal.returns-clause-most
-returns-clause-most g c = omega (arith, c.requires.some)
+returns-clause-most g c = omega (arith, c.requires.some, c.in_ok-more.ensures.most)
+
+pub returns-clause-logs : goal.returns-clause-logs
+returns-clause-logs g c = logs_twice c.args.store.now.parts c.install_one.new.store.parts c.finish_all_workless.new.store.parts c.in_ok-install_one.ensures.logs c.in_ok-more.ensures.logs
