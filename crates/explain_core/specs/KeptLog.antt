@@ -6,6 +6,7 @@ use Rattle.explain_core.specs.History.{Member}
 use Rattle.explain_core.specs.RunLaws.{run-append}
 use Rattle.explain_core.specs.World.{IsAllStable, World, Step, step, run}
 use Rattle.explain_core.specs.World.Step.{Begin, End, Append, Block_gate, Checkpoint, Slot_gate, Removal, Header_gate, Replay, Crash}
+use Rattle.explain_core.specs.declared.marks.Marks.{Marks}
 use Rattle.explain_core.specs.RoundGates.{Gate, gates_of, removals_of}
 use Rattle.explain_core.specs.Turns.{free_gates, must_install, thin_turn, turn, turns}
 use Rattle.explain_core.specs.TurnLaws.{by_thin_turn, turns_next, turns_none}
@@ -90,21 +91,21 @@ quiet_thin {O} m most w =
     let gates = free_gates m (max 1 most) w in
     by_thin_turn m (λ (l : List (Step O)). AreQuiet l) most w (λ thin some. quiet_append (gates_of gates) (removals_of gates) (quiet_gates O gates) (quiet_removals O gates)) (λ thin none. (tt, tt)) (λ no_thin. tt)
 
-pub quiet_turn : {O : Type 0} (m : Meaning O) (limit : ℕ) (w : World O) → AreQuiet (turn m limit w)
-quiet_turn m limit w =
-    quiet_if (must_install m limit w) (thin_turn m limit w) (if nat_le w.next (length w.history) then Replay ∷ [] else []) (quiet_thin m limit w)
+pub quiet_turn : {O : Type 0} (m : Meaning O) (marks : Marks) (w : World O) → AreQuiet (turn m marks w)
+quiet_turn m marks w =
+    quiet_if (must_install m marks w) (thin_turn m marks.most w) (if nat_le w.next (length w.history) then Replay ∷ [] else []) (quiet_thin m marks.most w)
     (quiet_if (nat_le w.next (length w.history)) (Replay ∷ []) [] (tt, tt) tt)
 
-module _ {O : Type 0} (m : Meaning O) (limit : ℕ) where
-  pub run_next : (n : ℕ) (w : World O) → run m (run m w (turn m limit w)) (turns m limit n (run m w (turn m limit w))) ≡ run m w (turns m limit (suc n) w)
-  run_next n w = sym (run-append m w (turn m limit w) (turns m limit n (run m w (turn m limit w)))) ∙ ap (run m w) (sym (turns_next m limit n w))
+module _ {O : Type 0} (m : Meaning O) (marks : Marks) where
+  pub run_next : (n : ℕ) (w : World O) → run m (run m w (turn m marks w)) (turns m marks n (run m w (turn m marks w))) ≡ run m w (turns m marks (suc n) w)
+  run_next n w = sym (run-append m w (turn m marks w) (turns m marks n (run m w (turn m marks w)))) ∙ ap (run m w) (sym (turns_next m marks n w))
 
-  pub run_zero : (w : World O) → w ≡ run m w (turns m limit 0 w)
+  pub run_zero : (w : World O) → w ≡ run m w (turns m marks 0 w)
   unfolding run
-  run_zero w = sym (ap (run m w) (turns_none m limit w))
+  run_zero w = sym (ap (run m w) (turns_none m marks w))
 
-  pub turns_kept : (n : ℕ) (w : World O) → IsLogKept w (run m w (turns m limit n w))
+  pub turns_kept : (n : ℕ) (w : World O) → IsLogKept w (run m w (turns m marks n w))
   turns_kept zero w = subst (λ (v : World O). IsLogKept w v) (run_zero w) (kept_none w)
   turns_kept (suc n) w =
-      let v = run m w (turn m limit w) in
-      subst (λ (u : World O). IsLogKept w u) (run_next n w) (kept_twice w v (run m v (turns m limit n v)) (run_kept m w (turn m limit w) (quiet_turn m limit w)) (turns_kept n v))
+      let v = run m w (turn m marks w) in
+      subst (λ (u : World O). IsLogKept w u) (run_next n w) (kept_twice w v (run m v (turns m marks n v)) (run_kept m w (turn m marks w) (quiet_turn m marks w)) (turns_kept n v))

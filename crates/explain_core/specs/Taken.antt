@@ -1,9 +1,10 @@
 -- What holds after some first steps of a list: what a call that takes steps leaves, wherever it is stopped.
-use Rattle.std.proofs.Common.{◌∙◌, sym, subst, ℕ, ◌+◌, List, [], ◌++◌}
+use Rattle.std.proofs.Common.{◌∙◌, sym, subst, List, [], ◌++◌}
 use Rattle.std.specs.Prelude.{IsTrue}
 use Rattle.oper_core.specs.Meaning.{Meaning}
 use Rattle.explain_core.specs.World.{World, Step, run}
 use Rattle.explain_core.specs.RunLaws.{Begins, begins-none, begins-all, begins-longer, begins-behind, run-append}
+use Rattle.explain_core.specs.declared.marks.Marks.{Marks}
 use Rattle.explain_core.specs.Turns.{must_install, thin_turn, turns}
 use Rattle.explain_core.specs.TurnLaws.{one_turn, install_turn}
 
@@ -36,5 +37,5 @@ module _ {O : Type 0} (m : Meaning O) (P : World O → Type 0) (w : World O) whe
   }
 
   -- some steps of a turn that logs nothing, where a redo takes one, are some of its own
-  pub after_install : (limit : ℕ) → IsTrue (must_install m limit w) → IsAfterSome m P w (thin_turn m limit w) → IsAfterSome m P w (turns m limit 1 w)
-  after_install limit must is = subst (λ (l : List (Step O)). IsAfterSome m P w l) (sym (one_turn m limit w ∙ install_turn m limit w must)) is
+  pub after_install : (marks : Marks) → IsTrue (must_install m marks w) → IsAfterSome m P w (thin_turn m marks.most w) → IsAfterSome m P w (turns m marks 1 w)
+  after_install marks must is = subst (λ (l : List (Step O)). IsAfterSome m P w l) (sym (one_turn m marks w ∙ install_turn m marks w must)) is

@@ -1,18 +1,19 @@
 -- How many turns a redo takes: at most twice as many as members are left, where the graph is empty.
 use Rattle.std.proofs.Common.{◌≡◌, ◌∙◌, sym, subst, ap, ℕ, zero, suc, ◌+◌, ◌-◌, ◌<◌, ◌≤◌, Bool, true, false, List, [], ◌∷◌, ◌++◌, length, refl, arith, inl, inr, ◌⊎◌}
-use Rattle.std.specs.Prelude.{IsTrue, max, ◌||◌, ◌&&◌, ◌==◌, ◌*◌, not, nat_lt, nat_le, if◌then◌else◌}
+use Rattle.std.specs.Prelude.{IsTrue, max, ◌||◌, ◌&&◌, ◌==◌, ◌*◌, not, nat_le, if◌then◌else◌}
 use Rattle.std.proofs.lemmas.Bool.{cases_eq, cases_Bool, both_ways, ne_eqb, eq-eqb, eqb-true, cond-true, cond-false, and_from, and_parts, ltb-true, leb-true}
 use Rattle.oper_core.specs.Meaning.{Meaning}
 use Rattle.install_order.specs.Computed.{some_below, least_below}
 use Rattle.install_order.specs.NodeLaws.{least-is, some-gives}
 use Rattle.explain_core.specs.World.{World, Step, step, run, end_of, node_named, is_redone}
 use Rattle.explain_core.specs.World.Step.{Removal, Replay}
+use Rattle.explain_core.specs.declared.marks.Marks.{Marks}
 use Rattle.explain_core.specs.CountLaws.{count_same, count_none}
 use Rattle.explain_core.specs.RunLaws.{run-append}
 use Rattle.explain_core.specs.RoundGates.{Gate, gate_step, gates_of, removals_of}
 use Rattle.explain_core.specs.ThinLaws.{count_some}
 use Rattle.explain_core.specs.TurnLaws.{by_thin_turn}
-use Rattle.explain_core.specs.Turns.{count_below, dirty_in, due_from, free_gates, gate_at, has_thin, has_work, is_due, is_entered, is_thin, must_install, thin_has_work, thin_name, thin_node, thin_turn, turn, turns}
+use Rattle.explain_core.specs.Turns.{count_below, due_from, free_gates, gate_at, has_thin, has_work, is_due, is_entered, is_thin, must_install, thin_has_work, thin_name, thin_node, thin_turn, turn, turns, is_over}
 
 abbrev bit : Bool → ℕ
 bit b = if b then 1 else 0
@@ -75,7 +76,7 @@ left_of true true is = refl
 left_of false true is = refl
 left_of a false is = absurd (both_ways _ refl is)
 
-module _ {O : Type 0} (m : Meaning O) (limit : ℕ) where
+module _ {O : Type 0} (m : Meaning O) (marks : Marks) where
   abbrev pub measure : World O → ℕ
   measure w = 2 * (end_of w - w.next) + count_below (end_of w) w.graph
 
@@ -186,38 +187,38 @@ module _ {O : Type 0} (m : Meaning O) (limit : ℕ) where
   replay_drops w left = let more = count_joined (end_of w) w.graph w.next (some_below m.objects (is_redone m w)) in omega (arith, left, more)
 
   -- a turn ends the redo, or makes less of what is left
-  turn_drops : (w : World O) → (turn m limit w ≡ []) ⊎ (measure (run m w (turn m limit w)) < measure w)
+  turn_drops : (w : World O) → (turn m marks w ≡ []) ⊎ (measure (run m w (turn m marks w)) < measure w)
   turn_drops w =
       let replay : List (Step O) = if nat_le w.next (length w.history) then Replay ∷ [] else [] in
-      elim (cases_Bool (must_install m limit w)) [
-        | inl must ↦ inr (subst (λ (steps : List (Step O)). measure (run m w steps) < measure w) (sym (cond-true (must_install m limit w) (thin_turn m limit w) replay must)) (thin_drops limit w (and_parts (nat_lt limit (dirty_in m w)) (has_thin m w) must).1))
+      elim (cases_Bool (must_install m marks w)) [
+        | inl must ↦ inr (subst (λ (steps : List (Step O)). measure (run m w steps) < measure w) (sym (cond-true (must_install m marks w) (thin_turn m marks.most w) replay must)) (thin_drops marks.most w (and_parts (is_over m marks w) (has_thin m w) must).1))
         | inr enough ↦ elim (cases_Bool (nat_le w.next (length w.history))) [
           | inl left ↦ inr (subst (λ (steps : List (Step O)). measure (run m w steps) < measure w)
-              (sym (cond-false (must_install m limit w) (thin_turn m limit w) replay enough ∙ cond-true (nat_le w.next (length w.history)) (Replay ∷ []) [] left)) (replay_drops w (leb-true w.next (length w.history) left)))
-          | inr done ↦ inl (cond-false (must_install m limit w) (thin_turn m limit w) replay enough ∙ cond-false (nat_le w.next (length w.history)) (Replay ∷ []) [] done)
+              (sym (cond-false (must_install m marks w) (thin_turn m marks.most w) replay enough ∙ cond-true (nat_le w.next (length w.history)) (Replay ∷ []) [] left)) (replay_drops w (leb-true w.next (length w.history) left)))
+          | inr done ↦ inl (cond-false (must_install m marks w) (thin_turn m marks.most w) replay enough ∙ cond-false (nat_le w.next (length w.history)) (Replay ∷ []) [] done)
         ]
       ]
 
   -- after the last turn nothing is done
-  pub turns_stay : (n : ℕ) (w : World O) → turn m limit w ≡ [] → turns m limit n w ≡ []
+  pub turns_stay : (n : ℕ) (w : World O) → turn m marks w ≡ [] → turns m marks n w ≡ []
   unfolding turns run
   turns_stay zero w over = refl
-  turns_stay (suc n) w over = ap (λ (steps : List (Step O)). steps ++ turns m limit n (run m w steps)) over ∙ turns_stay n w over
+  turns_stay (suc n) w over = ap (λ (steps : List (Step O)). steps ++ turns m marks n (run m w steps)) over ∙ turns_stay n w over
 
   -- after so many turns nothing is left
-  pub turns_over : (n : ℕ) (w : World O) → measure w ≤ n → turn m limit (run m w (turns m limit n w)) ≡ []
+  pub turns_over : (n : ℕ) (w : World O) → measure w ≤ n → turn m marks (run m w (turns m marks n w)) ≡ []
   unfolding turns run
   turns_over zero w low = elim (turn_drops w) [
     | inl over ↦ over
     | inr less ↦ absurd (omega (arith, less, low))
   ]
   turns_over (suc n) w low = elim (turn_drops w) [
-    | inl over ↦ ap (λ (steps : List (Step O)). turn m limit (run m w steps)) (turns_stay (suc n) w over) ∙ over
-    | inr less ↦ ap (λ (v : World O). turn m limit v) (run-append m w (turn m limit w) (turns m limit n (run m w (turn m limit w)))) ∙ turns_over n (run m w (turn m limit w)) (omega (arith, less, low))
+    | inl over ↦ ap (λ (steps : List (Step O)). turn m marks (run m w steps)) (turns_stay (suc n) w over) ∙ over
+    | inr less ↦ ap (λ (v : World O). turn m marks v) (run-append m w (turn m marks w) (turns m marks n (run m w (turn m marks w)))) ∙ turns_over n (run m w (turn m marks w)) (omega (arith, less, low))
   ]
 
   -- with an empty graph there are at most twice as many turns as members are left
-  pub redo_over : (w : World O) → ((n : ℕ) → w.graph n ≡ false) → turn m limit (run m w (turns m limit (2 * (end_of w - w.next)) w)) ≡ []
+  pub redo_over : (w : World O) → ((n : ℕ) → w.graph n ≡ false) → turn m marks (run m w (turns m marks (2 * (end_of w - w.next)) w)) ≡ []
   redo_over w none =
       let empty : count_below (end_of w) w.graph ≡ 0 = count_same (end_of w) w.graph (λ n. false) (λ n below. none n) ∙ count_none (end_of w) in
       turns_over (2 * (end_of w - w.next)) w (omega (arith, empty))

@@ -3,12 +3,14 @@
 //!
 //! The one contract: every run of allowed steps from a new store is sound, and a sound world replayed to its end has
 //! the state after its commands in its cache. The crate depends on `oper_core` and `install_order`, and reads and
-//! writes nothing: its laws are functions without parameters whose clauses are the statements.
+//! writes nothing: its laws are functions without parameters whose clauses are the statements. [`Marks`] are the
+//! numbers by which a redo installs.
 #![tactic(auto)]
 
 mod backup;
 mod byte_op;
 mod flush_order;
+mod marks;
 mod recovery;
 mod rounds;
 mod steps;
@@ -19,6 +21,7 @@ pub use byte_op::ByteOp;
 pub use flush_order::{
     exactly_no_edge, graph_is_within, minimal_nodes_are_whole, some_node_is_minimal,
 };
+pub use marks::Marks;
 pub use recovery::{
     crash_takes_the_group, forced_splits_no_group, history_gives_the_map, live_cache_is_the_map,
     one_state, redo_gives_the_map, stable_parts_stand, turns_end, turns_keep,

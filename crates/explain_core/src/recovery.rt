@@ -8,6 +8,7 @@ ghost use Rattle.explain_core.specs.World.Step.{Crash};
 ghost use Rattle.explain_core.specs.Sound.{IsSound};
 ghost use Rattle.explain_core.specs.Group.{IsUnsplit, groups_of};
 ghost use Rattle.explain_core.specs.Turns.{turn, turns};
+ghost use Rattle.explain_core.specs.declared.marks.Marks.{Marks};
 ghost use Rattle.explain_core.specs.KeptLog.{IsLogKept};
 ghost use Rattle.explain_core.specs.Stable.{Stable, IsStableOf, world_of, stable_of};
 
@@ -36,28 +37,28 @@ pub fn redo_gives_the_map<O: Oper>()
         ((run (O.meaning b) w (redo_of w)).cache x).value ≡ state_after (O.meaning b) (commands_of w.history) x }
 {}
 
-/// The turns of a redo, which replays and installs thin nodes while too many objects are dirty, are allowed in a sound
+/// The turns of a redo, which replays and installs thin nodes while too many objects are dirty or too many members wait, are allowed in a sound
 /// world whose members are all stable, with no group open; they keep it sound, and leave its log. Where nothing is left
 /// to replay after them, the cache is the state after the commands.
 pub fn turns_keep<O: Oper>()
-    ensures allowed { (b : Bounds) (w : World O) (limit n : ℕ) → IsSmall b → IsSound (O.meaning b) w →
-        IsAllStable w → AreAllowed (O.meaning b) w (turns (O.meaning b) limit n w) }
-    ensures sound { (b : Bounds) (w : World O) (limit n : ℕ) → IsSmall b → IsSound (O.meaning b) w →
+    ensures allowed { (b : Bounds) (w : World O) (marks : Marks) (n : ℕ) → IsSmall b → IsSound (O.meaning b) w →
+        IsAllStable w → AreAllowed (O.meaning b) w (turns (O.meaning b) marks n w) }
+    ensures sound { (b : Bounds) (w : World O) (marks : Marks) (n : ℕ) → IsSmall b → IsSound (O.meaning b) w →
         IsAllStable w →
-        IsSound (O.meaning b) (run (O.meaning b) w (turns (O.meaning b) limit n w)) }
-    ensures log { (b : Bounds) (w : World O) (limit n : ℕ) →
-        IsLogKept w (run (O.meaning b) w (turns (O.meaning b) limit n w)) }
-    ensures map { (b : Bounds) (w : World O) (limit n x : ℕ) → IsSmall b → IsSound (O.meaning b) w →
-        IsAllStable w → IsLive (run (O.meaning b) w (turns (O.meaning b) limit n w)) →
-        ((run (O.meaning b) w (turns (O.meaning b) limit n w)).cache x).value
+        IsSound (O.meaning b) (run (O.meaning b) w (turns (O.meaning b) marks n w)) }
+    ensures log { (b : Bounds) (w : World O) (marks : Marks) (n : ℕ) →
+        IsLogKept w (run (O.meaning b) w (turns (O.meaning b) marks n w)) }
+    ensures map { (b : Bounds) (w : World O) (marks : Marks) (n x : ℕ) → IsSmall b → IsSound (O.meaning b) w →
+        IsAllStable w → IsLive (run (O.meaning b) w (turns (O.meaning b) marks n w)) →
+        ((run (O.meaning b) w (turns (O.meaning b) marks n w)).cache x).value
         ≡ state_after (O.meaning b) (commands_of w.history) x }
 {}
 
 /// From a world whose graph is empty, twice as many turns as members are left to replay are a whole redo: after them
 /// nothing is left to do.
 pub fn turns_end<O: Oper>()
-    ensures { (b : Bounds) (w : World O) (limit : ℕ) → ((n : ℕ) → w.graph n ≡ false) →
-        turn (O.meaning b) limit (run (O.meaning b) w (turns (O.meaning b) limit (2 * (end_of w - w.next)) w)) ≡ [] }
+    ensures { (b : Bounds) (w : World O) (marks : Marks) → ((n : ℕ) → w.graph n ≡ false) →
+        turn (O.meaning b) marks (run (O.meaning b) w (turns (O.meaning b) marks (2 * (end_of w - w.next)) w)) ≡ [] }
 {}
 
 /// What is stable in a sound world is that of its stable history; a crash leaves the world that these parts make; and

@@ -15,6 +15,7 @@ use Rattle.explain_core.specs.TurnLaws.{turns_join, run_join, run_replay}
 use Rattle.explain_core.specs.Turns.{must_install, turns}
 use Rattle.explain_core.specs.World.{World, Step, step, run, end_of}
 use Rattle.explain_core.specs.World.Step.{Replay}
+use Rattle.explain_core.specs.declared.marks.Marks.{Marks}
 use Rattle.standing.specs.Moments.{TakesSome, moments_longer}
 use Rattle.standing.specs.Standing.{FilesShow}
 use Rattle.running_store.specs.Parts.{Volatile, ShowsVolatile}
@@ -28,16 +29,16 @@ pub with_lsn_within : {O : Type 0} (h : List (Member O)) (n : ℕ) (it : Member 
 with_lsn_within h zero it is = omega arith
 with_lsn_within h (suc n) it is = let r = slice_get_within h n it is in omega (arith, r)
 
-module _ {O : Type 0} (m : Meaning O) (p : Params) (limit : ℕ) (w : World O) where
+module _ {O : Type 0} (m : Meaning O) (p : Params) (marks : Marks) (w : World O) where
   -- the next member is replayed: that is one turn more
-  pub replay_on : (turned : ℕ) → must_install m limit (at m limit w turned) ≡ false → (at m limit w turned).next ≤ length w.history → step m (at m limit w turned) Replay ≡ at m limit w (turned + 1)
+  pub replay_on : (turned : ℕ) → must_install m marks (at m marks w turned) ≡ false → (at m marks w turned).next ≤ length w.history → step m (at m marks w turned) Replay ≡ at m marks w (turned + 1)
   replay_on turned enough left =
-      let v = at m limit w turned in
-      let old : v.next ≤ length v.history = omega (arith, left, ap (λ (h : List (Member O)). length h) (turns_kept m limit turned w).history) in
-      sym (run_replay m limit v enough old) ∙ sym (run_join m limit turned 1 w)
+      let v = at m marks w turned in
+      let old : v.next ≤ length v.history = omega (arith, left, ap (λ (h : List (Member O)). length h) (turns_kept m marks turned w).history) in
+      sym (run_replay m marks v enough old) ∙ sym (run_join m marks turned 1 w)
 
-  pub replay_turned : (files : Files) (after : Volatile) (turned : ℕ) → must_install m limit (at m limit w turned) ≡ false → (at m limit w turned).next ≤ length w.history
-      → FilesShow m p files (step m (at m limit w turned) Replay) → ShowsVolatile m p (files Objects) after (step m (at m limit w turned) Replay) → HasTurned m p files after limit w (turned + 1)
+  pub replay_turned : (files : Files) (after : Volatile) (turned : ℕ) → must_install m marks (at m marks w turned) ≡ false → (at m marks w turned).next ≤ length w.history
+      → FilesShow m p files (step m (at m marks w turned) Replay) → ShowsVolatile m p (files Objects) after (step m (at m marks w turned) Replay) → HasTurned m p files after marks w (turned + 1)
   replay_turned files after turned enough left files_show store_shows =
       let same = replay_on turned enough left in
       record {
@@ -46,33 +47,33 @@ module _ {O : Type 0} (m : Meaning O) (p : Params) (limit : ℕ) (w : World O) w
       }
 
   -- nodes are installed after it, until none must be
-  pub limited_so_far : (files : Files) (it : Volatile) (turned : ℕ) (rest : List (Record O)) → IsLimited m p files it limit (at m limit w turned)
-      → AreMembers w.history (at m limit w turned).next rest → SoFar m p files it limit w rest
+  pub limited_so_far : (files : Files) (it : Volatile) (turned : ℕ) (rest : List (Record O)) → IsLimited m p files it marks (at m marks w turned)
+      → AreMembers w.history (at m marks w turned).next rest → SoFar m p files it marks w rest
   limited_so_far files it turned rest is members =
       let more = is.limiting.turned in
-      let same : run m (at m limit w turned) (turns m limit more (at m limit w turned)) ≡ at m limit w (turned + more) = sym (run_join m limit turned more w) in
+      let same : run m (at m marks w turned) (turns m marks more (at m marks w turned)) ≡ at m marks w (turned + more) = sym (run_join m marks turned more w) in
       record {
         turned = turned + more;
         shown = record {
           files_show = subst (λ (u : World O). FilesShow m p files u) same is.limiting.shown.files_show;
           store_shows = subst (λ (u : World O). ShowsVolatile m p (files Objects) it u) same is.limiting.shown.store_shows;
         };
-        enough = ap (must_install m limit) (sym same) ∙ is.enough;
+        enough = ap (must_install m marks) (sym same) ∙ is.enough;
         members = subst (λ (k : ℕ). AreMembers w.history k rest) (sym is.limiting.next ∙ ap (λ (u : World O). u.next) same) members;
       }
 
   -- what a crash leaves after some first steps of some turns is after some first steps of the redo
-  pub turns_are_steps : ((n : ℕ) → w.graph n ≡ false) → (old new : Disk) (turned : ℕ) → TakesSome m p old new w (turns m limit turned w) → TakesSome m p old new w (redo_steps m limit w)
+  pub turns_are_steps : ((n : ℕ) → w.graph n ≡ false) → (old new : Disk) (turned : ℕ) → TakesSome m p old new w (turns m marks turned w) → TakesSome m p old new w (redo_steps m marks w)
   turns_are_steps none old new turned some =
       let most = 2 * (end_of w - w.next) in
       elim (cases_lt most turned) [
         | inl past ↦
             let split : most + (turned - most) ≡ turned = omega (arith, past) in
             subst (λ (l : List (Step O)). TakesSome m p old new w l)
-            (ap (λ (n : ℕ). turns m limit n w) (sym split) ∙ no_more m limit w most (turned - most) (redo_over m limit w none)) some
+            (ap (λ (n : ℕ). turns m marks n w) (sym split) ∙ no_more m marks w most (turned - most) (redo_over m marks w none)) some
         | inr up ↦
             let split : turned + (most - turned) ≡ most = omega (arith, up) in
             subst (λ (l : List (Step O)). TakesSome m p old new w l)
-            (sym (turns_join m limit turned (most - turned) w) ∙ ap (λ (n : ℕ). turns m limit n w) split)
-            (moments_longer m p old new w (turns m limit turned w) (turns m limit (most - turned) (at m limit w turned)) some)
+            (sym (turns_join m marks turned (most - turned) w) ∙ ap (λ (n : ℕ). turns m marks n w) split)
+            (moments_longer m p old new w (turns m marks turned w) (turns m marks (most - turned) (at m marks w turned)) some)
       ]

@@ -11,6 +11,7 @@ use Rattle.stable_objects.specs.SlotsView.{SlotsView, AreOf}
 use Rattle.explain_core.specs.History.{commands_of}
 use Rattle.explain_core.specs.Turns.{must_install, turns}
 use Rattle.explain_core.specs.World.{World, Step, run, end_of, plan_of, IsLive}
+use Rattle.explain_core.specs.declared.marks.Marks.{Marks}
 use Rattle.standing.specs.Members.{table_of}
 use Rattle.standing.specs.Standing.{FilesShow, IsFound}
 use Rattle.analysis_pass.specs.Analysis.{PlanView}
@@ -37,18 +38,18 @@ pub record IsLogDue {O : Type 0} (m : Meaning O) (p : Params) (d : Disk) (log : 
   pub due : IsRedoDue m p d.reads slots plan (from_lsn plan.start stable) w
 
 -- the steps of a whole redo: all its turns, of which there are at most twice as many as members are left to replay
-abbrev pub redo_steps : {O : Type 0} → Meaning O → ℕ → World O → List (Step O)
-redo_steps m limit w = turns m limit (2 * (end_of w - w.next)) w
+abbrev pub redo_steps : {O : Type 0} → Meaning O → Marks → World O → List (Step O)
+redo_steps m marks w = turns m marks (2 * (end_of w - w.next)) w
 
 -- the world after them
-abbrev pub redone_world : {O : Type 0} → Meaning O → ℕ → World O → World O
-redone_world m limit w = run m w (redo_steps m limit w)
+abbrev pub redone_world : {O : Type 0} → Meaning O → Marks → World O → World O
+redone_world m marks w = run m w (redo_steps m marks w)
 
--- The redo of this world is over. Files and store show the world after all its steps: nothing is left to replay, at most
--- so many objects are dirty or no node is thin, and the cache is the state after the commands.
-pub record IsRedone {O : Type 0} (m : Meaning O) (p : Params) (files : Files) (it : Volatile) (limit : ℕ) (w : World O) : Type 0 where
-  pub files_show : FilesShow m p files (redone_world m limit w)
-  pub store_shows : ShowsVolatile m p (files Objects) it (redone_world m limit w)
-  pub live : IsLive (redone_world m limit w)
-  pub enough : must_install m limit (redone_world m limit w) ≡ false
-  pub map_is : (x : ℕ) → ((redone_world m limit w).cache x).value ≡ state_after m (commands_of w.history) x
+-- The redo of this world is over. Files and store show the world after all its steps: nothing is left to replay, no more
+-- objects are dirty and no more members wait than the marks say, or no node is thin, and the cache is the state after the commands.
+pub record IsRedone {O : Type 0} (m : Meaning O) (p : Params) (files : Files) (it : Volatile) (marks : Marks) (w : World O) : Type 0 where
+  pub files_show : FilesShow m p files (redone_world m marks w)
+  pub store_shows : ShowsVolatile m p (files Objects) it (redone_world m marks w)
+  pub live : IsLive (redone_world m marks w)
+  pub enough : must_install m marks (redone_world m marks w) ≡ false
+  pub map_is : (x : ℕ) → ((redone_world m marks w).cache x).value ≡ state_after m (commands_of w.history) x

@@ -16,6 +16,7 @@ ghost use Rattle.explain_core.specs.Sound.{IsSound};
 ghost use Rattle.explain_core.specs.World.{World, step, run, is_redone, IsLive};
 ghost use Rattle.explain_core.specs.World.Step.{Replay, Crash};
 ghost use Rattle.explain_core.specs.Turns.{must_install, turns};
+ghost use Rattle.explain_core.specs.declared.marks.Marks.{Marks};
 ghost use Rattle.standing.specs.Standing.{FilesShow, IsFound};
 ghost use Rattle.analysis_pass.specs.Analysis.{PlanView, plan_table, least_start};
 ghost use Rattle.running_store.specs.Parts.{Volatile, ShowsVolatile};
@@ -73,33 +74,33 @@ pub fn what_is_due_is_set<O: Oper>()
 
 /// Where no records are left and nothing is to be installed, the redo of the world that a restart finds is over.
 pub fn a_redo_ends<O: Oper>()
-    ensures { (p : Params) (files : Files) (it : Volatile) (limit : ℕ) (w : World O) →
+    ensures { (p : Params) (files : Files) (it : Volatile) (marks : Marks) (w : World O) →
         IsSound (O.meaning (bounds_of p)) w → step (O.meaning (bounds_of p)) w Crash ≡ w →
-        SoFar (O.meaning (bounds_of p)) p files it limit w [] → IsRedone (O.meaning (bounds_of p)) p files it limit w }
+        SoFar (O.meaning (bounds_of p)) p files it marks w [] → IsRedone (O.meaning (bounds_of p)) p files it marks w }
 {
     explain_core::turns_keep::<O>();
 }
 
 /// After all steps of its redo, nothing is left to replay of a world just after a crash.
 pub fn a_redo_leaves_nothing<O: Oper>()
-    ensures { (b : Bounds) (w : World O) (limit : ℕ) → step (O.meaning b) w Crash ≡ w →
-        IsLive (redone_world (O.meaning b) limit w) }
+    ensures { (b : Bounds) (w : World O) (marks : Marks) → step (O.meaning b) w Crash ≡ w →
+        IsLive (redone_world (O.meaning b) marks w) }
 {}
 
 /// The parts of the redo's loop, of the world that a restart finds. A member that is replayed is one turn more, and what
 /// is installed after it are further turns.
 pub fn a_redo_goes_on<O: Oper>()
-    ensures replayed { (p : Params) (files : Files) (after : Volatile) (limit turned : ℕ) (w : World O) →
+    ensures replayed { (p : Params) (files : Files) (after : Volatile) (marks : Marks) (turned : ℕ) (w : World O) →
         IsSound (O.meaning (bounds_of p)) w → step (O.meaning (bounds_of p)) w Crash ≡ w →
-        must_install (O.meaning (bounds_of p)) limit (run (O.meaning (bounds_of p)) w (turns (O.meaning (bounds_of p)) limit turned w)) ≡ false →
-        (run (O.meaning (bounds_of p)) w (turns (O.meaning (bounds_of p)) limit turned w)).next ≤ length w.history →
-        FilesShow (O.meaning (bounds_of p)) p files (run (O.meaning (bounds_of p)) w (turns (O.meaning (bounds_of p)) limit turned w)) →
-        ShowsVolatile (O.meaning (bounds_of p)) p (files Objects) after (step (O.meaning (bounds_of p)) (run (O.meaning (bounds_of p)) w (turns (O.meaning (bounds_of p)) limit turned w)) Replay) →
-        HasTurned (O.meaning (bounds_of p)) p files after limit w (turned + 1) }
-    ensures limited { (p : Params) (files : Files) (it : Volatile) (limit turned : ℕ) (w : World O) (rest : List (Record O)) →
-        IsLimited (O.meaning (bounds_of p)) p files it limit (run (O.meaning (bounds_of p)) w (turns (O.meaning (bounds_of p)) limit turned w)) →
-        AreMembers w.history (run (O.meaning (bounds_of p)) w (turns (O.meaning (bounds_of p)) limit turned w)).next rest →
-        SoFar (O.meaning (bounds_of p)) p files it limit w rest }
+        must_install (O.meaning (bounds_of p)) marks (run (O.meaning (bounds_of p)) w (turns (O.meaning (bounds_of p)) marks turned w)) ≡ false →
+        (run (O.meaning (bounds_of p)) w (turns (O.meaning (bounds_of p)) marks turned w)).next ≤ length w.history →
+        FilesShow (O.meaning (bounds_of p)) p files (run (O.meaning (bounds_of p)) w (turns (O.meaning (bounds_of p)) marks turned w)) →
+        ShowsVolatile (O.meaning (bounds_of p)) p (files Objects) after (step (O.meaning (bounds_of p)) (run (O.meaning (bounds_of p)) w (turns (O.meaning (bounds_of p)) marks turned w)) Replay) →
+        HasTurned (O.meaning (bounds_of p)) p files after marks w (turned + 1) }
+    ensures limited { (p : Params) (files : Files) (it : Volatile) (marks : Marks) (turned : ℕ) (w : World O) (rest : List (Record O)) →
+        IsLimited (O.meaning (bounds_of p)) p files it marks (run (O.meaning (bounds_of p)) w (turns (O.meaning (bounds_of p)) marks turned w)) →
+        AreMembers w.history (run (O.meaning (bounds_of p)) w (turns (O.meaning (bounds_of p)) marks turned w)).next rest →
+        SoFar (O.meaning (bounds_of p)) p files it marks w rest }
 {
     explain_core::turns_keep::<O>();
     standing::unseen_steps_change_nothing::<O>();

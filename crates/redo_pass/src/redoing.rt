@@ -12,10 +12,11 @@ ghost use Rattle.running_store.specs.Calls.{IsCall, Never, ending_of_read};
 ghost use Rattle.redo_pass.specs.Causes.{IsRedoFault};
 ghost use Rattle.redo_pass.specs.Redo.{IsLogDue, IsRedone, redo_steps};
 
-use crate::limit::limit_dirty;
+use crate::limit::keep_within;
 use crate::replay::replay;
 use analysis_pass::Plan;
 use disk_model::Machine;
+use explain_core::Marks;
 use formats::ReadErr;
 use oper_core::Oper;
 use running_store::Store;
@@ -23,13 +24,13 @@ use running_store::Store;
 /// Does the log's commands and identity writes from the plan's start on again, in a store whose files are read: nothing is
 /// cached, and the graph is empty. They are read one after the other, and one is in memory at a time. Each is applied to the
 /// objects that it writes whose LSN is below its own and whose redo start is not above it; where it is applied to
-/// some, it enters the graph. After each record, while more than `limit` objects are dirty and a node is thin, a turn is
-/// taken that logs nothing, of as many nodes at most.
+/// some, it enters the graph. After each record, while more objects are dirty or more records wait in the graph than the
+/// marks say, and a node is thin, a turn is taken that logs nothing.
 pub fn redo<O: Oper, M: Machine>(
     plan: &Plan,
     store: &mut Store<O>,
     machine: &mut M,
-    limit: usize,
+    marks: Marks,
 ) -> Result<(), ReadErr>
     requires unbroken { store.old.broken ≡ false }
     requires empty { ((x : ℕ) → held store.old.parts.volatile.objects.cache x ≡ None) × (store.old.parts.volatile.entries ≡ []) }
@@ -39,13 +40,13 @@ pub fn redo<O: Oper, M: Machine>(
     // Of each world that a restart finds in the files and of which this is the plan: all steps of its redo are taken.
     ensures redone { (M.disk machine.old).tells_files → IsSettled (M.disk machine.old) → (p : Params) (w : World O) →
         IsLogDue (O.meaning (bounds_of p)) p (M.disk machine.old) store.old.parts.log store.old.parts.volatile.objects.slots plan.now w →
-        OnOk result (IsRedone (O.meaning (bounds_of p)) p (M.disk machine.new).reads store.new.parts.volatile limit w) }
+        OnOk result (IsRedone (O.meaning (bounds_of p)) p (M.disk machine.new).reads store.new.parts.volatile marks w) }
 
     // At each moment, whatever the answer, each image shows the world after some first ones of these steps.
     ensures steps { (M.disk machine.old).tells_moments → IsSettled (M.disk machine.old) → (p : Params) (w : World O) →
         IsLogDue (O.meaning (bounds_of p)) p (M.disk machine.old) store.old.parts.log store.old.parts.volatile.objects.slots plan.now w →
         TakesSome (O.meaning (bounds_of p)) p (M.disk machine.old) (M.disk machine.new) w
-        (redo_steps (O.meaning (bounds_of p)) limit w) }
+        (redo_steps (O.meaning (bounds_of p)) marks w) }
     ensures cause { IfErr result (FailsBy (Rises (M.disk machine.old).disk_faults (M.disk machine.new).disk_faults)
         (IsRedoFault (O.meaning store.old.parts.log.bounds) (M.disk machine.old) (M.disk machine.new) store.old.parts.log.log
         store.old.parts.volatile.objects.slots store.new.parts.volatile.objects.slots)) }
@@ -57,7 +58,7 @@ pub fn redo<O: Oper, M: Machine>(
     let mut reader = store.log_reader(machine, plan.start())?;
     while let Some(record) = store.read_log(machine, &mut reader)? {
         replay(plan, store, machine, record)?;
-        limit_dirty(store, machine, limit)?;
+        keep_within(store, machine, marks)?;
     }
     Ok(())
 }

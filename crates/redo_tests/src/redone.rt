@@ -6,6 +6,7 @@ ghost use Rattle.running_store.specs.Laid.Flushed.{AreEarly};
 use analysis_pass::{Plan, analyse};
 use dirty_page_table::DirtyPageTable;
 use disk_model::{FileNo, Fuse, MemMachine};
+use explain_core::Marks;
 use formats::ReadErr;
 use log_records::RecordLog;
 use op_codec::AllOps;
@@ -89,7 +90,12 @@ pub fn run_redo(
 ) -> Result<Redone, Fail> {
     let (mut store, plan) = begun(alloc, &mut machine)?;
     let mut fuse = Fuse::new(machine, calls);
-    let ends = redo(&plan, &mut store, &mut fuse, limit).is_ok();
+    let marks = Marks {
+        dirty: limit,
+        waiting: 1 << 28,
+        most: limit,
+    };
+    let ends = redo(&plan, &mut store, &mut fuse, marks).is_ok();
     Ok(Redone {
         machine: fuse.into_inner(),
         store,

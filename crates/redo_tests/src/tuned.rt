@@ -62,6 +62,9 @@ fn within(redo_bytes: usize, clean_bytes: usize) -> Tuning
         clean_bytes,
         redo_dirty: 1,
         redo_bytes,
+        redo_most: 64,
+        redo_waiting: 1 << 28,
+        redo_round: 1,
     }
 }
 

@@ -30,6 +30,7 @@ use Rattle.explain_core.specs.TurnLaws.{turns_next, turns_none}
 use Rattle.explain_core.specs.Turns.{turn, turns}
 use Rattle.explain_core.specs.World.{World, Step, step, run, end_of}
 use Rattle.explain_core.specs.World.Step.{Begin, End, Append, Block_gate, Checkpoint as Take_checkpoint, Slot_gate, Removal, Header_gate, Replay, Crash}
+use Rattle.explain_core.specs.declared.marks.Marks.{Marks}
 use Rattle.standing.specs.Crashed.{crashed-pending, crashed-stable}
 use Rattle.standing.specs.Members.{members_of, tables_in}
 use Rattle.standing.specs.Moments.{TakesSome, moments_longer, moments_twice}
@@ -77,11 +78,11 @@ quiet_append : {O : Type 0} (xs ys : List (Step O)) → AreQuiet xs → AreQuiet
 quiet_append [] ys a b = b
 quiet_append (x ∷ xs) ys a b = (a.0, quiet_append xs ys a.1 b)
 
-quiet_turns : {O : Type 0} (m : Meaning O) (limit n : ℕ) (w : World O) → AreQuiet (turns m limit n w)
-quiet_turns {O} m limit zero w = subst (λ (l : List (Step O)). AreQuiet l) (sym (turns_none m limit w)) tt
-quiet_turns {O} m limit (suc n) w =
-    let first = turn m limit w in
-    subst (λ (l : List (Step O)). AreQuiet l) (sym (turns_next m limit n w)) (quiet_append first (turns m limit n (run m w first)) (quiet_turn m limit w) (quiet_turns m limit n (run m w first)))
+quiet_turns : {O : Type 0} (m : Meaning O) (marks : Marks) (n : ℕ) (w : World O) → AreQuiet (turns m marks n w)
+quiet_turns {O} m marks zero w = subst (λ (l : List (Step O)). AreQuiet l) (sym (turns_none m marks w)) tt
+quiet_turns {O} m marks (suc n) w =
+    let first = turn m marks w in
+    subst (λ (l : List (Step O)). AreQuiet l) (sym (turns_next m marks n w)) (quiet_append first (turns m marks n (run m w first)) (quiet_turn m marks w) (quiet_turns m marks n (run m w first)))
 
 module _ {O : Type 0} (meaning : Bounds → Meaning O) (p : Params) (codes : HasCodes (meaning_in meaning p)) (d : Disk) (before : StoreView) (plan : PlanView) (w : World O) (to : IsToRedo (meaning_in meaning p) p d before.parts plan w) where
   abbrev m : Meaning O
@@ -110,17 +111,17 @@ module _ {O : Type 0} (meaning : Bounds → Meaning O) (p : Params) (codes : Has
             (due it.volatile.objects.slots plan to.params to.of_file (planned.table ∙ (λ i. plan_table (same.0 i).base (same.1 i))) planned.start);
       }
 
-  module _ (limit : ℕ) where
+  module _ (marks : Marks) where
     abbrev later : World O
-    later = redone_world m limit w
+    later = redone_world m marks w
 
     -- the checkpoint with which the opening ends
     abbrev closing : Course O
     closing = closing_course m later (used_of it.log.log)
 
     -- what a crash leaves within the redo is after some first steps of the opening
-    pub redo_moments : (new : Disk) → TakesSome m p d new w (redo_steps m limit w) → TakesSome m p d new w (opening_course m limit w (used_of it.log.log)).steps
-    redo_moments new first = moments_longer m p d new w (redo_steps m limit w) closing.steps first
+    pub redo_moments : (new : Disk) → TakesSome m p d new w (redo_steps m marks w) → TakesSome m p d new w (opening_course m marks w (used_of it.log.log)).steps
+    redo_moments new first = moments_longer m p d new w (redo_steps m marks w) closing.steps first
 
     -- After the redo parts and files show its world.
     module _ (new : Disk) (after : StoreView) (call : IsCall meaning d new before after 0 Never Done) (objects : IsOnObjects d new before after) where
@@ -132,7 +133,7 @@ module _ {O : Type 0} (meaning : Bounds → Meaning O) (p : Params) (codes : Has
           let n = 2 * (end_of w - w.next) in
           let keeps = keeps_beside m p d new it.log to.stable [] (objects.runs.reads to.told).others settled to.keeps in
           let same = same_log new later shows keeps in
-          let all = kept_stable w later (turns_kept m limit n w) (crashed-stable m w to.found.crashed to.found.sound) in
+          let all = kept_stable w later (turns_kept m marks n w) (crashed-stable m w to.found.crashed to.found.sound) in
           record {
             stable = to.stable;
             pending = [];
@@ -142,13 +143,13 @@ module _ {O : Type 0} (meaning : Bounds → Meaning O) (p : Params) (codes : Has
             forced = ap (λ (l : List (Record O)). members_of l) same.1 ∙ shows.members;
             waiting = sym (drop_all later.forced later.history (omega (arith, all.0)));
             tables = ap (λ (l : List (Record O)). tables_in l) same.1 ∙ shows.tables;
-            pending_tables = sym (run_pending m w (turns m limit n w) (quiet_turns m limit n w) ∙ crashed-pending m w to.found.crashed);
+            pending_tables = sym (run_pending m w (turns m marks n w) (quiet_turns m marks n w) ∙ crashed-pending m w to.found.crashed);
           }
 
-      redone_shows : IsSound m later → IsRedone m p new.reads after.parts.volatile limit w → Shows m p new after.parts later
+      redone_shows : IsSound m later → IsRedone m p new.reads after.parts.volatile marks w → Shows m p new after.parts later
       redone_shows sound redone =
           let n = 2 * (end_of w - w.next) in
-          let kept = turns_kept m limit n w in
+          let kept = turns_kept m marks n w in
           let stable = crashed-stable m w to.found.crashed to.found.sound in
           subst (λ (log : RecordLogView). Shows m p new (record { log = log; volatile = after.parts.volatile }) later) (sym objects.log) (record {
             told = objects.runs.time.files_told.0 to.told;
@@ -159,18 +160,18 @@ module _ {O : Type 0} (meaning : Bounds → Meaning O) (p : Params) (codes : Has
           })
 
       -- Then the checkpoint is taken.
-      module _ (last : Disk) (there : Parts) (sound : IsSound m later) (redone : IsRedone m p new.reads after.parts.volatile limit w) where
-        pub opened_after : Takes meaning new last after.parts there (λ m w used. closing_course m w used) Done → IsAfter m p last there w (opening_course m limit w (used_of it.log.log))
+      module _ (last : Disk) (there : Parts) (sound : IsSound m later) (redone : IsRedone m p new.reads after.parts.volatile marks w) where
+        pub opened_after : Takes meaning new last after.parts there (λ m w used. closing_course m w used) Done → IsAfter m p last there w (opening_course m marks w (used_of it.log.log))
         opened_after takes =
             let is = subst (λ (log : RecordLogView). IsAfter m p last there later (closing_course m later (used_of log.log))) objects.log (takes.follows p later (redone_shows sound redone)).1 in
-            record { shows = subst (λ (v : World O). Shows m p last there v) (sym (run-append m w (redo_steps m limit w) closing.steps)) is.shows; used = is.used }
+            record { shows = subst (λ (v : World O). Shows m p last there v) (sym (run-append m w (redo_steps m marks w) closing.steps)) is.shows; used = is.used }
 
         -- and what a crash leaves within it is after some first steps of the opening
-        pub checkpoint_moments : {ending : Ending} → d.tells_moments → TakesSome m p d new w (redo_steps m limit w) → Takes meaning new last after.parts there (λ m w used. closing_course m w used) ending
-            → TakesSome m p d last w (opening_course m limit w (used_of it.log.log)).steps
+        pub checkpoint_moments : {ending : Ending} → d.tells_moments → TakesSome m p d new w (redo_steps m marks w) → Takes meaning new last after.parts there (λ m w used. closing_course m w used) ending
+            → TakesSome m p d last w (opening_course m marks w (used_of it.log.log)).steps
         checkpoint_moments told first takes =
             let then = takes.steps (objects.runs.time.moments_told.0 told) p later (redone_shows sound redone) in
-            moments_twice m p d new last w (redo_steps m limit w) closing.steps (objects.runs.said to.told) first
+            moments_twice m p d new last w (redo_steps m marks w) closing.steps (objects.runs.said to.told) first
             (subst (λ (log : RecordLogView). TakesSome m p new last later (closing_course m later (used_of log.log)).steps) objects.log then)
 
 -- Where a log's file is as in some files, which hold whole records, none of them is reported to be damaged.

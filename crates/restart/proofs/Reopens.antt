@@ -8,6 +8,7 @@ use Rattle.explain_core.specs.RunLaws.{run-append, allowed-append}
 use Rattle.explain_core.specs.Sound.{IsSound}
 use Rattle.explain_core.specs.World.{World, Step, step, run, end_of, IsLive, IsAllStable, AreAllowed}
 use Rattle.explain_core.specs.World.Step.{Block_gate, Crash}
+use Rattle.explain_core.specs.declared.marks.Marks.{Marks}
 use Rattle.standing.specs.Crashed.{crashed-stable}
 use Rattle.running_store.specs.Courses.{Course, course, waits, buffered, force_steps, room_steps, grown}
 use Rattle.running_store.specs.Courses.Stop.{Through, Full}
@@ -50,30 +51,30 @@ module _ {O : Type 0} (m : Meaning O) where
       let roomed = either (KeepStable w) (nat_lt (2 ^ 30) (buffered m w + n)) (force_steps m w) [] (force_stable w) (none_stable w) stable in
       subst (λ (v : World O). IsAllStable v) (sym (run-append m w room (logged_course m (run m w room) used).steps)) (logged_stable (run m w room) used roomed)
 
-  module _ (limit used : ℕ) (w : World O) (sound : IsSound m (step m w Crash)) where
+  module _ (marks : Marks) (used : ℕ) (w : World O) (sound : IsSound m (step m w Crash)) where
     abbrev crashed : World O
     crashed = step m w Crash
 
     abbrev later : World O
-    later = redone_world m limit crashed
+    later = redone_world m marks crashed
 
     pub now_stable : IsAllStable crashed
     now_stable = crashed-stable m crashed (crash_twice m w) sound
 
     -- the world after the redo
     pub later_running : IsSound m later → IsLive later → IsRunning m later
-    later_running sound_later live = record { sound = sound_later; live = live; alone = (kept_stable crashed later (turns_kept m limit (2 * (end_of crashed - crashed.next)) crashed) now_stable).1 }
+    later_running sound_later live = record { sound = sound_later; live = live; alone = (kept_stable crashed later (turns_kept m marks (2 * (end_of crashed - crashed.next)) crashed) now_stable).1 }
 
-    pub all_allowed : AreAllowed m crashed (redo_steps m limit crashed) → ((used : ℕ) → MayBeTaken m later (closing_course m later used).steps) → AreAllowed m w (restart_course m limit w used).steps
+    pub all_allowed : AreAllowed m crashed (redo_steps m marks crashed) → ((used : ℕ) → MayBeTaken m later (closing_course m later used).steps) → AreAllowed m w (restart_course m marks w used).steps
     unfolding run
-    all_allowed turns checkpoint = allowed-append m w (redo_course m limit w used).steps (closing_course m later used).steps (tt, turns) (checkpoint used).allowed
+    all_allowed turns checkpoint = allowed-append m w (redo_course m marks w used).steps (closing_course m later used).steps (tt, turns) (checkpoint used).allowed
 
-    pub reopened : ((used : ℕ) → MayBeTaken m later (closing_course m later used).steps) → IsReopened m w (run m w (restart_course m limit w used).steps)
+    pub reopened : ((used : ℕ) → MayBeTaken m later (closing_course m later used).steps) → IsReopened m w (run m w (restart_course m marks w used).steps)
     unfolding run step
     reopened checkpoint =
         let steps = (closing_course m later used).steps in
-        let kept = turns_kept m limit (2 * (end_of crashed - crashed.next)) crashed in
-        let split : run m w (restart_course m limit w used).steps ≡ run m later steps = run-append m w (redo_course m limit w used).steps steps in
+        let kept = turns_kept m marks (2 * (end_of crashed - crashed.next)) crashed in
+        let split : run m w (restart_course m marks w used).steps ≡ run m later steps = run-append m w (redo_course m marks w used).steps steps in
         let is : IsReopened m w (run m later steps) = record {
           running = (checkpoint used).running;
           commands = (checkpoint used).commands ∙ ap (λ (h : List (Member O)). commands_of h) kept.history;

@@ -22,6 +22,7 @@ use Rattle.explain_core.specs.Sound.{IsSound}
 use Rattle.explain_core.specs.Taken.{after_behind, after_none}
 use Rattle.explain_core.specs.World.{World, step, run}
 use Rattle.explain_core.specs.World.Step.{Crash}
+use Rattle.explain_core.specs.declared.marks.Marks.{Marks}
 use Rattle.standing.specs.Moments.{ShowsSome, TakesSome}
 use Rattle.standing.specs.Standing.{FilesShow}
 use Rattle.analysis_pass.specs.Analysis.{PlanView}
@@ -82,7 +83,7 @@ module _ {O : Type 0} (meaning : Bounds → Meaning O) (old d : Disk) (kept : St
           planned = read.filed.planned;
         }
 
-    module _ (to : IsToRedo m p d it plan crashed) (limit : ℕ) (new : Disk) where
+    module _ (to : IsToRedo m p d it plan crashed) (marks : Marks) (new : Disk) where
       -- the log that is loaded is as long as that of the files
       used_is : used_of it.log.log ≡ used
       used_is =
@@ -92,34 +93,34 @@ module _ {O : Type 0} (meaning : Bounds → Meaning O) (old d : Disk) (kept : St
           no_waiting it.log keeps.pending_are ∙ keeps.place ∙ ap end_of same.2 ∙ sym ends.here
 
       -- the whole course is taken with that of the opening
-      pub whole_after : (after : Parts) → IsAfter m p new after crashed (opening_course m limit crashed (used_of it.log.log)) → IsAfter m p new after w (restart_course m limit w used)
+      pub whole_after : (after : Parts) → IsAfter m p new after crashed (opening_course m marks crashed (used_of it.log.log)) → IsAfter m p new after w (restart_course m marks w used)
       unfolding run
       whole_after after opened =
-          let is = subst (λ (n : ℕ). IsAfter m p new after crashed (opening_course m limit crashed n)) used_is opened in
+          let is = subst (λ (n : ℕ). IsAfter m p new after crashed (opening_course m marks crashed n)) used_is opened in
           record { shows = is.shows; used = is.used }
 
       -- and what a crash leaves within the opening is after some first steps of the whole
-      pub whole_moments : old.tells_moments → TakesSome m p d new crashed (opening_course m limit crashed (used_of it.log.log)).steps → OpensThrough m p old new w (restart_course m limit w used).steps
+      pub whole_moments : old.tells_moments → TakesSome m p d new crashed (opening_course m marks crashed (used_of it.log.log)).steps → OpensThrough m p old new w (restart_course m marks w used).steps
       unfolding run
       whole_moments told taken =
-          let xs = (opening_course m limit crashed used).steps in
-          let whole = (restart_course m limit w used).steps in
+          let xs = (opening_course m marks crashed used).steps in
+          let whole = (restart_course m marks w used).steps in
           let front = silent_weaker d new (ShowsSome m p crashed xs) (ShowsSome m p w whole) (λ files is. after_behind m (FilesShow m p files) w (Crash ∷ []) xs is)
-          (subst (λ (n : ℕ). TakesSome m p d new crashed (opening_course m limit crashed n).steps) used_is taken) in
+          (subst (λ (n : ℕ). TakesSome m p d new crashed (opening_course m marks crashed n).steps) used_is taken) in
           then_leaves old d new (IsSilent (ShowsSome m p w whole) old.said) kept told
           (subst (λ (s : List ℕ). LeavesOnly d new (IsSilent (ShowsSome m p w whole) s)) (kept.said opens.told) front)
 
       -- what reads give is one of these images
-      pub whole_reads : old.tells_moments → IsDisk new → Passes d new → TakesSome m p d new crashed (opening_course m limit crashed (used_of it.log.log)).steps → ShowsSome m p w (restart_course m limit w used).steps new.reads
+      pub whole_reads : old.tells_moments → IsDisk new → Passes d new → TakesSome m p d new crashed (opening_course m marks crashed (used_of it.log.log)).steps → ShowsSome m p w (restart_course m marks w used).steps new.reads
       unfolding run
       whole_reads told lawful time taken =
-          let xs = (opening_course m limit crashed used).steps in
+          let xs = (opening_course m marks crashed used).steps in
           let now = lawful.as_read (time.moments_told.0 (kept.time.moments_told.0 told)) in
           let since = lawful.among d.clock new.clock new.reads new.said time.later (omega arith) now in
-          let is = subst (λ (n : ℕ). TakesSome m p d new crashed (opening_course m limit crashed n).steps) used_is taken in
+          let is = subst (λ (n : ℕ). TakesSome m p d new crashed (opening_course m marks crashed n).steps) used_is taken in
           after_behind m (FilesShow m p new.reads) w (Crash ∷ []) xs (is.each new.reads new.said since).holds
 
 -- where nothing was loaded they give what they gave
-pub unread_shows : {O : Type 0} (m : Meaning O) (p : Params) (old new : Disk) (limit used : ℕ) (w : World O) → Stays old new → OpensOn m p old used w → ShowsSome m p w (restart_course m limit w used).steps new.reads
-unread_shows m p old new limit used w kept opens =
-    after_none m (FilesShow m p new.reads) w (restart_course m limit w used).steps (subst (λ (f : Files). FilesShow m p f w) (sym (kept.reads opens.told)) opens.shows)
+pub unread_shows : {O : Type 0} (m : Meaning O) (p : Params) (old new : Disk) (marks : Marks) (used : ℕ) (w : World O) → Stays old new → OpensOn m p old used w → ShowsSome m p w (restart_course m marks w used).steps new.reads
+unread_shows m p old new marks used w kept opens =
+    after_none m (FilesShow m p new.reads) w (restart_course m marks w used).steps (subst (λ (f : Files). FilesShow m p f w) (sym (kept.reads opens.told)) opens.shows)

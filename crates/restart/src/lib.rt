@@ -3,8 +3,8 @@
 //! The one contract is [`restart`]: of each world of the theory that the files show, the course of a restart is taken,
 //! a crash, the turns of the redo and a checkpoint, and at each moment each image shows the world after some first steps of
 //! it; files that break their format are reported so, at the place of the first check that fails, and stay as they are.
-//! How many objects may be dirty in the redo before it installs, and how many clean ones are cached, a [`Tuning`] says by
-//! the bytes that they may have.
+//! How many objects may be dirty in the redo, and how many records may wait, before it installs, and how many clean objects are
+//! cached, a [`Tuning`] says: of objects, by the bytes that they may have.
 //!
 //! It depends on running_store, whose store it makes of what was read and answers, on redo_pass, which does the redo on it,
 //! and on checkpointing, which takes the checkpoint.

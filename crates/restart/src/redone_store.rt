@@ -17,36 +17,37 @@ ghost use Rattle.restart.specs.Redoing.{IsToRedo};
 use analysis_pass::Plan;
 use checkpointing::closing_checkpoint;
 use disk_model::Machine;
+use explain_core::Marks;
 use formats::ReadErr;
 use oper_core::Oper;
 use redo_pass::redo;
 use running_store::Store;
 
 /// Does again the records of the log that the plan wants, and logs a checkpoint where the log has room for one. The store then
-/// shows the world after the redo and the checkpoint, and so do the files. The redo installs while more than `limit` objects are
-/// dirty and a node is thin.
+/// shows the world after the redo and the checkpoint, and so do the files. The redo installs while it is above
+/// the marks and a node is thin.
 pub(crate) fn open<O: Oper, M: Machine>(
     plan: &Plan,
     store: &mut Store<O>,
     machine: &mut M,
-    limit: usize,
+    marks: Marks,
 ) -> Result<(), ReadErr>
     requires ready { IsFreshStore (M.disk machine.old) store.old }
     ensures call { IsCall O.meaning (M.disk machine.old) (M.disk machine.new) store.old store.new 0 Never (ending_of_read result) }
     ensures follows { (p : Numbers) (w : World O) →
         IsToRedo (meaning_in O.meaning p) p (M.disk machine.old) store.old.parts plan.now w →
         OnOk result (IsAfter (meaning_in O.meaning p) p (M.disk machine.new) store.new.parts w
-        (opening_course (meaning_in O.meaning p) limit w (log_length store.old))) }
+        (opening_course (meaning_in O.meaning p) marks w (log_length store.old))) }
     ensures steps { (M.disk machine.old).tells_moments → (p : Numbers) (w : World O) →
         IsToRedo (meaning_in O.meaning p) p (M.disk machine.old) store.old.parts plan.now w →
         TakesSome (meaning_in O.meaning p) p (M.disk machine.old) (M.disk machine.new) w
-        (opening_course (meaning_in O.meaning p) limit w (log_length store.old)).steps }
+        (opening_course (meaning_in O.meaning p) marks w (log_length store.old)).steps }
     ensures damage { IfErr result (FailsBy (Rises (M.disk machine.old).disk_faults (M.disk machine.new).disk_faults)
         (IsFoundInRedo O.meaning (M.disk machine.old) (M.disk machine.new) store.old.parts store.new.parts)) }
 {
     explain_core::turns_keep::<O>();
     redo_pass::a_found_world_is_due::<O>();
-    redo(plan, store, machine, limit)?;
+    redo(plan, store, machine, marks)?;
     closing_checkpoint(store, machine)?;
     Ok(())
 }

@@ -7,6 +7,7 @@ ghost use Rattle.formats.specs.FirstFault.{IsDamaged};
 ghost use Rattle.formats.specs.Image.{IsFault};
 ghost use Rattle.explain_core.specs.Sound.{IsSound};
 ghost use Rattle.explain_core.specs.World.{World, run, AreAllowed};
+ghost use Rattle.explain_core.specs.declared.marks.Marks.{Marks};
 ghost use Rattle.restart.specs.Courses.{restart_course};
 ghost use Rattle.restart.specs.Reopened.{IsReopened};
 ghost use Rattle.restart.specs.WellFormed.{IsWellFormed};
@@ -16,10 +17,10 @@ use oper_core::Oper;
 /// A restart may be made in every sound world, whenever the store stops. After it calls may be made, the commands are those
 /// that were stable, and each of them is.
 pub fn a_restart_may_be_made<O: Oper>()
-    ensures allowed { (b : Bounds) (w : World O) (limit used : ℕ) → IsSmall b → IsSound (O.meaning b) w →
-        AreAllowed (O.meaning b) w (restart_course (O.meaning b) limit w used).steps }
-    ensures reopened { (b : Bounds) (w : World O) (limit used : ℕ) → IsSmall b → IsSound (O.meaning b) w →
-        IsReopened (O.meaning b) w (run (O.meaning b) w (restart_course (O.meaning b) limit w used).steps) }
+    ensures allowed { (b : Bounds) (w : World O) (marks : Marks) (used : ℕ) → IsSmall b → IsSound (O.meaning b) w →
+        AreAllowed (O.meaning b) w (restart_course (O.meaning b) marks w used).steps }
+    ensures reopened { (b : Bounds) (w : World O) (marks : Marks) (used : ℕ) → IsSmall b → IsSound (O.meaning b) w →
+        IsReopened (O.meaning b) w (run (O.meaning b) w (restart_course (O.meaning b) marks w used).steps) }
 {
     explain_core::crash_keeps::<O>();
     explain_core::turns_keep::<O>();

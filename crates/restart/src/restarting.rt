@@ -5,7 +5,7 @@ ghost use Rattle.explain_core.specs.World.{World};
 ghost use Rattle.standing.specs.Moments.{ShowsSome};
 ghost use Rattle.running_store.specs.Parts.{meaning_in};
 ghost use Rattle.running_store.specs.Taking.{IsAfter};
-ghost use Rattle.restart.specs.Courses.{dirty_limit, restart_course};
+ghost use Rattle.restart.specs.Courses.{redo_marks, restart_course};
 ghost use Rattle.restart.specs.Damage.{IsReported};
 ghost use Rattle.restart.specs.Loading.{IsFresh};
 ghost use Rattle.restart.specs.Opening.{IsJudged, IsOpening, OpensOn, OpensThrough, opened};
@@ -36,21 +36,21 @@ pub fn restart<O: Oper, M: Machine>(
     // Of each world that the files show the whole course is taken, and the log is as long as that says.
     ensures follows { (p : Numbers) (used : ℕ) (w : World O) → OpensOn (meaning_in O.meaning p) p (M.disk machine.old) used w →
         IfOk (opened result) (λ it. IsAfter (meaning_in O.meaning p) p (M.disk machine.new) it w
-        (restart_course (meaning_in O.meaning p) (dirty_limit tuning p) w used)) }
+        (restart_course (meaning_in O.meaning p) (redo_marks tuning p) w used)) }
     ensures steps { (M.disk machine.old).tells_moments → (p : Numbers) (used : ℕ) (w : World O) →
         OpensOn (meaning_in O.meaning p) p (M.disk machine.old) used w →
         OpensThrough (meaning_in O.meaning p) p (M.disk machine.old) (M.disk machine.new) w
-        (restart_course (meaning_in O.meaning p) (dirty_limit tuning p) w used).steps }
+        (restart_course (meaning_in O.meaning p) (redo_marks tuning p) w used).steps }
     // Whatever it answers, what reads give shows the world after some first steps.
     ensures reads { (M.disk machine.old).tells_moments → (p : Numbers) (used : ℕ) (w : World O) →
         OpensOn (meaning_in O.meaning p) p (M.disk machine.old) used w →
-        ShowsSome (meaning_in O.meaning p) p w (restart_course (meaning_in O.meaning p) (dirty_limit tuning p) w used).steps (M.disk machine.new).reads }
+        ShowsSome (meaning_in O.meaning p) p w (restart_course (meaning_in O.meaning p) (redo_marks tuning p) w used).steps (M.disk machine.new).reads }
 {
     explain_core::crash_keeps::<O>();
     standing::unseen_steps_change_nothing::<O>();
     let (mut store, plan) = load::<O, M>(alloc, machine, tuning)?;
-    let limit = tuning.dirty_limit(store.params());
-    match open(&plan, &mut store, machine, limit) {
+    let marks = tuning.redo_marks(store.params());
+    match open(&plan, &mut store, machine, marks) {
         Ok(()) => {
             // Called for its clauses: a store that is not broken is in use.
             let _params = store.params();

@@ -258,7 +258,7 @@ prepare_takes {O} meaning old new before after (Ok value) ends steps =
             store = there.store;
             log = subst (λ (l : RecordLogView). ShowsLog m new l w) (sym same) log;
           } in
-          (refl, record { shows = subst (λ (v : World O). Shows m p new after.parts v) (sym (run_none m 0 w)) shown; used = ap (λ (l : RecordLogView). used_of l.log) same });
+          (refl, record { shows = subst (λ (v : World O). Shows m p new after.parts v) (sym (run_none m w)) shown; used = ap (λ (l : RecordLogView). used_of l.log) same });
       steps = λ told p w shows. steps told p w (store_shown (meaning_in meaning p) p old before.parts w shows);
     }
 prepare_takes {O} meaning old new before after (Err e) ends steps =

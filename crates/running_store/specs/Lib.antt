@@ -2,6 +2,7 @@ pub mod Laid
 pub mod Courses
 pub mod Running
 pub mod Parts
+pub mod Counted
 pub mod Steps
 pub mod Taking
 pub mod Kept

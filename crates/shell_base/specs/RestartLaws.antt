@@ -33,7 +33,7 @@ use Rattle.shell_base.specs.Keeps.{KeepsFiles}
 use Rattle.shell_base.specs.Notices.{damaged, not_a_store}
 use Rattle.shell_base.specs.Open.{HandsOn, IsUnopened}
 use Rattle.shell_base.specs.declared.budget.Budget.{Budget}
-use Rattle.shell_base.specs.First.{Stage, IsFirst, redo_dirty, stage_of}
+use Rattle.shell_base.specs.First.{Stage, IsFirst, marks_of, stage_of}
 use Rattle.shell_base.specs.Store.{Command, meaning_in, IsWellFormed, Opens, Holds, Says, ShowsIn}
 use Rattle.shell_base.specs.HoldLaws.{holds_of, rises_within}
 use Rattle.shell_base.specs.KeepLaws.{keeps_behind}
@@ -59,14 +59,14 @@ Starts p old commands = (used : ℕ) × (w : World Command) × IsFound (meaning_
 -- the stage that a restart makes of it
 abbrev pub first_of : {budget : Budget} {p : Params} {old : Disk} {commands : List Command} → Opens p old commands → Starts p old commands → (first : Stage) × IsFirst budget p commands old first
 first_of {budget} {p} {old} {commands} opens starts =
-    let course = restart_course (meaning_in p) (redo_dirty budget p) starts.1 starts.0 in
+    let course = restart_course (meaning_in p) (marks_of budget p) starts.1 starts.0 in
     let found : OpensOn (meaning_in p) p old starts.0 starts.1 = record { told = opens.told; sound = starts.2.sound; shows = starts.2.shows; ends = starts.3 } in (
       record { world = run (meaning_in p) starts.1 course.steps; used = course.used; identities = 0; copied = None },
       record { used = starts.0; world = starts.1; found = found; commands_are = starts.2.commands_are; world_is = refl; used_is = refl; none_logged = refl; none_copied = refl },
     )
 
 -- its commands are those of the files
-pub first_commands : {budget : Budget} {p : Params} {old : Disk} {commands : List Command} (opens : Opens p old commands) (starts : Starts p old commands) → IsReopened (meaning_in p) starts.1 (run (meaning_in p) starts.1 (restart_course (meaning_in p) (redo_dirty budget p) starts.1 starts.0).steps)
+pub first_commands : {budget : Budget} {p : Params} {old : Disk} {commands : List Command} (opens : Opens p old commands) (starts : Starts p old commands) → IsReopened (meaning_in p) starts.1 (run (meaning_in p) starts.1 (restart_course (meaning_in p) (marks_of budget p) starts.1 starts.0).steps)
     → (first : Stage) × IsFirst budget p commands old first × (commands_of first.world.history ≡ commands)
 unfolding step
 first_commands opens starts reopened =
@@ -89,7 +89,7 @@ all_in_front n h commands is same =
 
 -- the world that a restart makes of files that stand for commands
 abbrev pub restarted : {budget : Budget} {p : Params} {commands : List Command} {old : Disk} {first : Stage} → IsFirst budget p commands old first → World Command
-restarted {budget} {p} is = run (meaning_in p) is.world (restart_course (meaning_in p) (redo_dirty budget p) is.world is.used).steps
+restarted {budget} {p} is = run (meaning_in p) is.world (restart_course (meaning_in p) (marks_of budget p) is.world is.used).steps
 
 -- where no group is open an engine shows what its parts show
 shown_alone : {p : Params} {d : Disk} {engine : EngineView} {w : World Command} → engine.broken ≡ false → engine.group ≡ None → Shows (meaning_in p) p d engine.parts w → ShowsIn p d engine w
@@ -104,7 +104,7 @@ shown_alone {p} {d} {engine} {w} unbroken alone shows = record {
 -- The engine that was opened shows each first stage: of the commands of that world no fewer are stable than the engine has
 -- accepted, so all of them are.
 pub shows_first : {budget : Budget} {p : Params} {old new : Disk} {engine : EngineView} {commands : List Command} (first : Stage) (is : IsFirst budget p commands old first) → engine.broken ≡ false → engine.group ≡ None → engine.copied ≡ None → engine.identities ≡ 0
-    → IsAfter (meaning_in p) p new engine.parts is.world (restart_course (meaning_in p) (redo_dirty budget p) is.world is.used)
+    → IsAfter (meaning_in p) p new engine.parts is.world (restart_course (meaning_in p) (marks_of budget p) is.world is.used)
     → IsReopened (meaning_in p) is.world (restarted is) → of_engine.Holds all_meaning p new engine commands
     → ((others : List Command) → of_engine.Holds all_meaning p new engine others → Says p new engine others)
     → (holds : Holds p new engine commands) × (first ≡ stage_of engine holds.world)

@@ -1,49 +1,71 @@
 // What a restart keeps in memory: the least installs as it goes, and the answers are the same.
-use crate::running::{new_store, run, run_within};
+use crate::running::{empty_folder, run, run_within};
 use disk_model::{Crash, GrowMem};
 use redo_shell::Budget;
 use std::alloc::{AllocError, Global};
 use std::test::Fail;
 
-const SCRIPT: &[u8] = b"put 0 aa\nput 1 bb\ncopy 0 2\nput 0 cc\nput 3 ee\nforce\n";
+// A call, its input, and what it says.
+type Said<'a> = (&'static str, &'static [u8], &'a [u8]);
 
-const DUMP: &[u8] = b"0 cc\n1 bb\n2 aa\n3 ee\ncommands 5\n";
-
-/// A budget, the words and the input of a call on the store that the script has left, and what it says.
-type Row = (Budget, &'static str, &'static [u8], &'static [u8]);
-
-const ROWS: &[Row] = &[
-    (Budget::Usual, "redo dump", b"", DUMP),
-    (Budget::Least, "redo dump", b"", DUMP),
-    (
-        Budget::Usual,
-        "redo run",
-        b"stat\n",
-        b"stat 5 4 5 5 5 216 0\n",
-    ),
-    (
-        Budget::Least,
-        "redo run",
-        b"stat\n",
-        b"stat 0 0 0 5 5 168 0\n",
-    ),
+// What `stat` says after a restart with a budget. Of 66 dirty objects the least installs 64 together as 65 are dirty.
+const STATS: [(Budget, &[u8]); 2] = [
+    (Budget::Usual, b"stat 66 66 66 66 66 2120 0\n"),
+    (Budget::Least, b"stat 2 2 2 66 66 1352 0\n"),
 ];
 
-#[test]
-fn the_least_restart_installs_and_says_the_same(rt: HostRuntime) -> Result<(), Fail> {
-    for row in ROWS {
-        assert!(rt; is_said(rt.alloc(), row)?);
-    }
-    Ok(())
+// An object's number, of two digits, and its value.
+fn push_value(text: &mut Vec<u8>, object: u8) -> Result<(), AllocError> {
+    text.push(b'0' + object / 10)?;
+    text.push(b'0' + object % 10)?;
+    text.extend_from_slice(b" aa\n")
 }
 
-/// Whether the call of the row says that.
-fn is_said(alloc: Global, row: &Row) -> Result<bool, AllocError> {
-    let (budget, line, input, said) = *row;
-    let mut machine = new_store(alloc)?;
-    run(alloc, &mut machine, "redo run", SCRIPT);
+// Puts to 66 objects, and a force.
+fn puts(alloc: Global) -> Result<Vec<u8>, AllocError> {
+    let mut script = Vec::new(alloc);
+    for object in 10..76u8 {
+        script.extend_from_slice(b"put ")?;
+        push_value(&mut script, object)?;
+    }
+    script.extend_from_slice(b"force\n")?;
+    Ok(script)
+}
+
+// What a dump says then.
+fn dump(alloc: Global) -> Result<Vec<u8>, AllocError> {
+    let mut dump = Vec::new(alloc);
+    for object in 10..76u8 {
+        push_value(&mut dump, object)?;
+    }
+    dump.extend_from_slice(b"commands 66\n")?;
+    Ok(dump)
+}
+
+// Whether a call with this budget says that on the store that the puts have left.
+fn says(alloc: Global, budget: Budget, puts: &[u8], call: Said<'_>) -> Result<bool, AllocError> {
+    let (line, input, said) = call;
+    let mut machine = empty_folder(alloc)?;
+    run(alloc, &mut machine, "redo init 80 16 65536", b"");
+    run(alloc, &mut machine, "redo run", puts);
     let mut machine = machine.crash(Crash::Old);
     let mut backup = GrowMem::new(alloc)?;
     run_within(alloc, budget, &mut machine, &mut backup, line, input);
     Ok(machine.said() == said)
+}
+
+#[test]
+fn the_least_restart_installs_and_says_the_same(rt: HostRuntime) -> Result<(), Fail> {
+    let alloc = rt.alloc();
+    let puts = puts(alloc)?;
+    let dump = dump(alloc)?;
+    for (budget, stat) in STATS {
+        for call in [
+            ("redo dump", b"".as_slice(), dump.as_slice()),
+            ("redo run", b"stat\n".as_slice(), stat),
+        ] {
+            assert!(rt; says(alloc, budget, puts.as_slice(), call)?);
+        }
+    }
+    Ok(())
 }

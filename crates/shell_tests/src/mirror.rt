@@ -73,6 +73,9 @@ fn damage_of_copy<M: Machine>(alloc: Global, machine: &mut Mirrored<M>) -> Optio
         clean_bytes: 0,
         redo_dirty: 2,
         redo_bytes: 0,
+        redo_most: 2,
+        redo_waiting: 1 << 28,
+        redo_round: 1,
     };
     match restart::<AllOps, Mirrored<M>>(alloc, machine, tuning) {
         Ok(restarted) => {

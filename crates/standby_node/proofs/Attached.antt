@@ -8,6 +8,7 @@ use Rattle.formats.specs.declared.params.Params.{Params}
 use Rattle.frame_stream.specs.FrameBuffer.{FrameBufferView, HasPassed}
 use Rattle.explain_core.specs.History.{Member, commands_of}
 use Rattle.explain_core.specs.World.{World, run, step}
+use Rattle.explain_core.specs.declared.marks.Marks.{Marks}
 use Rattle.standing.specs.Standing.{IsFound}
 use Rattle.restart.specs.Courses.{restart_course}
 use Rattle.running_store.specs.Parts.{Shows}
@@ -28,8 +29,8 @@ shown_in meaning p d engine w unbroken none shows = record {
   no_checkpoint = subst (λ (o : Option ℕ). IfSome o (λ begun. w.pending ≡ [])) (sym none) tt;
 }
 
-module _ {O : Type 0} (meaning : Bounds → Meaning O) (p : Params) (new : Disk) (w : World O) (limit used : ℕ) (engine : EngineView) (frames : FrameBufferView) (unbroken : engine.broken ≡ false) (none : engine.group ≡ None) (passed : HasPassed [] [] frames)
-    (shows : Shows (meaning_in meaning p) p new engine.parts (run (meaning_in meaning p) w (restart_course (meaning_in meaning p) limit w used).steps)) (within : w.forced ≤ length w.history) where
+module _ {O : Type 0} (meaning : Bounds → Meaning O) (p : Params) (new : Disk) (w : World O) (marks : Marks) (used : ℕ) (engine : EngineView) (frames : FrameBufferView) (unbroken : engine.broken ≡ false) (none : engine.group ≡ None) (passed : HasPassed [] [] frames)
+    (shows : Shows (meaning_in meaning p) p new engine.parts (run (meaning_in meaning p) w (restart_course (meaning_in meaning p) marks w used).steps)) (within : w.forced ≤ length w.history) where
   abbrev m : Meaning O
   m = meaning_in meaning p
 
@@ -37,10 +38,10 @@ module _ {O : Type 0} (meaning : Bounds → Meaning O) (p : Params) (new : Disk)
   begun = record { engine = engine; frames = frames; done = 0; stopped = None }
 
   abbrev v : World O
-  v = run m w (restart_course m limit w used).steps
+  v = run m w (restart_course m marks w used).steps
 
   settled : IsSettledAt (take w.forced w.history) v
-  settled = restart_settled m w within limit used
+  settled = restart_settled m w within marks used
 
   -- the standby has its history
   pub follows_from : IsFollowing meaning p v.history [] new begun

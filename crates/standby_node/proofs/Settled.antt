@@ -11,6 +11,7 @@ use Rattle.explain_core.specs.TurnLaws.{by_thin_turn}
 use Rattle.explain_core.specs.Turns.{free_gates, must_install, thin_turn, turn, turns}
 use Rattle.explain_core.specs.World.{Starts, Step, World, run, step}
 use Rattle.explain_core.specs.World.Step.{Begin, End, Append, Block_gate, Checkpoint, Slot_gate, Removal, Header_gate, Replay, Crash}
+use Rattle.explain_core.specs.declared.marks.Marks.{Marks}
 use Rattle.running_store.specs.Courses.{Course, buffered, course, force_steps, grown, is_through, room_steps, waits}
 use Rattle.running_store.specs.Courses.Stop.{Full, Through, Worn}
 use Rattle.running_store.specs.Calls.Rewrites.{checkpoint_length, new_base, rewrite_course, trimmed, trimmed_file}
@@ -142,15 +143,15 @@ module _ {O : Type 0} (m : Meaning O) where
 
   -- ---- a restart
 
-  turn_calm : (limit : ℕ) (w : World O) → AreCalm (turn m limit w)
-  turn_calm limit w =
-      cond_both (must_install m limit w) (thin_turn m limit w) (if nat_le w.next (length w.history) then Replay ∷ [] else []) (λ (l : List (Step O)). AreCalm l) (λ is. turn_is_calm limit w)
+  turn_calm : (marks : Marks) (w : World O) → AreCalm (turn m marks w)
+  turn_calm marks w =
+      cond_both (must_install m marks w) (thin_turn m marks.most w) (if nat_le w.next (length w.history) then Replay ∷ [] else []) (λ (l : List (Step O)). AreCalm l) (λ is. turn_is_calm marks.most w)
       (λ is. cond_both (nat_le w.next (length w.history)) (Replay ∷ []) [] (λ (l : List (Step O)). AreCalm l) (λ more. (tt, tt)) (λ done. tt))
 
-  turns_calm : (limit n : ℕ) (w : World O) → AreCalm (turns m limit n w)
+  turns_calm : (marks : Marks) (n : ℕ) (w : World O) → AreCalm (turns m marks n w)
   unfolding turns
-  turns_calm limit zero w = tt
-  turns_calm limit (suc n) w = calm_append (turn m limit w) (turns m limit n (run m w (turn m limit w))) (turn_calm limit w) (turns_calm limit n (run m w (turn m limit w)))
+  turns_calm marks zero w = tt
+  turns_calm marks (suc n) w = calm_append (turn m marks w) (turns m marks n (run m w (turn m marks w))) (turn_calm marks w) (turns_calm marks n (run m w (turn m marks w)))
 
   -- after a crash what was stable is all
   crash_settled : (w : World O) → w.forced ≤ length w.history → IsSettledAt (take w.forced w.history) (step m w Crash)
@@ -158,11 +159,11 @@ module _ {O : Type 0} (m : Meaning O) where
   crash_settled w within = record { history = refl; forced = omega (arith, within, length-take w.forced w.history); none = refl }
 
   -- and so it is after a restart
-  pub restart_settled : (w : World O) → w.forced ≤ length w.history → (limit used : ℕ) → IsSettledAt (take w.forced w.history) (run m w (restart_course m limit w used).steps)
+  pub restart_settled : (w : World O) → w.forced ≤ length w.history → (marks : Marks) (used : ℕ) → IsSettledAt (take w.forced w.history) (run m w (restart_course m marks w used).steps)
   unfolding run
-  restart_settled w within limit used =
+  restart_settled w within marks used =
       let h = take w.forced w.history in
-      let first : List (Step O) = (redo_course m limit w used).steps in
+      let first : List (Step O) = (redo_course m marks w used).steps in
       let v : World O = run m w first in
-      let begun = run_settled h (step m w Crash) (redo_steps m limit (step m w Crash)) (turns_calm limit _ (step m w Crash)) (crash_settled w within) in
+      let begun = run_settled h (step m w Crash) (redo_steps m marks (step m w Crash)) (turns_calm marks _ (step m w Crash)) (crash_settled w within) in
       subst (λ (u : World O). IsSettledAt h u) (sym (run-append m w first (taking_course m v used).steps)) (taking_settled h v used begun)

@@ -5,7 +5,7 @@ ghost use Rattle.disk_model.specs.Disk.{LeavesOnly};
 ghost use Rattle.formats.specs.declared.params.Params.{Params as Numbers};
 ghost use Rattle.frame_stream.specs.FrameBuffer.{first_kept, taken_by};
 ghost use Rattle.explain_core.specs.World.{World, run};
-ghost use Rattle.restart.specs.Courses.{dirty_limit, restart_course};
+ghost use Rattle.restart.specs.Courses.{redo_marks, restart_course};
 ghost use Rattle.restart.specs.Damage.{IsReported};
 ghost use Rattle.restart.specs.Opening.{IsJudged, IsOpening, OpensOn, OpensThrough};
 ghost use Rattle.restart.specs.Starts.{OrAtStart};
@@ -65,12 +65,12 @@ impl<O: Oper> Standby<O> {
             IfOk result (BeginsOn O.meaning p (M.disk machine.new) commands) }
         // Of a world that the files showed it has the history that the restart leads to, and nothing came of a stream yet.
         ensures follows { (p : Numbers) (used : ℕ) (w : World O) → OpensOn (meaning_in O.meaning p) p (M.disk machine.old) used w →
-            IfOk result (λ s. IsFollowing O.meaning p (run (meaning_in O.meaning p) w (restart_course (meaning_in O.meaning p) (dirty_limit tuning p) w used).steps).history [] (M.disk machine.new) s) }
+            IfOk result (λ s. IsFollowing O.meaning p (run (meaning_in O.meaning p) w (restart_course (meaning_in O.meaning p) (redo_marks tuning p) w used).steps).history [] (M.disk machine.new) s) }
         // That world engine and files show then; a crash meanwhile leaves the one after some first steps of the restart's course.
         ensures shows { (p : Numbers) (used : ℕ) (w : World O) → OpensOn (meaning_in O.meaning p) p (M.disk machine.old) used w →
-            IfOk result (λ s. ShowsIn O.meaning p (M.disk machine.new) s.engine (run (meaning_in O.meaning p) w (restart_course (meaning_in O.meaning p) (dirty_limit tuning p) w used).steps)) }
+            IfOk result (λ s. ShowsIn O.meaning p (M.disk machine.new) s.engine (run (meaning_in O.meaning p) w (restart_course (meaning_in O.meaning p) (redo_marks tuning p) w used).steps)) }
         ensures steps { (M.disk machine.old).tells_moments → (p : Numbers) (used : ℕ) (w : World O) → OpensOn (meaning_in O.meaning p) p (M.disk machine.old) used w →
-            OpensThrough (meaning_in O.meaning p) p (M.disk machine.old) (M.disk machine.new) w (restart_course (meaning_in O.meaning p) (dirty_limit tuning p) w used).steps }
+            OpensThrough (meaning_in O.meaning p) p (M.disk machine.old) (M.disk machine.new) w (restart_course (meaning_in O.meaning p) (redo_marks tuning p) w used).steps }
         ensures images { (M.disk machine.old).tells_moments → (p : Numbers) (commands : List O) → Opens O.meaning p (M.disk machine.old) commands →
             LeavesOnly (M.disk machine.old) (M.disk machine.new) (OrAtStart (M.disk machine.old) (Between O.meaning p (M.disk machine.old) None (length commands) (length commands) commands)) }
         // Whatever it answers, what reads give stands for the same commands, so that the files may be opened again.

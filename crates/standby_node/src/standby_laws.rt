@@ -13,6 +13,7 @@ ghost use Rattle.formats.specs.declared.params.Params.{Params};
 ghost use Rattle.formats.specs.declared.record.Record.{Record};
 ghost use Rattle.explain_core.specs.History.{IsHistory, Member, commands_of};
 ghost use Rattle.explain_core.specs.World.{Step, World, run};
+ghost use Rattle.explain_core.specs.declared.marks.Marks.{Marks};
 ghost use Rattle.execution.specs.Judged.{first_refused, follows};
 ghost use Rattle.standing.specs.Members.{members_of};
 ghost use Rattle.standing.specs.Standing.{FilesShow};
@@ -103,9 +104,9 @@ pub fn what_is_shipped_is_followed<O: Oper>()
 /// stable there, begin a standby with a front of it.
 pub fn what_is_stable_stays<O: Oper>()
     ensures steps { (b : Bounds) (w : World O) (steps : List (Step O)) → w.forced ≤ length w.history → IsFront (stable_in w) (stable_in (run (O.meaning b) w steps)) }
-    ensures restart { (b : Bounds) (w : World O) (dirty used : ℕ) → w.forced ≤ length w.history → (run (O.meaning b) w (restart_course (O.meaning b) dirty w used).steps).history ≡ stable_in w }
-    ensures begins { (b c : Bounds) (w v : World O) (steps : List (Step O)) (dirty used : ℕ) → w.forced ≤ length w.history → v.forced ≡ length v.history → v.history ≡ stable_in w
-        → IsFront (run (O.meaning c) v (restart_course (O.meaning c) dirty v used).steps).history (stable_in (run (O.meaning b) w steps)) }
+    ensures restart { (b : Bounds) (w : World O) (marks : Marks) (used : ℕ) → w.forced ≤ length w.history → (run (O.meaning b) w (restart_course (O.meaning b) marks w used).steps).history ≡ stable_in w }
+    ensures begins { (b c : Bounds) (w v : World O) (steps : List (Step O)) (marks : Marks) (used : ℕ) → w.forced ≤ length w.history → v.forced ≡ length v.history → v.history ≡ stable_in w
+        → IsFront (run (O.meaning c) v (restart_course (O.meaning c) marks v used).steps).history (stable_in (run (O.meaning b) w steps)) }
 {}
 
 /// The frames of an engine's log, and those of the log in files, are what a store ships in the world that these show.

@@ -9,6 +9,7 @@ use Rattle.explain_core.specs.Taken.{IsAfterSome, after_none, after_all, after_l
 use Rattle.explain_core.specs.TurnLaws.{turns_join}
 use Rattle.explain_core.specs.Turns.{must_install, thin_turn, turns}
 use Rattle.explain_core.specs.World.{World, Step, step, run}
+use Rattle.explain_core.specs.declared.marks.Marks.{Marks}
 use Rattle.standing.specs.Standing.{FilesShow}
 
 -- the image shows the world after some first steps of the list, none or all among them
@@ -48,13 +49,13 @@ module _ {O : Type 0} (m : Meaning O) (p : Params) where
       (λ files is. after_longer m (FilesShow m p files) w xs ys is) (λ files is. after_behind m (FilesShow m p files) w xs ys is) first second
 
   -- a turn that logs nothing, where a redo takes one, takes some steps of its own
-  pub moments_install : (old new : Disk) (w : World O) (limit : ℕ) → IsTrue (must_install m limit w) → TakesSome m p old new w (thin_turn m limit w) → TakesSome m p old new w (turns m limit 1 w)
-  moments_install old new w limit must install =
-      silent_weaker old new (ShowsSome m p w (thin_turn m limit w)) (ShowsSome m p w (turns m limit 1 w)) (λ files is. after_install m (FilesShow m p files) w limit must is) install
+  pub moments_install : (old new : Disk) (w : World O) (marks : Marks) → IsTrue (must_install m marks w) → TakesSome m p old new w (thin_turn m marks.most w) → TakesSome m p old new w (turns m marks 1 w)
+  moments_install old new w marks must install =
+      silent_weaker old new (ShowsSome m p w (thin_turn m marks.most w)) (ShowsSome m p w (turns m marks 1 w)) (λ files is. after_install m (FilesShow m p files) w marks must is) install
 
   -- two parts of a redo, each of some turns
-  pub moments_turns : (old mid new : Disk) (w : World O) (limit a b : ℕ) → mid.said ≡ old.said → TakesSome m p old mid w (turns m limit a w)
-      → TakesSome m p mid new (run m w (turns m limit a w)) (turns m limit b (run m w (turns m limit a w))) → TakesSome m p old new w (turns m limit (a + b) w)
-  moments_turns old mid new w limit a b quiet first second =
-      let xs = turns m limit a w in
-      subst (λ (l : List (Step O)). TakesSome m p old new w l) (sym (turns_join m limit a b w)) (moments_twice old mid new w xs (turns m limit b (run m w xs)) quiet first second)
+  pub moments_turns : (old mid new : Disk) (w : World O) (marks : Marks) (a b : ℕ) → mid.said ≡ old.said → TakesSome m p old mid w (turns m marks a w)
+      → TakesSome m p mid new (run m w (turns m marks a w)) (turns m marks b (run m w (turns m marks a w))) → TakesSome m p old new w (turns m marks (a + b) w)
+  moments_turns old mid new w marks a b quiet first second =
+      let xs = turns m marks a w in
+      subst (λ (l : List (Step O)). TakesSome m p old new w l) (sym (turns_join m marks a b w)) (moments_twice old mid new w xs (turns m marks b (run m w xs)) quiet first second)

@@ -20,6 +20,9 @@ const TUNING: Tuning = Tuning {
     clean_bytes: 0,
     redo_dirty: 64,
     redo_bytes: 0,
+    redo_most: 64,
+    redo_waiting: 1 << 28,
+    redo_round: 64,
 };
 
 // What came of a transfer.

@@ -116,7 +116,7 @@ module _ {O : Type 0} (meaning : Bounds → Meaning O) (d : Disk) (log : RecordL
     full_follows new len need limit still same long top over =
         let stop : Full used (trimmed_file m v) most ≡ Full len need limit = λ i. Full (sym same i) (sym long i) (sym top i) in
         subst (λ (c : Course O). Follows m p new here v c (Stopped (Full len need limit))) (sym (over_is (omega (arith, over, long, top))))
-        (stop, record { shows = subst (λ (u : World O). Shows m p new here u) (sym (run_none m 0 v)) still; used = refl })
+        (stop, record { shows = subst (λ (u : World O). Shows m p new here u) (sym (run_none m v)) still; used = refl })
 
   -- a crash within the rewrite leaves the world before it, or the one after it
   module _ (new : Disk)

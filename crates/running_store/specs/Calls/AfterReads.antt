@@ -59,7 +59,7 @@ module _ (old mid : Disk) (before here : StoreView) (failed : Type 0) (is : IsFe
             let steps = (course m w (used_of before.parts.log.log)).steps in
             let more = takes.steps (is.read.stays.time.moments_told.0 told) p w (fetch_shows m p w shows) in
             moments_twice m p old mid new w [] steps (is.read.stays.said shows.told) (read_moments m p old mid before.parts w [] shows is.read.stays told)
-            (subst (λ (v : World O). TakesSome m p mid new v steps) (sym (run_none m 0 w)) (subst (λ (k : ℕ). TakesSome m p mid new w (course m w k).steps) used more));
+            (subst (λ (v : World O). TakesSome m p mid new v steps) (sym (run_none m w)) (subst (λ (k : ℕ). TakesSome m p mid new w (course m w k).steps) used more));
       }
 
 -- a call after a fetch that is done

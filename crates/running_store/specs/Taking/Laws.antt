@@ -129,7 +129,7 @@ module _ {O : Type 0} (meaning : Bounds → Meaning O) (d : Disk) (it : Parts) (
   -- the course is none
   pub takes_none : Takes meaning d d it it (λ m w used. course [] used Through) Done
   takes_none = record {
-    follows = λ p w shows. let m = meaning_in meaning p in (refl, record { shows = subst (λ (v : World O). Shows m p d it v) (sym (run_none m 0 w)) shows; used = refl });
+    follows = λ p w shows. let m = meaning_in meaning p in (refl, record { shows = subst (λ (v : World O). Shows m p d it v) (sym (run_none m w)) shows; used = refl });
     steps = here_moments (λ m w. []);
   }
 

@@ -4,8 +4,8 @@ use Rattle.explain_core.proofs.recovery.turns_keep.Goals as goal
 
 pub returns : goal.returns
 returns g c = record {
-  allowed = λ b w limit n small s stable. (turns-sound (g.O.Oper.meaning b) (g.met.O.Oper.lawful b small) limit n w s stable).0;
-  sound = λ b w limit n small s stable. (turns-sound (g.O.Oper.meaning b) (g.met.O.Oper.lawful b small) limit n w s stable).1;
-  log = λ b w limit n. turns_kept (g.O.Oper.meaning b) limit n w;
-  map = λ b w limit n x small s stable live. turns-map (g.O.Oper.meaning b) (g.met.O.Oper.lawful b small) limit n w s stable live x;
+  allowed = λ b w marks n small s stable. (turns-sound (g.O.Oper.meaning b) (g.met.O.Oper.lawful b small) marks n w s stable).0;
+  sound = λ b w marks n small s stable. (turns-sound (g.O.Oper.meaning b) (g.met.O.Oper.lawful b small) marks n w s stable).1;
+  log = λ b w marks n. turns_kept (g.O.Oper.meaning b) marks n w;
+  map = λ b w marks n x small s stable live. turns-map (g.O.Oper.meaning b) (g.met.O.Oper.lawful b small) marks n w s stable live x;
 }

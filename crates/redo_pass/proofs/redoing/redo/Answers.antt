@@ -25,7 +25,7 @@ use Rattle.redo_pass.proofs.redoing.redo.Goals as goal
 
 -- the reader has given one record more than were done
 next : (g : Over) (c : In-Some g)
-    → IsAt g.O.Oper.meaning c.args.limit c.args.plan.now c.args.store.now (g.M.Machine.disk c.args.machine.now) (g.M.Machine.disk c.read_log.new.machine) c.read_log.new.self c.read_log.new.reader c.loop-reader.invariant.0 (c.loop-reader.invariant.0 ++ c.in-Some.record ∷ [])
+    → IsAt g.O.Oper.meaning c.args.marks c.args.plan.now c.args.store.now (g.M.Machine.disk c.args.machine.now) (g.M.Machine.disk c.read_log.new.machine) c.read_log.new.self c.read_log.new.reader c.loop-reader.invariant.0 (c.loop-reader.invariant.0 ++ c.in-Some.record ∷ [])
 next g c =
     next_given (g.M.Machine.disk c.read_log.new.machine) c.read_log.new.reader c.in_ok-record.field-0 c.loop-reader.invariant c.in_ok-record.ensures.read c.read_log.ensures.kept.stays c.in_ok-record.ensures.kept.store c.read_log.ensures.reader.same c.read_log.ensures.reader.bounds c.in-Some.is
 
@@ -33,7 +33,7 @@ pub loop-reader-init : goal.loop-reader-init
 loop-reader-init g c = (
   [],
   record {
-    so_far = done_still (done_none {meaning = g.O.Oper.meaning} {limit = c.args.limit} {plan = c.args.plan.now} {first = c.args.store.now} (g.met.M.Machine.lawful c.args.machine.now) c.requires.unbroken c.requires.empty) c.log_reader.ensures.kept.stays c.in_ok-reader.ensures.kept.store;
+    so_far = done_still (done_none {meaning = g.O.Oper.meaning} {marks = c.args.marks} {plan = c.args.plan.now} {first = c.args.store.now} (g.met.M.Machine.lawful c.args.machine.now) c.requires.unbroken c.requires.empty) c.log_reader.ensures.kept.stays c.in_ok-reader.ensures.kept.store;
     from = c.in_ok-reader.ensures.reader.from ∙ c.start.ensures;
     bounds = c.in_ok-reader.ensures.reader.bounds;
     reading = subst (λ (b : Bounds). IsReadingFromLsn (g.O.Oper.meaning b) (g.M.Machine.disk c.log_reader.new.machine) c.args.store.now.parts.log c.in_ok-reader.reader []) (sym c.in_ok-reader.ensures.reader.bounds) c.in_ok-reader.ensures.reader.reading;
@@ -51,7 +51,7 @@ returns-in_err-reader-clause-objects g c =
 
 pub returns-in_err-reader-clause-steps : goal.returns-in_err-reader-clause-steps
 returns-in_err-reader-clause-steps g c = λ steps settled p w to.
-    steps_of (g.O.Oper.meaning (bounds_of p)) p c.args.limit w to (still_moments (done_none {meaning = g.O.Oper.meaning} {limit = c.args.limit} {plan = c.args.plan.now} {first = c.args.store.now} (g.met.M.Machine.lawful c.args.machine.now) c.requires.unbroken c.requires.empty) c.log_reader.ensures.kept.stays steps settled p w to)
+    steps_of (g.O.Oper.meaning (bounds_of p)) p c.args.marks w to (still_moments (done_none {meaning = g.O.Oper.meaning} {marks = c.args.marks} {plan = c.args.plan.now} {first = c.args.store.now} (g.met.M.Machine.lawful c.args.machine.now) c.requires.unbroken c.requires.empty) c.log_reader.ensures.kept.stays steps settled p w to)
 
 pub returns-in_err-reader-clause-cause : goal.returns-in_err-reader-clause-cause
 returns-in_err-reader-clause-cause g c =
@@ -78,7 +78,7 @@ returns-in_err-record-clause-objects g c =
 
 pub returns-in_err-record-clause-steps : goal.returns-in_err-record-clause-steps
 returns-in_err-record-clause-steps g c = λ steps settled p w to.
-    steps_of (g.O.Oper.meaning (bounds_of p)) p c.args.limit w to (still_moments c.loop-reader.invariant.1.so_far c.read_log.ensures.kept.stays steps settled p w to)
+    steps_of (g.O.Oper.meaning (bounds_of p)) p c.args.marks w to (still_moments c.loop-reader.invariant.1.so_far c.read_log.ensures.kept.stays steps settled p w to)
 
 pub returns-in_err-record-clause-cause : goal.returns-in_err-record-clause-cause
 returns-in_err-record-clause-cause g c =
@@ -124,7 +124,7 @@ returns-in_err-replay-clause-objects g c =
 pub returns-in_err-replay-clause-steps : goal.returns-in_err-replay-clause-steps
 returns-in_err-replay-clause-steps g c = λ steps settled p w to.
     let one = next g (goal.at.returns-in_err-replay-clause-steps g c).In-Some in
-    steps_of (g.O.Oper.meaning (bounds_of p)) p c.args.limit w to (still_moments one.so_far c.replay.ensures.replayed.read.read.stays steps settled p w to)
+    steps_of (g.O.Oper.meaning (bounds_of p)) p c.args.marks w to (still_moments one.so_far c.replay.ensures.replayed.read.read.stays steps settled p w to)
 
 pub returns-in_err-replay-clause-cause : goal.returns-in_err-replay-clause-cause
 returns-in_err-replay-clause-cause g c =
@@ -133,40 +133,40 @@ returns-in_err-replay-clause-cause g c =
     (fails_on _ _ _ _ c.in_err-replay.field-0.0 (λ risen below. let rose = risen below in omega (arith, rose, one.so_far.part.call.quiet.time.disk_faults))
     (λ file place slot. inl (slot_fault one.so_far c.requires.empty.0 c.replay.ensures.replayed.read.read.stays (c.replay.ensures.replayed.set.slots ∙ c.replay.ensures.replayed.read.read.fetched.slots) slot)) c.in_err-replay.ensures.cause)
 
-pub limit_dirty-requires : goal.limit_dirty-requires
-limit_dirty-requires g c =
+pub keep_within-requires : goal.keep_within-requires
+keep_within-requires g c =
     record { unbroken = false_from_ne_true c.replay.new.store.broken (λ set. let is = c.in_ok-replay.ensures.replayed in is.read.broken.0 (sym is.set.flag ∙ set)) }
 
-pub returns-in_err-limit_dirty-clause-call : goal.returns-in_err-limit_dirty-clause-call
-returns-in_err-limit_dirty-clause-call g c =
-    let one = next g (goal.at.returns-in_err-limit_dirty-clause-call g c).In-Some in
-    let why = c.in_err-limit_dirty.field-0.0 in
+pub returns-in_err-keep_within-clause-call : goal.returns-in_err-keep_within-clause-call
+returns-in_err-keep_within-clause-call g c =
+    let one = next g (goal.at.returns-in_err-keep_within-clause-call g c).In-Some in
+    let why = c.in_err-keep_within.field-0.0 in
     let whole = part_twice (part_on c.in-Some.record one (c.params-params.ensures.in_use c.requires.unbroken) c.in_ok-replay.ensures.replayed c.in_ok-replay.ensures.shown (λ b small. has_codes (g.O.Oper.meaning b) b small (g.met.O.Oper.bounded b) (g.met.O.Oper.lawful b small))
-    c.turns_keep.ensures.sound c.unseen_steps_change_nothing.ensures) (part_thin (Unit {0}) (Unit {0}) why c.in_err-limit_dirty.ensures.call c.limit_dirty.ensures.beside) in
-    as_error (λ r. IsCall g.O.Oper.meaning (g.M.Machine.disk c.args.machine.now) (g.M.Machine.disk c.limit_dirty.new.machine) c.args.store.now c.limit_dirty.new.store 0 Never (ending_of_read r)) c.from_residual-in_err-limit_dirty.result (read_from_store why) c.from_residual-in_err-limit_dirty.ensures.1 whole.call
+    c.turns_keep.ensures.sound c.unseen_steps_change_nothing.ensures) (part_thin (Unit {0}) (Unit {0}) why c.in_err-keep_within.ensures.call c.keep_within.ensures.beside) in
+    as_error (λ r. IsCall g.O.Oper.meaning (g.M.Machine.disk c.args.machine.now) (g.M.Machine.disk c.keep_within.new.machine) c.args.store.now c.keep_within.new.store 0 Never (ending_of_read r)) c.from_residual-in_err-keep_within.result (read_from_store why) c.from_residual-in_err-keep_within.ensures.1 whole.call
 
-pub returns-in_err-limit_dirty-clause-objects : goal.returns-in_err-limit_dirty-clause-objects
-returns-in_err-limit_dirty-clause-objects g c =
-    let one = next g (goal.at.returns-in_err-limit_dirty-clause-objects g c).In-Some in
-    let why = c.in_err-limit_dirty.field-0.0 in
+pub returns-in_err-keep_within-clause-objects : goal.returns-in_err-keep_within-clause-objects
+returns-in_err-keep_within-clause-objects g c =
+    let one = next g (goal.at.returns-in_err-keep_within-clause-objects g c).In-Some in
+    let why = c.in_err-keep_within.field-0.0 in
     let whole = part_twice (part_on c.in-Some.record one (c.params-params.ensures.in_use c.requires.unbroken) c.in_ok-replay.ensures.replayed c.in_ok-replay.ensures.shown (λ b small. has_codes (g.O.Oper.meaning b) b small (g.met.O.Oper.bounded b) (g.met.O.Oper.lawful b small))
-    c.turns_keep.ensures.sound c.unseen_steps_change_nothing.ensures) (part_thin (Unit {0}) (Unit {0}) why c.in_err-limit_dirty.ensures.call c.limit_dirty.ensures.beside) in
+    c.turns_keep.ensures.sound c.unseen_steps_change_nothing.ensures) (part_thin (Unit {0}) (Unit {0}) why c.in_err-keep_within.ensures.call c.keep_within.ensures.beside) in
     whole.objects
 
-pub returns-in_err-limit_dirty-clause-steps : goal.returns-in_err-limit_dirty-clause-steps
-returns-in_err-limit_dirty-clause-steps g c = λ steps settled p w to.
-    let one = next g (goal.at.returns-in_err-limit_dirty-clause-steps g c).In-Some in
-    steps_of (g.O.Oper.meaning (bounds_of p)) p c.args.limit w to
+pub returns-in_err-keep_within-clause-steps : goal.returns-in_err-keep_within-clause-steps
+returns-in_err-keep_within-clause-steps g c = λ steps settled p w to.
+    let one = next g (goal.at.returns-in_err-keep_within-clause-steps g c).In-Some in
+    steps_of (g.O.Oper.meaning (bounds_of p)) p c.args.marks w to
     (moments_on c.in-Some.record one (c.params-params.ensures.in_use c.requires.unbroken) c.in_ok-replay.ensures.replayed c.in_ok-replay.ensures.shown (λ b small. has_codes (g.O.Oper.meaning b) b small (g.met.O.Oper.bounded b) (g.met.O.Oper.lawful b small))
-    c.turns_keep.ensures.sound c.unseen_steps_change_nothing.ensures c.limit_dirty.ensures.steps steps settled p w to)
+    c.turns_keep.ensures.sound c.unseen_steps_change_nothing.ensures c.keep_within.ensures.steps steps settled p w to)
 
-pub returns-in_err-limit_dirty-clause-cause : goal.returns-in_err-limit_dirty-clause-cause
-returns-in_err-limit_dirty-clause-cause g c =
-    let one = next g (goal.at.returns-in_err-limit_dirty-clause-cause g c).In-Some in
-    let why = c.in_err-limit_dirty.field-0.0 in
+pub returns-in_err-keep_within-clause-cause : goal.returns-in_err-keep_within-clause-cause
+returns-in_err-keep_within-clause-cause g c =
+    let one = next g (goal.at.returns-in_err-keep_within-clause-cause g c).In-Some in
+    let why = c.in_err-keep_within.field-0.0 in
     let whole = part_twice (part_on c.in-Some.record one (c.params-params.ensures.in_use c.requires.unbroken) c.in_ok-replay.ensures.replayed c.in_ok-replay.ensures.shown (λ b small. has_codes (g.O.Oper.meaning b) b small (g.met.O.Oper.bounded b) (g.met.O.Oper.lawful b small))
-    c.turns_keep.ensures.sound c.unseen_steps_change_nothing.ensures) (part_thin (Unit {0}) (Unit {0}) why c.in_err-limit_dirty.ensures.call c.limit_dirty.ensures.beside) in
-    error_fails _ _ c.from_residual-in_err-limit_dirty.result (read_from_store why) c.from_residual-in_err-limit_dirty.ensures.1
+    c.turns_keep.ensures.sound c.unseen_steps_change_nothing.ensures) (part_thin (Unit {0}) (Unit {0}) why c.in_err-keep_within.ensures.call c.keep_within.ensures.beside) in
+    error_fails _ _ c.from_residual-in_err-keep_within.result (read_from_store why) c.from_residual-in_err-keep_within.ensures.1
     (store_fails (Unit {0}) _ _ why whole.call.fault)
 
 pub loop-reader-preserved : goal.loop-reader-preserved
@@ -176,10 +176,10 @@ loop-reader-preserved g c =
       record {
         so_far = done_on c.in-Some.record one (c.params-params.ensures.in_use c.requires.unbroken) c.in_ok-replay.ensures.replayed c.in_ok-replay.ensures.shown (λ b small. has_codes (g.O.Oper.meaning b) b small (g.met.O.Oper.bounded b) (g.met.O.Oper.lawful b small))
             c.turns_keep.ensures.sound c.unseen_steps_change_nothing.ensures
-            c.limit_dirty.ensures.steps (record { call = c.in_ok-limit_dirty.ensures.call; objects = c.limit_dirty.ensures.beside.objects }) c.limit_dirty.ensures.beside.entries c.in_ok-limit_dirty.ensures.limited;
+            c.keep_within.ensures.steps (record { call = c.in_ok-keep_within.ensures.call; objects = c.keep_within.ensures.beside.objects }) c.keep_within.ensures.beside.entries c.in_ok-keep_within.ensures.limited;
         from = one.from;
         bounds = one.bounds;
-        reading = reads_on c.in-Some.record one (c.params-params.ensures.in_use c.requires.unbroken) c.replay.ensures.replayed.read.read.stays c.limit_dirty.ensures.beside.objects.runs;
+        reading = reads_on c.in-Some.record one (c.params-params.ensures.in_use c.requires.unbroken) c.replay.ensures.replayed.read.read.stays c.keep_within.ensures.beside.objects.runs;
       },
     )
 
@@ -196,16 +196,16 @@ returns-clause-objects g c =
 pub returns-clause-redone : goal.returns-clause-redone
 returns-clause-redone g c = λ told settled p w to.
     let meaning = g.O.Oper.meaning in
-    let limit = c.args.limit in
+    let marks = c.args.marks in
     let old = g.M.Machine.disk c.args.machine.now in
     let inv = c.loop-reader.invariant in
     let done = done_still c.loop-reader.invariant.1.so_far c.read_log.ensures.kept.stays c.in_ok-record.ensures.kept.store in
     let found = to.due.found in
     let small = small_store p (old.reads ObjectsFile) found.shows.objects in
     all_done done (c.params-params.ensures.in_use c.requires.unbroken) told settled p w to (has_codes (meaning (bounds_of p)) (bounds_of p) small (g.met.O.Oper.bounded (bounds_of p)) (g.met.O.Oper.lawful (bounds_of p) small)) (ap (λ (v : LsnReaderView). v.from) c.read_log.ensures.reader.same ∙ inv.1.from)
-    (none_given (g.M.Machine.disk c.read_log.new.machine) c.read_log.new.reader c.in_ok-record.field-0 inv c.in_ok-record.ensures.read c.in_default.is) (λ n x live. c.turns_keep.ensures.map (bounds_of p) w limit n x small found.sound (crashed-stable (meaning (bounds_of p)) w found.crashed found.sound) live)
+    (none_given (g.M.Machine.disk c.read_log.new.machine) c.read_log.new.reader c.in_ok-record.field-0 inv c.in_ok-record.ensures.read c.in_default.is) (λ n x live. c.turns_keep.ensures.map (bounds_of p) w marks n x small found.sound (crashed-stable (meaning (bounds_of p)) w found.crashed found.sound) live)
 
 pub returns-clause-steps : goal.returns-clause-steps
 returns-clause-steps g c = λ steps settled p w to.
     let done = done_still c.loop-reader.invariant.1.so_far c.read_log.ensures.kept.stays c.in_ok-record.ensures.kept.store in
-    steps_of (g.O.Oper.meaning (bounds_of p)) p c.args.limit w to (done.steps steps settled p w to)
+    steps_of (g.O.Oper.meaning (bounds_of p)) p c.args.marks w to (done.steps steps settled p w to)

@@ -28,7 +28,7 @@ pub returns-in_err-redo-clause-steps : goal.returns-in_err-redo-clause-steps
 returns-in_err-redo-clause-steps g c told p w to =
     let codes = codes_in g.O.Oper.meaning g.met.O.Oper.bounded g.met.O.Oper.lawful p to.found.shows.objects.in_range in
     let due = is_due g.O.Oper.meaning p codes (g.M.Machine.disk c.args.machine.now) c.args.store.now c.args.plan.now w to (λ slots plan. c.a_found_world_is_due.ensures p _ _ w to.found slots plan) in
-    redo_moments g.O.Oper.meaning p codes (g.M.Machine.disk c.args.machine.now) c.args.store.now c.args.plan.now w to c.args.limit (g.M.Machine.disk c.redo.new.machine) (c.redo.ensures.steps told c.requires.ready.settled p w due)
+    redo_moments g.O.Oper.meaning p codes (g.M.Machine.disk c.args.machine.now) c.args.store.now c.args.plan.now w to c.args.marks (g.M.Machine.disk c.redo.new.machine) (c.redo.ensures.steps told c.requires.ready.settled p w due)
 
 pub returns-in_err-redo-clause-damage : goal.returns-in_err-redo-clause-damage
 returns-in_err-redo-clause-damage g c =
@@ -49,8 +49,8 @@ pub returns-in_err-closing_checkpoint-clause-steps : goal.returns-in_err-closing
 returns-in_err-closing_checkpoint-clause-steps g c told p w to =
     let codes = codes_in g.O.Oper.meaning g.met.O.Oper.bounded g.met.O.Oper.lawful p to.found.shows.objects.in_range in
     let due = is_due g.O.Oper.meaning p codes (g.M.Machine.disk c.args.machine.now) c.args.store.now c.args.plan.now w to (λ slots plan. c.a_found_world_is_due.ensures p _ _ w to.found slots plan) in
-    let sound = c.turns_keep.ensures.sound (bounds_of p) w c.args.limit _ (small_store p _ to.found.shows.objects) to.found.sound (crashed-stable _ w to.found.crashed to.found.sound) in
-    checkpoint_moments g.O.Oper.meaning p codes (g.M.Machine.disk c.args.machine.now) c.args.store.now c.args.plan.now w to c.args.limit (g.M.Machine.disk c.redo.new.machine) c.redo.new.store c.in_ok-redo.ensures.call c.redo.ensures.objects (g.M.Machine.disk c.closing_checkpoint.new.machine) c.closing_checkpoint.new.store.parts sound (c.in_ok-redo.ensures.redone to.told c.requires.ready.settled p w due) told (c.redo.ensures.steps told c.requires.ready.settled p w due) c.in_err-closing_checkpoint.ensures.takes
+    let sound = c.turns_keep.ensures.sound (bounds_of p) w c.args.marks _ (small_store p _ to.found.shows.objects) to.found.sound (crashed-stable _ w to.found.crashed to.found.sound) in
+    checkpoint_moments g.O.Oper.meaning p codes (g.M.Machine.disk c.args.machine.now) c.args.store.now c.args.plan.now w to c.args.marks (g.M.Machine.disk c.redo.new.machine) c.redo.new.store c.in_ok-redo.ensures.call c.redo.ensures.objects (g.M.Machine.disk c.closing_checkpoint.new.machine) c.closing_checkpoint.new.store.parts sound (c.in_ok-redo.ensures.redone to.told c.requires.ready.settled p w due) told (c.redo.ensures.steps told c.requires.ready.settled p w due) c.in_err-closing_checkpoint.ensures.takes
 
 pub returns-in_err-closing_checkpoint-clause-damage : goal.returns-in_err-closing_checkpoint-clause-damage
 returns-in_err-closing_checkpoint-clause-damage g c =
@@ -66,12 +66,12 @@ pub returns-clause-follows : goal.returns-clause-follows
 returns-clause-follows g c p w to =
     let codes = codes_in g.O.Oper.meaning g.met.O.Oper.bounded g.met.O.Oper.lawful p to.found.shows.objects.in_range in
     let due = is_due g.O.Oper.meaning p codes (g.M.Machine.disk c.args.machine.now) c.args.store.now c.args.plan.now w to (λ slots plan. c.a_found_world_is_due.ensures p _ _ w to.found slots plan) in
-    let sound = c.turns_keep.ensures.sound (bounds_of p) w c.args.limit _ (small_store p _ to.found.shows.objects) to.found.sound (crashed-stable _ w to.found.crashed to.found.sound) in
-    opened_after g.O.Oper.meaning p codes (g.M.Machine.disk c.args.machine.now) c.args.store.now c.args.plan.now w to c.args.limit (g.M.Machine.disk c.redo.new.machine) c.redo.new.store c.in_ok-redo.ensures.call c.redo.ensures.objects (g.M.Machine.disk c.closing_checkpoint.new.machine) c.closing_checkpoint.new.store.parts sound (c.in_ok-redo.ensures.redone to.told c.requires.ready.settled p w due) c.in_ok-closing_checkpoint.ensures.takes
+    let sound = c.turns_keep.ensures.sound (bounds_of p) w c.args.marks _ (small_store p _ to.found.shows.objects) to.found.sound (crashed-stable _ w to.found.crashed to.found.sound) in
+    opened_after g.O.Oper.meaning p codes (g.M.Machine.disk c.args.machine.now) c.args.store.now c.args.plan.now w to c.args.marks (g.M.Machine.disk c.redo.new.machine) c.redo.new.store c.in_ok-redo.ensures.call c.redo.ensures.objects (g.M.Machine.disk c.closing_checkpoint.new.machine) c.closing_checkpoint.new.store.parts sound (c.in_ok-redo.ensures.redone to.told c.requires.ready.settled p w due) c.in_ok-closing_checkpoint.ensures.takes
 
 pub returns-clause-steps : goal.returns-clause-steps
 returns-clause-steps g c told p w to =
     let codes = codes_in g.O.Oper.meaning g.met.O.Oper.bounded g.met.O.Oper.lawful p to.found.shows.objects.in_range in
     let due = is_due g.O.Oper.meaning p codes (g.M.Machine.disk c.args.machine.now) c.args.store.now c.args.plan.now w to (λ slots plan. c.a_found_world_is_due.ensures p _ _ w to.found slots plan) in
-    let sound = c.turns_keep.ensures.sound (bounds_of p) w c.args.limit _ (small_store p _ to.found.shows.objects) to.found.sound (crashed-stable _ w to.found.crashed to.found.sound) in
-    checkpoint_moments g.O.Oper.meaning p codes (g.M.Machine.disk c.args.machine.now) c.args.store.now c.args.plan.now w to c.args.limit (g.M.Machine.disk c.redo.new.machine) c.redo.new.store c.in_ok-redo.ensures.call c.redo.ensures.objects (g.M.Machine.disk c.closing_checkpoint.new.machine) c.closing_checkpoint.new.store.parts sound (c.in_ok-redo.ensures.redone to.told c.requires.ready.settled p w due) told (c.redo.ensures.steps told c.requires.ready.settled p w due) c.in_ok-closing_checkpoint.ensures.takes
+    let sound = c.turns_keep.ensures.sound (bounds_of p) w c.args.marks _ (small_store p _ to.found.shows.objects) to.found.sound (crashed-stable _ w to.found.crashed to.found.sound) in
+    checkpoint_moments g.O.Oper.meaning p codes (g.M.Machine.disk c.args.machine.now) c.args.store.now c.args.plan.now w to c.args.marks (g.M.Machine.disk c.redo.new.machine) c.redo.new.store c.in_ok-redo.ensures.call c.redo.ensures.objects (g.M.Machine.disk c.closing_checkpoint.new.machine) c.closing_checkpoint.new.store.parts sound (c.in_ok-redo.ensures.redone to.told c.requires.ready.settled p w due) told (c.redo.ensures.steps told c.requires.ready.settled p w due) c.in_ok-closing_checkpoint.ensures.takes

@@ -1,4 +1,4 @@
-use Rattle.std.proofs.Common.{◌≡◌, ◌∙◌, ℕ, inl, arith, ap, sym, subst, ⊎_elim, Ok, Err}
+use Rattle.std.proofs.Common.{◌≡◌, ◌∙◌, inl, arith, ap, sym, subst, ⊎_elim, Ok, Err}
 use Rattle.std.proofs.lemmas.Bool.{false_from_ne_true}
 use Rattle.disk_model.specs.declared.machine.FileNo.TheVariants.{Objects}
 use Rattle.formats.specs.Objects.{bounds_of}
@@ -7,12 +7,13 @@ use Rattle.stable_objects.specs.Reading.{open_from_read}
 use Rattle.stable_objects.specs.declared.open_err.OpenErr.{OpenErr}
 use Rattle.explain_core.specs.World.{step}
 use Rattle.explain_core.specs.World.Step.{Crash}
+use Rattle.explain_core.specs.declared.marks.Marks.{Marks}
 use Rattle.standing.specs.Moments.{ShowsSome}
 use Rattle.standing.specs.OneStable.{small_store}
 use Rattle.running_store.specs.Kept.{IsAttached}
 use Rattle.running_store.specs.Taking.{IsAfter}
 use Rattle.redo_pass.specs.Endings.{as_error}
-use Rattle.restart.specs.Courses.{dirty_limit, restart_course}
+use Rattle.restart.specs.Courses.{redo_marks, restart_course}
 use Rattle.restart.specs.Damage.{IsReported}
 use Rattle.restart.specs.Opening.{IsJudged, IsOpening, OpensThrough, opened}
 use Rattle.restart.specs.Starts.{at_start}
@@ -47,7 +48,7 @@ returns-in_err-store-clause-steps g c told p used w opens =
 
 pub returns-in_err-store-clause-reads : goal.returns-in_err-store-clause-reads
 returns-in_err-store-clause-reads g c told p used w opens =
-    unread_shows (g.O.Oper.meaning (bounds_of p)) p (g.M.Machine.disk c.args.machine.now) (g.M.Machine.disk c.load.new.machine) (dirty_limit c.args.tuning p) used w c.load.ensures.kept opens
+    unread_shows (g.O.Oper.meaning (bounds_of p)) p (g.M.Machine.disk c.args.machine.now) (g.M.Machine.disk c.load.new.machine) (redo_marks c.args.tuning p) used w c.load.ensures.kept opens
 
 pub open-requires : goal.open-requires
 open-requires g c =
@@ -77,19 +78,19 @@ returns-clause-steps g c told p used w opens =
     let m = g.O.Oper.meaning (bounds_of p) in
     let small = small_store p ((g.M.Machine.disk c.args.machine.now).reads Objects) opens.shows.objects in
     let to = to_redo g.O.Oper.meaning (g.M.Machine.disk c.args.machine.now) (g.M.Machine.disk c.load.new.machine) c.load.ensures.kept c.in_ok-store.store.parts c.in_ok-store.plan c.in_ok-store.ensures.ready.bounds p used w opens (c.in_ok-store.ensures.read opens.told) (c.crash_keeps.ensures (bounds_of p) w small opens.sound) (c.unseen_steps_change_nothing.ensures p (g.M.Machine.disk c.args.machine.now).reads w Crash opens.sound tt opens.shows) in
-    let limit : c.dirty_limit-limit.result ≡ dirty_limit c.args.tuning p = c.dirty_limit-limit.ensures ∙ ap (dirty_limit c.args.tuning) (c.params.ensures.value ∙ to.params) in
-    subst (λ (n : ℕ). OpensThrough m p (g.M.Machine.disk c.args.machine.now) (g.M.Machine.disk c.open.new.machine) w (restart_course m n w used).steps) limit
-    (whole_moments g.O.Oper.meaning (g.M.Machine.disk c.args.machine.now) (g.M.Machine.disk c.load.new.machine) c.load.ensures.kept c.in_ok-store.store.parts c.in_ok-store.plan c.in_ok-store.ensures.ready.bounds p used w opens to c.dirty_limit-limit.result (g.M.Machine.disk c.open.new.machine) told (c.open.ensures.steps (c.load.ensures.kept.time.moments_told.0 told) p (step m w Crash) to))
+    let marks : c.redo_marks-marks.result ≡ redo_marks c.args.tuning p = c.redo_marks-marks.ensures ∙ ap (redo_marks c.args.tuning) (c.params.ensures.value ∙ to.params) in
+    subst (λ (k : Marks). OpensThrough m p (g.M.Machine.disk c.args.machine.now) (g.M.Machine.disk c.open.new.machine) w (restart_course m k w used).steps) marks
+    (whole_moments g.O.Oper.meaning (g.M.Machine.disk c.args.machine.now) (g.M.Machine.disk c.load.new.machine) c.load.ensures.kept c.in_ok-store.store.parts c.in_ok-store.plan c.in_ok-store.ensures.ready.bounds p used w opens to c.redo_marks-marks.result (g.M.Machine.disk c.open.new.machine) told (c.open.ensures.steps (c.load.ensures.kept.time.moments_told.0 told) p (step m w Crash) to))
 
 pub returns-clause-reads : goal.returns-clause-reads
 returns-clause-reads g c told p used w opens =
     let m = g.O.Oper.meaning (bounds_of p) in
     let small = small_store p ((g.M.Machine.disk c.args.machine.now).reads Objects) opens.shows.objects in
     let to = to_redo g.O.Oper.meaning (g.M.Machine.disk c.args.machine.now) (g.M.Machine.disk c.load.new.machine) c.load.ensures.kept c.in_ok-store.store.parts c.in_ok-store.plan c.in_ok-store.ensures.ready.bounds p used w opens (c.in_ok-store.ensures.read opens.told) (c.crash_keeps.ensures (bounds_of p) w small opens.sound) (c.unseen_steps_change_nothing.ensures p (g.M.Machine.disk c.args.machine.now).reads w Crash opens.sound tt opens.shows) in
-    let limit : c.dirty_limit-limit.result ≡ dirty_limit c.args.tuning p = c.dirty_limit-limit.ensures ∙ ap (dirty_limit c.args.tuning) (c.params.ensures.value ∙ to.params) in
+    let marks : c.redo_marks-marks.result ≡ redo_marks c.args.tuning p = c.redo_marks-marks.ensures ∙ ap (redo_marks c.args.tuning) (c.params.ensures.value ∙ to.params) in
     let passed = c.in-Err.ensures.call.quiet in
-    subst (λ (n : ℕ). ShowsSome m p w (restart_course m n w used).steps (g.M.Machine.disk c.open.new.machine).reads) limit
-    (whole_reads g.O.Oper.meaning (g.M.Machine.disk c.args.machine.now) (g.M.Machine.disk c.load.new.machine) c.load.ensures.kept c.in_ok-store.store.parts c.in_ok-store.plan c.in_ok-store.ensures.ready.bounds p used w opens to c.dirty_limit-limit.result (g.M.Machine.disk c.open.new.machine) told passed.ends passed.time (c.open.ensures.steps (c.load.ensures.kept.time.moments_told.0 told) p (step m w Crash) to))
+    subst (λ (k : Marks). ShowsSome m p w (restart_course m k w used).steps (g.M.Machine.disk c.open.new.machine).reads) marks
+    (whole_reads g.O.Oper.meaning (g.M.Machine.disk c.args.machine.now) (g.M.Machine.disk c.load.new.machine) c.load.ensures.kept c.in_ok-store.store.parts c.in_ok-store.plan c.in_ok-store.ensures.ready.bounds p used w opens to c.redo_marks-marks.result (g.M.Machine.disk c.open.new.machine) told passed.ends passed.time (c.open.ensures.steps (c.load.ensures.kept.time.moments_told.0 told) p (step m w Crash) to))
 
 -- the store that is opened is attached to its files
 still_attached : (g : Over) (c : In-Ok g) → IsAttached g.O.Oper.meaning (g.M.Machine.disk c.open.new.machine) c.open.new.store.parts
@@ -125,25 +126,25 @@ returns-in-Ok-clause-follows g c p used w opens =
     let m = g.O.Oper.meaning (bounds_of p) in
     let small = small_store p ((g.M.Machine.disk c.args.machine.now).reads Objects) opens.shows.objects in
     let to = to_redo g.O.Oper.meaning (g.M.Machine.disk c.args.machine.now) (g.M.Machine.disk c.load.new.machine) c.load.ensures.kept c.in_ok-store.store.parts c.in_ok-store.plan c.in_ok-store.ensures.ready.bounds p used w opens (c.in_ok-store.ensures.read opens.told) (c.crash_keeps.ensures (bounds_of p) w small opens.sound) (c.unseen_steps_change_nothing.ensures p (g.M.Machine.disk c.args.machine.now).reads w Crash opens.sound tt opens.shows) in
-    let limit : c.dirty_limit-limit.result ≡ dirty_limit c.args.tuning p = c.dirty_limit-limit.ensures ∙ ap (dirty_limit c.args.tuning) (c.params.ensures.value ∙ to.params) in
-    subst (λ (n : ℕ). IsAfter m p (g.M.Machine.disk c.open.new.machine) c.open.new.store.parts w (restart_course m n w used)) limit
-    (whole_after g.O.Oper.meaning (g.M.Machine.disk c.args.machine.now) (g.M.Machine.disk c.load.new.machine) c.load.ensures.kept c.in_ok-store.store.parts c.in_ok-store.plan c.in_ok-store.ensures.ready.bounds p used w opens to c.dirty_limit-limit.result (g.M.Machine.disk c.open.new.machine) c.open.new.store.parts (c.in-Ok.ensures.follows p (step m w Crash) to))
+    let marks : c.redo_marks-marks.result ≡ redo_marks c.args.tuning p = c.redo_marks-marks.ensures ∙ ap (redo_marks c.args.tuning) (c.params.ensures.value ∙ to.params) in
+    subst (λ (k : Marks). IsAfter m p (g.M.Machine.disk c.open.new.machine) c.open.new.store.parts w (restart_course m k w used)) marks
+    (whole_after g.O.Oper.meaning (g.M.Machine.disk c.args.machine.now) (g.M.Machine.disk c.load.new.machine) c.load.ensures.kept c.in_ok-store.store.parts c.in_ok-store.plan c.in_ok-store.ensures.ready.bounds p used w opens to c.redo_marks-marks.result (g.M.Machine.disk c.open.new.machine) c.open.new.store.parts (c.in-Ok.ensures.follows p (step m w Crash) to))
 
 pub returns-in-Ok-clause-steps : goal.returns-in-Ok-clause-steps
 returns-in-Ok-clause-steps g c told p used w opens =
     let m = g.O.Oper.meaning (bounds_of p) in
     let small = small_store p ((g.M.Machine.disk c.args.machine.now).reads Objects) opens.shows.objects in
     let to = to_redo g.O.Oper.meaning (g.M.Machine.disk c.args.machine.now) (g.M.Machine.disk c.load.new.machine) c.load.ensures.kept c.in_ok-store.store.parts c.in_ok-store.plan c.in_ok-store.ensures.ready.bounds p used w opens (c.in_ok-store.ensures.read opens.told) (c.crash_keeps.ensures (bounds_of p) w small opens.sound) (c.unseen_steps_change_nothing.ensures p (g.M.Machine.disk c.args.machine.now).reads w Crash opens.sound tt opens.shows) in
-    let limit : c.dirty_limit-limit.result ≡ dirty_limit c.args.tuning p = c.dirty_limit-limit.ensures ∙ ap (dirty_limit c.args.tuning) (c.params.ensures.value ∙ to.params) in
-    subst (λ (n : ℕ). OpensThrough m p (g.M.Machine.disk c.args.machine.now) (g.M.Machine.disk c.open.new.machine) w (restart_course m n w used).steps) limit
-    (whole_moments g.O.Oper.meaning (g.M.Machine.disk c.args.machine.now) (g.M.Machine.disk c.load.new.machine) c.load.ensures.kept c.in_ok-store.store.parts c.in_ok-store.plan c.in_ok-store.ensures.ready.bounds p used w opens to c.dirty_limit-limit.result (g.M.Machine.disk c.open.new.machine) told (c.open.ensures.steps (c.load.ensures.kept.time.moments_told.0 told) p (step m w Crash) to))
+    let marks : c.redo_marks-marks.result ≡ redo_marks c.args.tuning p = c.redo_marks-marks.ensures ∙ ap (redo_marks c.args.tuning) (c.params.ensures.value ∙ to.params) in
+    subst (λ (k : Marks). OpensThrough m p (g.M.Machine.disk c.args.machine.now) (g.M.Machine.disk c.open.new.machine) w (restart_course m k w used).steps) marks
+    (whole_moments g.O.Oper.meaning (g.M.Machine.disk c.args.machine.now) (g.M.Machine.disk c.load.new.machine) c.load.ensures.kept c.in_ok-store.store.parts c.in_ok-store.plan c.in_ok-store.ensures.ready.bounds p used w opens to c.redo_marks-marks.result (g.M.Machine.disk c.open.new.machine) told (c.open.ensures.steps (c.load.ensures.kept.time.moments_told.0 told) p (step m w Crash) to))
 
 pub returns-in-Ok-clause-reads : goal.returns-in-Ok-clause-reads
 returns-in-Ok-clause-reads g c told p used w opens =
     let m = g.O.Oper.meaning (bounds_of p) in
     let small = small_store p ((g.M.Machine.disk c.args.machine.now).reads Objects) opens.shows.objects in
     let to = to_redo g.O.Oper.meaning (g.M.Machine.disk c.args.machine.now) (g.M.Machine.disk c.load.new.machine) c.load.ensures.kept c.in_ok-store.store.parts c.in_ok-store.plan c.in_ok-store.ensures.ready.bounds p used w opens (c.in_ok-store.ensures.read opens.told) (c.crash_keeps.ensures (bounds_of p) w small opens.sound) (c.unseen_steps_change_nothing.ensures p (g.M.Machine.disk c.args.machine.now).reads w Crash opens.sound tt opens.shows) in
-    let limit : c.dirty_limit-limit.result ≡ dirty_limit c.args.tuning p = c.dirty_limit-limit.ensures ∙ ap (dirty_limit c.args.tuning) (c.params.ensures.value ∙ to.params) in
+    let marks : c.redo_marks-marks.result ≡ redo_marks c.args.tuning p = c.redo_marks-marks.ensures ∙ ap (redo_marks c.args.tuning) (c.params.ensures.value ∙ to.params) in
     let passed = c.in-Ok.ensures.call.quiet in
-    subst (λ (n : ℕ). ShowsSome m p w (restart_course m n w used).steps (g.M.Machine.disk c.open.new.machine).reads) limit
-    (whole_reads g.O.Oper.meaning (g.M.Machine.disk c.args.machine.now) (g.M.Machine.disk c.load.new.machine) c.load.ensures.kept c.in_ok-store.store.parts c.in_ok-store.plan c.in_ok-store.ensures.ready.bounds p used w opens to c.dirty_limit-limit.result (g.M.Machine.disk c.open.new.machine) told passed.ends passed.time (c.open.ensures.steps (c.load.ensures.kept.time.moments_told.0 told) p (step m w Crash) to))
+    subst (λ (k : Marks). ShowsSome m p w (restart_course m k w used).steps (g.M.Machine.disk c.open.new.machine).reads) marks
+    (whole_reads g.O.Oper.meaning (g.M.Machine.disk c.args.machine.now) (g.M.Machine.disk c.load.new.machine) c.load.ensures.kept c.in_ok-store.store.parts c.in_ok-store.plan c.in_ok-store.ensures.ready.bounds p used w opens to c.redo_marks-marks.result (g.M.Machine.disk c.open.new.machine) told passed.ends passed.time (c.open.ensures.steps (c.load.ensures.kept.time.moments_told.0 told) p (step m w Crash) to))

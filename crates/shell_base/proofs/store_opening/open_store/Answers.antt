@@ -1,14 +1,15 @@
-use Rattle.std.proofs.Common.{ℕ, length, None, ap, sym, subst, ◌∙◌}
+use Rattle.std.proofs.Common.{length, None, ap, sym, subst, ◌∙◌}
 use Rattle.disk_model.specs.Disk.{Disk, LeavesOnly}
 use Rattle.disk_model.specs.Moments.{passes_twice}
 use Rattle.disk_model.specs.declared.machine.FileNo.TheVariants.{Objects}
 use Rattle.formats.specs.Objects.{bounds_of}
+use Rattle.explain_core.specs.declared.marks.Marks.{Marks}
 use Rattle.restart.specs.Starts.{OrAtStart}
 use Rattle.standing.specs.OneStable.{small_store}
 use Rattle.restart.specs.Courses.{restart_course}
 use Rattle.restart.specs.Opening.{OpensThrough}
 use Rattle.running_store.specs.Taking.{IsAfter}
-use Rattle.shell_base.specs.First.{OpeningMoment, redo_dirty}
+use Rattle.shell_base.specs.First.{OpeningMoment, marks_of}
 use Rattle.shell_base.specs.Store.{Between, Opens, meaning_in}
 use Rattle.shell_base.specs.RestartLaws.{first_of, no_damage, shows_first, unopened_so}
 use Rattle.shell_base.proofs.store_opening.open_store.Goals as goal
@@ -25,7 +26,7 @@ returns-in-Ok-clause-opens g c = λ p commands opens. record {
   images = λ telling. c.restart.ensures.images telling p commands opens;
   again = λ telling. c.restart.ensures.again telling p commands opens;
   first = first_of opens (c.opens_on_a_world.ensures.world p (g.M.Machine.disk c.args.machine.now).reads commands opens.stands);
-  steps = λ telling first is. subst (λ (n : ℕ). OpensThrough (meaning_in p) p (g.M.Machine.disk c.args.machine.now) (g.M.Machine.disk c.restart.new.machine) is.world (restart_course (meaning_in p) n is.world is.used).steps) (c.tuning.ensures.dirty p) (c.restart.ensures.steps telling p is.used is.world is.found);
+  steps = λ telling first is. subst (λ (n : Marks). OpensThrough (meaning_in p) p (g.M.Machine.disk c.args.machine.now) (g.M.Machine.disk c.restart.new.machine) is.world (restart_course (meaning_in p) n is.world is.used).steps) (c.tuning.ensures.marks p) (c.restart.ensures.steps telling p is.used is.world is.found);
 }
 
 pub returns-in-Err-clause-opens : goal.returns-in-Err-clause-opens
@@ -39,7 +40,7 @@ returns-in-Err-clause-opens g c = λ p commands opens.
       first = first_of opens (c.opens_on_a_world.ensures.world p (g.M.Machine.disk c.args.machine.now).reads commands opens.stands);
       steps = λ telling first is.
           subst (λ (d : Disk). LeavesOnly (g.M.Machine.disk c.args.machine.now) d (OrAtStart (g.M.Machine.disk c.args.machine.now) (OpeningMoment c.args.budget p commands (g.M.Machine.disk c.args.machine.now) first is))) (sym same)
-          (subst (λ (n : ℕ). OpensThrough (meaning_in p) p (g.M.Machine.disk c.args.machine.now) (g.M.Machine.disk c.restart.new.machine) is.world (restart_course (meaning_in p) n is.world is.used).steps) (c.tuning.ensures.dirty p) (c.restart.ensures.steps telling p is.used is.world is.found));
+          (subst (λ (n : Marks). OpensThrough (meaning_in p) p (g.M.Machine.disk c.args.machine.now) (g.M.Machine.disk c.restart.new.machine) is.world (restart_course (meaning_in p) n is.world is.used).steps) (c.tuning.ensures.marks p) (c.restart.ensures.steps telling p is.used is.world is.found));
     }
 
 pub returns-in-Ok-clause-ok : goal.returns-in-Ok-clause-ok
@@ -49,8 +50,8 @@ returns-in-Ok-clause-ok g c = λ p commands opens.
       all = stands.1;
       alone = c.in-Ok.ensures.ready.1;
       uncopied = c.in-Ok.ensures.ready.2;
-      shows = λ first is. shows_first first is c.in-Ok.ensures.ready.0 c.in-Ok.ensures.ready.1 c.in-Ok.ensures.ready.2 c.in-Ok.ensures.ready.3 (subst (λ (n : ℕ). IsAfter (meaning_in p) p (g.M.Machine.disk c.restart.new.machine) c.in-Ok.engine.parts is.world (restart_course (meaning_in p) n is.world is.used)) (c.tuning.ensures.dirty p) (c.in-Ok.ensures.follows p is.used is.world is.found))
-          (c.a_restart_may_be_made.ensures.reopened (bounds_of p) is.world (redo_dirty c.args.budget p) is.used (small_store p ((g.M.Machine.disk c.args.machine.now).reads Objects) is.found.shows.objects) is.found.sound) stands.0 (c.engine_stands.ensures p);
+      shows = λ first is. shows_first first is c.in-Ok.ensures.ready.0 c.in-Ok.ensures.ready.1 c.in-Ok.ensures.ready.2 c.in-Ok.ensures.ready.3 (subst (λ (n : Marks). IsAfter (meaning_in p) p (g.M.Machine.disk c.restart.new.machine) c.in-Ok.engine.parts is.world (restart_course (meaning_in p) n is.world is.used)) (c.tuning.ensures.marks p) (c.in-Ok.ensures.follows p is.used is.world is.found))
+          (c.a_restart_may_be_made.ensures.reopened (bounds_of p) is.world (marks_of c.args.budget p) is.used (small_store p ((g.M.Machine.disk c.args.machine.now).reads Objects) is.found.shows.objects) is.found.sound) stands.0 (c.engine_stands.ensures p);
     }
 
 pub returns-in-Ok-clause-ready : goal.returns-in-Ok-clause-ready

@@ -1,4 +1,4 @@
-use Rattle.std.proofs.Common.{◌∙◌, ℕ, [], length, None, ap, sym, subst}
+use Rattle.std.proofs.Common.{◌∙◌, [], length, None, ap, sym, subst}
 use Rattle.disk_model.specs.Disk.{Disk, LeavesOnly}
 use Rattle.disk_model.specs.Moments.{passes_twice}
 use Rattle.restart.specs.Starts.{OrAtStart}
@@ -8,9 +8,10 @@ use Rattle.standing.specs.OneStable.{small_store}
 use Rattle.explain_core.specs.World.{World, run}
 use Rattle.op_codec.specs.AllOps.{all_meaning}
 use Rattle.restart.specs.Courses.{restart_course}
+use Rattle.explain_core.specs.declared.marks.Marks.{Marks}
 use Rattle.restart.specs.Opening.{OpensThrough}
 use Rattle.standby_node.specs.Standby.{IsFollowing}
-use Rattle.shell_base.specs.First.{OpeningMoment, redo_dirty}
+use Rattle.shell_base.specs.First.{OpeningMoment, marks_of}
 use Rattle.shell_base.specs.Store.{Between, Command, Opens, ShowsIn, meaning_in}
 use Rattle.shell_base.specs.RestartLaws.{first_commands, first_of, no_damage, unopened_so}
 use Rattle.standby_words.proofs.FollowingLemmas.{first_begins}
@@ -28,7 +29,7 @@ returns-in-Ok-clause-opens g c = λ p commands opens. record {
   images = λ telling. c.attach.ensures.images telling p commands opens;
   again = λ telling. c.attach.ensures.again telling p commands opens;
   first = first_of opens (c.opens_on_a_world.ensures.world p (g.M.Machine.disk c.args.machine.now).reads commands opens.stands);
-  steps = λ telling first is. subst (λ (n : ℕ). OpensThrough (meaning_in p) p (g.M.Machine.disk c.args.machine.now) (g.M.Machine.disk c.attach.new.machine) is.world (restart_course (meaning_in p) n is.world is.used).steps) (c.tuning.ensures.dirty p) (c.attach.ensures.steps telling p is.used is.world is.found);
+  steps = λ telling first is. subst (λ (n : Marks). OpensThrough (meaning_in p) p (g.M.Machine.disk c.args.machine.now) (g.M.Machine.disk c.attach.new.machine) is.world (restart_course (meaning_in p) n is.world is.used).steps) (c.tuning.ensures.marks p) (c.attach.ensures.steps telling p is.used is.world is.found);
 }
 
 pub returns-in-Err-clause-opens : goal.returns-in-Err-clause-opens
@@ -42,7 +43,7 @@ returns-in-Err-clause-opens g c = λ p commands opens.
       first = first_of opens (c.opens_on_a_world.ensures.world p (g.M.Machine.disk c.args.machine.now).reads commands opens.stands);
       steps = λ telling first is.
           subst (λ (d : Disk). LeavesOnly (g.M.Machine.disk c.args.machine.now) d (OrAtStart (g.M.Machine.disk c.args.machine.now) (OpeningMoment c.args.budget p commands (g.M.Machine.disk c.args.machine.now) first is))) (sym same)
-          (subst (λ (n : ℕ). OpensThrough (meaning_in p) p (g.M.Machine.disk c.args.machine.now) (g.M.Machine.disk c.attach.new.machine) is.world (restart_course (meaning_in p) n is.world is.used).steps) (c.tuning.ensures.dirty p) (c.attach.ensures.steps telling p is.used is.world is.found));
+          (subst (λ (n : Marks). OpensThrough (meaning_in p) p (g.M.Machine.disk c.args.machine.now) (g.M.Machine.disk c.attach.new.machine) is.world (restart_course (meaning_in p) n is.world is.used).steps) (c.tuning.ensures.marks p) (c.attach.ensures.steps telling p is.used is.world is.found));
     }
 
 pub returns-in-Ok-clause-attached : goal.returns-in-Ok-clause-attached
@@ -72,17 +73,17 @@ pub returns-in-Ok-clause-first : goal.returns-in-Ok-clause-first
 returns-in-Ok-clause-first g c = λ p commands opens.
     let old = g.M.Machine.disk c.args.machine.now in
     let starts = c.opens_on_a_world.ensures.world p old.reads commands opens.stands in
-    first_commands opens starts (c.a_restart_may_be_made.ensures.reopened (bounds_of p) starts.1 (redo_dirty c.args.budget p) starts.0 (small_store p (old.reads Objects) starts.2.shows.objects) starts.2.sound)
+    first_commands opens starts (c.a_restart_may_be_made.ensures.reopened (bounds_of p) starts.1 (marks_of c.args.budget p) starts.0 (small_store p (old.reads Objects) starts.2.shows.objects) starts.2.sound)
 
 pub returns-in-Err-clause-first : goal.returns-in-Err-clause-first
 returns-in-Err-clause-first g c = λ p commands opens.
     let old = g.M.Machine.disk c.args.machine.now in
     let starts = c.opens_on_a_world.ensures.world p old.reads commands opens.stands in
-    first_commands opens starts (c.a_restart_may_be_made.ensures.reopened (bounds_of p) starts.1 (redo_dirty c.args.budget p) starts.0 (small_store p (old.reads Objects) starts.2.shows.objects) starts.2.sound)
+    first_commands opens starts (c.a_restart_may_be_made.ensures.reopened (bounds_of p) starts.1 (marks_of c.args.budget p) starts.0 (small_store p (old.reads Objects) starts.2.shows.objects) starts.2.sound)
 
 pub returns-in-Ok-clause-begins : goal.returns-in-Ok-clause-begins
 returns-in-Ok-clause-begins g c = λ p commands opens first is. (
-  first_begins first is (subst (λ (n : ℕ). IsFollowing all_meaning p (run (meaning_in p) is.world (restart_course (meaning_in p) n is.world is.used).steps).history [] (g.M.Machine.disk c.attach.new.machine) c.in-Ok.standby) (c.tuning.ensures.dirty p) (c.in-Ok.ensures.follows p is.used is.world is.found)) (c.in-Ok.ensures.begins p commands opens) (c.standby_stands.ensures p),
+  first_begins first is (subst (λ (n : Marks). IsFollowing all_meaning p (run (meaning_in p) is.world (restart_course (meaning_in p) n is.world is.used).steps).history [] (g.M.Machine.disk c.attach.new.machine) c.in-Ok.standby) (c.tuning.ensures.marks p) (c.in-Ok.ensures.follows p is.used is.world is.found)) (c.in-Ok.ensures.begins p commands opens) (c.standby_stands.ensures p),
   subst (λ (w : World Command). ShowsIn p (g.M.Machine.disk c.attach.new.machine) c.in-Ok.standby.engine w) (sym is.world_is)
-      (subst (λ (n : ℕ). ShowsIn p (g.M.Machine.disk c.attach.new.machine) c.in-Ok.standby.engine (run (meaning_in p) is.world (restart_course (meaning_in p) n is.world is.used).steps)) (c.tuning.ensures.dirty p) (c.in-Ok.ensures.shows p is.used is.world is.found)),
+      (subst (λ (n : Marks). ShowsIn p (g.M.Machine.disk c.attach.new.machine) c.in-Ok.standby.engine (run (meaning_in p) is.world (restart_course (meaning_in p) n is.world is.used).steps)) (c.tuning.ensures.marks p) (c.in-Ok.ensures.shows p is.used is.world is.found)),
 )

@@ -131,7 +131,7 @@ returns-in_default-clause-shows g c = λ p w node shows allowed.
     let m = g.O.Oper.meaning (bounds_of p) in
     let d = g.M.Machine.disk c.args.machine.now in
     subst (λ (l : List (Step g.row.O.Denot)). VolatileShows m p d c.args.self.now.parts.volatile (run m w l)) (flush_none m node c.args.work.now (sym c.in_default.ensures.value))
-    (subst (λ (v : World g.row.O.Denot). VolatileShows m p d c.args.self.now.parts.volatile v) (sym (run_none m 0 w)) shows)
+    (subst (λ (v : World g.row.O.Denot). VolatileShows m p d c.args.self.now.parts.volatile v) (sym (run_none m w)) shows)
 
 pub returns-in_default-clause-steps : goal.returns-in_default-clause-steps
 returns-in_default-clause-steps g c = λ told p w node shows.
