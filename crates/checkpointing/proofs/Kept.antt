@@ -31,10 +31,9 @@ use Rattle.cache_manager.specs.declared.install_err.InstallErr.{InstallErr}
 use Rattle.cache_manager.specs.declared.install_err.InstallErr.TheVariants as of_install
 use Rattle.checkpointing.specs.Courses.{trim_due, trim_within, turn_due, unstopped, upkeep_course}
 use Rattle.checkpointing.specs.Left.{DamagedBy}
-use Rattle.checkpointing.specs.Told.{TellsUpkeep, outcome_of_trim, outcome_of_turn, stop_of}
+use Rattle.checkpointing.specs.Told.{TellsUpkeep, outcome_of, outcome_of_stop, outcome_of_trim, outcome_of_turn}
 use Rattle.checkpointing.specs.declared.due.Due.{Due}
-use Rattle.checkpointing.specs.declared.outcome.Outcome.{Outcome}
-use Rattle.checkpointing.specs.declared.upkeep.Upkeep.{Upkeep}
+use Rattle.checkpointing.specs.declared.task_outcome.TaskOutcome.{TaskOutcome}
 use Rattle.checkpointing.proofs.Allowed.{trim_taken}
 
 -- ---- the steps may be taken
@@ -111,18 +110,21 @@ turn_on (Err of_install.Memory) = refl
 
 -- and what they tell
 module _ {O : Type 0} (m : Meaning O) (p : Params) (new : Disk) (after : Parts) (w : World O) (c : Course O) where
-  trim_tells : {T : Type 0} (r : Result T RewriteErr) → Follows m p new after w c (ending_of_rewrite r) → IfOk (outcome_of_trim r) (λ it. stop_of it ≡ c.stop)
-  trim_tells (Ok value) is = sym is.0
-  trim_tells (Err (of_rewrite.LogFull used need limit)) is = sym is.0
-  trim_tells (Err (of_rewrite.Exhausted epoch)) is = sym is.0
+  told : {stop : Stop} → c.stop ≡ stop → outcome_of_stop stop ≡ outcome_of_stop c.stop
+  told is = ap outcome_of_stop (sym is)
+
+  trim_tells : {T : Type 0} (r : Result T RewriteErr) → Follows m p new after w c (ending_of_rewrite r) → IfOk (outcome_of_trim r) (λ it. it ≡ outcome_of_stop c.stop)
+  trim_tells (Ok value) is = told is.0
+  trim_tells (Err (of_rewrite.LogFull used need limit)) is = told is.0
+  trim_tells (Err (of_rewrite.Exhausted epoch)) is = told is.0
   trim_tells (Err of_rewrite.DiskFault) is = tt
   trim_tells (Err (of_rewrite.Damaged file place)) is = tt
   trim_tells (Err of_rewrite.Memory) is = tt
 
-  turn_tells : {T : Type 0} (r : Result T InstallErr) → Follows m p new after w c (ending_of r) → IfOk (outcome_of_turn r) (λ it. stop_of it ≡ c.stop)
-  turn_tells (Ok value) is = sym is.0
-  turn_tells (Err (of_install.LogFull used need limit)) is = sym is.0
-  turn_tells (Err (of_install.LsnEnd lsn)) is = sym is.0
+  turn_tells : {T : Type 0} (r : Result T InstallErr) → Follows m p new after w c (ending_of r) → IfOk (outcome_of_turn r) (λ it. it ≡ outcome_of_stop c.stop)
+  turn_tells (Ok value) is = told is.0
+  turn_tells (Err (of_install.LogFull used need limit)) is = told is.0
+  turn_tells (Err (of_install.LsnEnd lsn)) is = told is.0
   turn_tells (Err of_install.DiskFault) is = tt
   turn_tells (Err of_install.Memory) is = tt
 
@@ -141,11 +143,11 @@ turn_undamaged (Err (of_install.LsnEnd lsn)) = tt
 turn_undamaged (Err of_install.DiskFault) = λ damage. damage
 turn_undamaged (Err of_install.Memory) = λ damage. damage
 
-module _ {O : Type 0} (meaning : Bounds → Meaning O) (old new : Disk) (before after : StoreView) (it : Result Outcome ReadErr) where
+module _ {O : Type 0} (meaning : Bounds → Meaning O) (old new : Disk) (before after : StoreView) (it : Result TaskOutcome ReadErr) where
   -- a trim of this answer
   module _ {T : Type 0} (r : Result T RewriteErr) (is : it ≡ outcome_of_trim r) where
     trim_ends : ending_on (ending_of_rewrite r) ≡ ending_of_read it
-    trim_ends = trim_on r ∙ ap (λ (x : Result Outcome ReadErr). ending_of_read x) (sym is)
+    trim_ends = trim_on r ∙ ap (λ (x : Result TaskOutcome ReadErr). ending_of_read x) (sym is)
 
     pub trimmed_call : (stops : RecordLogView → Stop → Type 0) → next_of after ≡ next_of before → IsCall meaning old new before after 0 stops (ending_of_rewrite r)
         → IsCall meaning old new before after (logged_since before after) Never (ending_of_read it)
@@ -158,16 +160,16 @@ module _ {O : Type 0} (meaning : Bounds → Meaning O) (old new : Disk) (before 
         subst (λ (e : Ending). Takes meaning old new before.parts after.parts (λ m w used. unstopped (trim_within m most epoch w used)) e) trim_ends
         (takes_on meaning old new before.parts after.parts (λ m w used. trim_within m most epoch w used) (ending_of_rewrite r) takes)
 
-    pub trimmed_told : (m : Meaning O) (p : Params) (w : World O) (c : Course O) → Follows m p new after.parts w c (ending_of_rewrite r) → IfOk it (λ it. stop_of it ≡ c.stop)
-    trimmed_told m p w c follows = subst (λ (x : Result Outcome ReadErr). IfOk x (λ it. stop_of it ≡ c.stop)) (sym is) (trim_tells m p new after.parts w c r follows)
+    pub trimmed_told : (m : Meaning O) (p : Params) (w : World O) (c : Course O) → Follows m p new after.parts w c (ending_of_rewrite r) → IfOk it (λ it. it ≡ outcome_of_stop c.stop)
+    trimmed_told m p w c follows = subst (λ (x : Result TaskOutcome ReadErr). IfOk x (λ it. it ≡ outcome_of_stop c.stop)) (sym is) (trim_tells m p new after.parts w c r follows)
 
     pub trimmed_undamaged : IfErr r (DamagedBy (λ file place. ⊥)) → IfErr it (λ e. TellsDamage e → ⊥)
-    trimmed_undamaged none = subst (λ (x : Result Outcome ReadErr). IfErr x (λ e. TellsDamage e → ⊥)) (sym is) (trim_undamaged r none)
+    trimmed_undamaged none = subst (λ (x : Result TaskOutcome ReadErr). IfErr x (λ e. TellsDamage e → ⊥)) (sym is) (trim_undamaged r none)
 
   -- a turn of this answer
   module _ {T : Type 0} (r : Result T InstallErr) (is : it ≡ outcome_of_turn r) where
     turn_ends : ending_on (ending_of r) ≡ ending_of_read it
-    turn_ends = turn_on r ∙ ap (λ (x : Result Outcome ReadErr). ending_of_read x) (sym is)
+    turn_ends = turn_on r ∙ ap (λ (x : Result TaskOutcome ReadErr). ending_of_read x) (sym is)
 
     pub turned_call : (n : ℕ) (stops : RecordLogView → Stop → Type 0) → IsCall meaning old new before after n stops (ending_of r) → IsCall meaning old new before after n Never (ending_of_read it)
     turned_call n stops call = subst (λ (e : Ending). IsCall meaning old new before after n Never e) turn_ends (call_on meaning old new before after n stops (ending_of r) call)
@@ -178,11 +180,11 @@ module _ {O : Type 0} (meaning : Bounds → Meaning O) (old new : Disk) (before 
         subst (λ (e : Ending). Takes meaning old new before.parts after.parts (λ m w used. unstopped (turn_course m copied most w used)) e) turn_ends
         (takes_on meaning old new before.parts after.parts (λ m w used. turn_course m copied most w used) (ending_of r) takes)
 
-    pub turned_told : (m : Meaning O) (p : Params) (w : World O) (c : Course O) → Follows m p new after.parts w c (ending_of r) → IfOk it (λ it. stop_of it ≡ c.stop)
-    turned_told m p w c follows = subst (λ (x : Result Outcome ReadErr). IfOk x (λ it. stop_of it ≡ c.stop)) (sym is) (turn_tells m p new after.parts w c r follows)
+    pub turned_told : (m : Meaning O) (p : Params) (w : World O) (c : Course O) → Follows m p new after.parts w c (ending_of r) → IfOk it (λ it. it ≡ outcome_of_stop c.stop)
+    turned_told m p w c follows = subst (λ (x : Result TaskOutcome ReadErr). IfOk x (λ it. it ≡ outcome_of_stop c.stop)) (sym is) (turn_tells m p new after.parts w c r follows)
 
     pub turned_undamaged : IfErr it (λ e. TellsDamage e → ⊥)
-    turned_undamaged = subst (λ (x : Result Outcome ReadErr). IfErr x (λ e. TellsDamage e → ⊥)) (sym is) (turn_undamaged r)
+    turned_undamaged = subst (λ (x : Result TaskOutcome ReadErr). IfErr x (λ e. TellsDamage e → ⊥)) (sym is) (turn_undamaged r)
 
 -- ---- first the one, and then the other
 
@@ -205,8 +207,8 @@ module _ {O : Type 0} (meaning : Bounds → Meaning O) (due : Due) (epoch copied
     turn_follows ending quiet second =
         takes_both meaning (λ m w used. unstopped (trim_due m due.trim epoch w used)) (λ m w used. unstopped (turn_due m due.turn copied w used)) old mid new before.parts here.parts after.parts ending quiet first second
 
-    pub both_told : (trim turn : Outcome) → ((p : Params) (w : World O) → Shows (meaning_in meaning p) p old before.parts w → stop_of trim ≡ (trim_due (meaning_in meaning p) due.trim epoch w (log_length before)).stop)
-        → ((p : Params) (w : World O) → Shows (meaning_in meaning p) p mid here.parts w → stop_of turn ≡ (turn_due (meaning_in meaning p) due.turn copied w (log_length here)).stop)
+    pub both_told : (trim turn : TaskOutcome) → ((p : Params) (w : World O) → Shows (meaning_in meaning p) p old before.parts w → trim ≡ outcome_of due.trim (trim_due (meaning_in meaning p) due.trim epoch w (log_length before)).stop)
+        → ((p : Params) (w : World O) → Shows (meaning_in meaning p) p mid here.parts w → turn ≡ outcome_of due.turn (turn_due (meaning_in meaning p) due.turn copied w (log_length here)).stop)
         → (p : Params) (w : World O) → Shows (meaning_in meaning p) p old before.parts w → TellsUpkeep (meaning_in meaning p) due epoch copied w (log_length before) (record { trim = trim; turn = turn })
     both_told trim turn trims turns p w shows =
         let m = meaning_in meaning p in
@@ -214,5 +216,5 @@ module _ {O : Type 0} (meaning : Bounds → Meaning O) (due : Due) (epoch copied
         let v = run m w (trim_due m due.trim epoch w (log_length before)).steps in
         record {
           trim = trims p w shows;
-          turn = subst (λ (k : ℕ). stop_of turn ≡ (turn_due m due.turn copied v k).stop) one.used (turns p v one.shows);
+          turn = subst (λ (k : ℕ). turn ≡ outcome_of due.turn (turn_due m due.turn copied v k).stop) one.used (turns p v one.shows);
         }

@@ -1,12 +1,14 @@
 -- What a checkpoint, a trim, the checkpoint at the end of a restart, and upkeep do, as functions of the world and of the log's length.
 -- No group is open in the world.
-use Rattle.std.specs.Prelude.{◌+◌, ℕ, nat_lt, nat_le, if◌then◌else◌, List, [], ◌∷◌, ◌++◌, Option, None, Some, max}
+use Rattle.std.specs.Prelude.{◌≡◌, ◌≤◌, ◌+◌, ◌/◌, ◌^◌, ℕ, nat_lt, nat_le, if◌then◌else◌, List, [], ◌∷◌, ◌++◌, Option, None, Some, IfSome, max, min}
 use Rattle.oper_core.specs.Meaning.{Meaning}
 use Rattle.explain_core.specs.World.{World, Step, run}
 use Rattle.explain_core.specs.World.Step.{Block_gate, Checkpoint}
 use Rattle.running_store.specs.Courses.{Course, is_through, course, and_then, grown, force_steps, force_course, room_steps}
 use Rattle.running_store.specs.Courses.Stop.{Through, Full, Worn}
 use Rattle.formats.specs.Limits.{log_limit, lsn_end}
+use Rattle.formats.specs.declared.params.Params.{Params}
+use Rattle.running_store.specs.Laid.Limits.{objects_within}
 use Rattle.running_store.specs.Calls.Rewrites.{checkpoint_length, rewrite_within}
 use Rattle.cache_manager.specs.InstallCourses.{turn_course}
 use Rattle.checkpointing.specs.declared.due.Due.{Due}
@@ -63,3 +65,10 @@ module _ {O : Type 0} (m : Meaning O) where
   abbrev pub upkeep_course : Due → ℕ → ℕ → World O → ℕ → Course O
   upkeep_course due epoch copied w used =
       and_then m w (unstopped (trim_due due.trim epoch w used)) (λ v used. unstopped (turn_due due.turn copied v used))
+
+-- No more upkeep is due than this, where the log has so many bytes: a trim to 2^20 bytes and to half of that, but none while the
+-- slots are copied; and a turn of a full round.
+pub record IsModest (p : Params) (copied : Option ℕ) (used : ℕ) (due : Due) : Type 0 where
+  pub trim : IfSome due.trim (λ most. most ≤ min (2 ^ 20) (used / 2))
+  pub beside : IfSome copied (λ n. due.trim ≡ None)
+  pub turn : IfSome due.turn (λ most. most ≤ objects_within 64 (2 ^ 20) p)

@@ -9,10 +9,10 @@ ghost use Rattle.running_store.specs.Parts.{Shows, meaning_in};
 ghost use Rattle.running_store.specs.StoreView.{log_length, logged_since};
 ghost use Rattle.running_store.specs.Taking.{Takes};
 ghost use Rattle.checkpointing.specs.Courses.{trim_due, turn_due, unstopped, upkeep_course};
-ghost use Rattle.checkpointing.specs.Told.{TellsUpkeep, outcome_of_trim, outcome_of_turn, stop_of};
+ghost use Rattle.checkpointing.specs.Told.{TellsUpkeep, outcome_of, outcome_of_trim, outcome_of_turn};
 
 use crate::trimming::trim;
-use crate::{Due, Outcome, Upkeep};
+use crate::{Due, TaskOutcome, UpkeepReport};
 use cache_manager::InstallErr;
 use disk_model::Machine;
 use formats::ReadErr;
@@ -21,17 +21,17 @@ use oper_core::Oper;
 use running_store::Store;
 
 // What became of a trim.
-fn outcome_of_trim(answer: Result<(), RewriteErr>) -> Result<Outcome, ReadErr>
+fn outcome_of_trim(answer: Result<(), RewriteErr>) -> Result<TaskOutcome, ReadErr>
     ensures { result ≡ outcome_of_trim answer }
 {
     match answer {
-        Ok(()) => Ok(Outcome::Done),
-        Err(RewriteErr::LogFull { used, need, limit }) => Ok(Outcome::LogFull {
+        Ok(()) => Ok(TaskOutcome::Done),
+        Err(RewriteErr::LogFull { used, need, limit }) => Ok(TaskOutcome::LogFull {
             used,
             need,
             limit,
         }),
-        Err(RewriteErr::Exhausted { epoch }) => Ok(Outcome::Exhausted { epoch }),
+        Err(RewriteErr::Exhausted { epoch }) => Ok(TaskOutcome::Exhausted { epoch }),
         Err(RewriteErr::DiskFault) => Err(ReadErr::DiskFault),
         Err(RewriteErr::Damaged { file, place }) => Err(ReadErr::Damaged { file, place }),
         Err(RewriteErr::Memory) => Err(ReadErr::Memory),
@@ -39,17 +39,17 @@ fn outcome_of_trim(answer: Result<(), RewriteErr>) -> Result<Outcome, ReadErr>
 }
 
 // What became of a turn.
-fn outcome_of_turn(answer: Result<u64, InstallErr>) -> Result<Outcome, ReadErr>
+fn outcome_of_turn(answer: Result<u64, InstallErr>) -> Result<TaskOutcome, ReadErr>
     ensures { result ≡ outcome_of_turn answer }
 {
     match answer {
-        Ok(_) => Ok(Outcome::Done),
-        Err(InstallErr::LogFull { used, need, limit }) => Ok(Outcome::LogFull {
+        Ok(_) => Ok(TaskOutcome::Done),
+        Err(InstallErr::LogFull { used, need, limit }) => Ok(TaskOutcome::LogFull {
             used,
             need,
             limit,
         }),
-        Err(InstallErr::LsnEnd { lsn }) => Ok(Outcome::LsnEnd { lsn }),
+        Err(InstallErr::LsnEnd { lsn }) => Ok(TaskOutcome::LsnEnd { lsn }),
         Err(InstallErr::DiskFault) => Err(ReadErr::DiskFault),
         Err(InstallErr::Memory) => Err(ReadErr::Memory),
     }
@@ -60,18 +60,18 @@ fn trim_if_due<O: Oper, M: Machine>(
     store: &mut Store<O>,
     machine: &mut M,
     due: Option<u64>,
-) -> Result<Outcome, ReadErr>
+) -> Result<TaskOutcome, ReadErr>
     requires unbroken { store.old.broken ≡ false }
     requires most { IfSome due (λ most. most ≤ 2 ^ 48) }
     ensures call { IsCall O.meaning (M.disk machine.old) (M.disk machine.new) store.old store.new (logged_since store.old store.new) Never (ending_of_read result) }
     ensures takes { Takes O.meaning (M.disk machine.old) (M.disk machine.new) store.old.parts store.new.parts
         (λ m w used. unstopped (trim_due m due store.old.parts.log.log.header.epoch w used)) (ending_of_read result) }
     ensures told { (p : Numbers) (w : World O) → Shows (meaning_in O.meaning p) p (M.disk machine.old) store.old.parts w →
-        IfOk result (λ it. stop_of it ≡ (trim_due (meaning_in O.meaning p) due store.old.parts.log.log.header.epoch w (log_length store.old)).stop) }
+        IfOk result (λ it. it ≡ outcome_of due (trim_due (meaning_in O.meaning p) due store.old.parts.log.log.header.epoch w (log_length store.old)).stop) }
     ensures undamaged { (M.disk machine.old).tells_files → HasLog (O.meaning store.old.parts.log.bounds) (M.disk machine.old) store.old.parts.log → IfErr result (λ e. TellsDamage e → ⊥) }
 {
     let Some(most) = due else {
-        return Ok(Outcome::NotDue);
+        return Ok(TaskOutcome::NotDue);
     };
     let answer = trim(store, machine, most);
     outcome_of_trim(answer)
@@ -83,16 +83,16 @@ fn turn_if_due<O: Oper, M: Machine>(
     machine: &mut M,
     copied: u32,
     due: Option<usize>,
-) -> Result<Outcome, ReadErr>
+) -> Result<TaskOutcome, ReadErr>
     requires unbroken { store.old.broken ≡ false }
     ensures call { IsCall O.meaning (M.disk machine.old) (M.disk machine.new) store.old store.new (logged_since store.old store.new) Never (ending_of_read result) }
     ensures takes { Takes O.meaning (M.disk machine.old) (M.disk machine.new) store.old.parts store.new.parts (λ m w used. unstopped (turn_due m due copied w used)) (ending_of_read result) }
     ensures told { (p : Numbers) (w : World O) → Shows (meaning_in O.meaning p) p (M.disk machine.old) store.old.parts w →
-        IfOk result (λ it. stop_of it ≡ (turn_due (meaning_in O.meaning p) due copied w (log_length store.old)).stop) }
+        IfOk result (λ it. it ≡ outcome_of due (turn_due (meaning_in O.meaning p) due copied w (log_length store.old)).stop) }
     ensures undamaged { IfErr result (λ e. TellsDamage e → ⊥) }
 {
     let Some(most) = due else {
-        return Ok(Outcome::NotDue);
+        return Ok(TaskOutcome::NotDue);
     };
     let answer = cache_manager::tend(store, machine, copied, most);
     outcome_of_turn(answer)
@@ -106,7 +106,7 @@ pub fn keep_up<O: Oper, M: Machine>(
     machine: &mut M,
     due: Due,
     copied: u32,
-) -> Result<Upkeep, ReadErr>
+) -> Result<UpkeepReport, ReadErr>
     requires unbroken { store.old.broken ≡ false }
     requires most { IfSome due.trim (λ most. most ≤ 2 ^ 48) }
     ensures call { IsCall O.meaning (M.disk machine.old) (M.disk machine.new) store.old store.new (logged_since store.old store.new) Never (ending_of_read result) }
@@ -118,5 +118,5 @@ pub fn keep_up<O: Oper, M: Machine>(
 {
     let trim = trim_if_due(store, machine, due.trim)?;
     let turn = turn_if_due(store, machine, copied, due.turn)?;
-    Ok(Upkeep { trim, turn })
+    Ok(UpkeepReport { trim, turn })
 }

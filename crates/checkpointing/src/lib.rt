@@ -17,10 +17,10 @@ mod checkpoints;
 mod due;
 mod keeping;
 mod logging;
-mod outcome;
 mod taking;
+mod task_outcome;
 mod trimming;
-mod upkeep;
+mod upkeep_report;
 mod worked;
 
 pub use checkpoint_err::CheckpointErr;
@@ -31,7 +31,7 @@ pub use checkpoint_laws::{
 pub use checkpoints::{checkpoint, closing_checkpoint};
 pub use due::Due;
 pub use keeping::keep_up;
-pub use outcome::Outcome;
+pub use task_outcome::TaskOutcome;
 pub use trimming::trim;
-pub use upkeep::Upkeep;
+pub use upkeep_report::UpkeepReport;
 pub use worked::{a_checkpoint_has_two_starts, a_trim_keeps_what_is_not_installed};

@@ -4,20 +4,21 @@ use Rattle.std.specs.Prelude.{IfSome}
 use Rattle.disk_model.specs.Disk.{Disk, Passes}
 use Rattle.disk_model.specs.Moments.{passes_none}
 use Rattle.formats.specs.declared.read_err.ReadErr.{ReadErr}
-use Rattle.checkpointing.specs.declared.upkeep.Upkeep.{Upkeep}
+use Rattle.checkpointing.specs.declared.upkeep_report.UpkeepReport.{UpkeepReport}
 use Rattle.store_engine.specs.Calls.{IsRefused, IsRefusedBeside}
 use Rattle.store_engine.specs.Engine.{EngineView, commands_since}
 use Rattle.store_engine.specs.Upkept.{IsLeftAlone}
+use Rattle.store_engine.specs.declared.pace.Pace.{Pace}
 use Rattle.store_engine.specs.declared.work_err.WorkErr.{WorkErr}
 
 module _ {M : Type 0} (disk : M → Disk) {old new : M} where
   still : new ≡ old → Passes (disk old) (disk new)
   still same = subst (λ (m : M). Passes (disk old) (disk m)) (sym same) (passes_none (disk old))
 
-  pub left_by_group : (before after : EngineView) (result : Result Upkeep ReadErr) (next : ℕ) (group : Option ℕ) → IfSome (commands_since next group) (λ size. IsLeftAlone old new before after result)
+  pub left_by_group : (before after : EngineView) (pace later : Pace) (result : Result UpkeepReport ReadErr) (next : ℕ) (group : Option ℕ) → IfSome (commands_since next group) (λ size. IsLeftAlone old new before after pace later result)
       → (group ≡ None → Passes (disk old) (disk new)) → Passes (disk old) (disk new)
-  left_by_group before after result next None left done = done refl
-  left_by_group before after result next (Some begun) left done = still left.machine
+  left_by_group before after pace later result next None left done = done refl
+  left_by_group before after pace later result next (Some begun) left done = still left.machine
 
   module _ {T : Type 0} (before after : EngineView) (result : Result T WorkErr) where
     pub barred_by_group : (next : ℕ) (group : Option ℕ) → IfSome (commands_since next group) (λ size. IsRefused size old new before after result)

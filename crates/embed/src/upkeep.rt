@@ -14,7 +14,7 @@ ghost use Rattle.embed.specs.Embedded.{IsStillBroken, Reports};
 
 use crate::Store;
 use disk_model::Machine;
-use store_engine::{Install, Pace, ReadErr, Stat, Upkeep, WorkErr};
+use store_engine::{Install, Pace, ReadErr, Stat, UpkeepReport, WorkErr};
 
 impl<M: Machine + Drop> Store<M> {
     /// Makes all commands durable. It answers how many there are; in a group `InGroup`.
@@ -85,8 +85,8 @@ impl<M: Machine + Drop> Store<M> {
         self.engine.drain(&mut self.machine)
     }
 
-    /// One turn of upkeep: installs so many nodes together at most (of 0 it is one), with four syncs at most, or one alone, as the
-    /// engine's `tend`. It answers how many: none exactly where none was left.
+    /// One turn of upkeep: installs so many nodes together at most (of 0 it is one), with four syncs at most, or one and then those
+    /// that have no object to flush, as the engine's `tend`. It answers how many: none exactly where none was left.
     pub fn tend(&mut self, most: usize) -> Result<u64, WorkErr>
         ensures time { Passes (M.disk self.old.machine) (M.disk self.new.machine) }
         ensures in_group { self.old.engine.broken ≡ false → IfSome (group_size self.old.engine) (λ size. IsRefused size self.old.machine self.new.machine self.old.engine self.new.engine result) }
@@ -101,10 +101,10 @@ impl<M: Machine + Drop> Store<M> {
 
     /// Upkeep at a pace, for a program that makes this call after each of its others: at most one turn and at most one short trim, as
     /// the engine's `keep_up`. In a group nothing is done.
-    pub fn keep_up(&mut self, pace: &mut Pace) -> Result<Upkeep, ReadErr>
+    pub fn keep_up(&mut self, pace: &mut Pace) -> Result<UpkeepReport, ReadErr>
         ensures time { Passes (M.disk self.old.machine) (M.disk self.new.machine) }
-        ensures in_group { self.old.engine.broken ≡ false → IfSome (group_size self.old.engine) (λ size. IsLeftAlone self.old.machine self.new.machine self.old.engine self.new.engine result) }
-        ensures alone { self.old.engine.broken ≡ false → self.old.engine.group ≡ None → IsKeptUp all_meaning (M.disk self.old.machine) (M.disk self.new.machine) self.old.engine self.new.engine result }
+        ensures in_group { self.old.engine.broken ≡ false → IfSome (group_size self.old.engine) (λ size. IsLeftAlone self.old.machine self.new.machine self.old.engine self.new.engine pace.old pace.new result) }
+        ensures alone { self.old.engine.broken ≡ false → self.old.engine.group ≡ None → IsKeptUp all_meaning (M.disk self.old.machine) (M.disk self.new.machine) self.old.engine self.new.engine pace.old pace.new result }
         ensures broken { self.old.engine.broken ≡ true → IsStillBroken ReadErr.DiskFault self.old self.new result }
     {
         if self.engine.is_broken() {

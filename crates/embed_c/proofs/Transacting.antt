@@ -2,12 +2,12 @@
 use Rattle.std.proofs.Common.{◌≡◌, ◌∙◌, ℕ, true, false, List, Option, None, Some, IfSome, is_some, ap, subst, sym, refl, inr}
 use lib.Dec.{T}
 use Rattle.std.specs.Global.{Global}
-use Rattle.std.specs.Prelude.{Box, IsSome}
+use Rattle.std.specs.Prelude.{Box, IfNone, IsSome}
 use Rattle.op_codec.specs.AllOps.{AllOps}
 use Rattle.transactions.specs.declared.transaction.Transaction.{Transaction}
 use Rattle.embed_c.specs.Answers.{alone, of_exec, told, told_value}
 use Rattle.embed_c.specs.Calls.{DoesExec, DoesGet, DoesNothing, IsCalled, TellsLength}
-use Rattle.embed_c.specs.GivenUp.{IsGivenUp, PutsBack}
+use Rattle.embed_c.specs.GivenUp.{IsGivenUp, IsLost, PutsBack}
 use Rattle.embed_c.specs.Handles.{OnSession, not_open}
 use Rattle.embed_c.specs.Staging.{Apart, ApartFrom, Commits, CommitsFor, CommitsOn, DoesSee, DoesStage, IsCalledIn, IsCommitted, IsWithin, ReadsOrSees, RunsOrStages, told_seen}
 use Rattle.embed_c.specs.declared.session.Session.{Session}
@@ -67,11 +67,11 @@ module _ {old : Option Session} {s seen : Session} (before : old ≡ Some s) (sa
 
   -- it is cut off, and given up
   given : (made : Option (Box Session Global)) (new : Option Session) (cut : Session) (says answer : ℕ) → Commits seen cut says → IsSome cut.store.engine.group
-      → IfSome made (λ it. IsGivenUp cut it.value) → PutsBack made says new answer → CommitsOn (Some seen) new answer
-  given None new cut says answer done grouped gives put = subst (λ (o : Option Session). CommitsOn (Some seen) o answer) (sym put.0) (cut, says, done, grouped, put.1)
-  given (Some it) new cut says answer done grouped gives put = subst (λ (o : Option Session). CommitsOn (Some seen) o answer) (sym put.0)
+      → IfSome made (λ it. IsGivenUp cut it.value) → IfNone made (IsLost cut.store) → PutsBack made says new answer → CommitsOn (Some seen) new answer
+  given None new cut says answer done grouped gives lost put = subst (λ (o : Option Session). CommitsOn (Some seen) o answer) (sym put.0) (cut, says, done, grouped, lost, put.1)
+  given (Some it) new cut says answer done grouped gives lost put = subst (λ (o : Option Session). CommitsOn (Some seen) o answer) (sym put.0)
       (inr (inr (cut, subst (λ (n : ℕ). Commits seen cut n) (sym put.1) done, grouped, gives)))
 
   pub cut_off : (made : Option (Box Session Global)) (new : Option Session) (cut : Session) (says answer : ℕ) → Commits seen cut says → IsSome cut.store.engine.group
-      → IfSome made (λ it. IsGivenUp cut it.value) → PutsBack made says new answer → CommitsOn old new answer
-  cut_off made new cut says answer done grouped gives put = of_seen new answer (given made new cut says answer done grouped gives put)
+      → IfSome made (λ it. IsGivenUp cut it.value) → IfNone made (IsLost cut.store) → PutsBack made says new answer → CommitsOn old new answer
+  cut_off made new cut says answer done grouped gives lost put = of_seen new answer (given made new cut says answer done grouped gives lost put)

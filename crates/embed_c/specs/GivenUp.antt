@@ -6,7 +6,7 @@ use Rattle.disk_model.specs.declared.machine.Failed.{Failed}
 use Rattle.formats.specs.declared.params.Params.{Params}
 use Rattle.op_codec.specs.AllOps.{AllOps, all_meaning}
 use Rattle.store_engine.specs.Calls.{IsBeginning, IsRefused, work_of_force}
-use Rattle.store_engine.specs.Engine.{Between, Holds, IsAttached, forced_in, group_size}
+use Rattle.store_engine.specs.Engine.{Between, Holds, IsAttached, Opens, forced_in, group_size}
 use Rattle.store_engine.specs.declared.work_err.WorkErr.{WorkErr}
 use Rattle.store_engine.specs.declared.work_err.WorkErr.TheVariants as work
 use Rattle.transactions.specs.Room.{HasRoomOf}
@@ -49,6 +49,15 @@ pub record IsGivenUp (old new : Session) : Type 0 where
   pub pairs : new.pairs ≡ old.pairs
   pub staging : new.staging ≡ old.staging
 
+-- It was given up, but is not there again: the store was dropped with this machine, from which no call was taken. Whatever a crash
+-- leaves of its files since stands for the commands before the group, and so do the files themselves.
+pub record IsLost (old : Store QueueMem) : Type 0 where
+  pub machine : QueueMem
+  pub untaken : IsUntaken old.machine machine
+  pub images : (p : Params) (commands ops : List AllOps) → Holds all_meaning p (disk_of old.machine) old.engine (commands ++ ops) → group_size old.engine ≡ Some (length ops) →
+      LeavesOnly (disk_of old.machine) (disk_of machine) (Between all_meaning p (disk_of old.machine) None (length commands) (length commands) commands)
+  pub again : (p : Params) (commands ops : List AllOps) → Holds all_meaning p (disk_of old.machine) old.engine (commands ++ ops) → group_size old.engine ≡ Some (length ops) → Opens all_meaning p (disk_of machine) commands
+
 -- what C is told where no group is open: that, or that the disk has failed
 abbrev pub no_group_in : Session → ℕ
 no_group_in s = if s.store.engine.broken then 5 else 19
@@ -62,6 +71,6 @@ PutsBack (Some it) says new answer = (new ≡ Some it.value) × (answer ≡ says
 -- is not there again, for want of memory or with its machine, the session was dropped, and 5 is answered.
 abbrev pub GivesUp : Option Session → Option Session → ℕ → Type 0
 GivesUp None new answer = (new ≡ None) × (answer ≡ not_open)
-GivesUp (Some old) None answer = IsSome old.store.engine.group × (answer ≡ 5)
+GivesUp (Some old) None answer = IsSome old.store.engine.group × IsLost old.store × (answer ≡ 5)
 GivesUp (Some old) (Some new) answer = ((old.store.engine.broken ≡ false → old.store.engine.group ≡ None) × DoesNothing (alone (no_group_in old)) old new answer)
     ⊎ (IsSome old.store.engine.group × IsGivenUp old new × (answer ≡ 0))

@@ -22,7 +22,7 @@ use Rattle.embed.specs.Embedded.{GivesValue, IsStillBroken}
 use Rattle.embed.specs.declared.store.Store.{Store}
 use Rattle.embed_c.specs.Answers.{alone, done_answer, of_exec, telling, told, told_value}
 use Rattle.embed_c.specs.Calls.{DoesExec, DoesGet, DoesNothing, IsCalled, IsUntaken, TellsLength}
-use Rattle.embed_c.specs.GivenUp.{IsGivenUp}
+use Rattle.embed_c.specs.GivenUp.{IsGivenUp, IsLost}
 use Rattle.embed_c.specs.Handles.{not_open}
 use Rattle.embed_c.specs.declared.answer.Answer.{Answer}
 use Rattle.embed_c.specs.declared.session.Session.{Session}
@@ -174,6 +174,6 @@ CommitsAndGivesUp old new answer = (cut : Session) × Commits old cut answer × 
 -- want of memory or with its machine, the session was dropped, and 5 is answered. Nothing is done within a group.
 abbrev pub CommitsOn : Option Session → Option Session → ℕ → Type 0
 CommitsOn None new answer = (new ≡ None) × (answer ≡ not_open)
-CommitsOn (Some old) None answer = (cut : Session) × (says : ℕ) × Commits old cut says × IsSome cut.store.engine.group × (answer ≡ 5)
+CommitsOn (Some old) None answer = (cut : Session) × (says : ℕ) × Commits old cut says × IsSome cut.store.engine.group × IsLost cut.store × (answer ≡ 5)
 CommitsOn (Some old) (Some new) answer = ((size : ℕ) × (group_size old.store.engine ≡ Some size) × DoesNothing (telling 18 size 0 0) old new answer)
     ⊎ (Commits old new answer ⊎ CommitsAndGivesUp old new answer)

@@ -1,8 +1,8 @@
 // Groups that are given up, and groups for which the log has room.
-ghost use Rattle.std.specs.Prelude.{◌≡◌, false, None, IfSome, IsSome};
+ghost use Rattle.std.specs.Prelude.{◌≡◌, false, None, IfNone, IfSome, IsSome};
 ghost use Rattle.embed_c.specs.Answers.{alone, of_work, told};
 ghost use Rattle.embed_c.specs.Calls.{DoesNothing, IsCalled};
-ghost use Rattle.embed_c.specs.GivenUp.{DoesBeginRoom, GivesUp, IsGivenUp, PutsBack, no_group_in};
+ghost use Rattle.embed_c.specs.GivenUp.{DoesBeginRoom, GivesUp, IsGivenUp, IsLost, PutsBack, no_group_in};
 ghost use Rattle.embed_c.specs.Handles.{OnSession, session_of};
 ghost use Rattle.embed_c.specs.Staging.{Apart};
 
@@ -41,7 +41,8 @@ impl Session {
     pub(crate) fn abort(self) -> Option<Box<Session>>
         requires unbroken { self.store.engine.broken ≡ false }
         requires open { IsSome self.store.engine.group }
-        ensures { IfSome result (λ session. IsGivenUp self session.value) }
+        ensures some { IfSome result (λ session. IsGivenUp self session.value) }
+        ensures none { IfNone result (IsLost self.store) }
     {
         let Session {
             alloc,

@@ -1,5 +1,5 @@
 // Transactions: commands that are staged on a session, and then all added or none.
-ghost use Rattle.std.specs.Prelude.{◌≡◌, false, None, Some, IfErr, IfOk, IfSome};
+ghost use Rattle.std.specs.Prelude.{◌≡◌, false, true, None, Some, IfErr, IfOk, IfSome};
 ghost use Rattle.std.specs.Option.{is_some};
 ghost use Rattle.embed_c.specs.Answers.{of_exec, telling, told};
 ghost use Rattle.embed_c.specs.Calls.{DoesNothing, TellsLength};
@@ -79,6 +79,7 @@ impl Session {
 
     /// Stages a command of the open transaction.
     pub fn stage(&mut self, op: AllOps) -> u32
+        requires open { is_some self.old.staging ≡ true }
         ensures { IfSome self.old.staging (λ t. IsCalledIn (told of_exec) (DoesStage op) t self.old self.new result) }
     {
         let Some(mut transaction) = mem::replace(&mut self.staging, None) else {
@@ -93,6 +94,7 @@ impl Session {
 
     /// Copies the front of the value that an object has after the staged commands, as much as there is room for.
     pub fn see(&mut self, object: u32, into: &mut [u8], length: &mut u64) -> u32
+        requires open { is_some self.old.staging ≡ true }
         ensures { IfSome self.old.staging (λ t. IsCalledIn told_seen (λ old new before after made. DoesSee object into.old into.new old new before after made × TellsLength made length.new) t self.old self.new result) }
     {
         let Some(transaction) = mem::replace(&mut self.staging, None) else {

@@ -1,9 +1,9 @@
 // Upkeep in small pieces.
-ghost use Rattle.embed_c.specs.Answers.{of_read, of_work, told};
+ghost use Rattle.embed_c.specs.Answers.{of_work, told};
 ghost use Rattle.embed_c.specs.Calls.{IsCalled, TellsCount};
 ghost use Rattle.embed_c.specs.Handles.{OnSession, session_of};
 ghost use Rattle.embed_c.specs.Staging.{Apart};
-ghost use Rattle.embed_c.specs.Upkept.{DoesKeepUp, DoesTend};
+ghost use Rattle.embed_c.specs.Upkept.{DoesTend, KeepsUp};
 
 use crate::answer::{read_answer, work_answer};
 use crate::handle::Redo;
@@ -13,7 +13,7 @@ use std::alloc::Global;
 const NOT_OPEN: u32 = 64;
 
 impl Session {
-    /// Installs so many nodes together at most, or one, and says how many.
+    /// A turn of so many nodes at most, as the engine's `tend`. It says how many were installed.
     pub fn tend(&mut self, most: usize, installed: &mut u64) -> u32
         ensures { IsCalled (told of_work) (λ old new made. DoesTend most old new made × TellsCount made installed.new) self.old self.new result }
     {
@@ -26,7 +26,7 @@ impl Session {
 
     /// Upkeep at a pace: at most one turn and one short trim, where they are due. In a group nothing is.
     pub fn keep_up(&mut self) -> u32
-        ensures { IsCalled (told of_read) DoesKeepUp self.old self.new result }
+        ensures { KeepsUp self.old self.new result }
     {
         let answer = read_answer(self.store.keep_up(&mut self.pace));
         self.detail = answer.detail;
@@ -56,7 +56,7 @@ pub extern "C" fn redo_core_tend(
 /// Upkeep at a pace, for a caller that makes this call after each of its commands. Within a transaction it is refused.
 #[unsafe(no_mangle)]
 pub extern "C" fn redo_core_keep_up(alloc: Global, redo: &mut Redo) -> u32
-    ensures { OnSession (Apart (IsCalled (told of_read) DoesKeepUp)) (session_of redo.old) (session_of redo.new) result }
+    ensures { OnSession (Apart KeepsUp) (session_of redo.old) (session_of redo.new) result }
 {
     match redo.take_apart(alloc) {
         Err(answer) => answer,

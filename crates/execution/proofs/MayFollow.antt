@@ -92,7 +92,7 @@ module _ {O : Type 0} (m : Meaning O) (keeps : KeepsSound m) where
         record {
           allowed = subst (λ (c : Course O). AreAllowed m w c.steps) (sym none) may.allowed;
           running = subst (λ (c : Course O). IsRunning m (run m w c.steps)) (sym none) may.running;
-          through = λ through. ap (λ (c : Course O). (run m w c.steps).history) none ∙ ap (λ (v : World O). v.history) (run_none m 0 w) ∙ sym same;
+          through = λ through. ap (λ (c : Course O). (run m w c.steps).history) none ∙ ap (λ (v : World O). v.history) (run_none m w) ∙ sym same;
           stopped = λ stopped. absurd (both_ways (is_through whole.stop) stopped (ap (λ (c : Course O). is_through c.stop) none));
         }
 

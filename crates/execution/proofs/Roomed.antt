@@ -53,10 +53,10 @@ module _ {O : Type 0} (m : Meaning O) (w : World O) where
 
     -- where it is made, the values stay, and so does the history
     pub room_cache : (run m w (room_steps m w n)).cache ≡ w.cache
-    room_cache = room_ways (λ l. (run m w l).cache ≡ w.cache) after_force.1 (ap (λ (v : World O). v.cache) (run_none m 0 w))
+    room_cache = room_ways (λ l. (run m w l).cache ≡ w.cache) after_force.1 (ap (λ (v : World O). v.cache) (run_none m w))
 
     pub room_history : (run m w (room_steps m w n)).history ≡ w.history
-    room_history = room_ways (λ l. (run m w l).history ≡ w.history) after_force.2 (ap (λ (v : World O). v.history) (run_none m 0 w))
+    room_history = room_ways (λ l. (run m w l).history ≡ w.history) after_force.2 (ap (λ (v : World O). v.history) (run_none m w))
 
     -- then the record lets the log grow by as much as it was said before
     grown_after : (used : ℕ) → grown m (run m w (room_steps m w n)) used n ≡ used + grown_by m w n
@@ -65,7 +65,7 @@ module _ {O : Type 0} (m : Meaning O) (w : World O) where
           ap (λ (l : List (Step O)). grown m (run m w l) used n) (forces is) ∙ ap (λ (b : Bool). used + (if b then n else n + 5)) after_force.0
           ∙ ap (λ (k : ℕ). used + k) (sym (cond-true long (n + 5) (needed m true w n) is))
       | inr is ↦
-          ap (λ (l : List (Step O)). grown m (run m w l) used n) (goes is) ∙ ap (λ (v : World O). grown m v used n) (run_none m 0 w)
+          ap (λ (l : List (Step O)). grown m (run m w l) used n) (goes is) ∙ ap (λ (v : World O). grown m v used n) (run_none m w)
           ∙ ap (λ (k : ℕ). used + k) (sym (cond-false long (n + 5) (needed m true w n) is))
     ]
 
@@ -113,7 +113,7 @@ module _ {O : Type 0} (m : Meaning O) (w : World O) where
     -- whether there is room or not
     pub course_cache : (used : ℕ) → (run m w (room_course m n w used).steps).cache ≡ w.cache
     course_cache used = elim (cases_lt log_limit (used + grown_by m w n)) [
-      | inl over ↦ ap (λ (c : Course O). (run m w c.steps).cache) (over_is [] 0 used over) ∙ ap (λ (v : World O). v.cache) (run_none m 0 w)
+      | inl over ↦ ap (λ (c : Course O). (run m w c.steps).cache) (over_is [] 0 used over) ∙ ap (λ (v : World O). v.cache) (run_none m w)
       | inr fits ↦ ap (λ (c : Course O). (run m w c.steps).cache) (fits_is [] 0 used fits) ∙ ap (λ (l : List (Step O)). (run m w l).cache) (append-nil (room_steps m w n)) ∙ room_cache
     ]
 

@@ -1,5 +1,5 @@
 -- The courses of installs, drains, checkpoints and trims: what may stop them, what they log, and that they add no command.
-use Rattle.std.proofs.Common.{◌≡◌, ◌∙◌, ap, refl, ℕ, zero, suc, ◌+◌, ◌<◌, arith, Bool, true, false, List, [], ◌∷◌, ◌++◌, Option, None, Some}
+use Rattle.std.proofs.Common.{◌≡◌, ◌∙◌, ap, refl, ℕ, zero, suc, ◌+◌, ◌-◌, ◌<◌, arith, Bool, true, false, List, [], ◌∷◌, ◌++◌, Option, None, Some}
 use Rattle.std.specs.Prelude.{◌^◌, ◌&&◌, max, nat_lt, nat_le, if◌then◌else◌}
 use Rattle.std.proofs.lemmas.Bool.{cond_both}
 use Rattle.std.proofs.lemmas.Bool.Decides.{nat_tests}
@@ -9,7 +9,7 @@ use Rattle.explain_core.specs.Turns.{count_below, dirty_in}
 use Rattle.explain_core.specs.World.{World, Step, run, end_of}
 use Rattle.explain_core.specs.World.Step.{Append, Begin, Block_gate, Header_gate}
 use Rattle.running_store.specs.Courses.{Course, course, is_through, and_then, waits, buffered, grown, force_steps, force_course, room_steps, placed, cached_length, identity_length, identity_steps}
-use Rattle.cache_manager.specs.InstallCourses.{identity_course, identities, must_log, others, finish_steps, rounds, has_members, install_course, round_limit, round_course, is_next_due, next_turn, turns, logged_by, logged_in}
+use Rattle.cache_manager.specs.InstallCourses.{identity_course, identities, must_log, others, finish_steps, rounds, has_members, install_course, round_limit, round_course, is_next_due, installs, next_turn, turns, is_next_workless, workless_nodes, logged_by, logged_in}
 use Rattle.running_store.specs.Courses.Stop.{Through, Full, At_end}
 use Rattle.running_store.specs.Courses.Laws.{behind_both}
 use Rattle.running_store.specs.Running.{AreUpkeep}
@@ -69,9 +69,16 @@ module _ (m : Meaning Command) where
     stop_install : (copies : ℕ) (w : World Command) (used : ℕ) → MayStop r (install_course m copies w used).stop
     stop_install copies w used = stop_either r (has_members m w) (rounds m copies m.objects w used) (course [] used Through) (stop_rounds copies m.objects w used) tt
 
+    stop_nodes : (n : ℕ) (w : World Command) (used : ℕ) → MayStop r (workless_nodes m n w used).stop
+    stop_nodes zero w used = tt
+    stop_nodes (suc n) w used =
+        let one = course (finish_steps m w) used Through in
+        stop_either r (is_next_workless m w) (and_then m w one (λ v used. workless_nodes m n v used)) (course [] used Through) (stop_then r w one (λ v used. workless_nodes m n v used) tt (λ v used. stop_nodes n v used)) tt
+
     stop_turn : (most copies : ℕ) (w : World Command) (used : ℕ) → MayStop r (next_turn m copies most w used).stop
     stop_turn most copies w used =
-        stop_either r (is_next_due m copies w) (round_course m copies most w used) (rounds m copies m.objects w used) tt (stop_rounds copies m.objects w used)
+        stop_either r (is_next_due m copies w) (round_course m copies most w used) (installs m copies most w used) tt
+        (stop_then r w (rounds m copies m.objects w used) (λ v used. workless_nodes m (most - 1) v used) (stop_rounds copies m.objects w used) (λ v used. stop_nodes (most - 1) v used))
 
     stop_turns : (most copies n : ℕ) (w : World Command) (used : ℕ) → MayStop r (turns m copies most n w used).stop
     stop_turns most copies zero w used = tt

@@ -1,6 +1,6 @@
 -- Upkeep before a line is read.
-use Rattle.std.proofs.Common.{◌≡◌, ◌∙◌, ap, refl, sym, subst, arith, inl, inr, ⊎_elim, ◌⊎◌, ◌≤◌, ◌+◌, ℕ, List, [], length, Option, None, Some, Bool, false, Result, Ok, Err, IfErr, OnOk}
-use Rattle.std.specs.Prelude.{◌^◌, IfSome, IsTrue}
+use Rattle.std.proofs.Common.{◌≡◌, ◌∙◌, ap, refl, sym, subst, arith, inl, inr, ⊎_elim, ◌⊎◌, ◌+◌, ℕ, List, [], length, Option, None, Some, false, Result, Ok, Err}
+use Rattle.std.specs.Prelude.{IfSome, IsTrue}
 use Rattle.std.specs.Option.{is_some}
 use Rattle.disk_model.specs.Disk.{Disk, IsDisk, LeavesOnly, Rises}
 use Rattle.disk_model.specs.Moments.{passes_none, started}
@@ -13,40 +13,39 @@ use Rattle.formats.specs.declared.params.Params.{Params}
 use Rattle.formats.specs.declared.read_err.ReadErr.{ReadErr}
 use Rattle.formats.specs.declared.read_err.ReadErr.TheVariants as of_read
 use Rattle.op_codec.specs.AllOps.{all_meaning}
-use Rattle.explain_core.specs.World.{World, Step, run}
+use Rattle.explain_core.specs.World.{World, run}
 use Rattle.standing.specs.Moments.{ShowsSome}
 use Rattle.running_store.specs.Calls.{IsFailed, ending_of_read}
 use Rattle.running_store.specs.Courses.{Course}
-use Rattle.running_store.specs.Laid.Limits.{objects_within}
 use Rattle.running_store.specs.Steps.Appended.{next_lsn}
 use Rattle.running_store.specs.Running.{IsRunning, run_upkept}
 use Rattle.cache_manager.specs.InstallCourses.{logged_in}
 use Rattle.checkpointing.specs.Courses.{upkeep_course as tending_course}
 use Rattle.checkpointing.specs.declared.due.Due.{Due}
-use Rattle.checkpointing.specs.declared.upkeep.Upkeep.{Upkeep}
+use Rattle.checkpointing.specs.declared.upkeep_report.UpkeepReport.{UpkeepReport}
 use Rattle.store_engine.specs.Beside.{MayGoBeside}
 use Rattle.store_engine.specs.Engine as of_engine
 use Rattle.store_engine.specs.Engine.{EngineView, IsAfterIn, forced_in, group_size, logged_since, so_far, used_in}
 use Rattle.store_engine.specs.Grouping.{ungrouped}
 use Rattle.store_engine.specs.Upkept.{IsKeptUp as IsEngineKept, IsLeftAlone, epoch_in, nothing_due}
+use Rattle.store_engine.specs.declared.pace.Pace.{Pace}
 use Rattle.shell_base.specs.First.{Stage, stage_of}
 use Rattle.shell_base.specs.HoldLaws.{holds_between, in_engine}
 use Rattle.shell_base.specs.Status.{stop_from_read}
 use Rattle.shell_base.specs.Stops.{IsCaused, IsUndamaged}
-use Rattle.shell_base.specs.Store.{Between, Command, Holds, IsAttached, Says, ShowsIn, meaning_in}
+use Rattle.shell_base.specs.Store.{Between, Command, Holds, Says, meaning_in}
 use Rattle.shell_base.specs.declared.stop.Stop.{Stop}
 use Rattle.script_run.specs.Courses.{IsBetween}
-use Rattle.script_run.specs.Groups.{open_in}
-use Rattle.script_run.specs.Stages.{IsKeptUp, IsModest, IsUpkeep, stage_after}
-use Rattle.script_run.specs.Tended.{IsTended, Tends}
+use Rattle.script_run.specs.Stages.{IsKeptUp, IsUpkeep}
+use Rattle.script_run.specs.Tended.{IsTended, IsTendedTo, Tends}
 use Rattle.script_run.specs.declared.tending.Tending.{Tending}
-use Rattle.script_run.specs.declared.tending.Tending.TheVariants.{ByLine}
+use Rattle.script_run.specs.declared.tending.Tending.TheVariants.{ByHand, ByLine}
 use Rattle.script_run.proofs.CourseLemmas.{upkeep_due}
 use Rattle.script_run.proofs.DoneLemmas.{AreCounted, by_group, images_of, risen, stage_on, still_attached, still_whole}
 use Rattle.script_run.proofs.GroupLemmas.{none_open}
 use Rattle.script_run.proofs.MomentLemmas.{images_show}
 use Rattle.script_run.proofs.OpenGroups.{in_open}
-use Rattle.script_run.proofs.RunLemmas.{none_kept, nothing_between, run_nothing}
+use Rattle.script_run.proofs.RunLemmas.{nothing_between, run_nothing}
 use Rattle.script_run.proofs.SavingLemmas.{small_in}
 
 -- what is said of some number is said of it anyway
@@ -58,9 +57,25 @@ any_some : {Y : ℕ → Type 0} (o : Option ℕ) → ((n : ℕ) → Y n) → IfS
 any_some None so = tt
 any_some (Some n) so = so n
 
+-- what is tended is kept up
+pub kept_so : (tending : Tending) (p : Params) (old new : Stage) → IsTendedTo tending p old new → IsKeptUp tending p old new
+kept_so ByHand p old new is = is
+kept_so ByLine p old new (inl (some, same)) = inl same
+kept_so ByLine p old new (inr done) = inr done
+
+-- tending leaves each stage of the engine as it is
+abbrev pub LeavesStages : Tending → EngineView → Type 0
+LeavesStages tending engine = (p : Params) (w : World Command) → w.group ≡ engine.group → IsTendedTo tending p (stage_of engine w) (stage_of engine w)
+
+pub left_by_hand : (tending : Tending) (engine : EngineView) → tending ≡ ByHand → LeavesStages tending engine
+left_by_hand tending engine is = subst (λ (t : Tending). LeavesStages t engine) (sym is) (λ p w same. refl)
+
+left_in_group : (engine : EngineView) → IsTrue (is_some engine.group) → LeavesStages ByLine engine
+left_in_group engine some p w same = inl (subst (λ (o : Option ℕ). IsTrue (is_some o)) (sym same) some, refl)
+
 -- nothing is done
-pub tends_none : {T : Type 0} (tending : Tending) {d : Disk} {engine : EngineView} (value : T) → IsDisk d → engine.broken ≡ false → Tends tending d d engine engine (Ok value)
-tends_none tending {d} {engine} value lawful fine = record {
+pub tends_none : {T : Type 0} (tending : Tending) {d : Disk} {engine : EngineView} (value : T) → IsDisk d → engine.broken ≡ false → LeavesStages tending engine → Tends tending d d engine engine (Ok value)
+tends_none tending {d} {engine} value lawful fine left = record {
   time = passes_none d;
   quiet = λ told. refl;
   cause = tt;
@@ -73,7 +88,7 @@ tends_none tending {d} {engine} value lawful fine = record {
   done = λ p commands holds. record {
     kept = record { holds = holds; rising = omega arith; which = inl refl };
     same = refl;
-    leads = none_kept tending p (stage_of engine holds.world);
+    leads = left p holds.world holds.shows.group;
     copied = refl;
     beside = any_some engine.copied (λ n. ([], record { allowed = tt; beside = tt }, sym (run_nothing (meaning_in p) holds.world)));
   };
@@ -85,8 +100,8 @@ GoesBeside = (b : Bounds) (due : Due) (epoch copied : ℕ) (w : World Command) (
     → MayGoBeside (all_meaning b) copied w (tending_course (all_meaning b) due epoch copied w used).steps
 
 -- The engine was kept up, outside groups.
-module _ {old now : Disk} {before after : EngineView} {answer : Result Upkeep ReadErr} (counts : AreCounted) (beside : GoesBeside) (stands : (p : Params) (all : List Command) → of_engine.Holds all_meaning p now after all → Says p now after all)
-    (alone : before.group ≡ None) (k : IsEngineKept all_meaning old now before after answer) where
+module _ {old now : Disk} {before after : EngineView} {pace later : Pace} {answer : Result UpkeepReport ReadErr} (counts : AreCounted) (beside : GoesBeside) (stands : (p : Params) (all : List Command) → of_engine.Holds all_meaning p now after all → Says p now after all)
+    (alone : before.group ≡ None) (k : IsEngineKept all_meaning old now before after pace later answer) where
   module _ (p : Params) (commands : List Command) (holds : Holds p old before commands) where
     abbrev w : World Command
     w = holds.world
@@ -104,59 +119,53 @@ module _ {old now : Disk} {before after : EngineView} {answer : Result Upkeep Re
     running = record { sound = holds.shows.sound; live = holds.shows.shows.running.live; alone = none }
 
     its : IsUpkeep p (stage_of before w) way
-    its = record {
-      due = k.due;
-      epoch = epoch_in before;
-      modest = record { trim = k.modest.trim; turn = subst (λ (q : Params). IfSome k.due.turn (λ most. most ≤ objects_within 64 (2 ^ 20) q)) holds.shows.shows.store.params k.modest.turn; beside = k.modest.copied };
-      alone = none;
-      course_is = refl;
-    }
+    its = record { pace = pace; epoch = epoch_in before; alone = none; course_is = ap (λ (due : Due). tending_course m due (epoch_in before) (so_far before.copied) w (used_in before)) (k.at_pace p w holds.shows) }
 
     tending_works : old.tells_moments → LeavesOnly old now (IsSilent (IsBetween ByLine p (stage_of before w)) old.said)
-    tending_works told = silent_weaker old now (ShowsSome m p w way.steps) (IsBetween ByLine p (stage_of before w)) (λ files shows. inr (way, its, shows)) (k.takes.steps told p w holds.shows)
+    tending_works told = silent_weaker old now (ShowsSome m p w way.steps) (IsBetween ByLine p (stage_of before w)) (λ files shows. inr (way, its, shows)) (k.done.takes.steps told p w holds.shows)
 
     -- it took its course
     tended : (IsFailed (ending_of_read answer) → ⊥) → IsAfterIn all_meaning p now after w way → IsTended ByLine p now before after w commands
     tended working there =
         let plain = upkeep_due m k.due (epoch_in before) (so_far before.copied) w (used_in before) in
         let are = (run_upkept m w way.steps plain holds.shows.shows.running.live none).commands ∙ holds.commands_are in
-        let rose = ⊎_elim (λ failed. absurd (working failed)) (λ (kept : of_engine.Kept all_meaning p before now after commands). risen holds kept) (k.commands.holds p commands (in_engine holds)) in
+        let rose = ⊎_elim (λ failed. absurd (working failed)) (λ (kept : of_engine.Kept all_meaning p before now after commands). risen holds kept) (k.done.commands.holds p commands (in_engine holds)) in
         let first = next_lsn m p old before.parts (ungrouped w) holds.shows.shows in
         let last = next_lsn m p now after.parts (ungrouped (run m w way.steps)) there.shows.shows in
         let counted : logged_since before after ≡ length (logged_in way.steps) = omega (arith, first, last, counts p w way.steps plain) in
-        let logged = k.call.identities ∙ ap (λ (n : ℕ). before.identities + n) counted in
+        let logged = k.done.call.identities ∙ ap (λ (n : ℕ). before.identities + n) counted in
         record {
           kept = record {
             holds = record { world = run m w way.steps; shows = there.shows; commands_are = are; says = stands p commands (record { world = run m w way.steps; shows = there.shows; commands_are = are }) };
             rising = rose.rising;
             which = ⊎_elim (λ same. inl same) (λ all. inr (all.0, omega (arith, all.1, holds.says.accepted))) rose.which;
           };
-          same = none_open there.shows (k.call.group ∙ alone) ∙ sym (none_open holds.shows alone);
-          leads = inr (way, its, stage_on p before after w way there.used logged k.call.copied);
-          copied = k.call.copied;
-          beside = if_some before.copied k.modest.copied (λ n untrimmed. (way.steps, beside (bounds_of p) k.due (epoch_in before) (so_far before.copied) w (used_in before) untrimmed (small_in holds.shows) running, refl));
+          same = none_open there.shows (k.done.call.group ∙ alone) ∙ sym (none_open holds.shows alone);
+          leads = inr (way, its, stage_on p before after w way there.used logged k.done.call.copied);
+          copied = k.done.call.copied;
+          beside = if_some before.copied k.modest.beside (λ n untrimmed. (way.steps, beside (bounds_of p) k.due (epoch_in before) (so_far before.copied) w (used_in before) untrimmed (small_in holds.shows) running, refl));
         }
 
   tending_images : (p : Params) (commands : List Command) → Holds p old before commands → old.tells_moments → LeavesOnly old now (Between p old before.group (forced_in before) (length commands) commands)
-  tending_images p commands holds told = images_of holds (k.commands.images told p commands (in_engine holds))
+  tending_images p commands holds told = images_of holds (k.done.commands.images told p commands (in_engine holds))
 
 -- so it is where it was done, or where it failed
-pub tends_done : {T : Type 0} {old now : Disk} {before after : EngineView} (upkeep : Upkeep) (value : T) → AreCounted → GoesBeside → ((p : Params) (all : List Command) → of_engine.Holds all_meaning p now after all → Says p now after all)
-    → before.group ≡ None → IsEngineKept all_meaning old now before after (Ok upkeep) → Tends ByLine old now before after (Ok value)
+pub tends_done : {T : Type 0} {old now : Disk} {before after : EngineView} {pace later : Pace} (upkeep : UpkeepReport) (value : T) → AreCounted → GoesBeside → ((p : Params) (all : List Command) → of_engine.Holds all_meaning p now after all → Says p now after all)
+    → before.group ≡ None → IsEngineKept all_meaning old now before after pace later (Ok upkeep) → Tends ByLine old now before after (Ok value)
 tends_done upkeep value counts beside stands alone k = record {
-  time = k.call.time;
-  quiet = k.call.quiet;
+  time = k.done.call.time;
+  quiet = k.done.call.quiet;
   cause = tt;
   undamaged = λ told attached. tt;
-  attached = still_attached k.call (λ failed. failed);
-  unbroken = still_whole k.call (λ failed. failed);
+  attached = still_attached k.done.call (λ failed. failed);
+  unbroken = still_whole k.done.call (λ failed. failed);
   images = tending_images counts beside stands alone k;
   works = λ p commands holds told. tending_works counts beside stands alone k p commands holds told;
-  done = λ p commands holds. tended counts beside stands alone k p commands holds (λ failed. failed) (k.takes.follows p holds.world holds.shows).1;
+  done = λ p commands holds. tended counts beside stands alone k p commands holds (λ failed. failed) (k.done.takes.follows p holds.world holds.shows).1;
 }
 
 -- why it failed
-read_cause : (old now : Disk) (error : ReadErr) → (IsFailed (ending_of_read {T = Upkeep} (Err error)) → Rises old.disk_faults now.disk_faults) → IsCaused (stop_from_read error) old now
+read_cause : (old now : Disk) (error : ReadErr) → (IsFailed (ending_of_read {T = UpkeepReport} (Err error)) → Rises old.disk_faults now.disk_faults) → IsCaused (stop_from_read error) old now
 read_cause old now of_read.DiskFault fault = fault tt
 read_cause old now (of_read.Damaged file place) fault = tt
 read_cause old now of_read.Memory fault = tt
@@ -166,13 +175,13 @@ read_undamaged of_read.DiskFault whole = tt
 read_undamaged (of_read.Damaged file place) whole = whole file place refl
 read_undamaged of_read.Memory whole = tt
 
-pub tends_failed : {T : Type 0} {old now : Disk} {before after : EngineView} (error : ReadErr) (stop : Stop) → stop ≡ stop_from_read error → AreCounted → GoesBeside → ((p : Params) (all : List Command) → of_engine.Holds all_meaning p now after all → Says p now after all)
-    → before.group ≡ None → IsEngineKept all_meaning old now before after (Err error) → Tends {T = T} ByLine old now before after (Err stop)
+pub tends_failed : {T : Type 0} {old now : Disk} {before after : EngineView} {pace later : Pace} (error : ReadErr) (stop : Stop) → stop ≡ stop_from_read error → AreCounted → GoesBeside → ((p : Params) (all : List Command) → of_engine.Holds all_meaning p now after all → Says p now after all)
+    → before.group ≡ None → IsEngineKept all_meaning old now before after pace later (Err error) → Tends {T = T} ByLine old now before after (Err stop)
 tends_failed {old = old} {now = now} error stop is counts beside stands alone k = record {
-  time = k.call.time;
-  quiet = k.call.quiet;
-  cause = subst (λ (s : Stop). IsCaused s old now) (sym is) (read_cause old now error k.call.fault);
-  undamaged = λ told attached. subst IsUndamaged (sym is) (read_undamaged error (λ file place damaged. k.undamaged told attached file place (ap (λ e. Err e) damaged)));
+  time = k.done.call.time;
+  quiet = k.done.call.quiet;
+  cause = subst (λ (s : Stop). IsCaused s old now) (sym is) (read_cause old now error k.done.call.fault);
+  undamaged = λ told attached. subst IsUndamaged (sym is) (read_undamaged error (λ file place damaged. k.done.undamaged told attached file place (ap (λ e. Err e) damaged)));
   attached = λ attached. tt;
   unbroken = tt;
   images = tending_images counts beside stands alone k;
@@ -180,21 +189,21 @@ tends_failed {old = old} {now = now} error stop is counts beside stands alone k 
   done = λ p commands holds. tt;
 }
 
-module _ {M T : Type 0} (disk : M → Disk) {old now : M} {before after : EngineView} {answer : Result Upkeep ReadErr} (counts : AreCounted) (beside : GoesBeside)
+module _ {M T : Type 0} (disk : M → Disk) {old now : M} {before after : EngineView} {pace later : Pace} {answer : Result UpkeepReport ReadErr} (counts : AreCounted) (beside : GoesBeside)
     (stands : (p : Params) (all : List Command) → of_engine.Holds all_meaning p (disk now) after all → Says p (disk now) after all)
-    (within : IfSome (group_size before) (λ size. IsLeftAlone old now before after answer)) (alone : before.group ≡ None → IsEngineKept all_meaning (disk old) (disk now) before after answer) where
+    (within : IfSome (group_size before) (λ size. IsLeftAlone old now before after pace later answer)) (alone : before.group ≡ None → IsEngineKept all_meaning (disk old) (disk now) before after pace later answer) where
   -- within a group nothing is done
-  pub tends_ok : (upkeep : Upkeep) (value : T) → answer ≡ Ok upkeep → IsDisk (disk old) → before.broken ≡ false → Tends ByLine (disk old) (disk now) before after (Ok value)
+  pub tends_ok : (upkeep : UpkeepReport) (value : T) → answer ≡ Ok upkeep → IsDisk (disk old) → before.broken ≡ false → Tends ByLine (disk old) (disk now) before after (Ok value)
   tends_ok upkeep value is lawful fine = by_group before.group
       (λ some.
-      let left = (in_open (λ size. IsLeftAlone old now before after answer) before within some).1 in
-      subst (λ (m : M). Tends ByLine (disk old) (disk m) before after (Ok value)) (sym left.machine) (subst (λ (e : EngineView). Tends ByLine (disk old) (disk old) before e (Ok value)) (sym left.engine) (tends_none ByLine value lawful fine)))
-      (λ none. tends_done upkeep value counts beside stands none (subst (λ (r : Result Upkeep ReadErr). IsEngineKept all_meaning (disk old) (disk now) before after r) is (alone none)))
+      let left = (in_open (λ size. IsLeftAlone old now before after pace later answer) before within some).1 in
+      subst (λ (m : M). Tends ByLine (disk old) (disk m) before after (Ok value)) (sym left.machine) (subst (λ (e : EngineView). Tends ByLine (disk old) (disk old) before e (Ok value)) (sym left.engine) (tends_none ByLine value lawful fine (left_in_group before some))))
+      (λ none. tends_done upkeep value counts beside stands none (subst (λ (r : Result UpkeepReport ReadErr). IsEngineKept all_meaning (disk old) (disk now) before after pace later r) is (alone none)))
 
   pub tends_err : (error : ReadErr) (stop : Stop) → answer ≡ Err error → stop ≡ stop_from_read error → Tends {T = T} ByLine (disk old) (disk now) before after (Err stop)
   tends_err error stop is same = by_group before.group
-      (λ some. let left = (in_open (λ size. IsLeftAlone old now before after answer) before within some).1 in absurd (not_both left.answer_is))
-      (λ none. tends_failed error stop same counts beside stands none (subst (λ (r : Result Upkeep ReadErr). IsEngineKept all_meaning (disk old) (disk now) before after r) is (alone none)))
+      (λ some. let left = (in_open (λ size. IsLeftAlone old now before after pace later answer) before within some).1 in absurd (not_both left.answer_is))
+      (λ none. tends_failed error stop same counts beside stands none (subst (λ (r : Result UpkeepReport ReadErr). IsEngineKept all_meaning (disk old) (disk now) before after pace later r) is (alone none)))
     where
       not_both : answer ≡ Ok nothing_due → ⊥
       not_both was = cc (sym is ∙ was)

@@ -1,5 +1,5 @@
 -- A run goes on by upkeep before its next line, or ends in it.
-use Rattle.std.proofs.Common.{◌≡◌, ◌∙◌, ap, refl, sym, subst, arith, inl, inr, ⊎_elim, ◌⊎◌, ◌≤◌, ◌++◌, ℕ, List, [], length, take, append_assoc, Option, None, Some, Bool, Result, Ok, Err}
+use Rattle.std.proofs.Common.{◌≡◌, ◌∙◌, ap, refl, sym, subst, arith, inl, inr, ⊎_elim, ◌⊎◌, ◌≤◌, ◌++◌, ℕ, List, [], length, take, Option, None, Some, Bool, Result, Ok, Err}
 use Rattle.std.specs.Prelude.{IfSome}
 use Rattle.std.proofs.lemmas.List.{append-nil}
 use Rattle.std.specs.List.{flat_map}
@@ -20,13 +20,14 @@ use Rattle.shell_base.specs.declared.status.Status.{Status}
 use Rattle.shell_base.specs.declared.stop.Stop.{Stop}
 use Rattle.script_run.specs.Courses.{IsBetween}
 use Rattle.script_run.specs.Run.{Going, IsRun, IsTrueSoFar, MomentSoFar, StageSoFar}
-use Rattle.script_run.specs.Saving.{BackupGoing, IsBackedUp}
+use Rattle.script_run.specs.Saving.{IsBackedUp}
 use Rattle.script_run.specs.StartLaws.{AreFew}
 use Rattle.script_run.specs.Stages.{IsKeptUp}
 use Rattle.script_run.specs.Tended.{IsTended, Tends}
 use Rattle.script_run.specs.declared.tending.Tending.{Tending}
 use Rattle.script_run.proofs.BackupLemmas.{FreshBeside, GoingBeside, backed_up, passes_as}
 use Rattle.script_run.proofs.RunLemmas.{FreshGoing, IsFresh, IsTold, even_of, moments_so_far, tending_moment, told_so_far, told_so_far_by, whole_at}
+use Rattle.script_run.proofs.TendLemmas.{kept_so}
 use Rattle.script_run.proofs.TrueLemmas.{all_said, truly_quiet}
 
 module _ (few : AreFew) {T : Type 0} {tending : Tending} {p : Params} {first : Stage} {start now new : Disk} {engine after : EngineView} {commands : List Command} {script todo : List (List ℕ)} {refusing : Bool} {result : Result T Stop}
@@ -96,7 +97,7 @@ module _ (few : AreFew) {T : Type 0} {tending : Tending} {p : Params} {first : S
     truly = tending_truly;
     stage = g.stage;
     goes = g.goes;
-    kept = subst (λ (x : Stage). IsKeptUp tending p x (stage_of after it.kept.holds.world)) (sym fresh) it.leads;
+    kept = subst (λ (x : Stage). IsKeptUp tending p x (stage_of after it.kept.holds.world)) (sym fresh) (kept_so tending p (stage_of engine g.holds.world) (stage_of after it.kept.holds.world) it.leads);
     steps = tending_steps;
   }
 

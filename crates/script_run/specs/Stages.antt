@@ -1,5 +1,5 @@
 -- What the answers of a run go by: the world that engine and files show, the length of the log, and how far a backup is.
-use Rattle.std.specs.Prelude.{◌≡◌, ◌⊎◌, ◌+◌, ◌^◌, ◌++◌, ◌<◌, ◌≤◌, ◌/◌, ⊤, ℕ, IsTrue, List, [], ◌∷◌, length, min, take, Option, None, Some, IfSome}
+use Rattle.std.specs.Prelude.{◌≡◌, ◌⊎◌, ◌+◌, ◌^◌, ◌++◌, ◌<◌, ◌≤◌, ⊤, ℕ, IsTrue, List, [], ◌∷◌, length, min, take, Option, None, Some}
 use Rattle.std.specs.Option.{is_some}
 use Rattle.oper_core.specs.Meaning.{Meaning}
 use Rattle.formats.specs.declared.params.Params.{Params}
@@ -21,10 +21,10 @@ use Rattle.script_lines.specs.declared.backup_denial.BackupDenial.{BackupDenial}
 use Rattle.script_lines.specs.declared.backup_denial.BackupDenial.TheVariants.{InBackup, NoBackup, AlreadyStore, NotCopied}
 use Rattle.script_lines.specs.declared.answer.StatLine.{StatLine}
 use Rattle.checkpointing.specs.Courses.{checkpoint_course, trim_course, upkeep_course as tending_course}
-use Rattle.checkpointing.specs.declared.due.Due.{Due}
-use Rattle.running_store.specs.Laid.Limits.{objects_within}
 use Rattle.store_engine.specs.Calls.{begin_course, end_course}
 use Rattle.store_engine.specs.Engine.{is_name, so_far}
+use Rattle.store_engine.specs.Paces.{due_at, load_of}
+use Rattle.store_engine.specs.declared.pace.Pace.{Pace}
 use Rattle.backup_copy.specs.Length.{backup_length}
 use Rattle.store_engine.specs.Lists.{commands_course}
 use Rattle.shell_base.specs.Store.{Command, meaning_in}
@@ -154,20 +154,13 @@ pub record Leads (p : Params) (old : Stage) (line : List ℕ) (reply : Reply) (n
   pub commands_are : commands_of new.world.history ≡ commands_of old.world.history ++ added
   pub goes : GoesBy p old line reply new
 
--- Upkeep that may be done in a stage: no more than a trim to 2^20 bytes and to half of what the log has, of which none is done beside
--- a backup, and a turn of a full round.
-pub record IsModest (p : Params) (s : Stage) (due : Due) : Type 0 where
-  pub trim : IfSome due.trim (λ most. most ≤ min (2 ^ 20) (s.used / 2))
-  pub turn : IfSome due.turn (λ most. most ≤ objects_within 64 (2 ^ 20) p)
-  pub beside : IfSome s.copied (λ copied. due.trim ≡ None)
-
--- This is the course of such upkeep, where no group is open: first the trim, and, though that may be stopped, then the turn.
+-- This is the course of the upkeep that a pace finds due in a stage in which no group is open: first the trim, and, though that may
+-- be stopped, then the turn.
 pub record IsUpkeep (p : Params) (s : Stage) (c : Course Command) : Type 0 where
-  pub due : Due
+  pub pace : Pace
   pub epoch : ℕ
-  pub modest : IsModest p s due
   pub alone : s.world.group ≡ None
-  pub course_is : c ≡ tending_course (meaning_in p) due epoch (so_far s.copied) s.world s.used
+  pub course_is : c ≡ tending_course (meaning_in p) (due_at pace (load_of (meaning_in p) p s.copied s.world s.used)) epoch (so_far s.copied) s.world s.used
 
 -- The stage in which a line is asked: that after the line before, or, where the store is tended by line, that after some upkeep,
 -- whatever stopped it.

@@ -1,18 +1,20 @@
 -- What upkeep does before a line is read.
-use Rattle.std.specs.Prelude.{◌≡◌, ⊤, List, length, Option, IfSome, Bool, true, false, Result, IfErr, OnOk}
+use Rattle.std.specs.Prelude.{◌≡◌, ◌⊎◌, List, length, IfSome, IsTrue, Bool, true, false, Result, IfErr, OnOk}
+use Rattle.std.specs.Option.{is_some}
 use Rattle.disk_model.specs.Disk.{Disk, LeavesOnly, Passes}
 use Rattle.disk_model.specs.Silent.{IsSilent}
 use Rattle.formats.specs.declared.params.Params.{Params}
 use Rattle.explain_core.specs.World.{World, Step, run}
+use Rattle.running_store.specs.Courses.{Course}
 use Rattle.store_engine.specs.Beside.{MayGoBeside}
 use Rattle.store_engine.specs.Engine.{EngineView, forced_in, so_far}
-use Rattle.shell_base.specs.First.{stage_of}
+use Rattle.shell_base.specs.First.{Stage, stage_of}
 use Rattle.shell_base.specs.Stops.{IsCaused, IsUndamaged}
 use Rattle.shell_base.specs.Store.{Between, Command, Holds, IsAttached, Kept, meaning_in}
 use Rattle.shell_base.specs.declared.stop.Stop.{Stop}
 use Rattle.script_run.specs.Courses.{IsBetween}
 use Rattle.script_run.specs.Groups.{open_in}
-use Rattle.script_run.specs.Stages.{IsKeptUp}
+use Rattle.script_run.specs.Stages.{IsUpkeep, stage_after}
 use Rattle.script_run.specs.declared.tending.Tending.{Tending}
 use Rattle.script_run.specs.declared.tending.Tending.TheVariants.{ByHand, ByLine}
 
@@ -21,12 +23,17 @@ abbrev pub tending_of : Bool → Tending
 tending_of false = ByHand
 tending_of true = ByLine
 
+-- What tending makes of a stage: by line its upkeep is done, whatever stops that, but nothing within a group.
+abbrev pub IsTendedTo : Tending → Params → Stage → Stage → Type 0
+IsTendedTo ByHand p old new = new ≡ old
+IsTendedTo ByLine p old new = (IsTrue (is_some old.world.group) × (new ≡ old)) ⊎ ((c : Course Command) × IsUpkeep p old c × (new ≡ stage_after p old c))
+
 -- The store was tended: engine and files stand for the same commands, and the same group is open, or none. What was done may be
 -- done beside a backup, if one is made.
 pub record IsTended (tending : Tending) (p : Params) (now : Disk) (before after : EngineView) (w : World Command) (commands : List Command) : Type 0 where
   pub kept : Kept p before now after commands
   pub same : open_in kept.holds.world ≡ open_in w
-  pub leads : IsKeptUp tending p (stage_of before w) (stage_of after kept.holds.world)
+  pub leads : IsTendedTo tending p (stage_of before w) (stage_of after kept.holds.world)
   pub copied : after.copied ≡ before.copied
   pub beside : IfSome before.copied (λ n. (steps : List (Step Command)) × MayGoBeside (meaning_in p) (so_far before.copied) w steps × (kept.holds.world ≡ run (meaning_in p) w steps))
 

@@ -171,4 +171,4 @@ module _ {O : Type 0} (m : Meaning O) (copied : ℕ) (w : World O) (turns : (mos
   pub upkeep_beside : (due : Due) (epoch used : ℕ) → due.trim ≡ None → AreBeside m copied w (upkeep_course m due epoch copied w used).steps
   upkeep_beside due epoch used none =
       subst (λ (trim : Option ℕ). AreBeside m copied w (and_then m w (unstopped (trim_due m trim epoch w used)) (λ v used. unstopped (turn_due m due.turn copied v used))).steps) (sym none)
-      (subst (λ (v : World O). AreBeside m copied w (turn_due m due.turn copied v used).steps) (sym (run_none m 0 w)) (turn_beside due.turn used))
+      (subst (λ (v : World O). AreBeside m copied w (turn_due m due.turn copied v used).steps) (sym (run_none m w)) (turn_beside due.turn used))

@@ -16,6 +16,7 @@ pub mod CommandSteps
 pub mod CommandCopies
 pub mod Besides
 pub mod Stats
+pub mod Loads
 pub mod Logged
 pub mod Formats
 pub mod Reopening

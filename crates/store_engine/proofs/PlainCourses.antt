@@ -9,6 +9,7 @@ use Rattle.explain_core.specs.TurnLaws.{by_thin_turn}
 use Rattle.explain_core.specs.Turns.{turn, turns, thin_turn, free_gates, must_install}
 use Rattle.explain_core.specs.World.{World, Step, run, end_of}
 use Rattle.explain_core.specs.World.Step.{Replay, Header_gate}
+use Rattle.explain_core.specs.declared.marks.Marks.{Marks}
 use Rattle.running_store.specs.Courses.{Course, course, grown, is_through, force_steps, force_course, room_steps}
 use Rattle.running_store.specs.Courses.Stop.{Through, Full}
 use Rattle.running_store.specs.Running.{AreUpkeep}
@@ -74,16 +75,16 @@ module _ {O : Type 0} (m : Meaning O) where
       let gates = free_gates m (max 1 most) w in
       by_thin_turn m (λ (l : List (Step O)). ArePlain l) most w (λ thin some. plain_append (gates_of gates) (removals_of gates) (plain_gates gates) (plain_removals gates)) (λ thin none. (tt, tt)) (λ no_thin. tt)
 
-  plain_turn : (limit : ℕ) (w : World O) → ArePlain (turn m limit w)
-  plain_turn limit w =
-      plain_if (must_install m limit w) (thin_turn m limit w) (if nat_le w.next (length w.history) then Replay ∷ [] else []) (plain_thin_turn limit w)
+  plain_turn : (marks : Marks) (w : World O) → ArePlain (turn m marks w)
+  plain_turn marks w =
+      plain_if (must_install m marks w) (thin_turn m marks.most w) (if nat_le w.next (length w.history) then Replay ∷ [] else []) (plain_thin_turn marks.most w)
       (plain_if (nat_le w.next (length w.history)) (Replay ∷ []) [] (tt, tt) tt)
 
-  plain_turns : (limit n : ℕ) (w : World O) → ArePlain (turns m limit n w)
+  plain_turns : (marks : Marks) (n : ℕ) (w : World O) → ArePlain (turns m marks n w)
   unfolding turns
-  plain_turns limit zero w = tt
-  plain_turns limit (suc n) w = plain_append (turn m limit w) (turns m limit n (run m w (turn m limit w))) (plain_turn limit w) (plain_turns limit n (run m w (turn m limit w)))
+  plain_turns marks zero w = tt
+  plain_turns marks (suc n) w = plain_append (turn m marks w) (turns m marks n (run m w (turn m marks w))) (plain_turn marks w) (plain_turns marks n (run m w (turn m marks w)))
 
   -- a redo, and steps that log nothing after it
-  pub plain_redo : (limit : ℕ) (w : World O) (closing : List (Step O)) → ArePlain closing → ArePlain (redo_steps m limit w ++ closing)
-  plain_redo limit w closing are = plain_append (redo_steps m limit w) closing (plain_turns limit (2 * (end_of w - w.next)) w) are
+  pub plain_redo : (marks : Marks) (w : World O) (closing : List (Step O)) → ArePlain closing → ArePlain (redo_steps m marks w ++ closing)
+  plain_redo marks w closing are = plain_append (redo_steps m marks w) closing (plain_turns marks (2 * (end_of w - w.next)) w) are

@@ -1,48 +1,23 @@
 -- The numbers that `stat` counts are those of the world that the store shows.
-use Rattle.std.proofs.Common.{◌≡◌, ◌∙◌, sym, subst, ap, ℕ, suc, ◌+◌, ◌<◌, Bool, true, false, List, [], ◌∷◌, length, refl, arith, inl, inr}
-use Rattle.std.specs.Prelude.{IsTrue, ◌==◌, ◌&&◌, slice_index}
-use Rattle.std.specs.List.Sorted.{IsStrictlyIncreasing}
-use Rattle.std.proofs.lemmas.List.{length-map}
-use Rattle.std.proofs.lemmas.Bool.{and_from, and_parts, both_ways, eq-eqb, eqb-true, false_from_ne_true, or_cases, or_left, or_right}
+use Rattle.std.proofs.Common.{◌≡◌, ◌∙◌, sym, subst, ℕ, Bool, true, false, List, refl, arith}
+use Rattle.std.specs.Prelude.{IsTrue, ◌==◌, ◌&&◌}
+use Rattle.std.proofs.lemmas.Bool.{and_from, and_parts, eq-eqb, eqb-true}
 use Rattle.oper_core.specs.State.{is_among}
 use Rattle.oper_core.specs.Meaning.{Meaning, IsLawful, IsSmall}
 use Rattle.formats.specs.Objects.{IsObjectsFile, bounds_of}
 use Rattle.formats.specs.declared.params.Params.{Params}
-use Rattle.install_order.specs.declared.entry.Entry.{Entry}
 use Rattle.install_order.specs.Computed.{IsWithin, least_below}
 use Rattle.install_order.specs.NodeLaws.{name-is, node-is, node-unique}
 use Rattle.install_order.specs.Order.{Access, IsName, IsNode}
 use Rattle.standing.specs.OneStable.{small_store}
-use Rattle.write_graph.specs.Graph.{IsCount, NamesNode, lsns}
-use Rattle.explain_core.specs.CountLaws.{count_more, count_none, count_same}
+use Rattle.write_graph.specs.Graph.{IsCount, NamesNode}
+use Rattle.explain_core.specs.CountLaws.{count_same}
 use Rattle.explain_core.specs.GraphLaws.{graph-within}
 use Rattle.explain_core.specs.Sound.{IsSound}
 use Rattle.explain_core.specs.Turns.{count_below}
 use Rattle.explain_core.specs.World.{World, end_of, graph_access, node_named}
+use Rattle.running_store.specs.Counted.{in_graph_below, rising_listed}
 use Rattle.running_store.specs.Parts.{Volatile, ShowsVolatile}
-
--- numbers after one that rise with it rise
-rising-tail : (x : ℕ) (xs : List ℕ) → IsStrictlyIncreasing (x ∷ xs) → IsStrictlyIncreasing xs
-rising-tail x xs rising i lt =
-    let e : suc i + 1 ≡ suc (i + 1) = omega arith in
-    subst (λ (j : ℕ). slice_index xs i < slice_index (x ∷ xs) j) e (rising (suc i) (omega (arith, lt)))
-
--- and it is below them
-behind_first : (x : ℕ) (xs : List ℕ) → IsStrictlyIncreasing (x ∷ xs) → (y : ℕ) → IsTrue (is_among y xs) → x < y
-behind_first x [] rising y there = absurd (both_ways _ refl there)
-behind_first x (z ∷ zs) rising y there =
-    let here : x < z = rising 0 (omega arith) in elim (or_cases (y == z) (is_among y zs) there) [
-      | inl same ↦ omega (arith, here, eqb-true y z same)
-      | inr later ↦ omega (arith, here, behind_first z zs (rising-tail x (z ∷ zs) rising) y later)
-    ]
-
--- numbers below n that rise are as many as their list is long
-listed : (n : ℕ) (xs : List ℕ) → IsStrictlyIncreasing xs → ((x : ℕ) → IsTrue (is_among x xs) → x < n) → count_below n (λ x. is_among x xs) ≡ length xs
-listed n [] rising below = count_none n
-listed n (y ∷ ys) rising below =
-    let apart : is_among y ys ≡ false = false_from_ne_true _ (λ there. omega (arith, behind_first y ys rising y there)) in
-    count_more n y (λ x. is_among x ys) (below y (or_left (y == y) (is_among y ys) (eq-eqb y y refl))) apart
-    ∙ ap suc (listed n ys (rising-tail y ys rising) (λ x is. below x (or_right (x == y) (is_among x ys) is))) ∙ omega arith
 
 -- two tests that hold of the same numbers are one
 same_test : (a b : Bool) → (IsTrue a → IsTrue b) → (IsTrue b → IsTrue a) → a ≡ b
@@ -57,16 +32,6 @@ small_in m p file it w shows = small_store p file (subst (λ (q : Params). IsObj
 module _ {O : Type 0} (m : Meaning O) (lawful : IsLawful m) (p : Params) (file : List ℕ) (it : Volatile) (w : World O) (sound : IsSound m w) (shows : ShowsVolatile m p file it w) where
   abbrev end : ℕ
   end = end_of w
-
-  below : (n : ℕ) → IsTrue (w.graph n) → n < end
-  below n there = omega (arith, (sound.graph n there).1, sound.next.1)
-
-  -- as many entries as members of the graph
-  pub entries_counted : IsStrictlyIncreasing (lsns it.entries) → length it.entries ≡ count_below end w.graph
-  entries_counted rising =
-      sym (length-map it.entries (λ (e : Entry). e.lsn))
-      ∙ sym (listed end (lsns it.entries) rising (λ x is. below x (sym (shows.members x) ∙ is)))
-      ∙ count_same end (λ x. is_among x (lsns it.entries)) w.graph (λ x lt. shows.members x)
 
   -- n is in the graph, and the least of its node
   abbrev is_named : ℕ → Bool
@@ -83,7 +48,7 @@ module _ {O : Type 0} (m : Meaning O) (lawful : IsLawful m) (p : Params) (file :
       let is_node = subst (λ (b : Access). IsNode b node) shows.accesses named.is_node in
       let computed = node-is (graph_access m w) m.objects end n within in
       let same : node ≡ node_named m w n = node-unique (graph_access m w) node (node_named m w n) n is_node computed.0 named.is_name.0 computed.1 in
-      let made = name-is node end n named.is_name.0 (below n held) in
+      let made = name-is node end n named.is_name.0 (in_graph_below m w sound n held) in
       let least : least_below end node ≡ n = omega (arith, made.1 n named.is_name.0, named.is_name.1 (least_below end node) made.0) in
       and_from (w.graph n) _ held (subst (λ (s : ℕ → Bool). IsTrue (least_below end s == n)) same (eq-eqb _ _ least))
 
@@ -92,7 +57,7 @@ module _ {O : Type 0} (m : Meaning O) (lawful : IsLawful m) (p : Params) (file :
       let both = and_parts (w.graph n) _ passes in
       let node = node_named m w n in
       let computed = node-is (graph_access m w) m.objects end n within in
-      let made = name-is node end n computed.1 (below n both.0) in (
+      let made = name-is node end n computed.1 (in_graph_below m w sound n both.0) in (
         node,
         record {
           held = shows.members n ∙ both.0;
@@ -106,5 +71,5 @@ module _ {O : Type 0} (m : Meaning O) (lawful : IsLawful m) (p : Params) (file :
   nodes_counted count is =
       let xs = is.0 in
       let lists = is.1 in
-      is.2 ∙ sym (listed end xs lists.rising (λ x there. below x (and_parts (w.graph x) _ (named_passes x ((lists.exactly x).0 there))).0))
+      is.2 ∙ sym (rising_listed end xs lists.rising (λ x there. in_graph_below m w sound x (and_parts (w.graph x) _ (named_passes x ((lists.exactly x).0 there))).0))
       ∙ count_same end (λ x. is_among x xs) is_named (λ x lt. same_test (is_among x xs) (is_named x) (λ there. named_passes x ((lists.exactly x).0 there)) (λ passes. (lists.exactly x).1 (passes_named x passes)))

@@ -37,11 +37,11 @@ use Rattle.checkpointing.specs.Left.{DamagedBy, IsTooLong}
 use Rattle.checkpointing.specs.Told.{TellsUpkeep}
 use Rattle.checkpointing.specs.declared.checkpoint_err.CheckpointErr.{CheckpointErr}
 use Rattle.checkpointing.specs.declared.due.Due.{Due}
-use Rattle.checkpointing.specs.declared.upkeep.Upkeep.{Upkeep}
+use Rattle.checkpointing.specs.declared.upkeep_report.UpkeepReport.{UpkeepReport}
 use Rattle.store_engine.specs.Calls.{IsTakingCheckpoint, IsDraining, IsForcing, IsInstalling, IsTending, IsTrimmingWithin}
 use Rattle.store_engine.specs.Engine.{engine_of, so_far}
 use Rattle.store_engine.specs.Store.{meaning_in}
-use Rattle.store_engine.specs.Upkept.{IsKeptUp, IsModest}
+use Rattle.store_engine.specs.Upkept.{TakesDue}
 use Rattle.store_engine.proofs.Calls.{call_of, keeps_of, takes_of}
 use Rattle.store_engine.proofs.Grouped.{alone_shown}
 use Rattle.store_engine.proofs.Holding.{Stand, holds_accepted}
@@ -184,22 +184,19 @@ module _ {O : Type 0} (meaning : Bounds → Meaning O) (old new : Disk) (store l
 
   -- ---- upkeep
 
-  pub keeping : (n : ℕ) → n ≡ so_far copied → (due : Due) (r : Result Upkeep ReadErr) → of_store.IsCall meaning old new store later (logged_since store later) Never (ending_of_read r)
+  pub keeping : (n : ℕ) → n ≡ so_far copied → (due : Due) (r : Result UpkeepReport ReadErr) → of_store.IsCall meaning old new store later (logged_since store later) Never (ending_of_read r)
       → Takes meaning old new store.parts later.parts (λ m w used. upkeep_course m due store.parts.log.log.header.epoch n w used) (ending_of_read r)
       → ((p : Params) (w : World O) → Shows (meaning_in meaning p) p old store.parts w → IfOk r (TellsUpkeep (meaning_in meaning p) due store.parts.log.log.header.epoch n w (log_length store)))
       → (old.tells_files → HasLog (meaning store.parts.log.bounds) old store.parts.log → IfErr r (λ e. TellsDamage e → ⊥))
-      → MayTake meaning (λ m w used. upkeep_course m due store.parts.log.log.header.epoch (so_far copied) w used)
-      → IsModest (engine_of store None copied) due → IsKeptUp meaning old new (engine_of store None copied) (engine_of later None copied) r
-  keeping n is due r call taken telling undamaged may modest =
+      → MayTake meaning (λ m w used. upkeep_course m due store.parts.log.log.header.epoch (so_far copied) w used) → TakesDue meaning old new (engine_of store None copied) (engine_of later None copied) due r
+  keeping n is due r call taken telling undamaged may =
       let k = so_far copied in
       let takes = subst (λ (n : ℕ). Takes meaning old new store.parts later.parts (λ m w used. upkeep_course m due epoch n w used) (ending_of_read r)) is taken in
       let told = subst (λ (n : ℕ). (p : Params) (w : World O) → Shows (meaning_in meaning p) p old store.parts w → IfOk r (TellsUpkeep (meaning_in meaning p) due epoch n w (log_length store))) is telling in
       record {
-        due = due;
-        modest = modest;
         call = call_of meaning old new store later (logged_since store later) Never (ending_of_read r) call log_limit None copied (λ log stop is. absurd is);
         takes = takes_of meaning old new store later (logged_since store later) Never (ending_of_read r) call copied (λ m w used. upkeep_course m due epoch k w used) takes;
         commands = keeps_of meaning old new store later (logged_since store later) Never (ending_of_read r) call copied (λ m w used. upkeep_course m due epoch k w used) takes keeps stand may (λ m w used. are_plain (upkeep_course m due epoch k w used).steps (upkeep_upkeep m due epoch k w used));
         told = λ p w shows. told p w (alone_shown meaning p old (engine_of store None copied) w shows refl);
-        undamaged = λ told attached file place is. subst (λ (x : Result Upkeep ReadErr). IfErr x (λ e. TellsDamage e → ⊥)) is (undamaged told (attached told).1) tt;
+        undamaged = λ told attached file place is. subst (λ (x : Result UpkeepReport ReadErr). IfErr x (λ e. TellsDamage e → ⊥)) is (undamaged told (attached told).1) tt;
       }

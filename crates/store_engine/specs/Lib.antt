@@ -3,6 +3,7 @@ pub mod Counts
 pub mod Grouping
 pub mod Engine
 pub mod Calls
+pub mod Paces
 pub mod Upkept
 pub mod Beside
 pub mod LogOf

@@ -7,6 +7,7 @@ ghost use Rattle.formats.specs.declared.params.Params.{Params};
 ghost use Rattle.explain_core.specs.History.{commands_of};
 ghost use Rattle.explain_core.specs.World.{World, Step, run, step};
 ghost use Rattle.explain_core.specs.World.Step.{End};
+ghost use Rattle.explain_core.specs.declared.marks.Marks.{Marks};
 ghost use Rattle.standing.specs.Standing.{IsFound};
 ghost use Rattle.running_store.specs.Courses.{Stop};
 ghost use Rattle.cache_manager.specs.InstallCourses.{logged_in};
@@ -78,9 +79,9 @@ pub fn a_trim_behind_a_drain_leaves_nothing<O: Oper>()
 pub fn opens_on_a_world<O: Oper>()
     ensures world { (p : Params) (files : Files) (commands : List O) → Stands O.meaning p files commands →
         (used : ℕ) × (w : World O) × IsFound (meaning_in O.meaning p) p files commands w × EndsAt files used }
-    ensures kept { (p : Params) (files : Files) (commands : List O) (w : World O) (dirty used : ℕ) →
+    ensures kept { (p : Params) (files : Files) (commands : List O) (w : World O) (marks : Marks) (used : ℕ) →
         IsFound (meaning_in O.meaning p) p files commands w →
-        commands_of (run (meaning_in O.meaning p) w (restart_course (meaning_in O.meaning p) dirty w used).steps).history ≡ commands }
+        commands_of (run (meaning_in O.meaning p) w (restart_course (meaning_in O.meaning p) marks w used).steps).history ≡ commands }
 {
     standing::files_show_a_world::<O>();
 }

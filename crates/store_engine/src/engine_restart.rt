@@ -4,7 +4,7 @@ ghost use Rattle.disk_model.specs.Disk.{LeavesOnly};
 ghost use Rattle.formats.specs.declared.params.Params.{Params};
 ghost use Rattle.explain_core.specs.World.{World};
 ghost use Rattle.running_store.specs.Taking.{IsAfter};
-ghost use Rattle.restart.specs.Courses.{dirty_limit, restart_course};
+ghost use Rattle.restart.specs.Courses.{redo_marks, restart_course};
 ghost use Rattle.restart.specs.Damage.{IsReported};
 ghost use Rattle.restart.specs.Opening.{IsJudged, IsOpening, OpensOn, OpensThrough};
 ghost use Rattle.restart.specs.Starts.{OrAtStart};
@@ -37,9 +37,9 @@ impl<O: Oper> Engine<O> {
 
         // Of each world that the files show the whole course is taken, and the log is as long as that says.
         ensures follows { (p : Params) (used : ℕ) (w : World O) → OpensOn (meaning_in O.meaning p) p (M.disk machine.old) used w →
-            IfOk result (λ engine. IsAfter (meaning_in O.meaning p) p (M.disk machine.new) engine.parts w (restart_course (meaning_in O.meaning p) (dirty_limit tuning p) w used)) }
+            IfOk result (λ engine. IsAfter (meaning_in O.meaning p) p (M.disk machine.new) engine.parts w (restart_course (meaning_in O.meaning p) (redo_marks tuning p) w used)) }
         ensures steps { (M.disk machine.old).tells_moments → (p : Params) (used : ℕ) (w : World O) → OpensOn (meaning_in O.meaning p) p (M.disk machine.old) used w →
-            OpensThrough (meaning_in O.meaning p) p (M.disk machine.old) (M.disk machine.new) w (restart_course (meaning_in O.meaning p) (dirty_limit tuning p) w used).steps }
+            OpensThrough (meaning_in O.meaning p) p (M.disk machine.old) (M.disk machine.new) w (restart_course (meaning_in O.meaning p) (redo_marks tuning p) w used).steps }
 
         // So engine and files stand for the commands of the files, all of them forced.
         ensures holds { (p : Params) (commands : List O) → Opens O.meaning p (M.disk machine.old) commands →

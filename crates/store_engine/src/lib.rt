@@ -8,7 +8,7 @@
 //! commands is known here alone.
 //!
 //! [`Engine::keep_up`] is called after each command of a caller that wants no other upkeep: it takes a bounded trim and a turn of
-//! installs, each where a [`Pace`] says that it is due.
+//! installs, each where a [`Pace`] says that it is due, which is a function of that and of the world (`due_at`).
 //!
 //! Of several commands, run one after the other, `AddsFront` of specs/Lists.antt says what they make of an engine,
 //! wherever they end: [`nothing_is_made`] begins a loop over [`Engine::exec`] and [`Engine::fetch`], [`exec_goes_on`] and
@@ -36,6 +36,7 @@ mod grouping;
 mod init_err;
 mod lengths;
 mod lists;
+mod load;
 mod making;
 mod pace;
 mod ship_err;
@@ -50,7 +51,7 @@ mod working;
 
 pub use beside::{a_copied_log_is_of_the_world, a_copy_goes_on, calls_go_beside_a_copy};
 pub use cache_manager::{Install, InstallErr};
-pub use checkpointing::{CheckpointErr, Outcome, Upkeep};
+pub use checkpointing::{CheckpointErr, TaskOutcome, UpkeepReport};
 pub use engine::Engine;
 pub use engine_laws::{
     a_trim_behind_a_drain_leaves_nothing, engine_stands, group_is_closed, identities_are_counted,

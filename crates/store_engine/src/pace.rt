@@ -1,28 +1,27 @@
-use checkpointing::{Outcome, Upkeep};
+ghost use Rattle.std.specs.Prelude.{◌≡◌};
+ghost use Rattle.store_engine.specs.Paces.{due_at, first_pace, is_long, is_urgent, pace_after, wants_trim, wants_turn};
+
+use crate::load::Load;
+use checkpointing::{Due, TaskOutcome, UpkeepReport};
 use formats::ReadErr;
 
 // So many calls take no turn after one that did.
 const REST: u64 = 16;
 
-// What of a store makes upkeep due.
-#[derive(Clone, Copy)]
-pub(crate) struct Load {
-    // The length of the log, and what it may be. While the slots are copied it counts as empty, for it is not cut then.
-    pub(crate) used: u64,
-    pub(crate) limit: u64,
-    // How many objects are dirty, how many a round installs, and how many records are not installed.
-    pub(crate) dirty: u64,
-    pub(crate) round: u64,
-    pub(crate) uninstalled: u64,
-}
+// A trim leaves so many bytes at most.
+const ROOM: u64 = 1 << 20;
 
 impl Load {
-    fn is_long(&self) -> bool {
+    fn is_long(&self) -> bool
+        ensures { result ≡ is_long self.now }
+    {
         self.used > self.limit / 3
     }
 
-    fn is_urgent(&self) -> bool {
-        self.used / 2 > self.limit / 3 || self.dirty / 4 > self.round
+    fn is_urgent(&self) -> bool
+        ensures { result ≡ is_urgent self.now }
+    {
+        self.used / 2 > self.limit / 3 || self.dirty / 4 > self.round as u64
     }
 }
 
@@ -43,32 +42,58 @@ pub struct Pace {
 
 impl Pace {
     /// That of a store of which no upkeep was made yet.
-    pub fn new() -> Pace {
+    pub fn new() -> Pace
+        ensures { result ≡ first_pace }
+    {
         Pace { from: 0, rest: 0 }
     }
 
-    pub(crate) fn wants_turn(&self, at: &Load) -> bool {
-        let due = at.is_long() || at.dirty > at.round;
+    fn wants_turn(&self, at: &Load) -> bool
+        ensures { result ≡ wants_turn self.now at.now }
+    {
+        let due = at.is_long() || at.dirty > at.round as u64;
         at.uninstalled > 0 && (at.is_urgent() || self.rest == 0 && due)
     }
 
-    pub(crate) fn wants_trim(&self, at: &Load) -> bool {
+    fn wants_trim(&self, at: &Load) -> bool
+        ensures { result ≡ wants_trim self.now at.now }
+    {
         let worth = at.used >= self.from || at.uninstalled == 0;
         at.is_long() && worth && (at.is_urgent() || !self.wants_turn(at))
     }
 
-    // What was done of upkeep, and how long the log is after it.
-    pub(crate) fn note(&mut self, answer: &Result<Upkeep, ReadErr>, used: u64, limit: u64) {
+    // What is due.
+    pub(crate) fn due(&self, at: &Load) -> Due
+        ensures { result ≡ due_at self.now at.now }
+    {
+        Due {
+            trim: if self.wants_trim(at) {
+                Some(ROOM.min(at.used / 2))
+            } else {
+                None
+            },
+            turn: if self.wants_turn(at) {
+                Some(at.round)
+            } else {
+                None
+            },
+        }
+    }
+
+    // What became of upkeep, and how long the log is after it.
+    pub(crate) fn note(&mut self, answer: &Result<UpkeepReport, ReadErr>, used: u64, limit: u64)
+        ensures { self.new ≡ pace_after self.old answer.now used limit }
+    {
         let Ok(it) = answer else {
             return;
         };
         self.rest = match it.turn {
-            Outcome::NotDue => self.rest.saturating_sub(1),
+            TaskOutcome::NotDue => self.rest.saturating_sub(1),
             _ => REST,
         };
         self.from = match it.trim {
-            Outcome::NotDue => self.from,
-            Outcome::Done => used.saturating_add(used),
+            TaskOutcome::NotDue => self.from,
+            TaskOutcome::Done => used.saturating_add(used),
             _ => used.saturating_add(limit.saturating_sub(used) / 4),
         };
     }

@@ -1,12 +1,18 @@
 // Upkeep, at a pace.
-ghost use Rattle.std.specs.Prelude.{◌≡◌, ◌≤◌, ◌^◌, ◌/◌, false, min, None, IfSome};
-ghost use Rattle.running_store.specs.Laid.Limits.{objects_within};
+ghost use Rattle.std.specs.Prelude.{◌≡◌, ℕ, false, List, None, IfSome};
+ghost use Rattle.formats.specs.declared.params.Params.{Params as Numbers};
+ghost use Rattle.explain_core.specs.Sound.{IsSound};
+ghost use Rattle.explain_core.specs.World.{World};
+ghost use Rattle.running_store.specs.Parts.{ShowsVolatile};
+ghost use Rattle.checkpointing.specs.Courses.{IsModest};
 ghost use Rattle.store_engine.specs.Engine.{group_size, params_of, used_in};
-ghost use Rattle.store_engine.specs.Upkept.{IsKeptUp, IsLeftAlone, IsModest};
+ghost use Rattle.store_engine.specs.Paces.{charged, due_at, full_round, load_of};
+ghost use Rattle.store_engine.specs.Store.{meaning_in};
+ghost use Rattle.store_engine.specs.Upkept.{IsKeptUp, IsLeftAlone, TakesDue};
 
-use crate::pace::Load;
+use crate::load::Load;
 use crate::{Engine, Pace};
-use checkpointing::{Due, Outcome, Upkeep};
+use checkpointing::{Due, TaskOutcome, UpkeepReport};
 use disk_model::Machine;
 use formats::ReadErr;
 use oper_core::Oper;
@@ -17,59 +23,53 @@ const LEAST: usize = 64;
 
 const BYTES: usize = 1 << 20;
 
-// A trim leaves so many bytes at most.
-const ROOM: u64 = 1 << 20;
-
 impl<O: Oper> Engine<O> {
     // How many nodes a full round installs.
     fn round(&self) -> usize
-        ensures { result ≡ objects_within 64 (2 ^ 20) (params_of self.now) }
+        ensures { result ≡ full_round (params_of self.now) }
     {
         objects_within(LEAST, BYTES, self.params())
     }
 
-    // What makes upkeep due.
-    fn load(&self) -> Load {
-        let used = match self.copied {
+    // How long the log counts.
+    fn charged(&self) -> u64
+        ensures { result ≡ charged self.now.copied (used_in self.now) }
+    {
+        match self.copied {
             Some(_) => 0,
             None => self.used(),
-        };
+        }
+    }
+
+    // What makes upkeep due.
+    fn load(&self) -> Load
+        ensures used { result.used ≡ charged self.now.copied (used_in self.now) }
+        ensures round { result.round ≡ full_round (params_of self.now) }
+        ensures shown { (p : Numbers) (file : List ℕ) (w : World O) → IsSound (meaning_in O.meaning p) w → ShowsVolatile (meaning_in O.meaning p) p file self.now.parts.volatile w → result ≡ load_of (meaning_in O.meaning p) p self.now.copied w (used_in self.now) }
+    {
         Load {
-            used,
+            used: self.charged(),
             limit: self.params().limit as u64,
             dirty: self.dirty(),
-            round: self.round() as u64,
+            round: self.round(),
             uninstalled: self.store.graph().len(),
         }
     }
 
-    // How long a log file a trim may leave, where one is due.
-    fn trim_due(&self, pace: &Pace) -> Option<u64>
-        ensures room { IfSome result (λ most. most ≤ min (2 ^ 20) (used_in self.now / 2)) }
-        ensures copied { IfSome self.now.copied (λ copied. result ≡ None) }
+    // What the pace finds due.
+    fn due(&self, pace: &Pace) -> Due
+        ensures modest { IsModest (params_of self.now) self.now.copied (used_in self.now) result }
+        ensures at_pace { (p : Numbers) (file : List ℕ) (w : World O) → IsSound (meaning_in O.meaning p) w → ShowsVolatile (meaning_in O.meaning p) p file self.now.parts.volatile w → result ≡ due_at pace.now (load_of (meaning_in O.meaning p) p self.now.copied w (used_in self.now)) }
     {
-        if self.copied.is_some() || !pace.wants_trim(&self.load()) {
-            return None;
-        }
-        Some(ROOM.min(self.used() / 2))
-    }
-
-    // How many nodes a turn may install, where one is due.
-    fn turn_due(&self, pace: &Pace) -> Option<usize>
-        ensures { IfSome result (λ most. most ≤ objects_within 64 (2 ^ 20) (params_of self.now)) }
-    {
-        if !pace.wants_turn(&self.load()) {
-            return None;
-        }
-        Some(self.round())
+        pace.due(&self.load())
     }
 
     // Takes what is due.
-    fn take_due<M: Machine>(&mut self, machine: &mut M, due: Due) -> Result<Upkeep, ReadErr>
+    fn take_due<M: Machine>(&mut self, machine: &mut M, due: Due) -> Result<UpkeepReport, ReadErr>
         requires unbroken { self.old.broken ≡ false }
         requires alone { self.old.group ≡ None }
-        requires modest { IsModest self.old due }
-        ensures { IsKeptUp O.meaning (M.disk machine.old) (M.disk machine.new) self.old self.new result }
+        requires modest { IsModest (params_of self.old) self.old.copied (used_in self.old) due }
+        ensures { TakesDue O.meaning (M.disk machine.old) (M.disk machine.new) self.old self.new due result }
     {
         explain_core::every_run_keeps::<O>();
         standing::image_stands::<O>();
@@ -88,21 +88,18 @@ impl<O: Oper> Engine<O> {
         &mut self,
         machine: &mut M,
         pace: &mut Pace,
-    ) -> Result<Upkeep, ReadErr>
+    ) -> Result<UpkeepReport, ReadErr>
         requires unbroken { self.old.broken ≡ false }
-        ensures in_group { IfSome (group_size self.old) (λ size. IsLeftAlone machine.old machine.new self.old self.new result) }
-        ensures alone { self.old.group ≡ None → IsKeptUp O.meaning (M.disk machine.old) (M.disk machine.new) self.old self.new result }
+        ensures in_group { IfSome (group_size self.old) (λ size. IsLeftAlone machine.old machine.new self.old self.new pace.old pace.new result) }
+        ensures alone { self.old.group ≡ None → IsKeptUp O.meaning (M.disk machine.old) (M.disk machine.new) self.old self.new pace.old pace.new result }
     {
         if self.group.is_some() {
-            return Ok(Upkeep {
-                trim: Outcome::NotDue,
-                turn: Outcome::NotDue,
+            return Ok(UpkeepReport {
+                trim: TaskOutcome::NotDue,
+                turn: TaskOutcome::NotDue,
             });
         }
-        let due = Due {
-            trim: self.trim_due(pace),
-            turn: self.turn_due(pace),
-        };
+        let due = self.due(pace);
         let answer = self.take_due(machine, due);
         pace.note(&answer, self.used(), self.params().limit as u64);
         answer

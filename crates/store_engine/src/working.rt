@@ -117,8 +117,9 @@ impl<O: Oper> Engine<O> {
 
     /// One turn of upkeep: where the minimal node of the least name has one object to flush, that and others like it are
     /// installed together, so many at most (of 0 it is one) and with four syncs at most for all of them; else it is installed
-    /// alone, as by [`install_one`](Self::install_one). It answers how many nodes were installed: none exactly where none was
-    /// left, and then nothing was done. In a group it answers `InGroup`.
+    /// as by [`install_one`](Self::install_one), and then, for which nothing is synced, those that have no object to flush while
+    /// the minimal node of the least name is such a one, so many together at most. It answers how many nodes were installed: none
+    /// exactly where none was left, and then nothing was done. In a group it answers `InGroup`.
     pub fn tend<M: Machine>(&mut self, machine: &mut M, most: usize) -> Result<u64, WorkErr>
         requires unbroken { self.old.broken ≡ false }
         ensures in_group { IfSome (group_size self.old) (λ size. IsRefused size machine.old machine.new self.old self.new result) }

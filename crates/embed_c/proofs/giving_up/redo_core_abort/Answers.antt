@@ -14,4 +14,4 @@ returns-in-None c = without_group c.in-Some.ensures.some c.deref_mut.ensures.val
 
 pub returns-in-Some-group : goal.returns-in-Some-group
 returns-in-Some-group c = gave_up c.abort.result (session_of c.put_again.new.redo) c.put_again.result c.in-Some.ensures.some c.into_inner.ensures
-    (subst (λ (s : Session). IsSome s.store.engine.group) (c.deref.ensures ∙ sym c.into_inner.ensures) c.in-Some-group.ensures.some.1) c.abort.ensures c.put_again.ensures
+    (subst (λ (s : Session). IsSome s.store.engine.group) (c.deref.ensures ∙ sym c.into_inner.ensures) c.in-Some-group.ensures.some.1) c.abort.ensures.some c.abort.ensures.none c.put_again.ensures

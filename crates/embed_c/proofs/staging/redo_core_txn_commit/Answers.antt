@@ -13,4 +13,4 @@ pub returns-in-Some-group-2 : goal.returns-in-Some-group-2
 returns-in-Some-group-2 c = cut_off c.in-Some.ensures.some c.deref_mut-2.ensures.value c.abort.result (session_of c.put_again.new.redo) c.into_inner.result c.commit-answer.result c.put_again.result
     (subst (λ (x : Session). Commits c.deref_mut-2.result.now x c.commit-answer.result) (sym c.into_inner.ensures) c.commit-answer.ensures)
     (subst (λ (x : Session). IsSome x.store.engine.group) (c.deref-2.ensures ∙ sym c.into_inner.ensures) c.in-Some-group-2.ensures.some.1)
-    c.abort.ensures c.put_again.ensures
+    c.abort.ensures.some c.abort.ensures.none c.put_again.ensures

@@ -93,6 +93,13 @@ module _ (g : Over) (c : In-Ok g) where
       → Takes g.O.Oper.meaning old new before.parts room.parts (roomed g.O.Oper.meaning n (Command c.args.op)) ending
   takes_room new room ending takes = room_takes g.O.Oper.meaning old mid new before read room c.in-Ok.ensures.call n (Command c.args.op) ending takes
 
+-- where the block has room nothing was written
+stays : (g : Over) (at : In-Ok g) (new : Disk) (room : StoreView) → (length (read g at).parts.log.log.pending + n g at ≤ 2 ^ 30 → new ≡ mid g at) → length (before g at).parts.log.log.pending + command_length (meaning_in g.O.Oper.meaning (store_params (before g at))) at.args.op ≤ 2 ^ 30
+    → Stays (old g at) new
+stays g at new room same short =
+    let long = at.in-Ok.ensures.length.0 in
+    room_stays g.O.Oper.meaning (old g at) (mid g at) new (before g at) (read g at) room at.in-Ok.ensures.call (n g at) same (omega (arith, short, long))
+
 -- it gets no room
 pub returns-in_err-require_room : goal.returns-in_err-require_room
 returns-in_err-require_room g c =
@@ -126,13 +133,6 @@ returns-in_err-require_room g c =
           (room_failure g.O.Oper.meaning (old g at) (mid g at) new store (read g at) c.require_room.new.store c.in-Ok.ensures.call m (Logged (next_of store) c.args.op) store.parts.volatile.objects (n g at) _ e refl c.in_err-require_room.ensures.cause
           c.in_err-require_room.ensures.call);
     }
-
--- where the block has room nothing was written
-stays : (g : Over) (at : In-Ok g) (new : Disk) (room : StoreView) → (length (read g at).parts.log.log.pending + n g at ≤ 2 ^ 30 → new ≡ mid g at) → length (before g at).parts.log.log.pending + command_length (meaning_in g.O.Oper.meaning (store_params (before g at))) at.args.op ≤ 2 ^ 30
-    → Stays (old g at) new
-stays g at new room same short =
-    let long = at.in-Ok.ensures.length.0 in
-    room_stays g.O.Oper.meaning (old g at) (mid g at) new (before g at) (read g at) room at.in-Ok.ensures.call (n g at) same (omega (arith, short, long))
 
 -- it gets some
 module _ (g : Over) (c : In_ok-require_room g) where

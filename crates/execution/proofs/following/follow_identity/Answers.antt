@@ -91,6 +91,9 @@ module _ (g : Over) (c : After-value-cached g) where
   next_is : c.next-lsn.result ≡ next_of before
   next_is = search rules
 
+differs : (g : Over) (at : After-value-cached g) → bytes_eq at.args.value.now at.value-cached.result.now ≡ false → bytes_eq at.args.value.now (pair g at).0.bytes ≡ false
+differs g at other = ap (λ (l : List ℕ). bytes_eq at.args.value.now l) (sym (value_is g at)) ∙ other
+
 -- its value is another
 pub returns-then-ne : goal.returns-then-ne
 returns-then-ne g c =
@@ -107,9 +110,6 @@ returns-then-ne g c =
           let next = next_is g (goal.at.returns-then-ne g c).After-value-cached in
           ((λ i. Some (sym next i)), next);
     }
-
-differs : (g : Over) (at : After-value-cached g) → bytes_eq at.args.value.now at.value-cached.result.now ≡ false → bytes_eq at.args.value.now (pair g at).0.bytes ≡ false
-differs g at other = ap (λ (l : List ℕ). bytes_eq at.args.value.now l) (sym (value_is g at)) ∙ other
 
 -- its value is that
 pub require_room-requires-clause-unbroken : goal.require_room-requires-clause-unbroken
@@ -219,6 +219,11 @@ append_identity-requires-clause-place g c = λ other had.
     let value = sym (bytes_are g at (fetched g in_goal.In_ok-fetch) (same_value g in_goal.Else-ne)) ∙ ap (λ (k : Pair). k.bytes) (sym same) in
     subst (λ (k : ℕ). HasPlace c.require_room.new.store.parts.log.log k) (ap (λ (l : List ℕ). 17 + length l) value) c.in_ok-require_room.ensures.place
 
+-- the moments of all before it
+quiet_room : (g : Over) (at : After-value-cached g) (is : IsFetch (old g at) (mid g at) (before g at) (read g at) ⊥) (there : In_ok-require_room g) → IsCall g.O.Oper.meaning (mid g at) (new g there) (read g at) (room g there) 0 (StopsWithin log_limit) Ending.Done
+    → IsQuiet (old g at) (new g there)
+quiet_room g at is there made = let call = room_call g.O.Oper.meaning (old g at) (mid g at) (new g there) (before g at) (read g at) (room g there) is Ending.Done made in call.quiet
+
 -- there is no memory for it
 pub returns-in_err-append_identity : goal.returns-in_err-append_identity
 returns-in_err-append_identity g c =
@@ -259,11 +264,6 @@ returns-in_err-append_identity g c =
           at_err (λ r. IfErr r (IsFollowFailure m (Logged (next_of store) c.args.object c.args.value.now) (next_of store) (g.M.Machine.disk c.args.machine.now) (g.M.Machine.disk c.require_room.new.machine) store.parts.volatile.objects))
           c.from_residual-in_err-append_identity.result Memory c.from_residual-in_err-append_identity.ensures.1 refl;
     }
-
--- the moments of all before it
-quiet_room : (g : Over) (at : After-value-cached g) (is : IsFetch (old g at) (mid g at) (before g at) (read g at) ⊥) (there : In_ok-require_room g) → IsCall g.O.Oper.meaning (mid g at) (new g there) (read g at) (room g there) 0 (StopsWithin log_limit) Ending.Done
-    → IsQuiet (old g at) (new g there)
-quiet_room g at is there made = let call = room_call g.O.Oper.meaning (old g at) (mid g at) (new g there) (before g at) (read g at) (room g there) is Ending.Done made in call.quiet
 
 -- it is taken
 pub returns : goal.returns

@@ -1,11 +1,11 @@
-use Rattle.std.proofs.Common.{Result, Ok, Err, sym, subst}
+use Rattle.std.proofs.Common.{Ok, Err, sym, subst}
 use Rattle.script_run.specs.Tended.{Tends}
 use Rattle.script_run.specs.declared.tending.Tending.{Tending}
-use Rattle.script_run.proofs.TendLemmas.{tends_err, tends_none, tends_ok}
+use Rattle.script_run.proofs.TendLemmas.{left_by_hand, tends_err, tends_none, tends_ok}
 use Rattle.script_run.proofs.tending.tend.Goals as goal
 
 pub returns-in-ByHand : goal.returns-in-ByHand
-returns-in-ByHand g c = tends_none c.args.tending _ (g.met.M.Machine.lawful c.args.machine.now) c.requires
+returns-in-ByHand g c = tends_none c.args.tending _ (g.met.M.Machine.lawful c.args.machine.now) c.requires (left_by_hand c.args.tending c.args.engine.now c.in-ByHand.is)
 
 pub returns-in-Ok : goal.returns-in-Ok
 returns-in-Ok g c =

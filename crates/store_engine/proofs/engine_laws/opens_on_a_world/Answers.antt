@@ -9,5 +9,5 @@ returns g c = record {
       let place = stands_end g.O.Oper.meaning stands in
       let found = c.files_show_a_world.ensures p files commands stands in
       (place.0, found.0, found.1, place.1);
-  kept = λ p files commands w dirty used found. restart_keeps (meaning_in g.O.Oper.meaning p) p files commands w found dirty used;
+  kept = λ p files commands w marks used found. restart_keeps (meaning_in g.O.Oper.meaning p) p files commands w found marks used;
 }

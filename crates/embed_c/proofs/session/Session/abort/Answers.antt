@@ -1,11 +1,11 @@
 use Rattle.std.proofs.Common.{ap, refl}
 use Rattle.embed_c.specs.declared.answer.Answer.{Answer}
-use Rattle.embed_c.proofs.GivingUp.{boxed_as}
+use Rattle.embed_c.proofs.GivingUp.{boxed_as, on_none}
 use Rattle.embed_c.proofs.Untaken.{untaken}
 use Rattle.embed_c.proofs.session.Session.abort.Goals as goal
 
-pub returns-in-Ok : goal.returns-in-Ok
-returns-in-Ok c =
+pub returns-in-Ok-clause-some : goal.returns-in-Ok-clause-some
+returns-in-Ok-clause-some c =
     let e = c.in-Ok.ensures in
     boxed_as c.boxed.result c.boxed.ensures (record {
       store = record {
@@ -23,3 +23,11 @@ returns-in-Ok c =
       pairs = refl;
       staging = refl;
     })
+
+pub returns-in-Ok-clause-none : goal.returns-in-Ok-clause-none
+returns-in-Ok-clause-none c =
+    let e = c.in-Ok.ensures in
+    on_none c.boxed.result (record { machine = c.in-Ok.store.machine; untaken = untaken e.opening.time; images = e.images tt; again = e.again tt })
+
+pub returns-in-Err-clause-none : goal.returns-in-Err-clause-none
+returns-in-Err-clause-none c = let e = c.in-Err.ensures in record { machine = c.in-Err.machine; untaken = untaken e.opening.time; images = e.images tt; again = e.again tt }

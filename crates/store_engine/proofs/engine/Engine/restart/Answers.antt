@@ -4,7 +4,7 @@ use Rattle.disk_model.specs.Disk.{Disk, LeavesOnly}
 use Rattle.formats.specs.Objects.{bounds_of}
 use Rattle.formats.specs.declared.params.Params.{Params}
 use Rattle.stable_objects.specs.declared.open_err.OpenErr.{OpenErr}
-use Rattle.restart.specs.Courses.{dirty_limit}
+use Rattle.restart.specs.Courses.{redo_marks}
 use Rattle.restart.specs.Damage.{IsReported}
 use Rattle.restart.specs.Opening.{IsJudged, IsOpening, OpensOn}
 use Rattle.restart.specs.Starts.{OrAtStart}
@@ -64,8 +64,8 @@ module _ (g : Over) (c : After-restart g) where
       let found = there.1 in
       let on : OpensOn m p old place.0 w = record { told = opens.told; sound = found.sound; shows = found.shows; ends = place.1 } in
       let small = small_store p (old.reads _) found.shows.objects in
-      restart_images g.O.Oper.meaning p old new commands w found (dirty_limit c.args.tuning p) place.0 small
-      (λ b w steps. c.every_run_keeps.ensures.from_sound b w steps) (λ files w. c.image_stands.ensures p files w) (c.a_restart_may_be_made.ensures.allowed (bounds_of p) w (dirty_limit c.args.tuning p) place.0 small found.sound)
+      restart_images g.O.Oper.meaning p old new commands w found (redo_marks c.args.tuning p) place.0 small
+      (λ b w steps. c.every_run_keeps.ensures.from_sound b w steps) (λ files w. c.image_stands.ensures p files w) (c.a_restart_may_be_made.ensures.allowed (bounds_of p) w (redo_marks c.args.tuning p) place.0 small found.sound)
       (c.restart.ensures.steps told p place.0 w on)
 
   again : old.tells_moments → (p : Params) (commands : List g.row.O.Denot) → Opens g.O.Oper.meaning p old commands → Opens g.O.Oper.meaning p new commands
@@ -79,8 +79,8 @@ module _ (g : Over) (c : After-restart g) where
       let small = small_store p (old.reads _) found.shows.objects in
       record {
         told = c.restart.ensures.opening.time.files_told.0 opens.told;
-        stands = restart_stands g.O.Oper.meaning p old new commands w found (dirty_limit c.args.tuning p) place.0 small
-            (λ b w steps. c.every_run_keeps.ensures.from_sound b w steps) (λ files w. c.image_stands.ensures p files w) (c.a_restart_may_be_made.ensures.allowed (bounds_of p) w (dirty_limit c.args.tuning p) place.0 small found.sound)
+        stands = restart_stands g.O.Oper.meaning p old new commands w found (redo_marks c.args.tuning p) place.0 small
+            (λ b w steps. c.every_run_keeps.ensures.from_sound b w steps) (λ files w. c.image_stands.ensures p files w) (c.a_restart_may_be_made.ensures.allowed (bounds_of p) w (redo_marks c.args.tuning p) place.0 small found.sound)
             (c.restart.ensures.reads told p place.0 w on);
       }
 
@@ -106,4 +106,4 @@ returns-clause-holds g c = λ p commands opens.
     let found = there.1 in
     let on : OpensOn m p (old g at) place.0 w = record { told = opens.told; sound = found.sound; shows = found.shows; ends = place.1 } in
     let fresh = c.in_ok-store.ensures.fresh in
-    restart_holds g.O.Oper.meaning p (old g at) (new g at) commands w found (dirty_limit c.args.tuning p) place.0 (engine_of c.in_ok-store.store None None) fresh.unbroken refl (c.in_ok-store.ensures.follows p place.0 w on)
+    restart_holds g.O.Oper.meaning p (old g at) (new g at) commands w found (redo_marks c.args.tuning p) place.0 (engine_of c.in_ok-store.store None None) fresh.unbroken refl (c.in_ok-store.ensures.follows p place.0 w on)

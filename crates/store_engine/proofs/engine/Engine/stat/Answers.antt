@@ -5,11 +5,12 @@ use Rattle.dirty_cache.specs.Contents.{AreDirty}
 use Rattle.install_order.specs.declared.entry.Entry.{Entry}
 use Rattle.log_blocks.specs.LogView.{used_of}
 use Rattle.log_records.specs.RecordLog.{RecordLogView}
+use Rattle.running_store.specs.Counted.{entries_counted}
 use Rattle.running_store.specs.Laid.{Laid}
 use Rattle.write_graph.specs.Graph.{IsCount, NamesNode, lsns}
 use Rattle.store_engine.specs.Engine.{EngineView, accepted_in, forced_in, used_in}
 use Rattle.store_engine.specs.Store.{meaning_in}
-use Rattle.store_engine.proofs.Stats.{entries_counted, nodes_counted, small_in}
+use Rattle.store_engine.proofs.Stats.{nodes_counted, small_in}
 use Rattle.store_engine.proofs.engine.Engine.stat.Given.{Over}
 use Rattle.store_engine.proofs.engine.Engine.stat.Goals.{After-identities}
 use Rattle.store_engine.proofs.engine.Engine.stat.Goals as goal
@@ -53,5 +54,5 @@ returns-clause-shown g c = λ p file w sound shows.
     record {
       nodes = nodes_counted m lawful p file it w sound shows c.node_count.result (nodes g at);
       dirty = (dirty g at).2 ∙ sym (c.dirty_objects_are_counted.ensures p file it w (dirty g at).0 shows (dirty g at).1);
-      uninstalled = c.len.ensures.count ∙ ap (λ (l : List Entry). length l) (listed g at) ∙ entries_counted m lawful p file it w sound shows rising;
+      uninstalled = c.len.ensures.count ∙ ap (λ (l : List Entry). length l) (listed g at) ∙ entries_counted m w sound p file it shows rising;
     }

@@ -1,6 +1,6 @@
-/// What became of the trim or of the turn of upkeep.
+/// What became of a task of upkeep: of its trim or of its turn.
 #[derive(Clone, Copy, Debug, PartialEq, Eq)]
-pub enum Outcome {
+pub enum TaskOutcome {
     /// It was not due, and nothing was done.
     NotDue,
     /// It was done. Of an empty write graph no node is installed.
