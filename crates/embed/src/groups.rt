@@ -1,12 +1,14 @@
-// Groups that are given up, and groups for which the log has room.
-ghost use Rattle.std.specs.Prelude.{◌≡◌, ◌≤◌, ◌++◌, ℕ, true, false, List, None, Some, Err, Result, length, IfErr, IfNone, IfOk, IfSome, IsSome, OnOk};
+// Groups that are given up, and groups for which the log has room; and all that is not forced is given up.
+ghost use Rattle.std.specs.Prelude.{◌≡◌, ◌≤◌, ◌++◌, ℕ, true, false, List, None, Some, Err, Result, length, take, IfErr, IfNone, IfOk, IfSome, IsSome, OnOk};
 ghost use Rattle.disk_model.specs.Disk.{LeavesOnly, Passes};
+ghost use Rattle.disk_model.specs.Silent.{IsSilent};
 ghost use Rattle.disk_model.specs.declared.machine.Failed.{Failed as ForceFailure};
 ghost use Rattle.formats.specs.declared.params.Params.{Params};
 ghost use Rattle.op_codec.specs.AllOps.{AllOps as Command, all_meaning};
 ghost use Rattle.restart.specs.Opening.{IsOpening};
 ghost use Rattle.store_engine.specs.Calls.{IsBeginning, IsRefused, work_of_force};
 ghost use Rattle.store_engine.specs.Engine.{Between, Holds, IsAttached, Opens, forced_in, group_size};
+ghost use Rattle.store_engine.specs.Store.{Stands};
 ghost use Rattle.transactions.specs.Room.{HasRoomOf};
 ghost use Rattle.embed.specs.Embedded.{IsStillBroken, IsUnharmed, SaysFull, machine_of, opened};
 
@@ -15,7 +17,7 @@ use crate::laying_out::TUNING;
 use disk_model::Machine;
 use op_codec::AllOps;
 use store_engine::{Engine, OpenErr, WorkErr};
-use transactions::{has_room, roll_back};
+use transactions::{has_room, reopen, roll_back};
 
 // Whether no group is open, and the log has no room for records of so many bytes.
 fn lacks_room(engine: &Engine<AllOps>, bytes: u64) -> bool
@@ -88,6 +90,30 @@ impl<M: Machine + Drop> Store<M> {
         let Store { engine, machine } = self;
         let mut machine = machine;
         match roll_back(engine.alloc(), &mut machine, TUNING, engine) {
+            Ok(engine) => Ok(Store { engine, machine }),
+            Err(cause) => Err((cause, machine)),
+        }
+    }
+
+    /// Gives up all that is not forced: just the forced commands are there then. The store is given up and opened again, as by
+    /// `transactions::reopen`; an open group and a backup that is being made are given up.
+    ///
+    /// It fails only for want of memory or with the disk, and gives the machine back then. At each moment, and whatever it
+    /// answers, the files stand for the forced commands.
+    pub fn reopen(self) -> Result<Store<M>, (OpenErr, M)>
+        ensures opening { IsOpening all_meaning (M.disk self.machine) (M.disk (machine_of result)) (opened result) }
+        ensures ready { IfOk result (λ store. (store.engine.broken ≡ false) × (store.engine.group ≡ None) × (store.engine.copied ≡ None) × (store.engine.identities ≡ 0) × IsAttached all_meaning (M.disk store.machine) store.engine) }
+        ensures back { (M.disk self.machine).tells_files → (p : Params) (commands : List Command) → Holds all_meaning p (M.disk self.machine) self.engine commands →
+            IfOk result (λ store. Holds all_meaning p (M.disk store.machine) store.engine (take (forced_in self.engine) commands) × (forced_in store.engine ≡ forced_in self.engine)) }
+        ensures images { (M.disk self.machine).tells_moments → (p : Params) (commands : List Command) → Holds all_meaning p (M.disk self.machine) self.engine commands →
+            LeavesOnly (M.disk self.machine) (M.disk (machine_of result)) (IsSilent (λ files. Stands all_meaning p files (take (forced_in self.engine) commands)) (M.disk self.machine).said) }
+        ensures again { (M.disk self.machine).tells_moments → (p : Params) (commands : List Command) → Holds all_meaning p (M.disk self.machine) self.engine commands →
+            Opens all_meaning p (M.disk (machine_of result)) (take (forced_in self.engine) commands) }
+        ensures undamaged { (M.disk self.machine).tells_files → (p : Params) (commands : List Command) → Holds all_meaning p (M.disk self.machine) self.engine commands → IfErr result IsUnharmed }
+    {
+        let Store { engine, machine } = self;
+        let mut machine = machine;
+        match reopen(engine.alloc(), &mut machine, TUNING, engine) {
             Ok(engine) => Ok(Store { engine, machine }),
             Err(cause) => Err((cause, machine)),
         }

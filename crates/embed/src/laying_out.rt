@@ -25,6 +25,9 @@ pub(crate) const TUNING: Tuning = Tuning {
     clean_bytes: 1 << 24,
     redo_dirty: 64,
     redo_bytes: 1 << 26,
+    redo_most: 1 << 26,
+    redo_waiting: 1 << 28,
+    redo_round: 64,
 };
 
 /// Lays out a store without commands on a machine that has none.

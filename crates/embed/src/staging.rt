@@ -1,14 +1,15 @@
 // Transactions: commands that are staged, and then all added or none.
-ghost use Rattle.std.specs.Prelude.{◌≡◌, ◌+◌, ◌≤◌, ◌^◌, ◌++◌, true, false, List, None, Err, length, IfOk, IsErrOf};
+ghost use Rattle.std.specs.Prelude.{◌≡◌, ◌+◌, ◌≤◌, ◌^◌, ◌++◌, true, false, List, None, Err, length, take, IfOk, IsErrOf};
 ghost use Rattle.disk_model.specs.Disk.{LeavesOnly, Passes};
+ghost use Rattle.disk_model.specs.Silent.{IsSilent};
 ghost use Rattle.execution.specs.Answers.{ending_of_exec};
 ghost use Rattle.formats.specs.declared.params.Params.{Params};
 ghost use Rattle.op_codec.specs.AllOps.{AllOps as Command, all_meaning};
 ghost use Rattle.running_store.specs.Calls.{IsFailed};
 ghost use Rattle.store_engine.specs.Engine.{Between, Holds, forced_in};
-ghost use Rattle.store_engine.specs.Store.{state_of};
+ghost use Rattle.store_engine.specs.Store.{Stands, state_of};
 ghost use Rattle.transactions.specs.Admitted.{HasStaged};
-ghost use Rattle.transactions.specs.Committing.{IsLeft};
+ghost use Rattle.transactions.specs.Committing.{IsLeft, IsLeftLazily};
 ghost use Rattle.transactions.specs.Staged.{IsStaged, OnlyReads};
 ghost use Rattle.embed.specs.Embedded.{GivesValue, IsStillBroken};
 
@@ -96,5 +97,27 @@ impl<M: Machine + Drop> Store<M> {
             return Err(CommitErr::DiskFault);
         }
         transaction.commit(&mut self.engine, &mut self.machine)
+    }
+
+    /// Adds the staged commands, or none of them, and forces nothing: as `Transaction::commit_lazily`. What `Cut` leaves `reopen`
+    /// undoes, with all that is not forced.
+    pub fn commit_lazily(&mut self, transaction: &mut Transaction<AllOps>) -> Result<(), CommitErr>
+        requires alone { self.old.engine.broken ≡ false → self.old.engine.group ≡ None }
+        ensures time { Passes (M.disk self.old.machine) (M.disk self.new.machine) }
+        ensures left { (p : Params) (commands : List Command) → Holds all_meaning p (M.disk self.old.machine) self.old.engine commands →
+            IsStaged all_meaning p commands transaction.old.ops.items transaction.old.bytes transaction.old.made →
+            self.old.engine.parts.log.next + length transaction.old.ops.items ≤ 2 ^ 62 →
+            IsLeftLazily all_meaning p (M.disk self.new.machine) self.old.engine self.new.engine commands transaction.old.ops.items result }
+        ensures images { (M.disk self.old.machine).tells_moments → (p : Params) (commands : List Command) → Holds all_meaning p (M.disk self.old.machine) self.old.engine commands →
+            IsStaged all_meaning p commands transaction.old.ops.items transaction.old.bytes transaction.old.made →
+            self.old.engine.parts.log.next + length transaction.old.ops.items ≤ 2 ^ 62 →
+            LeavesOnly (M.disk self.old.machine) (M.disk self.new.machine) (IsSilent (λ files. Stands all_meaning p files (take (forced_in self.old.engine) commands)) (M.disk self.old.machine).said) }
+        ensures kept { IsErrOf result CommitErr.LogFull → (transaction.new.ops ≡ transaction.old.ops) × (transaction.new.bytes ≡ transaction.old.bytes) × (transaction.new.made ≡ transaction.old.made) }
+        ensures broken { self.old.engine.broken ≡ true → IsStillBroken CommitErr.DiskFault self.old self.new result × (transaction.new ≡ transaction.old) }
+    {
+        if self.engine.is_broken() {
+            return Err(CommitErr::DiskFault);
+        }
+        transaction.commit_lazily(&mut self.engine, &mut self.machine)
     }
 }

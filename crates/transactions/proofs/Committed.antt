@@ -1,5 +1,5 @@
 -- What a commit leaves, in each way in which it ends.
-use Rattle.std.proofs.Common.{◌≡◌, ◌∙◌, sym, subst, ap, ℕ, ◌+◌, ◌≤◌, ◌^◌, Bool, true, false, List, ◌++◌, length, take, refl, inl, inr, ◌⊎◌, ⊎_elim, Option, None, Some, arith, length-take, IsTrue, IfSome}
+use Rattle.std.proofs.Common.{◌≡◌, ◌∙◌, sym, subst, ap, ℕ, ◌+◌, ◌≤◌, Bool, true, false, List, ◌++◌, length, take, refl, inl, inr, ◌⊎◌, ⊎_elim, Option, None, Some, arith, length-take, IsTrue, IfSome}
 use Rattle.std.proofs.Math.Seq.{take-append_seam, take-length}
 use Rattle.disk_model.specs.Disk.{Disk, LeavesOnly, Passes}
 use Rattle.disk_model.specs.Moments.{runs_on, weaker}
@@ -7,19 +7,14 @@ use Rattle.oper_core.specs.Meaning.{Meaning}
 use Rattle.oper_core.specs.declared.bounds.Bounds.{Bounds}
 use Rattle.formats.specs.declared.params.Params.{Params}
 use Rattle.running_store.specs.Calls.{IsFailed}
-use Rattle.running_store.specs.Courses.Stop.{Full, At_end}
 use Rattle.running_store.specs.Taking.{Ending}
 use Rattle.running_store.specs.Taking.Ending.{Done}
-use Rattle.execution.specs.declared.exec_err.ExecErr.{ExecErr}
-use Rattle.execution.specs.declared.exec_err.ExecErr.TheVariants.{Refused, LogFull, LsnEnd, DiskFault, Damaged, Memory}
 use Rattle.store_engine.specs.Engine.{EngineView, Between, Holds, forced_in, group_size, params_of, records_of}
 use Rattle.store_engine.specs.Store.{Stands}
-use Rattle.store_engine.specs.Lists.{AddsFront, IsCutOff, ending_of, larger}
+use Rattle.store_engine.specs.Lists.{AddsFront, larger}
 use Rattle.store_engine.specs.ListLaws.{all_hold}
-use Rattle.transactions.specs.Accepted.{IsNoRefusal}
 use Rattle.transactions.specs.Committing.{HasBegun}
 use Rattle.transactions.specs.Room.{HasRoomFor, HasRoomOf}
-use Rattle.transactions.proofs.RoomLemmas.{none_stopped}
 
 -- a fact about the number of an open group that is about something else
 pub where_open : {P : Type 0} (group : Option ℕ) (at : ℕ) → group ≡ Some at → IfSome group (λ n. P) → P
@@ -87,16 +82,6 @@ module _ {O : Type 0} (meaning : Bounds → Meaning O) (p : Params) (old mid : D
     pub cut_left : IsFailed ending ⊎ ((done : ℕ) × Holds meaning p new after (commands ++ take done ops) × (group_size after ≡ Some (length (take done ops))))
     cut_left = ⊎_elim (λ failed. inl failed)
         (λ has. inr (adds.done, record { world = has.world; shows = has.shows; commands_are = has.commands_are }, adds.size ∙ ap (λ (s : Option ℕ). larger s adds.done) begun.size ∙ ap (λ (n : ℕ). Some n) (as_long adds.done ops adds.front))) adds.kept
-
-  module _ (new : Disk) (after : EngineView) (room : HasRoomFor meaning between ops) (lsns : before.parts.log.next + length ops ≤ 2 ^ 62) where
-    -- it is cut off by memory or the disk alone
-    pub cut_off : (e : ExecErr) → IsNoRefusal (Some e) → AddsFront meaning p mid new between after begun.holds.world commands ops (ending_of (Some e)) → IsCutOff (ending_of (Some e))
-    cut_off (Refused refusal) unrefused adds = absurd unrefused
-    cut_off (LogFull used need limit) unrefused adds = absurd (none_stopped meaning p mid between begun.holds.world begun.holds.shows ops room (omega (arith, begun.next, lsns)) new after commands (Full used need limit) adds)
-    cut_off (LsnEnd lsn) unrefused adds = absurd (none_stopped meaning p mid between begun.holds.world begun.holds.shows ops room (omega (arith, begun.next, lsns)) new after commands (At_end lsn) adds)
-    cut_off DiskFault unrefused adds = tt
-    cut_off (Damaged file place) unrefused adds = tt
-    cut_off Memory unrefused adds = tt
 
   -- all of it
   module _ (new : Disk) (after closed : EngineView) (adds : AddsFront meaning p mid new between after begun.holds.world commands ops Done) where

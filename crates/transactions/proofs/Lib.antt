@@ -4,6 +4,7 @@ mod Making
 mod RoomLemmas
 mod Begun
 mod Committed
+mod Appending
 mod OverlayLemmas
 mod Reading
 mod Staging

@@ -31,3 +31,11 @@ IsLeft meaning p new before after commands ops (Err DiskFault) = ⊤
 IsLeft meaning p new before after commands ops (Err LogFull) = Holds meaning p new after commands × (forced_in after ≡ length commands) × (after.group ≡ None)
     × (HasRoomFor meaning after ops → ⊥)
 IsLeft meaning p new before after commands ops (Err (Cut e)) = IsCutOff (ending_of (Some e)) × (IsFailed (ending_of (Some e)) ⊎ ((done : ℕ) × Holds meaning p new after (commands ++ take done ops) × (group_size after ≡ Some (length (take done ops)))))
+
+-- What a commit that forces nothing leaves: all the commands are added, or none, for want of room; or, where it was cut off, some first
+-- ones. As many commands are forced as before; after a fault nothing is said.
+abbrev pub IsLeftLazily : {O : Type 0} → (Bounds → Meaning O) → Params → Disk → EngineView → EngineView → List O → List O → Result (Unit {0}) CommitErr → Type 0
+IsLeftLazily meaning p new before after commands ops (Ok value) = Holds meaning p new after (commands ++ ops) × (forced_in after ≡ forced_in before)
+IsLeftLazily meaning p new before after commands ops (Err DiskFault) = ⊥
+IsLeftLazily meaning p new before after commands ops (Err LogFull) = Holds meaning p new after commands × (forced_in after ≡ forced_in before) × (HasRoomFor meaning after ops → ⊥)
+IsLeftLazily meaning p new before after commands ops (Err (Cut e)) = IsCutOff (ending_of (Some e)) × (IsFailed (ending_of (Some e)) ⊎ ((done : ℕ) × Holds meaning p new after (commands ++ take done ops) × (forced_in after ≡ forced_in before)))

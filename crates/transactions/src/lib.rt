@@ -5,6 +5,8 @@ mod admitting;
 mod beginning;
 mod commit_err;
 mod committing;
+mod enough_room;
+mod lazily;
 mod overlay;
 mod rolling_back;
 mod running;
@@ -13,5 +15,6 @@ mod transaction;
 
 pub use beginning::has_room;
 pub use commit_err::CommitErr;
-pub use rolling_back::roll_back;
+pub use enough_room::room_is_enough;
+pub use rolling_back::{reopen, roll_back};
 pub use transaction::Transaction;

@@ -1,18 +1,20 @@
 // Commands are staged.
-ghost use Rattle.std.specs.Prelude.{◌≡◌, ◌+◌, ◌<◌, ◌≤◌, ◌^◌, ◌++◌, ◌∷◌, [], List, None, false, length, IfOk, IfSome, IsErrOf, OnOk};
+ghost use Rattle.std.specs.Prelude.{◌≡◌, ◌+◌, ◌<◌, ◌≤◌, ◌^◌, ◌++◌, ◌∷◌, [], List, None, false, length, take, IfOk, IfSome, IsErrOf, OnOk};
 ghost use Rattle.disk_model.specs.Disk.{LeavesOnly, Passes};
+ghost use Rattle.disk_model.specs.Silent.{IsSilent};
 ghost use Rattle.formats.specs.declared.params.Params.{Params};
 ghost use Rattle.execution.specs.Answers.{ending_of_exec};
 ghost use Rattle.running_store.specs.Calls.{IsFailed};
 ghost use Rattle.store_engine.specs.Engine.{Between, Holds, forced_in};
-ghost use Rattle.store_engine.specs.Store.{record_length, state_of};
+ghost use Rattle.store_engine.specs.Store.{Stands, record_length, state_of};
 ghost use Rattle.transactions.specs.Admitted.{HasStaged};
-ghost use Rattle.transactions.specs.Committing.{IsLeft};
+ghost use Rattle.transactions.specs.Committing.{IsLeft, IsLeftLazily};
 ghost use Rattle.transactions.specs.Staged.{IsStaged, OnlyReads};
 
 use crate::admitting::admit;
 use crate::commit_err::CommitErr;
 use crate::committing::commit;
+use crate::lazily::commit_lazily;
 use crate::overlay::{make_rooms, set_all};
 use crate::seeing::push_value;
 use dirty_cache::Cache;
@@ -102,6 +104,30 @@ impl<O: Oper> Transaction<O> {
         ensures kept { IsErrOf result CommitErr.LogFull → (self.new.ops ≡ self.old.ops) × (self.new.bytes ≡ self.old.bytes) × (self.new.made ≡ self.old.made) }
     {
         commit(engine, machine, &mut self.ops, self.bytes)
+    }
+
+    /// Adds the staged commands to those of the engine, or none of them, and forces nothing: so many transactions may go with one
+    /// force. They are stable after the next force, all at once, and a crash meanwhile leaves just what was forced before.
+    ///
+    /// It answers `LogFull` as `commit` does. It answers `Cut` only where memory runs out or the disk fails; some of them may be
+    /// added then, and `reopen` undoes them, with all that is not forced: the transactions before this one that wait, too.
+    pub fn commit_lazily<M: Machine>(
+        &mut self,
+        engine: &mut Engine<O>,
+        machine: &mut M,
+    ) -> Result<(), CommitErr>
+        requires unbroken { engine.old.broken ≡ false }
+        requires alone { engine.old.group ≡ None }
+        ensures time { Passes (M.disk machine.old) (M.disk machine.new) }
+        ensures group { engine.new.group ≡ None }
+        ensures left { (p : Params) (commands : List O) → Holds O.meaning p (M.disk machine.old) engine.old commands → IsStaged O.meaning p commands self.old.ops.items self.old.bytes self.old.made →
+            engine.old.parts.log.next + length self.old.ops.items ≤ 2 ^ 62 → IsLeftLazily O.meaning p (M.disk machine.new) engine.old engine.new commands self.old.ops.items result }
+        ensures images { (M.disk machine.old).tells_moments → (p : Params) (commands : List O) → Holds O.meaning p (M.disk machine.old) engine.old commands → IsStaged O.meaning p commands self.old.ops.items self.old.bytes self.old.made →
+            engine.old.parts.log.next + length self.old.ops.items ≤ 2 ^ 62 →
+            LeavesOnly (M.disk machine.old) (M.disk machine.new) (IsSilent (λ files. Stands O.meaning p files (take (forced_in engine.old) commands)) (M.disk machine.old).said) }
+        ensures kept { IsErrOf result CommitErr.LogFull → (self.new.ops ≡ self.old.ops) × (self.new.bytes ≡ self.old.bytes) × (self.new.made ≡ self.old.made) }
+    {
+        commit_lazily(engine, machine, &mut self.ops, self.bytes)
     }
 
     /// Stages a command on an engine, after those that are staged: it is judged on the values that these make, laid over those of the

@@ -1,8 +1,10 @@
+use Rattle.std.proofs.Common.{arith}
 use Rattle.std.specs.Prelude.{Some}
 use Rattle.disk_model.specs.Moments.{passes_twice}
 use Rattle.running_store.specs.Taking.Ending.{Done}
 use Rattle.store_engine.specs.Lists.{ending_of}
-use Rattle.transactions.proofs.Committed.{all_left, cut_left, cut_off, full_left, is_true, moments, not_true, room_for, room_of}
+use Rattle.transactions.proofs.Committed.{all_left, cut_left, full_left, is_true, moments, not_true, room_for, room_of}
+use Rattle.transactions.proofs.RoomLemmas.{cut_off}
 use Rattle.transactions.proofs.committing.commit.Goals as goal
 
 pub returns-in-Err-clause-images : goal.returns-in-Err-clause-images
@@ -27,7 +29,7 @@ returns-in-Err-run_all-clause-left g c = λ p commands holds accepted bytes lsns
     let adds = c.in-Err-run_all.ensures.adds p commands begun.holds accepted in
     let room = room_for g.O.Oper.meaning p (disk c.args.machine.now) (disk c.begin.new.machine) c.args.engine.now c.begin.new.engine commands c.args.ops.now.items begun c.args.bytes bytes c.begin.ensures.params
     (c.has_room.ensures.roomy (is_true c.has_room.result c.if-not-has_room.false)) in (
-      cut_off g.O.Oper.meaning p (disk c.args.machine.now) (disk c.begin.new.machine) c.args.engine.now c.begin.new.engine commands c.args.ops.now.items begun (disk c.run_all.new.machine) c.run_all.new.engine room lsns
+      cut_off g.O.Oper.meaning p (disk c.begin.new.machine) c.begin.new.engine begun.holds.world begun.holds.shows c.args.ops.now.items room (omega (arith, begun.next, lsns)) (disk c.run_all.new.machine) c.run_all.new.engine commands
           c.in-Err-run_all.e (c.in-Err-run_all.ensures.unrefused p commands begun.holds accepted) adds,
       cut_left g.O.Oper.meaning p (disk c.args.machine.now) (disk c.begin.new.machine) c.args.engine.now c.begin.new.engine commands c.args.ops.now.items begun (disk c.run_all.new.machine) c.run_all.new.engine (ending_of (Some c.in-Err-run_all.e)) adds,
     )
