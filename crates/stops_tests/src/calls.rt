@@ -11,6 +11,9 @@ pub const TUNING: Tuning = Tuning {
     clean_bytes: 0,
     redo_dirty: 64,
     redo_bytes: 0,
+    redo_most: 64,
+    redo_waiting: 1 << 28,
+    redo_round: 64,
 };
 
 // Whether a command is done.
@@ -47,4 +50,12 @@ pub fn drains<M: Machine>(engine: &mut Engine<AllOps>, machine: &mut M) -> bool 
         return false;
     }
     engine.drain(machine).is_ok()
+}
+
+// Whether a turn of at most so many nodes is taken.
+pub fn tends<M: Machine>(engine: &mut Engine<AllOps>, machine: &mut M, most: usize) -> bool {
+    if engine.is_broken() {
+        return false;
+    }
+    engine.tend(machine, most).is_ok()
 }

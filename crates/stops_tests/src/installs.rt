@@ -22,6 +22,9 @@ fn opened<M: Machine>(
         clean_bytes: 0,
         redo_dirty: dirty,
         redo_bytes: 0,
+        redo_most: dirty,
+        redo_waiting: 1 << 28,
+        redo_round: 1,
     };
     restart::<AllOps, M>(alloc, machine, tuning)
 }

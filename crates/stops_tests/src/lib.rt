@@ -18,6 +18,8 @@ mod faults;
 #[cfg(test)]
 mod found;
 #[cfg(test)]
+mod gates;
+#[cfg(test)]
 mod inits;
 #[cfg(test)]
 mod installs;
