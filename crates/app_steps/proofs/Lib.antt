@@ -8,6 +8,7 @@ pub mod EntryBytes
 pub mod RowBytes
 pub mod NodeBytes
 pub mod BlockBytes
+pub mod PageBytes
 pub mod ValueBytes
 pub mod Accepted
 pub mod Given

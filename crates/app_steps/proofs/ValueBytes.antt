@@ -11,6 +11,7 @@ use Rattle.op_codec.specs.declared.sum.Sum.TheVariants.{First, Second}
 use Rattle.app_steps.proofs.BlockBytes.{hash_bytes}
 use Rattle.app_steps.proofs.ByteLists.{no_bytes}
 use Rattle.app_steps.proofs.NodeBytes.{node_bytes}
+use Rattle.app_steps.proofs.PageBytes.{page_bytes}
 use Rattle.app_steps.proofs.RowBytes.{plain_bytes, program_bytes}
 
 module _ (b : Bounds) where
@@ -18,7 +19,8 @@ module _ (b : Bounds) where
   effect_bytes (First op) values code all = plain_bytes b op values code all
   effect_bytes (Second (First op)) values code all = node_bytes b op values code all
   effect_bytes (Second (Second (First op))) values code all = program_bytes b op values all
-  effect_bytes (Second (Second (Second op))) values code all = hash_bytes b op values code all
+  effect_bytes (Second (Second (Second (First op)))) values code all = hash_bytes b op values code all
+  effect_bytes (Second (Second (Second (Second op)))) values code all = page_bytes b op values code all
 
   either : (t : Bool) (v w : List ℕ) → AreBytes v → AreBytes w → AreBytes (cond t v w)
   either true v w one two = one

@@ -1,10 +1,12 @@
 // That what an operation has in the log consists of bytes, for proofs: the types of its texts say so.
+ghost use Rattle.std.specs.Prelude.{◌<◌};
 ghost use Rattle.oper_core.specs.declared.bounds.Bounds.{Bounds};
 ghost use Rattle.op_rows.specs.Rows.{names_code};
 ghost use Rattle.op_meaning.specs.Table.{plain_row};
 ghost use Rattle.key_entries.specs.Short.{short_code};
 ghost use Rattle.btree_ops.specs.Operation as nodes;
 ghost use Rattle.hash_ops.specs.Operation as hashes;
+ghost use Rattle.page_ops.specs.Operation as pages;
 ghost use Rattle.op_codec.specs.AllOps.{all_meaning};
 ghost use Rattle.app_program.specs.OneCode.{AreBytes};
 
@@ -13,6 +15,7 @@ use hash_ops::HashOp;
 use key_entries::Short;
 use op_codec::{AllOps, Sum};
 use op_meaning::PlainOp;
+use page_ops::PageOp;
 
 // A slice consists of bytes.
 fn known(_bytes: &[u8])
@@ -61,6 +64,35 @@ fn known_hash(op: &HashOp)
     }
 }
 
+// A level is a byte.
+fn known_level(_level: u8)
+    ensures { _level < 256 }
+{}
+
+fn known_page(op: &PageOp)
+    ensures { AreBytes (pages.op_code op.now) }
+{
+    match op {
+        PageOp::Put { key, value, .. } => {
+            known(key.as_slice());
+            known(value.as_slice());
+        }
+        PageOp::Set { value, .. } => known(value.as_slice()),
+        PageOp::TurnTwo { key, .. } => known(key.as_slice()),
+        PageOp::Root { level, key, .. } => {
+            known_level(*level);
+            known(key.as_slice());
+        }
+        PageOp::Delete { .. }
+        | PageOp::Part { .. }
+        | PageOp::Absorb { .. }
+        | PageOp::Join { .. }
+        | PageOp::Keep { .. }
+        | PageOp::Turn { .. }
+        | PageOp::Free { .. } => {}
+    }
+}
+
 /// That what an operation has in the log consists of bytes, for proofs. It does nothing.
 pub fn known_as_bytes(op: &AllOps)
     ensures { (b : Bounds) → AreBytes ((all_meaning b).code op.now) }
@@ -69,6 +101,9 @@ pub fn known_as_bytes(op: &AllOps)
         Sum::First(op) => known_plain(op),
         Sum::Second(Sum::First(op)) => known_node(op),
         Sum::Second(Sum::Second(Sum::First(_))) => {}
-        Sum::Second(Sum::Second(Sum::Second(op))) => known_hash(op),
+        Sum::Second(Sum::Second(Sum::Second(later))) => match later {
+            Sum::First(op) => known_hash(op),
+            Sum::Second(op) => known_page(op),
+        },
     }
 }

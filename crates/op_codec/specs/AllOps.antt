@@ -9,13 +9,15 @@ use Rattle.app_program.specs.Table.{program_meaning}
 use Rattle.app_program.specs.declared.program_op.ProgramOp.{ProgramOp}
 use Rattle.hash_ops.specs.Operation.{hash_meaning}
 use Rattle.hash_ops.specs.declared.hash_op.HashOp.{HashOp}
+use Rattle.page_ops.specs.Operation.{page_meaning}
+use Rattle.page_ops.specs.declared.page_op.PageOp.{PageOp}
 use Rattle.op_codec.specs.Sum.{sum_meaning}
 use Rattle.op_codec.specs.declared.sum.Sum.{Sum}
 use Rattle.op_codec.specs.declared.sum.Sum.TheVariants.{First, Second}
 
 -- an operation of a store is one of these families
 abbrev pub AllOps : Type 0
-AllOps = Sum PlainOp (Sum NodeOp (Sum ProgramOp HashOp))
+AllOps = Sum PlainOp (Sum NodeOp (Sum ProgramOp (Sum HashOp PageOp)))
 
 abbrev pub plain : PlainOp → AllOps
 plain op = First op
@@ -27,7 +29,10 @@ abbrev pub program : ProgramOp → AllOps
 program op = Second (Second (First op))
 
 abbrev pub hash : HashOp → AllOps
-hash op = Second (Second (Second op))
+hash op = Second (Second (Second (First op)))
+
+abbrev pub page : PageOp → AllOps
+page op = Second (Second (Second (Second op)))
 
 abbrev pub all_meaning : Bounds → Meaning AllOps
-all_meaning = sum_meaning plain_meaning (sum_meaning node_meaning (sum_meaning program_meaning hash_meaning))
+all_meaning = sum_meaning plain_meaning (sum_meaning node_meaning (sum_meaning program_meaning (sum_meaning hash_meaning page_meaning)))

@@ -1,26 +1,31 @@
 // The families of a store. One more is a line in the type, an instance that says that its tags are apart, and a function.
 ghost use Rattle.std.specs.Prelude.{◌≡◌};
-ghost use Rattle.op_codec.specs.AllOps.{hash, node, plain, program};
-ghost use Rattle.op_codec.specs.Tags.{hashes_from_programs, later_from_nodes, others_from_plain};
+ghost use Rattle.op_codec.specs.AllOps.{hash, node, page, plain, program};
+ghost use Rattle.op_codec.specs.Tags.{later_from_nodes, later_from_programs, others_from_plain, pages_from_hashes};
 
 use crate::{ApartFrom, Sum};
 use app_program::ProgramOp;
 use btree_ops::NodeOp;
 use hash_ops::HashOp;
 use op_meaning::PlainOp;
+use page_ops::PageOp;
 
 /// An operation of a store.
-pub type AllOps = Sum<PlainOp, Sum<NodeOp, Sum<ProgramOp, HashOp>>>;
+pub type AllOps = Sum<PlainOp, Sum<NodeOp, Sum<ProgramOp, Sum<HashOp, PageOp>>>>;
 
-impl ApartFrom<ProgramOp> for HashOp {
-    ghost apart = { hashes_from_programs };
+impl ApartFrom<HashOp> for PageOp {
+    ghost apart = { pages_from_hashes };
 }
 
-impl ApartFrom<NodeOp> for Sum<ProgramOp, HashOp> {
+impl ApartFrom<ProgramOp> for Sum<HashOp, PageOp> {
+    ghost apart = { later_from_programs };
+}
+
+impl ApartFrom<NodeOp> for Sum<ProgramOp, Sum<HashOp, PageOp>> {
     ghost apart = { later_from_nodes };
 }
 
-impl ApartFrom<PlainOp> for Sum<NodeOp, Sum<ProgramOp, HashOp>> {
+impl ApartFrom<PlainOp> for Sum<NodeOp, Sum<ProgramOp, Sum<HashOp, PageOp>>> {
     ghost apart = { others_from_plain };
 }
 
@@ -49,5 +54,12 @@ pub fn program_op(op: ProgramOp) -> AllOps
 pub fn hash_op(op: HashOp) -> AllOps
     ensures { result ≡ hash op }
 {
-    Sum::Second(Sum::Second(Sum::Second(op)))
+    Sum::Second(Sum::Second(Sum::Second(Sum::First(op))))
+}
+
+/// An operation on pages of a map. Only a store of version 3 admits one.
+pub fn page_op(op: PageOp) -> AllOps
+    ensures { result ≡ page op }
+{
+    Sum::Second(Sum::Second(Sum::Second(Sum::Second(op))))
 }

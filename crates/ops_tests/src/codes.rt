@@ -15,7 +15,7 @@ const EIGHT: Bounds = Bounds {
 const NO_CODES: &[(&[u8], &str)] = &[
     (b"", "nothing"),
     (b"\0\x03\0\0\0\x01\0\0\0\x02\0\0\0", "the tag 0"),
-    (b"\x15\x03\0\0\0\x01\0\0\0\x02\0\0\0", "the tag 21"),
+    (b"\x20\x03\0\0\0\x01\0\0\0\x02\0\0\0", "the tag 32"),
     (b"\x01\0\0\0\0\0\0\0", "a cut head"),
     (b"\x01\0\0\0\0\x01\0\0\0", "a cut value"),
     (b"\x01\x08\0\0\0\x01\0\0\0\xaa", "no such object"),
@@ -57,7 +57,8 @@ const NO_CODES: &[(&[u8], &str)] = &[
     (b"\x10\x01\0\0\0\x08\0\0\0", "no object for the output"),
 ];
 
-fn is_no_code(alloc: Global, bytes: &[u8]) -> bool {
+/// Whether the bytes are read as no command of a store without pages.
+pub fn is_no_code(alloc: Global, bytes: &[u8]) -> bool {
     match AllOps::decode(alloc, EIGHT, bytes) {
         Ok(None) => true,
         _ => false,

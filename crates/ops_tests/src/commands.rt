@@ -73,13 +73,13 @@ fn are(values: &Values, want: &[&[u8]]) -> bool {
     good
 }
 
-// The code is read and written again, and the command does what the row says.
+// The code is read and written again, and the command does what the row says, in a store that admits all families.
 fn is_as_worked(alloc: Global, row: &Row) -> Result<bool, Fail> {
     let (code, cap, read, want, new) = *row;
     let b = Bounds {
         objects: OBJECTS,
         cap,
-        more: false,
+        more: true,
     };
     let op: AllOps = decoded(alloc, b, code)?;
     let again = encoded(alloc, b, &op)?;

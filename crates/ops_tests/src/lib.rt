@@ -1,4 +1,4 @@
-//! A test crate: the tests of oper_core, op_meaning, app_program, btree_ops, hash_ops and op_codec. The library is empty.
+//! A test crate: the tests of oper_core, op_meaning, app_program, btree_ops, hash_ops, page_ops and op_codec. The library is empty.
 //!
 //! They stand apart so that the proofs of those crates are made once, and not a second time with their tests.
 #![tactic(auto)]
@@ -11,6 +11,8 @@ mod commands;
 mod hashes;
 #[cfg(test)]
 mod nodes;
+#[cfg(test)]
+mod pages;
 #[cfg(test)]
 mod rows;
 #[cfg(test)]

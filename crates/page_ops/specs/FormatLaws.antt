@@ -1,5 +1,5 @@
 -- A field is read where its bytes stand, and nowhere else.
-use Rattle.std.proofs.Common.{◌≡◌, ◌≤◌, ◌<◌, ℕ, ◌^◌, Option, None, Some, List, ◌++◌, length, take, drop, refl, sym, ap, ◌∙◌, subst, arith, append_assoc, option_map, option_and_then, length-append, take-append-drop}
+use Rattle.std.proofs.Common.{◌≡◌, ◌≤◌, ◌<◌, ℕ, ◌%◌, ◌^◌, Option, None, Some, List, [], ◌∷◌, ◌++◌, length, take, drop, refl, sym, ap, ◌∙◌, subst, arith, append_assoc, option_map, option_and_then, length-append, take-append-drop}
 use Rattle.std.specs.Prelude.{IsTrue, nat_le, nat_lt}
 use Rattle.std.proofs.Math.Seq.{drop-append_seam}
 use Rattle.std.proofs.lemmas.List.{take_at, length-take-le}
@@ -8,7 +8,7 @@ use Rattle.byteorder.specs.Endian.{little_bytes, little_number}
 use Rattle.byteorder.specs.Numbers.{little_from-lt}
 use Rattle.oper_core.specs.LittleEndian.{length-little_bytes, little_number-little_bytes, little_bytes-front}
 use Rattle.key_entries.specs.EntryLaws.{AreBytes, bytes_behind, both_true, true_both, if_some, if_true, and_then_some, map_some, same_some}
-use Rattle.page_ops.specs.Formats.{Format, number, text, text_behind, both}
+use Rattle.page_ops.specs.Formats.{Format, byte, number, text, text_behind, both}
 
 -- the field stands in front, and this is behind it
 pub record StandsBefore {X : Type 0} (format : Format X) (bytes : List ℕ) (x : X) (rest : List ℕ) : Type 0 where
@@ -56,6 +56,21 @@ number_exact width = record {
         split = little_bytes-front width bytes long are ∙ (λ i. little_bytes width (value i) ++ behind i);
         behind = subst (λ (l : List ℕ). AreBytes l) behind (bytes_behind width bytes are);
         fits = lt-ltb x (256 ^ width) (subst (λ (n : ℕ). n < 256 ^ width) value (little_from-lt 0 width bytes are));
+      };
+}
+
+byte_code : (x : ℕ) → x < 256 → little_bytes 1 x ≡ x ∷ []
+byte_code x small = let same : x % 256 ≡ x = omega (arith, small) in ap (λ (n : ℕ). n ∷ []) same
+
+pub byte_exact : IsExact byte
+byte_exact = record {
+  found = λ x rest fits. ap (λ (l : List ℕ). (number 1).read (l ++ rest)) (sym (byte_code x (ltb-true x 256 fits))) ∙ (number_exact 1).found x rest fits;
+  begins = λ bytes x rest are is.
+      let stands = (number_exact 1).begins bytes x rest are is in
+      record {
+        split = stands.split ∙ ap (λ (l : List ℕ). l ++ rest) (byte_code x (ltb-true x 256 stands.fits));
+        behind = stands.behind;
+        fits = stands.fits;
       };
 }
 

@@ -1,5 +1,5 @@
 -- The fields in the codes of operations: numbers, and texts behind their lengths.
-use Rattle.std.specs.Prelude.{ℕ, ◌^◌, Bool, ◌&&◌, Option, None, Some, List, ◌++◌, length, take, drop, nat_le, nat_lt, if◌then◌else◌, option_map, option_and_then}
+use Rattle.std.specs.Prelude.{ℕ, ◌^◌, Bool, ◌&&◌, Option, None, Some, List, [], ◌∷◌, ◌++◌, length, take, drop, nat_le, nat_lt, if◌then◌else◌, option_map, option_and_then}
 use Rattle.byteorder.specs.Endian.{little_bytes, little_number}
 
 -- a kind of fields: the bytes of one, the one that bytes begin with and what is behind it, and which have such bytes
@@ -15,6 +15,10 @@ number width = record {
   read = λ bytes. if nat_le width (length bytes) then Some (little_number width bytes, drop width bytes) else None;
   fits = λ x. nat_lt x (256 ^ width);
 }
+
+-- a byte, which is its own code
+abbrev pub byte : Format ℕ
+byte = record { code = λ x. x ∷ []; read = (number 1).read; fits = (number 1).fits }
 
 -- what is behind the length of a text
 abbrev pub text_behind : ℕ × List ℕ → Option (List ℕ × List ℕ)
@@ -68,4 +72,4 @@ abbrev pub turn_two_format : Format (ℕ × (ℕ × (ℕ × (ℕ × (List ℕ ×
 turn_two_format = both object (both place (both place (both object (both text object))))
 
 abbrev pub root_format : Format (ℕ × (ℕ × (ℕ × (List ℕ × ℕ))))
-root_format = both object (both (number 1) (both object (both text object)))
+root_format = both object (both byte (both object (both text object)))

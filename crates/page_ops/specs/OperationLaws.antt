@@ -18,8 +18,8 @@ use Rattle.key_entries.specs.ObjectLaws.{named_tells, IsNamed, named_wider, belo
 use Rattle.page_ops.specs.Page.{Cell, cell_code, cells_code, places_from}
 use Rattle.page_ops.specs.Layout.{Layout, moved, cells_of, places_of, back_at, new_at, built, size}
 use Rattle.page_ops.specs.Effects.{Made, made_by, is_short, where_short}
-use Rattle.page_ops.specs.Formats.{Format, number, text, both, object, place, put_format, set_format, place_format, part_format, absorb_format, join_format, turn_format, turn_two_format, root_format}
-use Rattle.page_ops.specs.FormatLaws.{IsExact, number_exact, text_exact, both_exact}
+use Rattle.page_ops.specs.Formats.{Format, byte, text, both, object, place, put_format, set_format, place_format, part_format, absorb_format, join_format, turn_format, turn_two_format, root_format}
+use Rattle.page_ops.specs.FormatLaws.{IsExact, byte_exact, number_exact, text_exact, both_exact}
 use Rattle.page_ops.specs.Operation.{objects_of, written_by, read_by, fits_code, op_code, made_of, op_in, shape_of, value_made, page_meaning, is_page_tag}
 use Rattle.page_ops.specs.declared.page_op.PageOp.{PageOp}
 use Rattle.page_ops.specs.declared.page_op.PageOp.TheVariants.{Put, Set, Delete, Part, Absorb, Join, Keep, Turn, TurnTwo, Root, Free}
@@ -154,7 +154,7 @@ turn_two_exact =
     (both_exact place (both place (both object (both text object))) (number_exact 2) (both_exact place (both object (both text object)) (number_exact 2) keyed))
 
 root_exact : IsExact root_format
-root_exact = both_exact object (both (number 1) (both object (both text object))) (number_exact 4) (both_exact (number 1) (both object (both text object)) (number_exact 1) keyed)
+root_exact = both_exact object (both byte (both object (both text object))) (number_exact 4) (both_exact byte (both object (both text object)) byte_exact keyed)
 
 -- an operation that fits its code is read back
 module _ {X : Type 0} (format : Format X) (exact : IsExact format) (make : X → PageOp) where
