@@ -18,21 +18,21 @@ one_number rows id m n a b =
     let text : a.text ≡ b.text = ap text_in (sym a.value ∙ b.value) in
     sym a.number ∙ ap (λ t. digits_value 10 (without_leading_plus t)) text ∙ b.number
 
--- three arguments give the numbers of one store
-one_params : (rows : List Row) (p q : Params) → GivesParams rows p → GivesParams rows q → p ≡ q
-one_params rows p q x y =
-    let a = one_number rows (codes "N") p.objects q.objects x.0 y.0 in
-    let b = one_number rows (codes "CAP") p.cap q.cap x.1 y.1 in
-    let c = one_number rows (codes "LIMIT") p.limit q.limit x.2 y.2 in
-    let more : p.more ≡ q.more = x.3 ∙ sym y.3 in
-    λ i. record { objects = a i; cap = b i; limit = c i; more = more i }
-
 -- a flag is there or is not
 one_flag : (rows : List Row) (id : Text) (a b : Bool) → IsGiven rows id a → IsGiven rows id b → a ≡ b
 one_flag rows id true true x y = refl
 one_flag rows id true false x y = absurd (y x)
 one_flag rows id false true x y = absurd (x y)
 one_flag rows id false false x y = refl
+
+-- three arguments and a flag give the numbers of one store
+one_params : (rows : List Row) (p q : Params) → GivesParams rows p → GivesParams rows q → p ≡ q
+one_params rows p q x y =
+    let a = one_number rows (codes "N") p.objects q.objects x.0 y.0 in
+    let b = one_number rows (codes "CAP") p.cap q.cap x.1 y.1 in
+    let c = one_number rows (codes "LIMIT") p.limit q.limit x.2 y.2 in
+    let more = one_flag rows (codes "pages") p.more q.more x.3 y.3 in
+    λ i. record { objects = a i; cap = b i; limit = c i; more = more i }
 
 -- a subcommand of one name is for one thing
 for_one : (name : Text) (rows : List Row) (a b : Asked) → IsFor a name rows → IsFor b name rows → a ≡ b

@@ -1,10 +1,11 @@
 -- The plain forms are taken.
-use Rattle.std.proofs.Common.{◌≡◌, ◌∙◌, ◌<◌, ◌≤◌, ◌^◌, ℕ, true, false, List, [], ◌∷◌, Some, None, refl, sym, ap, subst, arith, codes, is_some}
+use Rattle.std.proofs.Common.{◌≡◌, ◌∙◌, ◌<◌, ◌≤◌, ◌^◌, ℕ, true, false, List, [], ◌∷◌, Some, None, refl, sym, ap, subst, arith, codes, is_some, if◌then◌else◌}
 use Rattle.std.specs.Fmt.{decimal}
 use Rattle.std.specs.Str.Parse.{IsNumeral, digits_value}
 use Rattle.clap.specs.Kinds.{Kinds, or_else}
 use Rattle.clap.specs.Walk.{Held, Row, Rule, Text, Walk, finished, idle, nothing_held, one_of, option, rows_after, settled, walk, walk_from, walked}
-use Rattle.clap.specs.declared.parser.matches.ValueSource.TheVariants.{CommandLine}
+use Rattle.clap.specs.declared.parser.matches.ValueSource.{ValueSource}
+use Rattle.clap.specs.declared.parser.matches.ValueSource.TheVariants.{CommandLine, DefaultValue}
 use Rattle.clap.specs.declared.builder.value_parser.Reading.TheVariants.{AsWritten, WithoutMinus}
 use Rattle.clap.specs.Simple.{Shape, built, built_leaf, entered, inherited, marked_built, names_of, subcommand_of, with_leaf_noted}
 use Rattle.clap.specs.Faults.{check_fault, defaults_fault, entered_fault, fault_of, level_fault, settle_fault, turn_fault, walk_fault}
@@ -12,7 +13,7 @@ use Rattle.clap.specs.ValueTests.{accepts}
 use Rattle.clap.proofs.OnLiterals.{clap_on_literals}
 use Rattle.command_words.specs.Commands.{any, between, sized, demo, ship, numbers_from_one, redo}
 use Rattle.formats.specs.Objects.{IsInRange}
-use Rattle.command_words.specs.Words.{Asks, Gives, GivesParams, IsAllowed, IsFor}
+use Rattle.command_words.specs.Words.{Asks, Gives, GivesParams, IsAllowed, IsFor, IsGiven, words_of}
 use Rattle.formats.specs.declared.params.Params.{Params}
 use Rattle.command_words.specs.declared.asked.Asked.{Asked}
 use Rattle.command_words.specs.declared.asked.Asked.TheVariants.{Init, Run, Dump, Demo, Upgrade, Ship, Follow}
@@ -92,6 +93,10 @@ row id word = record { id = id; values = word ∷ []; count = None; source = Som
 abbrev pending : List Row → Text → List Text → Held
 pending rows id values = record { rows = rows; pending = Some (id, values); skip = 0 }
 
+-- the flag, by its default or by the word
+abbrev flag_row : Text → ValueSource → Row
+flag_row text source = record { id = codes "pages"; values = text ∷ []; count = None; source = Some source; reading = AsWritten }
+
 module _ (a b c : Text) where
   abbrev one : Walk
   one = walk_at (pending [] (codes "N") (a ∷ [])) idle 2
@@ -102,8 +107,20 @@ module _ (a b c : Text) where
   abbrev three : Walk
   three = walk_at (pending (row (codes "N") a ∷ row (codes "CAP") b ∷ []) (codes "LIMIT") (c ∷ [])) idle 4
 
-  abbrev sized_rows : List Row
-  sized_rows = row (codes "N") a ∷ row (codes "CAP") b ∷ row (codes "LIMIT") c ∷ []
+  abbrev sized_rows : Row → List Row
+  sized_rows flag = row (codes "N") a ∷ row (codes "CAP") b ∷ row (codes "LIMIT") c ∷ flag ∷ []
+
+  abbrev plain_rows : List Row
+  plain_rows = sized_rows (flag_row (codes "false") DefaultValue)
+
+  abbrev pages_rows : List Row
+  pages_rows = sized_rows (flag_row (codes "true") CommandLine)
+
+  abbrev four : Walk
+  four = walk_at (record { rows = pages_rows; pending = None; skip = 0 }) idle 4
+
+  abbrev pages_words : List Text
+  pages_words = a ∷ b ∷ c ∷ codes "--pages" ∷ []
 
 -- a subcommand of this name with the numbers of a store
 module _ (name : Text) where
@@ -126,21 +143,51 @@ module _ (name : Text) where
     sized_walk : walk sized_rules [] nothing_held (a ∷ b ∷ c ∷ []) ≡ three a b c
     sized_walk = ap (λ w. walked sized_rules [] (walked sized_rules [] w b) c) first ∙ ap (λ w. walked sized_rules [] w c) second ∙ third
 
-    sized_rows_are : rows_after sized_rules [] (a ∷ b ∷ c ∷ []) ≡ sized_rows a b c
+    sized_rows_are : rows_after sized_rules [] (a ∷ b ∷ c ∷ []) ≡ plain_rows a b c
     sized_rows_are = ap (λ (w : Walk). finished sized_rules w.held) sized_walk
 
+    fourth : walked sized_rules [] (three a b c) (codes "--pages") ≡ four a b c
+    unfolding clap_on_literals
+    fourth = refl
+
+    pages_walk : walk sized_rules [] nothing_held (pages_words a b c) ≡ four a b c
+    pages_walk = ap (λ w. walked sized_rules [] w (codes "--pages")) sized_walk ∙ fourth
+
+    pages_rows_are : rows_after sized_rules [] (pages_words a b c) ≡ pages_rows a b c
+    pages_rows_are = ap (λ (w : Walk). finished sized_rules w.held) pages_walk
+
     module _ (in_a : accepts false (between 1 65535) a ≡ true) (in_b : accepts false (between 16 1048576) b ≡ true) (in_c : accepts false (between 4128 536870912) c ≡ true) where
+      one_turn : turn_fault sized_shape [] (walk_from nothing_held) a ≡ []
+      one_turn = value_turn a is_a sized_shape 1 nothing_held
+
+      two_turn : turn_fault sized_shape [] (one a b c) b ≡ []
+      two_turn = value_turn b is_b sized_shape 2 (pending [] (codes "N") (a ∷ [])) ∙ rw in_a refl
+
+      three_turn : turn_fault sized_shape [] (two a b c) c ≡ []
+      three_turn = value_turn c is_c sized_shape 3 (pending (row (codes "N") a ∷ []) (codes "CAP") (b ∷ [])) ∙ rw in_b refl
+
+      four_turn : turn_fault sized_shape [] (three a b c) (codes "--pages") ≡ []
+      unfolding clap_on_literals
+      four_turn = rw in_c refl
+
+      -- the three numbers are taken, and what comes behind them
+      turns_then : (rest : List Text) → walk_fault sized_shape [] (three a b c) rest ≡ [] → walk_fault sized_shape [] (walk_from nothing_held) (a ∷ b ∷ c ∷ rest) ≡ []
+      unfolding walk_fault
+      turns_then rest none =
+          ap (λ k. or_else k (walk_fault sized_shape [] (walked sized_rules [] (walk_from nothing_held) a) (b ∷ c ∷ rest))) one_turn
+          ∙ ap (λ w. walk_fault sized_shape [] w (b ∷ c ∷ rest)) first
+          ∙ ap (λ k. or_else k (walk_fault sized_shape [] (walked sized_rules [] (one a b c) b) (c ∷ rest))) two_turn
+          ∙ ap (λ w. walk_fault sized_shape [] w (c ∷ rest)) second
+          ∙ ap (λ k. or_else k (walk_fault sized_shape [] (walked sized_rules [] (two a b c) c) rest)) three_turn
+          ∙ ap (λ w. walk_fault sized_shape [] w rest) third ∙ none
+
       sized_turns : walk_fault sized_shape [] (walk_from nothing_held) (a ∷ b ∷ c ∷ []) ≡ []
       unfolding walk_fault
-      sized_turns =
-          let one_turn : turn_fault sized_shape [] (walk_from nothing_held) a ≡ [] = value_turn a is_a sized_shape 1 nothing_held in
-          let two_turn : turn_fault sized_shape [] (one a b c) b ≡ [] = value_turn b is_b sized_shape 2 (pending [] (codes "N") (a ∷ [])) ∙ rw in_a refl in
-          let three_turn : turn_fault sized_shape [] (two a b c) c ≡ [] = value_turn c is_c sized_shape 3 (pending (row (codes "N") a ∷ []) (codes "CAP") (b ∷ [])) ∙ rw in_b refl in
-          ap (λ k. or_else k (or_else (turn_fault sized_shape [] (walked sized_rules [] (walk_from nothing_held) a) b) (or_else (turn_fault sized_shape [] (walked sized_rules [] (walked sized_rules [] (walk_from nothing_held) a) b) c) []))) one_turn
-          ∙ ap (λ w. or_else (turn_fault sized_shape [] w b) (or_else (turn_fault sized_shape [] (walked sized_rules [] w b) c) [])) first
-          ∙ ap (λ k. or_else k (or_else (turn_fault sized_shape [] (walked sized_rules [] (one a b c) b) c) [])) two_turn
-          ∙ ap (λ w. or_else (turn_fault sized_shape [] w c) []) second
-          ∙ ap (λ k. or_else k []) three_turn
+      sized_turns = turns_then [] refl
+
+      pages_turns : walk_fault sized_shape [] (walk_from nothing_held) (pages_words a b c) ≡ []
+      unfolding walk_fault
+      pages_turns = turns_then (codes "--pages" ∷ []) (ap (λ k. or_else k []) four_turn)
 
       -- the faults of the level, by where its walk ends and by the faults of the walk
       sized_faultless : level_fault sized_shape [] nothing_held (a ∷ b ∷ c ∷ []) false [] ≡ []
@@ -149,58 +196,116 @@ module _ (name : Text) where
           ap (λ w. level_end sized_shape w (walk_fault sized_shape [] (walk_from nothing_held) (a ∷ b ∷ c ∷ []))) sized_walk
           ∙ ap (level_end sized_shape (three a b c)) sized_turns ∙ rw in_c refl
 
+      pages_faultless : level_fault sized_shape [] nothing_held (pages_words a b c) false [] ≡ []
+      unfolding defaults_fault
+      pages_faultless =
+          ap (λ w. level_end sized_shape w (walk_fault sized_shape [] (walk_from nothing_held) (pages_words a b c))) pages_walk
+          ∙ ap (level_end sized_shape (four a b c)) pages_turns
+
 -- ---- the numbers of the words
 
 gives : (id : Text) (n : ℕ) (word : Text) (rows : List Row) → IsNumeralOf n word → one_of id rows ≡ Some word → Gives rows id n
 gives id n word rows is value = record { text = word; value = value; numeral = subst (IsNumeral 10) (sym is.no_plus) is.numeral; number = ap (digits_value 10) is.no_plus ∙ is.number }
 
+-- a name and words behind it stop the walk of the first level, which has no fault
+record Stops (name : Text) (words : List Text) : Type 0 where
+  pub stops : walk top.rules (names_of (built redo)) nothing_held (name ∷ words) ≡ stopped_at name words
+  pub named : walk_fault top (names_of (built redo)) (walk_from nothing_held) (name ∷ words) ≡ []
+
 -- The command set has a subcommand of this name, with the numbers of a store.
 record IsSized (name : Text) : Type 0 where
-  pub stops : (a b c : Text) → walk top.rules (names_of (built redo)) nothing_held (name ∷ a ∷ b ∷ c ∷ []) ≡ stopped_at name (a ∷ b ∷ c ∷ [])
-  pub named : (a b c : Text) → walk_fault top (names_of (built redo)) (walk_from nothing_held) (name ∷ a ∷ b ∷ c ∷ []) ≡ []
+  pub plain : (a b c : Text) → Stops name (a ∷ b ∷ c ∷ [])
+  pub pages : (a b c : Text) → Stops name (pages_words a b c)
   pub enters : (words : List Text) → entered_fault (built redo) (Some (name, words)) ≡ level_fault (sized_shape name) [] nothing_held words false []
   pub rows : (words : List Text) → entered (built redo) (Some (name, words)) ≡ Some (name, rows_after (sized_rules name) [] words)
 
 init_sized : IsSized (codes "init")
 unfolding clap_on_literals
-init_sized = record { stops = λ a b c. refl; named = λ a b c. refl; enters = λ words. refl; rows = λ words. refl }
+init_sized = record {
+  plain = λ a b c. record { stops = refl; named = refl };
+  pages = λ a b c. record { stops = refl; named = refl };
+  enters = λ words. refl;
+  rows = λ words. refl;
+}
 
 upgrade_sized : IsSized (codes "upgrade")
 unfolding clap_on_literals
-upgrade_sized = record { stops = λ a b c. refl; named = λ a b c. refl; enters = λ words. refl; rows = λ words. refl }
+upgrade_sized = record {
+  plain = λ a b c. record { stops = refl; named = refl };
+  pages = λ a b c. record { stops = refl; named = refl };
+  enters = λ words. refl;
+  rows = λ words. refl;
+}
 
 -- the words of one ask what the subcommand is for
-sized_asks : (program name : Text) → IsSized name → (p : Params) → IsInRange p → p.more ≡ false → (asked : Asked) → ((rows : List Row) → GivesParams rows p → IsFor asked name rows) → IsAllowed asked
-    → Asks (program ∷ name ∷ decimal p.objects ∷ decimal p.cap ∷ decimal p.limit ∷ []) asked
-sized_asks program name sized p range plain asked for allowed =
-    let a = decimal p.objects in
-    let b = decimal p.cap in
-    let c = decimal p.limit in
-    let is_a = decimal_word p.objects (omega (arith, range.objects)) in
-    let is_b = decimal_word p.cap (omega (arith, range.cap)) in
-    let is_c = decimal_word p.limit (omega (arith, range.limit)) in
-    let in_a = in_range 1 65535 p.objects a is_a (omega (arith, range.objects)) range.some range.objects in
-    let in_b = in_range 16 1048576 p.cap b is_b (omega (arith, range.cap)) range.low range.cap in
-    let in_c = in_range 4128 536870912 p.limit c is_c (omega (arith, range.limit)) (omega (arith, range.low, range.least)) range.limit in
-    let words = a ∷ b ∷ c ∷ [] in
-    let rows = sized_rows a b c in
-    let entered_as = sized.rows words ∙ ap (λ rs. Some (name, rs)) (sized_rows_are name a b c is_a is_b is_c) in
-    record {
-      faultless = taken program name words (sized_shape name) (sized.stops a b c) (sized.named a b c) (sized.enters words) (ap is_some entered_as) (sized_faultless name a b c is_a is_b is_c in_a in_b in_c);
-      named = record {
-        name = name;
-        rows = rows;
-        is = taken_as program name words (sized_shape name) (sized.stops a b c) ∙ entered_as;
-        for = for rows (gives (codes "N") p.objects a rows is_a (read_signed a is_a), gives (codes "CAP") p.cap b rows is_b (read_signed b is_b), gives (codes "LIMIT") p.limit c rows is_c (read_signed c is_c), plain);
-        allowed = allowed;
-      };
-    }
+module _ (program name : Text) (sized : IsSized name) (p : Params) (range : IsInRange p) (asked : Asked) (for : (rows : List Row) → GivesParams rows p → IsFor asked name rows) (allowed : IsAllowed asked) where
+  abbrev a : Text
+  a = decimal p.objects
 
-pub init_asks : (program : Text) (p : Params) → IsInRange p → p.more ≡ false → Asks (program ∷ codes "init" ∷ decimal p.objects ∷ decimal p.cap ∷ decimal p.limit ∷ []) (Init p)
-init_asks program p range plain = sized_asks program (codes "init") init_sized p range plain (Init p) (λ rows all. (refl, all)) range
+  abbrev b : Text
+  b = decimal p.cap
 
-pub upgrade_asks : (program : Text) (p : Params) → IsInRange p → p.more ≡ false → Asks (program ∷ codes "upgrade" ∷ decimal p.objects ∷ decimal p.cap ∷ decimal p.limit ∷ []) (Upgrade p)
-upgrade_asks program p range plain = sized_asks program (codes "upgrade") upgrade_sized p range plain (Upgrade p) (λ rows all. (refl, all)) range
+  abbrev c : Text
+  c = decimal p.limit
+
+  is_a : IsNumeralOf p.objects a
+  is_a = decimal_word p.objects (omega (arith, range.objects))
+
+  is_b : IsNumeralOf p.cap b
+  is_b = decimal_word p.cap (omega (arith, range.cap))
+
+  is_c : IsNumeralOf p.limit c
+  is_c = decimal_word p.limit (omega (arith, range.limit))
+
+  in_a : accepts false (between 1 65535) a ≡ true
+  in_a = in_range 1 65535 p.objects a is_a (omega (arith, range.objects)) range.some range.objects
+
+  in_b : accepts false (between 16 1048576) b ≡ true
+  in_b = in_range 16 1048576 p.cap b is_b (omega (arith, range.cap)) range.low range.cap
+
+  in_c : accepts false (between 4128 536870912) c ≡ true
+  in_c = in_range 4128 536870912 p.limit c is_c (omega (arith, range.limit)) (omega (arith, range.low, range.least)) range.limit
+
+  -- words that stop the first level, and that the subcommand takes with these rows, ask it
+  asks_with : (words : List Text) (rows : List Row) → Stops name words → rows_after (sized_rules name) [] words ≡ rows
+      → level_fault (sized_shape name) [] nothing_held words false [] ≡ [] → GivesParams rows p → Asks (program ∷ name ∷ words) asked
+  asks_with words rows stopped are none given =
+      let entered_as = sized.rows words ∙ ap (λ (rs : List Row). Some (name, rs)) are in
+      record {
+        faultless = taken program name words (sized_shape name) stopped.stops stopped.named (sized.enters words) (ap is_some entered_as) none;
+        named = record {
+          name = name;
+          rows = rows;
+          is = taken_as program name words (sized_shape name) stopped.stops ∙ entered_as;
+          for = for rows given;
+          allowed = allowed;
+        };
+      }
+
+  given_with : (flag : Row) → IsGiven (sized_rows a b c flag) (codes "pages") p.more → GivesParams (sized_rows a b c flag) p
+  given_with flag is = (
+    gives (codes "N") p.objects a (sized_rows a b c flag) is_a (read_signed a is_a),
+    gives (codes "CAP") p.cap b (sized_rows a b c flag) is_b (read_signed b is_b),
+    gives (codes "LIMIT") p.limit c (sized_rows a b c flag) is_c (read_signed c is_c),
+    is,
+  )
+
+  sized_asks : Asks (program ∷ name ∷ words_of p) asked
+  sized_asks =
+      elim p.more as (λ t. p.more ≡ t → Asks (program ∷ name ∷ a ∷ b ∷ c ∷ (if t then codes "--pages" ∷ [] else [])) asked) [
+        | true ↦ λ more.
+            asks_with (pages_words a b c) (pages_rows a b c) (sized.pages a b c) (pages_rows_are name a b c is_a is_b is_c) (pages_faultless name a b c is_a is_b is_c in_a in_b in_c)
+            (given_with (flag_row (codes "true") CommandLine) (subst (IsGiven (pages_rows a b c) (codes "pages")) (sym more) refl))
+        | false ↦ λ plain.
+            asks_with (a ∷ b ∷ c ∷ []) (plain_rows a b c) (sized.plain a b c) (sized_rows_are name a b c is_a is_b is_c) (sized_faultless name a b c is_a is_b is_c in_a in_b in_c)
+            (given_with (flag_row (codes "false") DefaultValue) (subst (IsGiven (plain_rows a b c) (codes "pages")) (sym plain) (λ given. cc given)))
+      ] refl
+
+pub init_asks : (program : Text) (p : Params) → IsInRange p → Asks (program ∷ codes "init" ∷ words_of p) (Init p)
+init_asks program p range = sized_asks program (codes "init") init_sized p range (Init p) (λ rows all. (refl, all)) range
+
+pub upgrade_asks : (program : Text) (p : Params) → IsInRange p → Asks (program ∷ codes "upgrade" ∷ words_of p) (Upgrade p)
+upgrade_asks program p range = sized_asks program (codes "upgrade") upgrade_sized p range (Upgrade p) (λ rows all. (refl, all)) range
 
 -- ---- demo, with its options in either order
 

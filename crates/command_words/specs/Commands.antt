@@ -25,10 +25,10 @@ between least most = Signed (pos least) (pos most)
 abbrev pub any : ValueParser
 any = Unsigned 0 18446744073709551615
 
--- a subcommand of this name with the numbers of a store
+-- a subcommand of this name with the numbers of a store, and whether it admits the operations on pages
 abbrev pub sized : Text → Shape
 sized name = record (new_shape name) {
-  rules = number (codes "N") (between 1 65535) ∷ number (codes "CAP") (between 16 1048576) ∷ number (codes "LIMIT") (between 4128 536870912) ∷ [];
+  rules = number (codes "N") (between 1 65535) ∷ number (codes "CAP") (between 16 1048576) ∷ number (codes "LIMIT") (between 4128 536870912) ∷ flag (codes "pages") ∷ [];
 }
 
 abbrev pub demo : Shape

@@ -1,5 +1,6 @@
 -- What the words of the command line ask.
-use Rattle.std.specs.Prelude.{◌≡◌, ◌≢◌, ⊤, ℕ, ◌<◌, ◌≤◌, ◌^◌, Bool, true, false, List, [], Option, Some, codes}
+use Rattle.std.specs.Prelude.{◌≡◌, ◌≢◌, ⊤, ℕ, ◌<◌, ◌≤◌, ◌^◌, Bool, true, false, List, [], ◌∷◌, Option, Some, codes, if◌then◌else◌}
+use Rattle.std.specs.Fmt.{decimal}
 use Rattle.std.specs.Str.Parse.{IsNumeral, digits_value, without_leading_plus}
 use Rattle.formats.specs.Objects.{IsInRange}
 use Rattle.clap.specs.Words.{Row, Text, fault_of, one_of, subcommand_of}
@@ -22,10 +23,14 @@ IsGiven rows id false = one_of id rows ≢ Some (codes "true")
 
 -- the values are the numbers of a store, or those of a script
 abbrev pub GivesParams : List Row → Params → Type 0
-GivesParams rows p = Gives rows (codes "N") p.objects × Gives rows (codes "CAP") p.cap × Gives rows (codes "LIMIT") p.limit × (p.more ≡ false)
+GivesParams rows p = Gives rows (codes "N") p.objects × Gives rows (codes "CAP") p.cap × Gives rows (codes "LIMIT") p.limit × IsGiven rows (codes "pages") p.more
 
 abbrev pub GivesDemo : List Row → ℕ → ℕ → Type 0
 GivesDemo rows seed steps = Gives rows (codes "seed") seed × Gives rows (codes "steps") steps
+
+-- the numbers of a store in digits, and the flag where it admits the operations on pages
+abbrev pub words_of : Params → List Text
+words_of p = decimal p.objects ∷ decimal p.cap ∷ decimal p.limit ∷ (if p.more then codes "--pages" ∷ [] else [])
 
 -- the subcommand of this name, with these values, is for this
 abbrev pub IsFor : Asked → Text → List Row → Type 0

@@ -75,7 +75,7 @@ fn flag<'a>(alloc: Global, id: &'a str) -> Arg<'a>
     Arg::new(alloc, id).long(id).action(ArgAction::SetTrue)
 }
 
-/// `init N CAP LIMIT`, or another command with the three numbers of a store.
+/// `init N CAP LIMIT`, perhaps `--pages`, or another command with the three numbers of a store.
 fn sized<'a>(alloc: Global, name: &'a str, about: &'a str) -> Result<Command<'a>, AllocError>
     ensures { IfOk result (λ c. (shape_of c ≡ sized name.entry.now) × ((out-Command c).has_globals ≡ false)) }
 {
@@ -88,11 +88,13 @@ fn sized<'a>(alloc: Global, name: &'a str, about: &'a str) -> Result<Command<'a>
     let limit = number(alloc, "LIMIT", value_parser!(u32).range(4128..=536870912)).help(
         "How many bytes the log may grow to, 2 x CAP + 4096 to 536870912",
     );
+    let pages = flag(alloc, "pages").help("Admits the operations on pages of a map, for good");
     Command::new(alloc, name)
         .about(about)
         .arg(objects)?
         .arg(cap)?
-        .arg(limit)
+        .arg(limit)?
+        .arg(pages)
 }
 
 /// `demo --seed S --steps T`.

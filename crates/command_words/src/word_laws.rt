@@ -4,7 +4,7 @@ ghost use Rattle.command_words.specs.declared.asked.Asked.TheVariants.{Init, Run
 ghost use Rattle.command_words.specs.declared.asked.Asked.{Asked};
 ghost use Rattle.formats.specs.declared.params.Params.{Params};
 ghost use Rattle.formats.specs.Objects.{IsInRange};
-ghost use Rattle.command_words.specs.Words.{Asks};
+ghost use Rattle.command_words.specs.Words.{Asks, words_of};
 
 /// The words of the command line ask for at most one thing.
 pub fn words_ask_one_thing()
@@ -16,8 +16,8 @@ pub fn plain_words_are_taken()
     ensures run { (program : List ℕ) → Asks (program ∷ codes "run" ∷ []) (Run false) }
     ensures tend { (program : List ℕ) → Asks (program ∷ codes "run" ∷ codes "--tend" ∷ []) (Run true) }
     ensures dump { (program : List ℕ) → Asks (program ∷ codes "dump" ∷ []) Dump }
-    ensures init { (program : List ℕ) (p : Params) → IsInRange p → p.more ≡ false → Asks (program ∷ codes "init" ∷ decimal p.objects ∷ decimal p.cap ∷ decimal p.limit ∷ []) (Init p) }
-    ensures upgrade { (program : List ℕ) (p : Params) → IsInRange p → p.more ≡ false → Asks (program ∷ codes "upgrade" ∷ decimal p.objects ∷ decimal p.cap ∷ decimal p.limit ∷ []) (Upgrade p) }
+    ensures init { (program : List ℕ) (p : Params) → IsInRange p → Asks (program ∷ codes "init" ∷ words_of p) (Init p) }
+    ensures upgrade { (program : List ℕ) (p : Params) → IsInRange p → Asks (program ∷ codes "upgrade" ∷ words_of p) (Upgrade p) }
     ensures demo { (program : List ℕ) (seed steps : ℕ) → seed < 2 ^ 64 → steps ≤ 1000000 → Asks (program ∷ codes "demo" ∷ codes "--seed" ∷ decimal seed ∷ codes "--steps" ∷ decimal steps ∷ []) (Demo seed steps) }
     ensures steps_first { (program : List ℕ) (seed steps : ℕ) → seed < 2 ^ 64 → steps ≤ 1000000 → Asks (program ∷ codes "demo" ∷ codes "--steps" ∷ decimal steps ∷ codes "--seed" ∷ decimal seed ∷ []) (Demo seed steps) }
     ensures ship { (program : List ℕ) (from : ℕ) → 1 ≤ from → from < 2 ^ 62 → Asks (program ∷ codes "ship" ∷ decimal from ∷ []) (Ship from) }

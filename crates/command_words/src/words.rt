@@ -47,7 +47,7 @@ fn flag(matches: &ArgMatches<'_>, id: &str) -> bool
     matches.get_one::<bool>(id).unwrap_or(false)
 }
 
-/// The numbers of a store, by the values of the three arguments.
+/// The numbers of a store, by the values of the three arguments and the flag.
 fn params(values: &ArgMatches<'_>) -> Option<Params>
     ensures some { IfSome result (λ p. IsInRange p × GivesParams (rows_of (found_of values.now)) p) }
     ensures none { IfNone result ((p : Params) → IsInRange p → GivesParams (rows_of (found_of values.now)) p → ⊥) }
@@ -56,7 +56,7 @@ fn params(values: &ArgMatches<'_>) -> Option<Params>
         objects: short(values, "N")?,
         cap: short(values, "CAP")?,
         limit: short(values, "LIMIT")?,
-        more: false,
+        more: flag(values, "pages"),
     };
     if is_in_range(&params) {
         Some(params)

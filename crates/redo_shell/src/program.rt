@@ -26,7 +26,7 @@ use store_words::{dump, init, upgrade};
 
 /// What is printed where the words ask nothing.
 const USAGE: &[u8] =
-    b"usage: redo init N CAP LIMIT | run [--tend] | dump | demo --seed S --steps T | upgrade N CAP LIMIT | ship FROM | follow\n";
+    b"usage: redo init N CAP LIMIT [--pages] | run [--tend] | dump | demo --seed S --steps T | upgrade N CAP LIMIT [--pages] | ship FROM | follow\n";
 
 /// Does what was asked, with the files of the machine, its output, and the script that the source gives, of which a run takes
 /// notes.

@@ -27,7 +27,7 @@ smaller objects cap = with_newline (codes "smaller " ++ decimal objects ++ 32 �
 
 -- the words ask nothing
 abbrev pub usage : List ℕ
-usage = with_newline (codes "usage: redo init N CAP LIMIT | run [--tend] | dump | demo --seed S --steps T | upgrade N CAP LIMIT | ship FROM | follow")
+usage = with_newline (codes "usage: redo init N CAP LIMIT [--pages] | run [--tend] | dump | demo --seed S --steps T | upgrade N CAP LIMIT [--pages] | ship FROM | follow")
 
 -- the name of a file
 abbrev pub name_of_file : FileNo → List ℕ

@@ -464,6 +464,13 @@ fn strings(alloc: Global, words: &[&str]) -> Option<Vec<String>> {
     Some(strings)
 }
 
+const PAGES: Params = Params {
+    objects: 1,
+    cap: 16,
+    limit: 4128,
+    more: true,
+};
+
 const LARGEST: Params = Params {
     objects: 65535,
     cap: 1048576,
@@ -479,7 +486,7 @@ const LEAST: Params = Params {
 };
 
 // Words, and what they ask.
-const WORDS: [(&[&str], Option<Asked>); 44] = [
+const WORDS: [(&[&str], Option<Asked>); 47] = [
     (&["redo", "run"], Some(Asked::Run { tend: false })),
     (&["redo", "run", "--tend"], Some(Asked::Run { tend: true })),
     (&["redo", "run", "--tend", "--tend"], None),
@@ -533,6 +540,18 @@ const WORDS: [(&[&str], Option<Asked>); 44] = [
     (
         &["redo", "upgrade", "65535", "1048576", "536870912"],
         Some(Asked::Upgrade(LARGEST)),
+    ),
+    (
+        &["redo", "init", "1", "16", "4128", "--pages"],
+        Some(Asked::Init(PAGES)),
+    ),
+    (
+        &["redo", "upgrade", "--pages", "1", "16", "4128"],
+        Some(Asked::Upgrade(PAGES)),
+    ),
+    (
+        &["redo", "init", "--pages", "--pages", "1", "16", "4128"],
+        None,
     ),
     (&["redo", "upgrade", "8", "64"], None),
     (&["redo", "upgrade", "8", "64", "4223"], None),

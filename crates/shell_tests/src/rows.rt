@@ -15,10 +15,13 @@ const NODES: Run = ("redo init 8 1024 65536", b"", Status::Done, b"");
 const NO_STORE: Run = ("redo run", b"get 0\n", Status::NotAStore, b"not a store\n");
 
 const USAGE: &[u8] =
-    b"usage: redo init N CAP LIMIT | run [--tend] | dump | demo --seed S --steps T | upgrade N CAP LIMIT | ship FROM | follow\n";
+    b"usage: redo init N CAP LIMIT [--pages] | run [--tend] | dump | demo --seed S --steps T | upgrade N CAP LIMIT [--pages] | ship FROM | follow\n";
+
+// The frame of a put of `b` with `2` into the page of object 2.
+const PAGE: &[u8] = b"\x16\0\0\0\x01\x01\0\0\0\0\0\0\0\x15\x02\0\0\0\0\0\x01\0b\x01\02";
 
 // Runs in one folder, empty at first, with a crash between them that loses what was not synced.
-const ROWS: [&[Run]; 47] = [
+const ROWS: [&[Run]; 49] = [
     // A group allows no force, and ends once.
     &[
         NEW,
@@ -113,6 +116,36 @@ const ROWS: [&[Run]; 47] = [
             b"already version 2\n",
         ),
         ("redo dump", b"", Status::Done, b"0 aa\ncommands 1\n"),
+    ],
+    // A store that is made with pages takes an operation on one, and does it again after a crash.
+    &[
+        ("redo init 8 64 65536 --pages", b"", Status::Done, b""),
+        ("redo follow", PAGE, Status::Done, b"followed 1\n"),
+        (
+            "redo dump",
+            b"",
+            Status::Done,
+            b"2 05000100010062320400\ncommands 1\n",
+        ),
+        (
+            "redo upgrade 8 64 65536 --pages",
+            b"",
+            Status::AlreadyTwo,
+            b"already version 2\n",
+        ),
+    ],
+    // One without refuses it, until it is upgraded to have them.
+    &[
+        NEW,
+        (
+            "redo follow",
+            PAGE,
+            Status::BadStream,
+            b"stream BadFrame 4\n",
+        ),
+        ("redo upgrade 8 64 65536 --pages", b"", Status::Done, b""),
+        ("redo follow", PAGE, Status::Done, b"followed 1\n"),
+        ("redo ship 1", b"", Status::Done, PAGE),
     ],
     // The eighth key of a hash file splits its bucket.
     &[

@@ -2,7 +2,7 @@ use Rattle.std.proofs.Common.{◌≡◌, ◌∙◌, ap, codes}
 use Rattle.std.proofs.lemmas.Result.{IfOk-weaker}
 use Rattle.clap.specs.Words.{App, Text, new_app, rule_of, with_rule}
 use Rattle.clap.specs.declared.builder.arg.Arg.{Arg}
-use Rattle.command_words.specs.Commands.{between, number}
+use Rattle.command_words.specs.Commands.{between, flag, number}
 use Rattle.command_words.proofs.CommandLemmas.{about_app, about_local, arg_added, arg_local}
 use Rattle.command_words.proofs.command.sized.Goals as goal
 
@@ -11,6 +11,9 @@ first name = with_rule (new_app name) (number (codes "N") (between 1 65535))
 
 abbrev second : Text → App
 second name = with_rule (first name) (number (codes "CAP") (between 16 1048576))
+
+abbrev third : Text → App
+third name = with_rule (second name) (number (codes "LIMIT") (between 4128 536870912))
 
 pub returns : goal.returns
 returns c =
@@ -25,5 +28,8 @@ returns c =
     let f3 = ap (λ (a : Arg). a.global) c.help-limit.ensures ∙ c.number-3.ensures.local in
     let one = arg_added (new_app c.args.name.now) _ c.in_ok-arg.ensures (about_app _ _ c.about.ensures ∙ c.new-4.ensures.app) n1 f1 in
     let two = arg_added (first c.args.name.now) _ c.in_ok-arg-2.ensures one n2 f2 in
-    let local = arg_local c.in_ok-arg-2.ensures (arg_local c.in_ok-arg.ensures (about_local _ _ c.about.ensures c.new-4.ensures.local) f1) f2 in
-    IfOk-weaker c.arg-3.result _ _ (λ m adds. (ap (λ (a : App). a.top) (arg_added (second c.args.name.now) _ adds two n3 f3), arg_local adds local f3)) c.arg-3.ensures
+    let three = arg_added (second c.args.name.now) _ c.in_ok-arg-3.ensures two n3 f3 in
+    let rule = ap rule_of c.help-pages.ensures ∙ c.flag.ensures.rule in
+    let free = ap (λ (a : Arg). a.global) c.help-pages.ensures ∙ c.flag.ensures.local in
+    let local = arg_local c.in_ok-arg-3.ensures (arg_local c.in_ok-arg-2.ensures (arg_local c.in_ok-arg.ensures (about_local _ _ c.about.ensures c.new-4.ensures.local) f1) f2) f3 in
+    IfOk-weaker c.arg-4.result _ _ (λ m adds. (ap (λ (a : App). a.top) (arg_added (third c.args.name.now) (flag (codes "pages")) adds three rule free), arg_local adds local free)) c.arg-4.ensures
