@@ -24,6 +24,9 @@ echo "status $?"
 "$log" --kind puts 2>told
 echo "status $?"
 
+# And they are counted by their kinds.
+"$log" --stats --from 2 --to 5
+
 # The last block begins at byte 206. Where its gate is closed, the force counts for nothing: the bytes behind it are what a force
 # that was stopped would have left.
 printf '\0' | dd of=log_a.rdo bs=1 seek=206 conv=notrunc 2>/dev/null

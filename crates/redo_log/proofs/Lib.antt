@@ -8,3 +8,5 @@ pub mod ListLemmas
 pub mod BrokenLemmas
 pub mod AskLemmas
 pub mod CommandLemmas
+pub mod TallyLemmas
+pub mod CountLemmas

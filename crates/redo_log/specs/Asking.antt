@@ -35,6 +35,7 @@ pub record Gives (rows : List Row) (it : Asked) : Type 0 where
   pub to : IsNumber 64 (one_of (codes "to") rows) it.choice.to
   pub object : IsNumber 32 (one_of (codes "object") rows) it.choice.object
   pub kind : IsKind (first_of (codes "kind") rows) it.choice.kind
+  pub stats : IsFlag (one_of (codes "stats") rows) it.stats
   pub glance : IsFlag (one_of (codes "glance") rows) it.glance
 
 -- The words, the program's name first, ask this: clap finds no fault in them, and their options have these values.

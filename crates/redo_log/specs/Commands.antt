@@ -18,7 +18,7 @@ flag id = record (new_rule id) { long = Some id; action = Some SetTrue }
 abbrev pub redo_log : App
 redo_log = record {
   top = record (new_shape (codes "redo_log")) {
-    rules = number (codes "from") ∷ number (codes "to") ∷ number (codes "object") ∷ text (codes "kind") ∷ flag (codes "glance") ∷ [];
+    rules = number (codes "from") ∷ number (codes "to") ∷ number (codes "object") ∷ text (codes "kind") ∷ flag (codes "stats") ∷ flag (codes "glance") ∷ [];
   };
   subs = [];
 }

@@ -8,6 +8,8 @@ use Rattle.app_program.specs.declared.program_op.ProgramOp.{ProgramOp}
 use Rattle.app_program.specs.declared.program_op.ProgramOp.TheVariants.{Step, Feed, Drain}
 use Rattle.hash_ops.specs.declared.hash_op.HashOp.{HashOp}
 use Rattle.hash_ops.specs.declared.hash_op.HashOp.TheVariants as hashes
+use Rattle.page_ops.specs.declared.page_op.PageOp.{PageOp}
+use Rattle.page_ops.specs.declared.page_op.PageOp.TheVariants as pages
 use Rattle.op_codec.specs.AllOps.{AllOps}
 use Rattle.op_codec.specs.Sum.{by_family}
 use Rattle.formats.specs.declared.record.Record.{Record}
@@ -20,6 +22,8 @@ kind_words =
     ∷ codes "leaf_put" ∷ codes "leaf_delete" ∷ codes "split_child" ∷ codes "split_root"
     ∷ codes "pexec" ∷ codes "pread" ∷ codes "pwrite"
     ∷ codes "hash_begin" ∷ codes "bucket_put" ∷ codes "bucket_delete" ∷ codes "bucket_split"
+    ∷ codes "page_put" ∷ codes "page_set" ∷ codes "page_delete" ∷ codes "page_part" ∷ codes "page_absorb" ∷ codes "page_join"
+    ∷ codes "page_keep" ∷ codes "page_turn" ∷ codes "page_turn_two" ∷ codes "page_root" ∷ codes "page_free"
     ∷ codes "identity" ∷ codes "check" ∷ []
 
 abbrev pub plain_kind : PlainOp → ℕ
@@ -50,11 +54,24 @@ hash_kind (hashes.Put bucket key value) = 17
 hash_kind (hashes.Delete bucket key) = 18
 hash_kind (hashes.Split directory bucket new) = 19
 
+abbrev pub page_kind : PageOp → ℕ
+page_kind (pages.Put x i key value) = 20
+page_kind (pages.Set x i value) = 21
+page_kind (pages.Delete x i) = 22
+page_kind (pages.Part new x i j) = 23
+page_kind (pages.Absorb x other t) = 24
+page_kind (pages.Join new x other i j) = 25
+page_kind (pages.Keep x n) = 26
+page_kind (pages.Turn x i r child) = 27
+page_kind (pages.TurnTwo x i r child key second) = 28
+page_kind (pages.Root x level left key right) = 29
+page_kind (pages.Free x) = 30
+
 abbrev pub op_kind : AllOps → ℕ
-op_kind op = by_family plain_kind (by_family node_kind (by_family program_kind hash_kind)) op
+op_kind op = by_family plain_kind (by_family node_kind (by_family program_kind (by_family hash_kind page_kind))) op
 
 -- the kind of a record: that of its command's operation; an identity write; a check
 abbrev pub kind_of : Record AllOps → ℕ
 kind_of (Command lsn op) = op_kind op
-kind_of (Identity lsn x value) = 20
-kind_of (Checkpoint table) = 21
+kind_of (Identity lsn x value) = 31
+kind_of (Checkpoint table) = 32

@@ -8,3 +8,4 @@ pub mod Reading
 pub mod Unreadable
 pub mod Fronts
 pub mod Listing
+pub mod Tallying

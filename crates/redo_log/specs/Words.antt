@@ -10,6 +10,8 @@ use Rattle.app_program.specs.declared.program_op.ProgramOp.{ProgramOp}
 use Rattle.app_program.specs.declared.program_op.ProgramOp.TheVariants.{Step, Feed, Drain}
 use Rattle.hash_ops.specs.declared.hash_op.HashOp.{HashOp}
 use Rattle.hash_ops.specs.declared.hash_op.HashOp.TheVariants as hashes
+use Rattle.page_ops.specs.declared.page_op.PageOp.{PageOp}
+use Rattle.page_ops.specs.declared.page_op.PageOp.TheVariants as pages
 use Rattle.op_codec.specs.AllOps.{AllOps}
 use Rattle.op_codec.specs.Sum.{by_family}
 use Rattle.script_lines.specs.Replies.{hex_text, spaced}
@@ -50,5 +52,19 @@ hash_words (hashes.Put bucket key value) = codes "bucket_put" ++ spaced bucket +
 hash_words (hashes.Delete bucket key) = codes "bucket_delete" ++ spaced bucket ++ spaced_hex key
 hash_words (hashes.Split directory bucket new) = codes "bucket_split" ++ numbers (directory ∷ bucket ∷ new ∷ [])
 
+abbrev pub page_words : PageOp → List ℕ
+page_words (pages.Put x i key value) = codes "page_put" ++ spaced x ++ spaced i ++ spaced_hex key ++ spaced_hex value
+page_words (pages.Set x i value) = codes "page_set" ++ spaced x ++ spaced i ++ spaced_hex value
+page_words (pages.Delete x i) = codes "page_delete" ++ spaced x ++ spaced i
+page_words (pages.Part new x i j) = codes "page_part" ++ numbers (new ∷ x ∷ []) ++ spaced i ++ spaced j
+page_words (pages.Absorb x other t) = codes "page_absorb" ++ spaced x ++ spaced other ++ spaced t
+page_words (pages.Join new x other i j) = codes "page_join" ++ numbers (new ∷ x ∷ other ∷ []) ++ spaced i ++ spaced j
+page_words (pages.Keep x n) = codes "page_keep" ++ spaced x ++ spaced n
+page_words (pages.Turn x i r child) = codes "page_turn" ++ spaced x ++ spaced i ++ spaced r ++ spaced child
+page_words (pages.TurnTwo x i r child key second) =
+    codes "page_turn_two" ++ spaced x ++ spaced i ++ spaced r ++ spaced child ++ spaced_hex key ++ spaced second
+page_words (pages.Root x level left key right) = codes "page_root" ++ spaced x ++ spaced level ++ spaced left ++ spaced_hex key ++ spaced right
+page_words (pages.Free x) = codes "page_free" ++ numbers (x ∷ [])
+
 abbrev pub op_words : AllOps → List ℕ
-op_words op = by_family plain_words (by_family node_words (by_family program_words hash_words)) op
+op_words op = by_family plain_words (by_family node_words (by_family program_words (by_family hash_words page_words))) op

@@ -9,7 +9,8 @@ use std::alloc::{AllocError, Global};
 // The kinds, as help has them.
 const KINDS: &str =
     "Kinds: put copy append cut sort swap exec aread awrite; leaf_put leaf_delete split_child split_root; pexec pread\n\
-    pwrite; hash_begin bucket_put bucket_delete bucket_split; identity, check.\n\n\
+    pwrite; hash_begin bucket_put bucket_delete bucket_split; page_put page_set page_delete page_part page_absorb page_join\n\
+    page_keep page_turn page_turn_two page_root page_free; identity, check.\n\n\
     With one of these options the lines of the header, of blocks and of the end are left out. No file is written.";
 
 // An option with a number.
@@ -46,6 +47,7 @@ pub fn redo_log<'a>(alloc: Global) -> Result<Command<'a>, AllocError>
     let to = number(alloc, "to").help("Only records up to this LSN");
     let object = number(alloc, "object").help("Only records that read or write this object");
     let kind = text(alloc, "kind").help("Only records of this kind");
+    let stats = flag(alloc, "stats").help("Counts these records by their kinds");
     let glance = flag(alloc, "glance").help(
         "Looks without a lock, while another program may use the store",
     );
@@ -58,5 +60,6 @@ pub fn redo_log<'a>(alloc: Global) -> Result<Command<'a>, AllocError>
         .arg(to)?
         .arg(object)?
         .arg(kind)?
+        .arg(stats)?
         .arg(glance)
 }

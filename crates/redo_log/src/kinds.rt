@@ -1,6 +1,6 @@
 // The kinds of records.
 ghost use Rattle.std.specs.Prelude.{◌≡◌};
-ghost use Rattle.redo_log.specs.Kinds.{hash_kind, kind_of, node_kind, op_kind, plain_kind, program_kind};
+ghost use Rattle.redo_log.specs.Kinds.{hash_kind, kind_of, node_kind, op_kind, page_kind, plain_kind, program_kind};
 
 use app_program::ProgramOp;
 use btree_ops::NodeOp;
@@ -8,6 +8,7 @@ use formats::Record;
 use hash_ops::HashOp;
 use op_codec::{AllOps, Sum};
 use op_meaning::PlainOp;
+use page_ops::PageOp;
 
 /// The kind of an operation on plain values, or on an application.
 fn plain_kind(op: &PlainOp) -> u8
@@ -61,6 +62,25 @@ fn hash_kind(op: &HashOp) -> u8
     }
 }
 
+/// That of an operation on a page.
+fn page_kind(op: &PageOp) -> u8
+    ensures { result ≡ page_kind op.now }
+{
+    match op {
+        PageOp::Put { .. } => 20,
+        PageOp::Set { .. } => 21,
+        PageOp::Delete { .. } => 22,
+        PageOp::Part { .. } => 23,
+        PageOp::Absorb { .. } => 24,
+        PageOp::Join { .. } => 25,
+        PageOp::Keep { .. } => 26,
+        PageOp::Turn { .. } => 27,
+        PageOp::TurnTwo { .. } => 28,
+        PageOp::Root { .. } => 29,
+        PageOp::Free { .. } => 30,
+    }
+}
+
 /// That of an operation of any family.
 fn op_kind(op: &AllOps) -> u8
     ensures { result ≡ op_kind op.now }
@@ -69,7 +89,10 @@ fn op_kind(op: &AllOps) -> u8
         Sum::First(op) => plain_kind(op),
         Sum::Second(Sum::First(op)) => node_kind(op),
         Sum::Second(Sum::Second(Sum::First(op))) => program_kind(op),
-        Sum::Second(Sum::Second(Sum::Second(op))) => hash_kind(op),
+        Sum::Second(Sum::Second(Sum::Second(later))) => match later {
+            Sum::First(op) => hash_kind(op),
+            Sum::Second(op) => page_kind(op),
+        },
     }
 }
 
@@ -79,7 +102,7 @@ pub fn kind_of(it: &Record<AllOps>) -> u8
 {
     match it {
         Record::Command(_, op) => op_kind(op),
-        Record::Identity(..) => 20,
-        Record::Checkpoint(_) => 21,
+        Record::Identity(..) => 31,
+        Record::Checkpoint(_) => 32,
     }
 }

@@ -35,7 +35,7 @@ use std::alloc::Global;
 use tool_output::{Status, Stop, end_stopped, say_text};
 
 /// How many objects the store has, and how long they may be.
-fn read_bounds<M: Machine>(alloc: Global, machine: &mut M) -> Result<Bounds, Stop>
+pub fn read_bounds<M: Machine>(alloc: Global, machine: &mut M) -> Result<Bounds, Stop>
     ensures kept { Stays (M.disk machine.old) (M.disk machine.new) }
     ensures whole { (M.disk machine.old).tells_files → IfOk result (HasStore (M.disk machine.old).reads) }
     ensures cause { (M.disk machine.old).tells_files → IfErr result (IsStopped (M.disk machine.old).reads) }
@@ -161,7 +161,7 @@ fn check_store<M: Machine>(alloc: Global, machine: &mut M, b: Bounds) -> Result<
 
 /// Checks the log of which this was said. The first fault of the files is reported where the check finds one. Where it finds
 /// none, bytes that were no record were read otherwise the second time, and it is their place that is reported.
-fn end_listing<M: Machine>(
+pub fn end_listing<M: Machine>(
     alloc: Global,
     machine: &mut M,
     b: Bounds,

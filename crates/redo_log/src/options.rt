@@ -53,8 +53,19 @@ fn kind_named(word: &str) -> Option<u8>
         "bucket_put" => Some(17),
         "bucket_delete" => Some(18),
         "bucket_split" => Some(19),
-        "identity" => Some(20),
-        "check" => Some(21),
+        "page_put" => Some(20),
+        "page_set" => Some(21),
+        "page_delete" => Some(22),
+        "page_part" => Some(23),
+        "page_absorb" => Some(24),
+        "page_join" => Some(25),
+        "page_keep" => Some(26),
+        "page_turn" => Some(27),
+        "page_turn_two" => Some(28),
+        "page_root" => Some(29),
+        "page_free" => Some(30),
+        "identity" => Some(31),
+        "check" => Some(32),
         _ => None,
     }
 }
@@ -70,11 +81,11 @@ fn kind(matches: &ArgMatches<'_>) -> Option<Option<u8>>
     }
 }
 
-// Whether a glance is asked.
-fn glance(matches: &ArgMatches<'_>) -> bool
-    ensures { IsFlag (one_of (codes "glance") (rows_of (found_of matches.now))) result }
+// Whether the option of this name is there, which has no value.
+fn flag(matches: &ArgMatches<'_>, id: &str) -> bool
+    ensures { IsFlag (one_of id.now (rows_of (found_of matches.now))) result }
 {
-    matches.get_flag("glance")
+    matches.get_flag(id)
 }
 
 // What the options ask; `None` where a number or a word is none.
@@ -89,7 +100,8 @@ fn asked(matches: &ArgMatches<'_>) -> Option<Asked>
             object: narrow(matches, "object")?,
             kind: kind(matches)?,
         },
-        glance: glance(matches),
+        stats: flag(matches, "stats"),
+        glance: flag(matches, "glance"),
     })
 }
 

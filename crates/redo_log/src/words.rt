@@ -1,7 +1,7 @@
 // Operations in words.
-ghost use Rattle.std.specs.Prelude.{◌≡◌, ◌++◌, OnOk, IfOk};
+ghost use Rattle.std.specs.Prelude.{◌≡◌, ◌++◌, OnOk, IfOk, codes};
 ghost use Rattle.script_lines.specs.Replies.{hex_text, spaced};
-ghost use Rattle.redo_log.specs.Words.{numbers, spaced_hex, plain_words, node_words, program_words, hash_words, op_words};
+ghost use Rattle.redo_log.specs.Words.{numbers, spaced_hex, plain_words, node_words, program_words, hash_words, page_words, op_words};
 
 use app_program::ProgramOp;
 use btree_ops::NodeOp;
@@ -9,6 +9,7 @@ use hash_ops::HashOp;
 use op_codec::{AllOps, Sum};
 use op_meaning::PlainOp;
 use oper_core::Memory;
+use page_ops::PageOp;
 use script_lines::{Answer, answer_text};
 use std::alloc::Global;
 use tool_output::push_spaced;
@@ -153,6 +154,195 @@ fn push_hash(alloc: Global, text: &mut Vec<u8>, op: &HashOp) -> Result<(), Memor
     Ok(())
 }
 
+/// Adds a name, a page, and a place or a count.
+fn push_at(
+    alloc: Global,
+    text: &mut Vec<u8>,
+    name: &[u8],
+    page: u32,
+    place: u16,
+) -> Result<(), Memory>
+    ensures { OnOk result (text.new.items ≡ text.old.items ++ name.now ++ spaced page ++ spaced place) }
+{
+    text.extend_from_slice(name)?;
+    push_spaced(alloc, text, u64::from(page))?;
+    push_spaced(alloc, text, u64::from(place))?;
+    Ok(())
+}
+
+/// Adds a name, a page, a place, and bytes.
+fn push_cell(
+    alloc: Global,
+    text: &mut Vec<u8>,
+    name: &[u8],
+    page: u32,
+    place: u16,
+    bytes: &[u8],
+) -> Result<(), Memory>
+    ensures { OnOk result (text.new.items ≡ text.old.items ++ name.now ++ spaced page ++ spaced place ++ spaced_hex bytes.now) }
+{
+    push_at(alloc, text, name, page, place)?;
+    push_hex(alloc, text, bytes)?;
+    Ok(())
+}
+
+/// Adds a name, pages, and the places from which and up to which cells are taken.
+fn push_cells(
+    alloc: Global,
+    text: &mut Vec<u8>,
+    name: &[u8],
+    pages: &[u32],
+    from: u16,
+    to: u16,
+) -> Result<(), Memory>
+    ensures { OnOk result (text.new.items ≡ text.old.items ++ name.now ++ numbers pages.now ++ spaced from ++ spaced to) }
+{
+    push_names(alloc, text, name, pages)?;
+    push_spaced(alloc, text, u64::from(from))?;
+    push_spaced(alloc, text, u64::from(to))?;
+    Ok(())
+}
+
+/// Adds the words of an absorb.
+fn push_absorb(
+    alloc: Global,
+    text: &mut Vec<u8>,
+    page: u32,
+    other: u32,
+    count: u16,
+) -> Result<(), Memory>
+    ensures { OnOk result (text.new.items ≡ text.old.items ++ codes "page_absorb" ++ spaced page ++ spaced other ++ spaced count) }
+{
+    text.extend_from_slice(b"page_absorb")?;
+    push_spaced(alloc, text, u64::from(page))?;
+    push_spaced(alloc, text, u64::from(other))?;
+    push_spaced(alloc, text, u64::from(count))?;
+    Ok(())
+}
+
+/// Adds the words of a turn, or those with which one to two children begins.
+fn push_turn(
+    alloc: Global,
+    text: &mut Vec<u8>,
+    name: &[u8],
+    page: u32,
+    place: u16,
+    count: u16,
+    child: u32,
+) -> Result<(), Memory>
+    ensures { OnOk result (text.new.items ≡ text.old.items ++ name.now ++ spaced page ++ spaced place ++ spaced count ++ spaced child) }
+{
+    push_at(alloc, text, name, page, place)?;
+    push_spaced(alloc, text, u64::from(count))?;
+    push_spaced(alloc, text, u64::from(child))?;
+    Ok(())
+}
+
+/// Adds the words with which those of a root begin: the page, its level and the left child.
+fn push_root(
+    alloc: Global,
+    text: &mut Vec<u8>,
+    page: u32,
+    level: u8,
+    left: u32,
+) -> Result<(), Memory>
+    ensures { OnOk result (text.new.items ≡ text.old.items ++ codes "page_root" ++ spaced page ++ spaced level ++ spaced left) }
+{
+    text.extend_from_slice(b"page_root")?;
+    push_spaced(alloc, text, u64::from(page))?;
+    push_spaced(alloc, text, u64::from(level))?;
+    push_spaced(alloc, text, u64::from(left))?;
+    Ok(())
+}
+
+/// Adds a key and the child that it leads to.
+fn push_child(alloc: Global, text: &mut Vec<u8>, key: &[u8], child: u32) -> Result<(), Memory>
+    ensures { OnOk result (text.new.items ≡ text.old.items ++ spaced_hex key.now ++ spaced child) }
+{
+    push_hex(alloc, text, key)?;
+    push_spaced(alloc, text, u64::from(child))?;
+    Ok(())
+}
+
+/// Adds the words of an operation on pages of a map.
+fn push_page(alloc: Global, text: &mut Vec<u8>, op: &PageOp) -> Result<(), Memory>
+    ensures { OnOk result (text.new.items ≡ text.old.items ++ page_words op.now) }
+{
+    match op {
+        PageOp::Put {
+            page,
+            place,
+            key,
+            value,
+        } => {
+            push_cell(alloc, text, b"page_put", *page, *place, key.as_slice())?;
+            push_hex(alloc, text, value.as_slice())?;
+        }
+        PageOp::Set { page, place, value } => push_cell(
+            alloc,
+            text,
+            b"page_set",
+            *page,
+            *place,
+            value.as_slice(),
+        )?,
+        PageOp::Delete { page, place } => { push_at(alloc, text, b"page_delete", *page, *place)? }
+        PageOp::Part {
+            new,
+            page,
+            from,
+            to,
+        } => push_cells(alloc, text, b"page_part", &[*new, *page], *from, *to)?,
+        PageOp::Absorb { page, other, count } => {
+            push_absorb(alloc, text, *page, *other, *count)?
+        }
+        PageOp::Join {
+            new,
+            page,
+            other,
+            from,
+            to,
+        } => push_cells(
+            alloc,
+            text,
+            b"page_join",
+            &[*new, *page, *other],
+            *from,
+            *to,
+        )?,
+        PageOp::Keep { page, count } => push_at(alloc, text, b"page_keep", *page, *count)?,
+        PageOp::Turn {
+            page,
+            place,
+            count,
+            child,
+        } => push_turn(alloc, text, b"page_turn", *page, *place, *count, *child)?,
+        PageOp::TurnTwo {
+            page,
+            place,
+            count,
+            child,
+            key,
+            second,
+        } => {
+            push_turn(alloc, text, b"page_turn_two", *page, *place, *count, *child)?;
+            push_child(alloc, text, key.as_slice(), *second)?;
+        }
+        PageOp::Root {
+            page,
+            level,
+            left,
+            key,
+            right,
+        } => {
+            push_root(alloc, text, *page, *level, *left)?;
+            push_child(alloc, text, key.as_slice(), *right)?;
+        }
+        PageOp::Free { page } => push_names(alloc, text, b"page_free", &[*page])?,
+    }
+    Ok(())
+}
+
 /// Adds the words of an operation: those of the line of a script that asks for it, if one asks for it alone.
 pub fn push_op(alloc: Global, text: &mut Vec<u8>, op: &AllOps) -> Result<(), Memory>
     ensures { OnOk result (text.new.items ≡ text.old.items ++ op_words op.now) }
@@ -161,7 +351,10 @@ pub fn push_op(alloc: Global, text: &mut Vec<u8>, op: &AllOps) -> Result<(), Mem
         Sum::First(op) => push_plain(alloc, text, op)?,
         Sum::Second(Sum::First(op)) => push_node(alloc, text, op)?,
         Sum::Second(Sum::Second(Sum::First(op))) => push_program(alloc, text, op)?,
-        Sum::Second(Sum::Second(Sum::Second(op))) => push_hash(alloc, text, op)?,
+        Sum::Second(Sum::Second(Sum::Second(later))) => match later {
+            Sum::First(op) => push_hash(alloc, text, op)?,
+            Sum::Second(op) => push_page(alloc, text, op)?,
+        },
     }
     Ok(())
 }
