@@ -29,6 +29,8 @@ install:
 	install -m 644 docs/redo.1 docs/redo_log.1 docs/redo_check.1 $(man)
 	install -m 644 LICENSE-MIT LICENSE-APACHE THIRD-PARTY $(doc)
 	install -m 644 release/completion.bash $(completions)/redo
+	install -m 644 release/completion_look.bash $(completions)/redo_log
+	install -m 644 release/completion_look.bash $(completions)/redo_check
 	install -m 644 release/libredo-x86_64-linux.so $(lib)/libredo.so.1
 	ln -sf libredo.so.1 $(lib)/libredo.so
 	install -m 644 capi/redo.h $(include)/redo.h
@@ -40,7 +42,8 @@ install:
 	ln -sfr $(lib)/libredo.so.1 $(libexec)/python/libredo.so.1
 
 uninstall:
-	rm -f $(bin)/redo $(bin)/redo_log $(bin)/redo_check $(man)/redo.1 $(man)/redo_log.1 $(man)/redo_check.1 $(completions)/redo
+	rm -f $(bin)/redo $(bin)/redo_log $(bin)/redo_check $(man)/redo.1 $(man)/redo_log.1 $(man)/redo_check.1
+	rm -f $(completions)/redo $(completions)/redo_log $(completions)/redo_check
 	rm -f $(libexec)/redo $(libexec)/redo_log $(libexec)/redo_check
 	rm -f $(lib)/libredo.so $(lib)/libredo.so.1 $(lib)/pkgconfig/redo.pc $(include)/redo.h
 	rm -f $(doc)/LICENSE-MIT $(doc)/LICENSE-APACHE $(doc)/THIRD-PARTY
@@ -51,7 +54,7 @@ uninstall:
 dist:
 	tar -czf redo-$(version)-x86_64-linux.tar.gz --transform 's|^|redo-$(version)/|' \
 	  README.md CHANGELOG.md LICENSE-MIT LICENSE-APACHE THIRD-PARTY Makefile docs release/redo-x86_64-linux release/redo_log-x86_64-linux \
-	  release/redo_check-x86_64-linux release/start release/look release/deb release/completion.bash release/libredo-x86_64-linux.so \
+	  release/redo_check-x86_64-linux release/start release/look release/deb release/completion.bash release/completion_look.bash release/libredo-x86_64-linux.so \
 	  capi/redo.h capi/redo.pc.in capi/redo.py capi/redo_shell.py capi/shell capi/pyproject.toml capi/build_wheel.py
 
 # a package for Debian and Ubuntu: `apt install ./redo_*_amd64.deb`
