@@ -127,7 +127,7 @@ int32_t redo_get(redo_t *db, uint32_t object, void *into, size_t room, uint64_t 
 int32_t redo_force(redo_t *db, uint64_t *commands);     /* all accepted commands are durable: so many since redo_create */
 int32_t redo_install(redo_t *db, uint64_t *installed);  /* one node of the write graph: 1, or 0 where none was left */
 int32_t redo_drain(redo_t *db);                         /* all of them */
-/* A piece of a drain, with four syncs at most for all that it installs together: up to `most` nodes, or one; 0 where none was left. */
+/* A piece of a drain, with four syncs at most for all that it installs together: up to `most` nodes; 0 where none was left. */
 int32_t redo_tend(redo_t *db, uint64_t most, uint64_t *installed);
 /* With `on` the handle keeps up: after a command outside a group and a transaction, and after the end of either, it takes one such
  * piece, and one trim that leaves at most 1 MiB, where they are due; and a drain and a trim where the log is past three quarters of

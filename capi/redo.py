@@ -570,8 +570,7 @@ class Store:
         return self._number(_install) != 0
 
     def tend(self, most: int) -> int:
-        """A piece of a drain, with four syncs at most: installs so many nodes together, or one, and says how many. 0 where none was
-        left."""
+        """A piece of a drain, with four syncs at most: installs up to so many nodes, and says how many. 0 where none was left."""
         return self._number(_tend, _u64(_count(most, 64)))
 
     def drain(self) -> None:
