@@ -1,5 +1,5 @@
 -- What the operations on pages of a map make of bytes.
-use Rattle.std.proofs.Common.{◌<◌, ℕ, suc, ◌+◌, ◌-◌, Bool, true, false, Option, None, Some, Ok, Err, List, [], ◌∷◌, ◌++◌, All, length, take, drop, arith}
+use Rattle.std.proofs.Common.{◌<◌, ℕ, suc, ◌+◌, ◌-◌, Bool, true, false, None, Some, Ok, Err, List, [], ◌∷◌, ◌++◌, All, length, drop, arith}
 use Rattle.std.specs.Prelude.{⊤, ◌&&◌, IfOk, IfSome, flat_map, if◌then◌else◌, nat_le}
 use Rattle.std.proofs.lemmas.List.Elements.{All-cons, All-nil}
 use Rattle.byteorder.specs.Endian.{little_bytes, little_number}

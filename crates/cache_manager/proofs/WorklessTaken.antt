@@ -10,7 +10,7 @@ use Rattle.formats.specs.Objects.{bounds_of}
 use Rattle.formats.specs.declared.params.Params.{Params}
 use Rattle.install_order.specs.NodeLaws.{some-from}
 use Rattle.explain_core.specs.World.{World, end_of, run}
-use Rattle.running_store.specs.Courses.{Course, and_then, course}
+use Rattle.running_store.specs.Courses.{and_then, course}
 use Rattle.running_store.specs.Courses.Stop.{Through}
 use Rattle.running_store.specs.Parts.{Parts, Shows, meaning_in}
 use Rattle.cache_manager.specs.InstallCourses.{finish_steps, has_members, is_next_workless, removals, work, workless_course, workless_nodes}

@@ -1,3 +1,4 @@
+// What the courses of upkeep do to a world, and how far they go.
 ghost use Rattle.std.specs.Prelude.{◌≡◌, ◌⊎◌, ◌+◌, ◌<◌, ◌≤◌, ℕ, IsTrue, IsFalse, All, List, length};
 ghost use Rattle.formats.specs.declared.params.Params.{Params as Numbers};
 ghost use Rattle.oper_core.specs.Meaning.{IsSmall};

@@ -57,7 +57,7 @@ pub(crate) fn install_round<O: Oper, M: Machine>(
 }
 
 /// Whether a minimal node has one object to flush, and may be finished beside a copy of the slots that has the objects below a
-/// LSN.
+/// number.
 fn is_due(objects: &Objects, graph: &WriteGraph, n: NodeNo, copied: u32) -> Result<bool, Memory>
     requires { NamesMinimal graph.now.entries n }
     ensures due { IfOk result (λ is. IsTrue is → NamesDue (volatile objects.now graph.now.entries) copied n) }

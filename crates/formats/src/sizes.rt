@@ -9,6 +9,9 @@ pub const MAX_LOG: u64 = 1 << 48;
 /// How many bytes of records stand in a block at most.
 pub const MAX_PAYLOAD: u32 = 1 << 30;
 
+/// How many bytes a log's header has: a gate, the magic, and three numbers.
+pub const LOG_HEADER: usize = 33;
+
 /// How many bytes stand in a block before its payload: a gate, and a length.
 pub const BLOCK_HEAD: usize = 5;
 

@@ -34,10 +34,10 @@ abbrev pub redo_dirty : Budget → Params → ℕ
 redo_dirty Usual p = max 64 (2 ^ 26 / p.cap)
 redo_dirty Least p = max 1 (min 64 (2 ^ 20 / p.cap))
 
--- how many records may wait in the graph before that: as many as a graph has room for, or 4,096
+-- how many records may wait in the graph before that: as many as a graph has room for, or 1,024
 abbrev pub redo_waiting : Budget → ℕ
 redo_waiting Usual = 2 ^ 28
-redo_waiting Least = 4096
+redo_waiting Least = 1024
 
 -- the marks of a redo: as many nodes at most are installed together as objects may be dirty, or 64, if that is more
 abbrev pub marks_of : Budget → Params → Marks

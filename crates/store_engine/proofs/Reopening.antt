@@ -1,5 +1,5 @@
 -- A restart keeps the commands that the files stand for, and all of them are forced after it.
-use Rattle.std.proofs.Common.{◌≡◌, ◌∙◌, sym, subst, ap, ℕ, ◌≤◌, List, [], ◌∷◌, ◌++◌, length, take, drop, refl, arith, inl, inr, ⊎_elim, None}
+use Rattle.std.proofs.Common.{◌≡◌, ◌∙◌, sym, subst, ap, ℕ, ◌≤◌, List, ◌∷◌, ◌++◌, length, take, refl, arith, inl, inr, ⊎_elim, None}
 use Rattle.std.specs.Prelude.{false}
 use Rattle.std.proofs.lemmas.List.{take_all}
 use Rattle.disk_model.specs.Disk.{Files, Disk, LeavesOnly}

@@ -3,16 +3,14 @@ use crate::glance_machine::GlanceMachine;
 use crate::program::Tool;
 use crate::status::Status;
 use disk_model::{Failed, FileNo, Machine};
+use formats::LOG_HEADER;
 use std::io::{self, Write};
 use std::process::ExitCode;
 
-/// How many bytes a log's header has.
-const HEADER: usize = 33;
-
 /// The headers of the two logs, by which it is told whether another one has come into force.
-fn headers<M: Machine>(machine: &mut M) -> Result<([u8; HEADER], [u8; HEADER]), Failed> {
-    let mut first = [0; HEADER];
-    let mut second = [0; HEADER];
+fn headers<M: Machine>(machine: &mut M) -> Result<([u8; LOG_HEADER], [u8; LOG_HEADER]), Failed> {
+    let mut first = [0; LOG_HEADER];
+    let mut second = [0; LOG_HEADER];
     machine.read(FileNo::LogA, 0, &mut first)?;
     machine.read(FileNo::LogB, 0, &mut second)?;
     Ok((first, second))

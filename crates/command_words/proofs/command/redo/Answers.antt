@@ -3,7 +3,7 @@ use Rattle.std.proofs.lemmas.Result.{IfOk-weaker}
 use Rattle.clap.specs.Words.{App, new_app, with_subcommand}
 use Rattle.clap.specs.Simple.{new_shape}
 use Rattle.command_words.specs.Commands.{demo, run, ship, sized}
-use Rattle.command_words.proofs.CommandLemmas.{about_app, about_local, after_app, after_local, bin_app, helps_else, requires_one, subcommand_added}
+use Rattle.command_words.proofs.CommandLemmas.{about_app, about_local, after_app, bin_app, helps_else, requires_one, subcommand_added}
 use Rattle.command_words.proofs.command.redo.Goals as goal
 
 abbrev requires : App

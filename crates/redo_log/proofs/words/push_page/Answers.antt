@@ -2,7 +2,7 @@ use Rattle.std.proofs.Common.{◌≡◌, ◌++◌, ◌∙◌, List, ℕ, ap, sym
 use Rattle.std.specs.Prelude.{codes}
 use Rattle.page_ops.specs.declared.page_op.PageOp.{PageOp}
 use Rattle.script_lines.specs.Replies.{spaced}
-use Rattle.redo_log.specs.Words.{numbers, page_words, spaced_hex}
+use Rattle.redo_log.specs.Words.{page_words, spaced_hex}
 use Rattle.redo_log.proofs.words.push_page.Goals as goal
 
 -- words one behind the other, behind a text
