@@ -48,6 +48,7 @@ LINES = [
     Form("swap X Y", "the values of X and Y are exchanged", "swap 1 2"),
     Form("begin", "forces, and begins a group: of the commands from here to its `end` a crash leaves all or none", "begin"),
     Form("end", "ends the group; the next `force` makes it durable", "end"),
+    Form("abort", "gives the group up: none of its commands stays", "abort"),
     Form("force", "everything so far is on the disk: answers how many commands are", "force"),
     Form("tinsert LO HI KEY VAL", "KEY gets VAL in the tree of the objects LO to HI", 'tinsert 4 35 "ann" "100"'),
     Form("tget LO HI KEY", "the value of KEY in the tree, - where KEY is not there", 'tget 4 35 "ann"'),

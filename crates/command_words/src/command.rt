@@ -43,6 +43,7 @@ const LINES: &str = "Lines:\n  \
     trim                    the log is rewritten without what no restart needs\n  \
     begin                   a group begins, of which a crash leaves all or none\n  \
     end                     the group ends\n  \
+    abort                   the group is given up: none of its commands stays\n  \
     stat                    the counts of the store\n  \
     bstart                  a backup begins\n  \
     bcopy K                 K objects more are copied into it\n  \

@@ -18,7 +18,6 @@ use Rattle.store_engine.specs.ImageLaws.{stands_begins}
 use Rattle.script_lines.specs.Replies.{Reply}
 use Rattle.shell_base.specs.Store.{Command, Stands, StandsInEither, IsNew, IsUpgraded, meaning_in}
 use Rattle.standby_words.specs.Following.{StreamMoment}
-use Rattle.script_run.specs.Groups.{account_of}
 use Rattle.script_run.specs.Answers.{Said, Begun, Moment}
 use Rattle.script_run.specs.PrintedLaws.{nothing_printed}
 use Rattle.script_run.specs.StoryLaws.{answers_grow, ended_whole, story_start, told_whole}
@@ -47,7 +46,7 @@ adds_none : (p : Params) (commands : List Command) (ran : Ran) → ran.bytes ≡
 adds_none p commands ran silent =
     subst (λ (l : List ℕ). Adds p commands (record { script = ran.script; bytes = l }) commands) (sym silent)
     (let said = told_whole (λ ops line reply. ⊤) (story_start p commands ran.script) in
-    let same : said.story.account.commands ++ said.story.added ≡ commands = said.all in
+    let same : said.story.account.commands ++ said.story.added ≡ commands = append-nil commands in
     record {
       story = said.story;
       kept = length commands;
@@ -69,7 +68,7 @@ adds_moment p commands ran before files m =
 abbrev survives_run : {sizes : List Sizing} {p : Params} {commands : List Command} {runs : List Ran} {was files : Files} (ran : Ran) (now : List Command) → (s : Survives sizes p commands runs was) → Adds s.numbers s.now ran now → Stands s.numbers files now
     → Survives sizes p commands (ran ∷ runs) files
 survives_run {sizes} {p} {commands} {runs} {was} {files} ran now s adds stands =
-    let grown = answers_grow s.numbers (account_of s.now) adds.story.lines adds.story.replies adds.story.waits adds.story.account adds.story.answers in
+    let grown = answers_grow s.numbers s.now adds.story.lines adds.story.replies adds.story.waits adds.story.account adds.story.answers in
     let added = grown.0 ++ adds.story.added in
     let rest = take (adds.kept - length s.now) added in
     let split : adds.kept ≡ length s.now + (adds.kept - length s.now) = omega (arith, adds.all_before) in

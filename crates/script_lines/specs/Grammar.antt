@@ -11,7 +11,7 @@ use Rattle.script_lines.specs.declared.line.Line.TheVariants.{Run, Make, Ask, Fo
 use Rattle.script_lines.specs.declared.line.Making.TheVariants.{AppRun, ProgramRun, TreeInsert, TreeDelete, HashPut, HashDelete}
 use Rattle.script_lines.specs.declared.line.Question.TheVariants.{Get, TreeGet, TreeRange, HashGet}
 use Rattle.script_lines.specs.declared.line.Upkeep.TheVariants.{Install, Drain, Checkpoint, Trim}
-use Rattle.script_lines.specs.declared.line.Grouping.TheVariants.{Begin, End}
+use Rattle.script_lines.specs.declared.line.Grouping.TheVariants.{Abort, Begin, End}
 use Rattle.script_lines.specs.declared.line.Saving.TheVariants.{Start, Copy as CopyOn, Finish}
 
 -- one byte more in front of the first text
@@ -124,6 +124,7 @@ store_rows =
     ∷ row (codes "trim") (asks (Keep Trim))
     ∷ row (codes "begin") (asks (Group Begin))
     ∷ row (codes "end") (asks (Group End))
+    ∷ row (codes "abort") (asks (Group Abort))
     ∷ row (codes "stat") (asks Stat)
     ∷ row (codes "bstart") (asks (Save Start))
     ∷ row (codes "bcopy") (one (λ count. Save (CopyOn count)))

@@ -84,7 +84,7 @@ pub enum Answer<'a> {
     Denied(Denial),
     /// A group is open, and does not allow what the line asks: `refused InGroup`.
     InGroup,
-    /// No group is open that could end: `refused NoGroup`.
+    /// No group is open that could end or be given up: `refused NoGroup`.
     NoGroup,
     /// So many objects are copied into the backup: `copied c`.
     Copied(u32),

@@ -12,7 +12,7 @@ pub struct LineForm {
 
 // The help of `redo run` is made of this table, by docs/forms.
 
-static FORMS: [LineForm; 33] = [
+static FORMS: [LineForm; 34] = [
     LineForm {
         text: "put X HEX",
         about: "X gets the bytes HEX",
@@ -128,6 +128,10 @@ static FORMS: [LineForm; 33] = [
     LineForm {
         text: "end",
         about: "the group ends",
+    },
+    LineForm {
+        text: "abort",
+        about: "the group is given up: none of its commands stays",
     },
     LineForm {
         text: "stat",

@@ -84,13 +84,15 @@ pub enum Upkeep {
     Trim,
 }
 
-/// Where a group of commands begins or ends, of which a crash leaves all or none.
+/// Where a group of commands begins or ends, of which a crash leaves all or none, or is given up.
 #[derive(Clone, Copy)]
 pub enum Grouping {
     /// `begin`
     Begin,
     /// `end`
     End,
+    /// `abort`: none of its commands stays.
+    Abort,
 }
 
 /// What makes a backup of the store.
@@ -118,7 +120,7 @@ pub enum Line {
     Force,
     /// What changes no value and adds no command.
     Keep(Upkeep),
-    /// The beginning or the end of a group.
+    /// The beginning or the end of a group, or that it is given up.
     Group(Grouping),
     /// A backup is started, gone on with or ended.
     Save(Saving),

@@ -68,6 +68,8 @@ fn store_line(word: &[u8], rest: &[u8]) -> Option<Line>
         no_field(rest).map(|()| Line::Group(Grouping::Begin))
     } else if word == b"end".as_slice() {
         no_field(rest).map(|()| Line::Group(Grouping::End))
+    } else if word == b"abort".as_slice() {
+        no_field(rest).map(|()| Line::Group(Grouping::Abort))
     } else if word == b"stat".as_slice() {
         no_field(rest).map(|()| Line::Stat)
     } else if word == b"bstart".as_slice() {

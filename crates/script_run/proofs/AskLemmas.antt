@@ -179,4 +179,4 @@ module _ {p : Params} {old now : Disk} {before after : EngineView} {commands : L
 
   -- no step is taken
   pub asked_works : Works p old now (stage_of before holds.world) line
-  asked_works = works_by p old now (stage_of before holds.world) line (course [] (used_in before) Through) (inr (inr refl)) (u.adds p commands holds).steps
+  asked_works = works_by p old now (stage_of before holds.world) line (course [] (used_in before) Through) (inr (inr (inl refl))) (u.adds p commands holds).steps

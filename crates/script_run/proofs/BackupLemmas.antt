@@ -1,5 +1,5 @@
 -- The backup over the lines of a script, and what a run says of it.
-use Rattle.std.proofs.Common.{◌≡◌, ◌∙◌, ap, sym, subst, refl, inl, inr, ⊎_elim, ◌⊎◌, ◌++◌, ◌||◌, ℕ, List, [], ◌∷◌, append_assoc, length, take, Option, None, Result, Ok, Err, IfOk, OnErr, Bool, false}
+use Rattle.std.proofs.Common.{arith, ◌≡◌, ◌∙◌, ap, sym, subst, refl, inl, inr, ⊎_elim, ◌⊎◌, ◌++◌, ◌||◌, ℕ, List, [], ◌∷◌, append_assoc, length, take, Option, None, Result, Ok, Err, IfOk, OnErr, Bool, false}
 use Rattle.std.specs.Prelude.{IfSome}
 use Rattle.std.proofs.lemmas.List.{append-nil, append_cancel_left}
 use Rattle.std.proofs.lemmas.List.Elements.{Contains-append_left}
@@ -16,11 +16,11 @@ use Rattle.shell_base.specs.declared.stop.Stop.{Stop}
 use Rattle.script_run.specs.declared.tending.Tending.{Tending}
 use Rattle.script_run.specs.Answers.{with_begun}
 use Rattle.script_run.specs.Run.{Answering, Going, IsAnswered, IsPartly}
-use Rattle.script_run.specs.Saving.{AnsweringBeside, AsksBackup, AsksFinish, BackupGoesOn, BackupGoing, BackupIsSaid, BackupStays, IsBackedUp, PassesBy, SaysOfBackup}
+use Rattle.script_run.specs.Saving.{AnsweringBeside, AsksBackup, AsksFinish, BackupGoesOn, BackupIsSaid, BackupSoFar, BackupStays, IsBackedUp, PassesBy, SaysOfBackup}
 use Rattle.script_run.proofs.GroupLemmas.{AsksOnce}
 use Rattle.script_run.specs.StartLaws.{AreFew, same_passes, says_none}
-use Rattle.script_run.proofs.RunLemmas.{IsFresh, IsTold, gone_on, opened, told_begun, told_finish, told_here, told_quiet, with_next}
-use Rattle.script_run.proofs.SavingLemmas.{says_next}
+use Rattle.script_run.proofs.RunLemmas.{IsFresh, IsTold, gone_on, opened, told_begun, told_finish, told_here, told_quiet, whole_at, with_next}
+use Rattle.script_run.proofs.SavingLemmas.{says_longer, says_next, whole_going}
 
 -- an answer beside a backup is an answer
 pub answering_of : {p : Params} {start old new : Disk} {before after : EngineView} {w : World Command} {commands : List Command} {line : List ℕ} {backup backed : Disk} (result : Result Bool Stop)
@@ -54,13 +54,17 @@ passes_as before after same passes = subst (λ (l : List (List ℕ)). PassesBy l
 pub record GoingBeside {T : Type 0} (tending : Tending) (disk : T → Disk) (before mid : T) (p : Params) (first : Stage) (start now : Disk) (engine : EngineView) (commands : List Command) (script todo : List (List ℕ)) (refusing : Bool) : Type 0 where
   pub going : Going tending p first start now engine commands script todo refusing
   pub passes : PassesBy going.lines before mid
-  pub backup : (disk before).tells_files → BackupGoing p (disk before) going.lines going.replies going.account.commands now engine going.holds.world (disk mid)
+  pub backup : (disk before).tells_files → BackupSoFar p (disk before) going.lines going.replies going.account.commands now engine going.holds.world (disk mid)
 
-pub none_made : {p : Params} {d : Disk} {engine : EngineView} {w : World Command} (commands : List Command) (start : Disk) → engine.copied ≡ None → BackupGoing p start [] [] commands d engine w start
+pub none_made : {p : Params} {d : Disk} {engine : EngineView} {w : World Command} (commands : List Command) (start : Disk) → engine.copied ≡ None → BackupSoFar p start [] [] commands d engine w start
 none_made {p} {d} {engine} {w} commands start none = record {
-  says = says_none p [] commands start;
-  store = (λ is. is, λ is. is);
-  copying = subst (λ (o : Option ℕ). IfSome o (λ n. Copies all_meaning p d engine w start)) (sym none) tt;
+  count = 0;
+  forced = omega arith;
+  going = record {
+    says = says_none p [] [] start;
+    store = (λ is. is, λ is. is);
+    copying = subst (λ (o : Option ℕ). IfSome o (λ n. Copies all_meaning p d engine w start)) (sym none) tt;
+  };
 }
 
 -- behind whose last answer no upkeep was done yet
@@ -77,6 +81,14 @@ next_of {lines = lines} {next = next} told =
 finish_among : (next rest : List (List ℕ)) → AsksFinish next → AsksFinish (next ++ rest)
 finish_among next rest (line, has, asks) = (line, Contains-append_left next rest line has, asks)
 
+-- what is said of the first commands, where no line was come to next, is true of all
+says_all : {p : Params} {start now : Disk} {lines : List (List ℕ)} {replies : List Reply} (next : List (List ℕ)) (every all : List Command) → (all ≡ every) ⊎ ((next ≡ []) × (n : ℕ) × (every ≡ take n all))
+    → SaysOfBackup p start lines replies next every now → SaysOfBackup p start lines replies next all now
+says_all {p} {start} {now} {lines} {replies} next every all (inl same) says = subst (λ (l : List Command). SaysOfBackup p start lines replies next l now) (sym same) says
+says_all {p} {start} {now} {lines} {replies} next every all (inr (none, n, is)) says =
+    subst (λ (x : List (List ℕ)). SaysOfBackup p start lines replies x all now) (sym none)
+    (says_longer n all (subst (λ (l : List Command). SaysOfBackup p start lines replies [] l now) is (subst (λ (x : List (List ℕ)). SaysOfBackup p start lines replies x every now) none says)))
+
 -- what a run says of the backup
 pub backed_up : {T : Type 0} (disk : T → Disk) {before later : T} {tending : Tending} {p : Params} {first : Stage} {start new : Disk} {commands : List Command} {script lines : List (List ℕ)} {replies : List Reply} {every : List Command} {next : List (List ℕ)}
     → IsTold tending p first commands script start new lines replies every next → PassesBy (lines ++ next) before later → ((disk before).tells_files → SaysOfBackup p (disk before) lines replies next every (disk later))
@@ -89,8 +101,8 @@ backed_up disk {before} {later} {tending} {p} {lines = lines} {replies} {every} 
       let due = take 1 story.todo in
       subst (λ (l : List (List ℕ)). SaysOfBackup p (disk before) l (with_begun story.replies story.work) due (story.account.commands ++ story.added) (disk later)) (sym told.lines_are)
       (subst (λ (r : List Reply). SaysOfBackup p (disk before) lines r due (story.account.commands ++ story.added) (disk later)) (sym told.replies_are)
-      (subst (λ (c : List Command). SaysOfBackup p (disk before) lines replies due c (disk later)) (sym told.all)
-      (subst (λ (n : List (List ℕ)). SaysOfBackup p (disk before) lines replies n every (disk later)) (sym (next_of told)) (says_next next (next ++ told.rest) (finish_among next told.rest) (says tells)))));
+      (subst (λ (n : List (List ℕ)). SaysOfBackup p (disk before) lines replies n (story.account.commands ++ story.added) (disk later)) (sym (next_of told))
+      (says_next next (next ++ told.rest) (finish_among next told.rest) (says_all next every (story.account.commands ++ story.added) told.all (says tells)))));
 }
 
 -- a store is open, of which no backup is made yet
@@ -112,7 +124,7 @@ module _ {T : Type 0} (disk : T → Disk) {before mid later : T} {tending : Tend
   -- what the answer leaves of the backup
   abbrev Whole : Bool → Type 0
   Whole refusing = (whole : IsAnswered p now new engine after b.going.holds.world b.going.account.commands line refusing)
-      × BackupGoesOn p (disk before) now new engine after b.going.holds.world b.going.account.commands line (disk mid) (disk later) whole.reply whole.added whole.kept.holds.world
+      × BackupGoesOn p (disk before) now new engine after b.going.holds.world b.going.account.commands line (disk mid) (disk later) whole.reply whole.all whole.kept.holds.world
 
   -- the run goes on
   pub goes_on_beside : {kind : Bool} → AsksOnce → result ≡ Ok kind → FreshBeside tending disk before later p first start new after commands script todo (refusing || kind)
@@ -125,10 +137,10 @@ module _ {T : Type 0} (disk : T → Disk) {before mid later : T} {tending : Tend
           going = on.later;
           passes = passes_as before later (sym on.lines_are) still_passes;
           backup = λ tells.
-              subst (λ (l : List (List ℕ)). BackupGoing p (disk before) l on.later.replies on.later.account.commands new after on.later.holds.world (disk later)) (sym on.lines_are)
-              (subst (λ (r : List Reply). BackupGoing p (disk before) (g.lines ++ line ∷ []) r on.later.account.commands new after on.later.holds.world (disk later)) (sym on.replies_are)
-              (subst (λ (c : List Command). BackupGoing p (disk before) (g.lines ++ line ∷ []) (g.replies ++ whole.reply ∷ []) c new after on.later.holds.world (disk later)) (sym on.commands_are)
-              (subst (λ (v : World Command). BackupGoing p (disk before) (g.lines ++ line ∷ []) (g.replies ++ whole.reply ∷ []) (g.account.commands ++ whole.added) new after v (disk later)) (sym on.world_is)
+              subst (λ (l : List (List ℕ)). BackupSoFar p (disk before) l on.later.replies on.later.account.commands new after on.later.holds.world (disk later)) (sym on.lines_are)
+              (subst (λ (r : List Reply). BackupSoFar p (disk before) (g.lines ++ line ∷ []) r on.later.account.commands new after on.later.holds.world (disk later)) (sym on.replies_are)
+              (subst (λ (c : List Command). BackupSoFar p (disk before) (g.lines ++ line ∷ []) (g.replies ++ whole.reply ∷ []) c new after on.later.holds.world (disk later)) (sym on.commands_are)
+              (subst (λ (v : World Command). BackupSoFar p (disk before) (g.lines ++ line ∷ []) (g.replies ++ whole.reply ∷ []) whole.all new after v (disk later)) (sym on.world_is)
               (both.1 (backup_time.files_told.0 tells) g.lines g.replies (b.backup tells)))));
         },
         on.fresh,
@@ -145,19 +157,21 @@ module _ {T : Type 0} (disk : T → Disk) {before mid later : T} {tending : Tend
   pub ends_in_line_beside : {stop : Stop} → result ≡ Err stop → IsBackedUp tending disk p first commands script start new before later
   ends_in_line_beside is = ⊎_elim
       (λ (quiet : Quiet). backed_up disk (told_quiet line b.going time (answering_of result a) quiet.0) still_passes (λ tells. quiet.1 (backup_time.files_told.0 tells) b.going.lines b.going.replies (b.backup tells)))
-      (λ (part : Begun). backed_up disk (told_begun line b.going time (answering_of result a) part.0)
+      (λ (part : Begun).
+      let (kept, within, which, says) = part.1 in
+      backed_up disk (told_begun line b.going time (answering_of result a) part.0 kept within (whole_at b.going kept which))
       (passes_as before later (sym (append-nil (b.going.lines ++ line ∷ []))) still_passes)
-      (λ tells. part.1 (backup_time.files_told.0 tells) b.going.lines b.going.replies (b.backup tells)))
+      (λ tells. says (backup_time.files_told.0 tells) b.going.lines b.going.replies (b.backup tells)))
       (subst (λ (r : Result Bool Stop). OnErr r (Quiet ⊎ Begun)) is a.partly)
 
 -- a run that ends between two lines, or in the last force
 module _ {T : Type 0} (disk : T → Disk) {before mid : T} {tending : Tending} {p : Params} {first : Stage} {start now : Disk} {engine : EngineView} {commands : List Command} {script : List (List ℕ)} {refusing : Bool} where
   pub ends_here_beside : {todo : List (List ℕ)} → GoingBeside tending disk before mid p first start now engine commands script todo refusing → IsBackedUp tending disk p first commands script start now before mid
-  ends_here_beside b = backed_up disk (told_here b.going) (passes_as before mid (sym (append-nil b.going.lines)) b.passes) (λ tells. (b.backup tells).says)
+  ends_here_beside b = backed_up disk (told_here b.going) (passes_as before mid (sym (append-nil b.going.lines)) b.passes) (λ tells. (whole_going (b.backup tells)).says)
 
   pub ends_in_finish_beside : {new : Disk} (b : GoingBeside tending disk before mid p first start now engine commands script [] refusing) → Passes start now → new.said ≡ now.said
       → (now.tells_moments → LeavesOnly now new (Between p now None (forced_in engine) (length b.going.account.commands) b.going.account.commands)) → IsBackedUp tending disk p first commands script start new before mid
-  ends_in_finish_beside b time quiet images = backed_up disk (told_finish b.going time quiet images) (passes_as before mid (sym (append-nil b.going.lines)) b.passes) (λ tells. (b.backup tells).says)
+  ends_in_finish_beside b time quiet images = backed_up disk (told_finish b.going time quiet images) (passes_as before mid (sym (append-nil b.going.lines)) b.passes) (λ tells. (whole_going (b.backup tells)).says)
 
   -- the lines that are left
   pub goes_to_beside : {todo : List (List ℕ)} (rest : List (List ℕ)) → GoingBeside tending disk before mid p first start now engine commands script todo refusing → todo ≡ rest → GoingBeside tending disk before mid p first start now engine commands script rest refusing

@@ -22,7 +22,7 @@ use Rattle.script_lines.specs.Grammar.{Request, AsksFor, IsBad}
 use Rattle.script_lines.specs.declared.line.Line.TheVariants.{Run as run, Make, Ask, Force as force, Keep, Group, Save, Stat as asks_stat, Skip as skip}
 use Rattle.script_lines.specs.declared.line.Question.TheVariants.{TreeGet as tget, TreeRange as trange, HashGet as hget, Get as get}
 use Rattle.script_lines.specs.declared.line.Upkeep.TheVariants.{Trim as trim}
-use Rattle.script_lines.specs.declared.line.Grouping.TheVariants.{Begin as begin_group, End as end_group}
+use Rattle.script_lines.specs.declared.line.Grouping.TheVariants.{Begin as begin_group, End as end_group, Abort as abort_group}
 use Rattle.script_lines.specs.declared.line.Saving.TheVariants.{Start as bstart, Copy as bcopy, Finish as bfinish}
 use Rattle.script_lines.specs.Replies.{Reply, ok, ran, value, pairs, forced, bad, refused, bad_tree, tree_full, denied, in_group, no_group, full, end, object_value, command_count, stat, copied, saved, backup_denied, summary, silence}
 use Rattle.script_lines.specs.declared.denial.Denial.{Denial}
@@ -33,16 +33,17 @@ use Rattle.shell_base.specs.First.{Stage}
 use Rattle.shell_base.specs.Store.{Command, meaning_in, refusal_after, state_of, record_length}
 use Rattle.script_run.specs.Groups.{open_in, size_of}
 use Rattle.script_run.specs.Made.{Made, AsksMade, AsksBehind, AsksTree, made, made_by, one_made, one_unless, tree_answer}
-use Rattle.script_run.specs.Replies.{AsksCommand, Replies, IsBarred, IsDenied, IsFull, IsGranted, IsLogged, IsNumbered, IsOver}
-use Rattle.script_run.specs.Stages.{Ends, GoesBy, IsBackupFull, IsBesideBackup, IsQuestion, StartsBackup, forced_stage, upkeep_course}
+use Rattle.script_run.specs.Replies.{AsksCommand, Replies, IsBarred, IsClosing, IsDenied, IsFull, IsGranted, IsLogged, IsNumbered, IsOver}
+use Rattle.script_run.specs.Stages.{Aborts, Ends, GoesBy, IsBackupFull, IsBesideBackup, IsQuestion, StartsBackup, forced_stage, upkeep_course}
 use Rattle.script_run.proofs.MadeLemmas.{command_made, one_course}
 
--- the classes of requests: for pairs of a tree or a hash file, for a value, for commands, the end of a group, upkeep and the end of a
--- backup, the beginning of a group or of a backup, and four by themselves
+-- the classes of requests: for pairs of a tree or a hash file, for a value, for commands, the end of a group or an abort, upkeep and the
+-- end of a backup, the beginning of a group or of a backup, and four by themselves
 abbrev pub class : Request → ℕ
 class (Ask (get x)) = 1
 class (Ask question) = 0
 class (Group end_group) = 3
+class (Group abort_group) = 3
 class (Keep upkeep) = 4
 class (Save bfinish) = 4
 class (Group begin_group) = 5
@@ -124,9 +125,21 @@ numbered_class request is = absurd is
 granted_class : (group : Option ℕ) (request : Request) → IsGranted group request → (3 ≤ class request) × (class request ≤ 5)
 granted_class group (Group begin_group) is = (omega arith, omega arith)
 granted_class group (Group end_group) is = (omega arith, omega arith)
+granted_class group (Group abort_group) is = (omega arith, omega arith)
 granted_class group (Save bstart) is = (omega arith, omega arith)
 granted_class group (Keep upkeep) is = (omega arith, omega arith)
 granted_class group request is = absurd is.0
+
+closing_class : (request : Request) → IsClosing request → class request ≡ 3
+closing_class (Group end_group) is = refl
+closing_class (Group abort_group) is = refl
+closing_class request is = absurd is
+
+-- where one is granted a group is open
+closing_granted : (group : Option ℕ) (request : Request) → IsClosing request → IsGranted group request → IsTrue (is_some group)
+closing_granted group (Group end_group) is may = may
+closing_granted group (Group abort_group) is may = may
+closing_granted group request is may = absurd is
 
 barred_class : (request : Request) → IsBarred request → (4 ≤ class request) × (class request ≤ 7)
 barred_class (Group begin_group) is = (omega arith, omega arith)
@@ -233,7 +246,7 @@ module _ (p : Params) (group : Option ℕ) (commands : List Command) (line : Lis
       (λ (t : (why ≡ BadHash) × AsksTree p commands line (denied why) × (added ≡ [])). of_tree (denied why) (λ n e. (omega (arith, e), omega (arith, e))) t.1)
       is
   asked in_group added is other = (is.0, is.2, barred_class is.0 is.1)
-  asked no_group added is other = (Group end_group, is.0, (omega arith, omega arith))
+  asked no_group added is other = let three = closing_class is.0 is.1 in (is.0, is.2, (omega (arith, three), omega (arith, three)))
   asked (full used need limit) added is other = ⊎_elim
       (λ (b : (op : Command) × AsksBehind p commands line added op × (need ≡ needed_in (size_of group (commands ++ added)) (record_length p op)) × (limit ≡ p.limit) × (limit < used + need)).
       of_made (full used need limit) (λ n e. (omega (arith, e), omega (arith, e))) b.1.asks)
@@ -444,7 +457,7 @@ module _ (p : Params) (group : Option ℕ) (commands : List Command) (line : Lis
     in_group_exactly (saved n) added is = (λ e. cc, λ here. absurd (not_both group here.3 is.1))
     in_group_exactly (backup_denied why) added is = (λ e. cc, λ here. absurd (not_both group here.3 is.3))
     in_group_exactly bad added is = (λ e. cc, λ here. absurd (is.0 here.0 here.2))
-    in_group_exactly no_group added is = (λ e. cc, λ here. absurd (not_both group here.3 is.1))
+    in_group_exactly no_group added is = (λ e. cc, λ here. absurd (not_both group here.3 is.3))
     in_group_exactly (full used need limit) added is = (
       λ e. cc,
       λ here. absurd (⊎_elim
@@ -465,35 +478,35 @@ module _ (p : Params) (group : Option ℕ) (commands : List Command) (line : Lis
       λ here. absurd (let a = fits here.0 here.2 reply added is (λ e. cc) in let c = barred_class here.0 here.1 in omega (arith, a.0, a.1, c.0, c.1)),
     )
 
-    -- and the end of a group exactly outside groups
-    pub no_group_exactly : (reply : Reply) (added : List Command) → Replies p group commands line reply added → (reply ≡ no_group) ↔ (AsksFor line (Group end_group) × (group ≡ None))
-    no_group_exactly no_group added is = (λ e. (is.0, is.1), λ here. refl)
+    -- and the end of a group, or an abort, exactly outside groups
+    pub no_group_exactly : (reply : Reply) (added : List Command) → Replies p group commands line reply added → (reply ≡ no_group) ↔ ((request : Request) × IsClosing request × AsksFor line request × (group ≡ None))
+    no_group_exactly no_group added is = (λ e. (is.0, is.1, is.2, is.3), λ here. refl)
     no_group_exactly ok added is = (
       λ e. cc,
       λ here. absurd (⊎_elim
-          (λ (m : AsksMade p commands line (made added ok) × (length (commands ++ added) < 2 ^ 62)). made_clash (Group end_group) here.0 (λ e. omega (arith, e)) m.0)
+          (λ (m : AsksMade p commands line (made added ok) × (length (commands ++ added) < 2 ^ 62)). made_clash here.0 here.2 (λ e. omega (arith, e, closing_class here.0 here.1)) m.0)
           (λ (g : (request : Request) × IsGranted group request × AsksFor line request × (added ≡ [])).
-          let some : IsTrue (is_some group) = subst (λ (r : Request). IsGranted group r) (one g.0 (Group end_group) g.2 here.0) g.1 in not_both group some here.1)
+          not_both group (closing_granted group here.0 here.1 (subst (λ (r : Request). IsGranted group r) (one g.0 here.0 g.2 here.2) g.1)) here.3)
           is),
     )
-    no_group_exactly bad added is = (λ e. cc, λ here. absurd (is.0 (Group end_group) here.0))
+    no_group_exactly bad added is = (λ e. cc, λ here. absurd (is.0 here.0 here.2))
     no_group_exactly (full used need limit) added is = (
       λ e. cc,
       λ here. absurd (⊎_elim
           (λ (b : (op : Command) × AsksBehind p commands line added op × (need ≡ needed_in (size_of group (commands ++ added)) (record_length p op)) × (limit ≡ p.limit) × (limit < used + need)).
-          made_clash (Group end_group) here.0 (λ e. omega (arith, e)) b.1.asks)
+          made_clash here.0 here.2 (λ e. omega (arith, e, closing_class here.0 here.1)) b.1.asks)
           (λ (u : (request : Request) × IsLogged request × AsksFor line request × (group ≡ None) × (limit ≡ 2 ^ 48) × IsOver request used need limit × (added ≡ [])).
-          omega (arith, logged_class u.0 u.1, ap class (one u.0 (Group end_group) u.2 here.0)))
+          omega (arith, logged_class u.0 u.1, closing_class here.0 here.1, ap class (one u.0 here.0 u.2 here.2)))
           is),
     )
     no_group_exactly (end number) added is = (
       λ e. cc,
       λ here. absurd (⊎_elim
-          (λ (b : (op : Command) × AsksBehind p commands line added op). made_clash (Group end_group) here.0 (λ e. omega (arith, e)) b.1.asks)
-          (λ (u : (request : Request) × IsNumbered request × AsksFor line request × (group ≡ None) × (added ≡ [])). omega (arith, numbered_class u.0 u.1, ap class (one u.0 (Group end_group) u.2 here.0)))
+          (λ (b : (op : Command) × AsksBehind p commands line added op). made_clash here.0 here.2 (λ e. omega (arith, e, closing_class here.0 here.1)) b.1.asks)
+          (λ (u : (request : Request) × IsNumbered request × AsksFor line request × (group ≡ None) × (added ≡ [])). omega (arith, numbered_class u.0 u.1, closing_class here.0 here.1, ap class (one u.0 here.0 u.2 here.2)))
           is.0),
     )
-    no_group_exactly reply added is = (λ e. cc, λ here. absurd (let a = fits (Group end_group) here.0 reply added is (λ e. cc) in omega (arith, a.0, a.1)))
+    no_group_exactly reply added is = (λ e. cc, λ here. absurd (let a = fits here.0 here.2 reply added is (λ e. cc) in omega (arith, a.0, a.1, closing_class here.0 here.1)))
 
     -- the course that the line of an accepted command has is that of its record
     own_course : (op : Command) (before after : Stage) (stop : Stop) → commands_of before.world.history ≡ commands → refusal_after p commands op ≡ None → AsksCommand line op → Ends p before line stop after
@@ -525,7 +538,10 @@ module _ (p : Params) (group : Option ℕ) (commands : List Command) (line : Lis
       λ f. absurd f,
       λ over. absurd (⊎_elim
           (λ (ends : Ends p before line Through after). room_else op before after Through (λ a b c e. cc) same none asks ends over)
+          (λ (rest : StartsBackup before line (forced_stage p before) after ⊎ Aborts p before line after). ⊎_elim
           (λ (starts : StartsBackup before line (forced_stage p before) after). command_clash op (Save bstart) (λ e. omega (arith, e)) asks starts.0)
+          (λ (aborts : Aborts p before line after). command_clash op (Group abort_group) (λ e. omega (arith, e)) asks aborts.1.asks)
+          rest)
           goes),
     )
     full_exactly (ran k) added op before after is goes same asks none = absurd (⊎_elim

@@ -8,7 +8,8 @@ use Rattle.running_store.specs.Courses.Stop.{Through, Full, At_end, Worn}
 use Rattle.store_engine.specs.Engine.{needed_in, so_far}
 use Rattle.store_engine.specs.Lists.{commands_course}
 use Rattle.script_lines.specs.Grammar.{Request, AsksFor}
-use Rattle.script_lines.specs.declared.line.Line.TheVariants.{Keep, Save}
+use Rattle.script_lines.specs.declared.line.Line.TheVariants.{Group, Keep, Save}
+use Rattle.script_lines.specs.declared.line.Grouping.TheVariants.{Abort as abort_group}
 use Rattle.script_lines.specs.declared.line.Upkeep.TheVariants.{Trim as trim}
 use Rattle.script_lines.specs.declared.line.Saving.TheVariants.{Start as bstart, Copy as bcopy, Finish as bfinish}
 use Rattle.script_lines.specs.Replies.{Reply, ok, bad, in_group, full, end, copied, saved, backup_denied}
@@ -20,7 +21,7 @@ use Rattle.script_run.specs.Groups.{open_in, size_of}
 use Rattle.script_run.specs.Made.{Made, AsksMade, AsksBehind}
 use Rattle.script_run.specs.Replies.{Replies, IsDenied, IsGranted, IsLogged, IsOver}
 use Rattle.script_run.specs.Saving.{FindsStore}
-use Rattle.script_run.specs.Stages.{Ends, GoesBy, IsBackupFull, IsBesideBackup, IsDeniedAt, IsQuestion, StartsBackup, backup_bytes, forced_stage, upkeep_course, with_copied}
+use Rattle.script_run.specs.Stages.{Aborts, Ends, GoesBy, IsBackupFull, IsBesideBackup, IsDeniedAt, IsQuestion, StartsBackup, backup_bytes, forced_stage, upkeep_course, with_copied}
 use Rattle.script_run.proofs.CauseLemmas.{class, denied_class, fits, made_clash, not_both, question_class}
 
 some_none : {n : ℕ} (copies : Option ℕ) → copies ≡ Some n → copies ≡ None → ⊥
@@ -109,7 +110,10 @@ module _ (p : Params) (line : List ℕ) (one : (a b : Request) → AsksFor line 
       → (AsksFor line (Save bstart) → before.copied ≡ None → reply ≡ ok → ⊥) → reply ≡ backup_denied why
   denied_here why r is asks none at ok added replies goes unstarted = absurd (⊎_elim
       (λ (ends : Ends p before line Through after). no_course r asks (omega (arith, (denied_class why r is).0)) (none_granted p.objects before.copied group why r is at) Through ends)
+      (λ (rest : StartsBackup before line (forced_stage p before) after ⊎ Aborts p before line after). ⊎_elim
       (λ (starts : StartsBackup before line (forced_stage p before) after). unstarted starts.0 starts.1 refl)
+      (λ (aborts : Aborts p before line after). omega (arith, (denied_class why r is).0, ap class (one (Group abort_group) r aborts.1.asks asks)))
+      rest)
       goes)
   denied_here why r is asks none at (full used need limit) added replies goes unstarted = absurd (⊎_elim
       (λ (ends : Ends p before line (Full used need limit) after). no_course r asks (omega (arith, (denied_class why r is).0)) (none_granted p.objects before.copied group why r is at) (Full used need limit) ends)
@@ -162,7 +166,10 @@ module _ (p : Params) (line : List ℕ) (one : (a b : Request) → AsksFor line 
       → AsksFor line (Save bstart) → group ≡ None → before.copied ≡ None → (there → ⊥) → (reply ≡ ok) × (after ≡ with_copied (Some 0) (forced_stage p before))
   starts_exactly there ok added replies goes finds asks alone none empty = ⊎_elim
       (λ (ends : Ends p before line Through after). absurd (no_course (Save bstart) asks (omega arith) (λ may beside. beside) Through ends))
+      (λ (rest : StartsBackup before line (forced_stage p before) after ⊎ Aborts p before line after). ⊎_elim
       (λ (starts : StartsBackup before line (forced_stage p before) after). (refl, starts.2))
+      (λ (aborts : Aborts p before line after). absurd (omega (arith, ap class (one (Group abort_group) (Save bstart) aborts.1.asks asks))))
+      rest)
       goes
   starts_exactly there (backup_denied AlreadyStore) added replies goes finds asks alone none empty = absurd (empty finds)
   starts_exactly there (backup_denied InBackup) added replies goes finds asks alone none empty = absurd (not_both before.copied goes.0 none)
@@ -194,7 +201,10 @@ module _ (p : Params) (line : List ℕ) (one : (a b : Request) → AsksFor line 
       ⊎ ((reply ≡ full (forced_stage p before).used (backup_bytes p (forced_stage p before)) (2 ^ 48)) × (2 ^ 48 < backup_bytes p (forced_stage p before)) × (after ≡ forced_stage p before))
   saves_exactly ok added replies goes asks alone some = absurd (⊎_elim
       (λ (ends : Ends p before line Through after). no_course (Save bfinish) asks (omega arith) (λ may beside. may.0) Through ends)
+      (λ (rest : StartsBackup before line (forced_stage p before) after ⊎ Aborts p before line after). ⊎_elim
       (λ (starts : StartsBackup before line (forced_stage p before) after). let e : (Save bstart) ≡ Save bfinish = one (Save bstart) (Save bfinish) starts.0 asks in cc e)
+      (λ (aborts : Aborts p before line after). omega (arith, ap class (one (Group abort_group) (Save bfinish) aborts.1.asks asks)))
+      rest)
       goes)
   saves_exactly (saved n) added replies goes asks alone some = inl (ap (λ (k : ℕ). saved k) replies.2, goes.1, goes.2)
   saves_exactly (full used need limit) added replies goes asks alone some = ⊎_elim

@@ -42,9 +42,10 @@ use Rattle.execution.specs.declared.exec_err.ExecErr.{ExecErr}
 use Rattle.execution.specs.declared.exec_err.ExecErr.TheVariants.{Refused, LogFull, LsnEnd, DiskFault, Damaged}
 use Rattle.execution.specs.Failures.{IsExecFailure}
 use Rattle.script_lines.specs.Grammar.{Request, AsksFor}
-use Rattle.script_lines.specs.declared.line.Line.TheVariants.{Force as force, Keep, Save}
+use Rattle.script_lines.specs.declared.line.Line.TheVariants.{Force as force, Group, Keep, Save}
 use Rattle.script_lines.specs.declared.line.Upkeep.{Upkeep}
 use Rattle.script_lines.specs.declared.line.Upkeep.TheVariants.{Trim as trim}
+use Rattle.script_lines.specs.declared.line.Grouping.TheVariants.{Abort as abort_group}
 use Rattle.script_lines.specs.declared.line.Saving.TheVariants.{Start as bstart}
 use Rattle.script_lines.specs.Replies.{Reply, ok, ran, value, pairs, forced, bad, refused, bad_tree, tree_full, denied, in_group, no_group, full, end, object_value, command_count, stat, copied, saved, backup_denied, summary, silence, reply_of}
 use Rattle.script_lines.specs.declared.answer.Answer.{Answer}
@@ -59,7 +60,7 @@ use Rattle.shell_base.specs.Store.{IsAttached, IsEngineCall, Command, meaning_in
 use Rattle.shell_base.specs.First.{Stage, stage_of}
 use Rattle.shell_base.specs.declared.stop.Stop.{Stop as Early}
 use Rattle.shell_base.specs.HoldLaws.{in_engine}
-use Rattle.script_run.specs.Groups.{Regroups, begun_after, open_in, size_of, waiting}
+use Rattle.script_run.specs.Groups.{Becomes, Regroups, begun_after, open_in, size_of, waiting}
 use Rattle.script_run.specs.Found.{EndsAtLast, EndsForced, IsStopped, IsOfEngine, IsDone, IsAnswerOf, MayStop, IsUpkept}
 use Rattle.script_run.specs.Replies.{AsksCommand, Replies, IsDenied, IsGranted, IsLast, IsTrueIn}
 use Rattle.script_run.specs.Made.{Made, made, AsksMade, AsksBehind}
@@ -68,6 +69,7 @@ use Rattle.script_run.specs.Courses.{IsCourseDue, Works}
 use Rattle.script_run.specs.Stages.{IsBesideBackup, Ends, GoesBy, stage_after, upkeep_course}
 use Rattle.script_run.proofs.GroupLemmas.{none_open}
 use Rattle.script_run.proofs.MomentLemmas.{works_by}
+use Rattle.script_run.specs.StoryLaws.{grows_to}
 use Rattle.script_run.proofs.OpenGroups.{Grows, open_size, same_open, waiting_are}
 use Rattle.script_run.proofs.RunLemmas.{leads_on, run_nothing}
 use Rattle.script_run.proofs.MadeLemmas.{made_alike, made_unless, made_ends, number_ends, worn_ends, is_numbered, worn_numbered, one_course}
@@ -165,11 +167,12 @@ tied_by ops line (summary totals) is says stops = (tt, λ told f s left. tt)
 tied_by ops line silence is says stops = (tt, λ told f s left. tt)
 
 -- an answer that is stopped leaves the group as it was, and no other says anything of what waits
-pub tied_before : {p : Params} {d : Disk} {engine : EngineView} {all : List Command} (commands : List Command) (before after : Option ℕ) (line : List ℕ) (reply : Reply) → Regroups line reply commands before after
-    → IsOfEngine engine line reply → Says p d engine all → SaysStops p d engine (waiting after all) → InEachImage d (λ f. IsTrueIn p f (waiting before all) line reply)
-tied_before commands before after line ok same is says stops = (tt, λ told f s left. tt)
-tied_before {p} {d} {all = all} commands before after line reply same is says stops =
-    subst (λ (group : Option ℕ). InEachImage d (λ f. IsTrueIn p f (waiting group all) line reply)) same (tied_by (waiting after all) line reply is says stops)
+pub tied_before : {p : Params} {d : Disk} {engine : EngineView} {all : List Command} (commands added : List Command) (before after : Option ℕ) (line : List ℕ) (reply : Reply) → Becomes line reply before commands added all → Regroups line reply commands before after
+    → IsOfEngine engine line reply → Says p d engine all → SaysStops p d engine (waiting after all) → InEachImage d (λ f. IsTrueIn p f (waiting before (commands ++ added)) line reply)
+tied_before commands added before after line ok becomes same is says stops = (tt, λ told f s left. tt)
+tied_before {p} {d} {all = all} commands added before after line reply becomes same is says stops =
+    subst (λ (l : List Command). InEachImage d (λ f. IsTrueIn p f (waiting before l) line reply)) becomes
+    (subst (λ (group : Option ℕ). InEachImage d (λ f. IsTrueIn p f (waiting group all) line reply)) same (tied_by (waiting after all) line reply is says stops))
 
 -- no fewer commands are forced after a call on an engine that stood for these: as many, or, where no group was open, at least
 -- these
@@ -191,24 +194,26 @@ images_of {p} {old} {now} {before} {commands} {others} holds images =
 
 -- as the engine holds it
 abbrev pub done_holds : {p : Params} {old now : Disk} {before after : EngineView} {w : World Command} {commands : List Command} {line : List ℕ} {reply : Reply}
-    → (d : IsDone p old now before after w commands line reply) → of_engine.Holds all_meaning p now after (commands ++ d.added)
-done_holds d = record { world = d.world; shows = d.shows; commands_are = d.commands_are }
+    → (d : IsDone p old now before after w commands line reply) → of_engine.Holds all_meaning p now after (commands_of d.world.history)
+done_holds d = record { world = d.world; shows = d.shows; commands_are = refl }
 
 -- the answer is found
 abbrev pub found_of : {p : Params} {old now : Disk} {before after : EngineView} {commands : List Command} {line : List ℕ} {reply : Reply} → (holds : Holds p old before commands)
-    → (d : IsDone p old now before after holds.world commands line reply) → Says p now after (commands ++ d.added) → SaysAlone now after → SaysWithin now after → IsAnswerFound p old now before after holds.world commands line reply
+    → (d : IsDone p old now before after holds.world commands line reply) → Says p now after (commands_of d.world.history) → SaysAlone now after → SaysWithin now after → IsAnswerFound p old now before after holds.world commands line reply
 found_of {p} {old} {now} {before} {after} {commands} {line} {reply} holds d says alone within = record {
   added = d.added;
   replies = d.replies;
   quiet = d.quiet;
+  all = commands_of d.world.history;
+  becomes = d.becomes;
   kept = record {
-    holds = record { world = d.world; shows = d.shows; commands_are = d.commands_are; says = says };
+    holds = record { world = d.world; shows = d.shows; commands_are = refl; says = says };
     rising = d.rising;
     which = ⊎_elim (λ same. inl same) (λ all. inr (all.0, omega (arith, all.1, holds.says.accepted))) d.which;
   };
   regroups = d.regroups;
-  tied = tied_before commands (open_in holds.world) (open_in d.world) line reply d.regroups d.is_of says (stops_said alone within d.shows d.commands_are);
-  leads = leads_on commands d.added reply holds.commands_are d.commands_are d.replies d.goes;
+  tied = tied_before commands d.added (open_in holds.world) (open_in d.world) line reply d.becomes d.regroups d.is_of says (stops_said alone within d.shows refl);
+  leads = leads_on commands d.added reply holds.commands_are d.becomes d.replies d.goes;
   acked = λ n is. let here : IsOfEngine after line (forced n) = subst (λ (r : Reply). IsOfEngine after line r) is d.is_of in omega (arith, here);
 }
 
@@ -359,6 +364,7 @@ module _ (p : Params) (old now : Disk) (before after : EngineView) (commands : L
       let same = accepted_course p before w op params e.answers.0 in
       let there = subst (λ (c : Course Command). (c.stop ≡ Through) × IsAfterIn all_meaning p now after w c) same e.follows in
       let its_request = asked e.exactly.0 in
+      let regroups : Regroups line ok commands (open_in w) (open_in (run m w its.steps)) = (its_request.request, its_request.asks, still_open e.call there.1 ∙ sym (made_alike p commands commands (made (op ∷ []) ok) (open_in w) its_request.request its_request.makes)) in
       let risen = ⊎_elim (λ none. cc none) (λ (r : HasRisen before after commands). r) e.risen in
       record {
         added = op ∷ [];
@@ -366,8 +372,8 @@ module _ (p : Params) (old now : Disk) (before after : EngineView) (commands : L
         quiet = e.call.quiet holds.shows.shows.told;
         world = run m w its.steps;
         shows = there.1.shows;
-        commands_are = goes_through m op w p.limit (used_in before) there.0 ∙ ap (λ (l : List Command). l ++ op ∷ []) holds.commands_are;
-        regroups = (its_request.request, its_request.asks, still_open e.call there.1 ∙ sym (made_alike p commands commands (made (op ∷ []) ok) (open_in w) its_request.request its_request.makes));
+        becomes = grows_to line ok commands (op ∷ []) (open_in w) (open_in (run m w its.steps)) regroups (still_open e.call there.1) (goes_through m op w p.limit (used_in before) there.0 ∙ ap (λ (l : List Command). l ++ op ∷ []) holds.commands_are);
+        regroups = regroups;
         rising = risen.rising;
         which = risen.which;
         goes = inl (ends_so Through e.exactly.0 there.0 there.1 e.call);
@@ -387,7 +393,7 @@ module _ (p : Params) (old now : Disk) (before after : EngineView) (commands : L
         quiet = e.call.quiet holds.shows.shows.told;
         world = w;
         shows = subst (λ (v : World Command). ShowsIn p now after v) here there.1.shows;
-        commands_are = holds.commands_are ∙ sym (append-nil commands);
+        becomes = holds.commands_are ∙ sym (append-nil commands);
         regroups = refl;
         rising = risen.rising;
         which = risen.which;
@@ -425,7 +431,7 @@ module _ (p : Params) (old now : Disk) (before after : EngineView) (commands : L
         quiet = e.call.quiet holds.shows.shows.told;
         world = run m w its.steps;
         shows = there.1.shows;
-        commands_are = there.2;
+        becomes = there.2;
         regroups = still_open e.call there.1;
         rising = risen.rising;
         which = risen.which;
@@ -443,7 +449,7 @@ module _ (p : Params) (old now : Disk) (before after : EngineView) (commands : L
         quiet = e.call.quiet holds.shows.shows.told;
         world = run m w its.steps;
         shows = there.1.shows;
-        commands_are = there.2;
+        becomes = there.2;
         regroups = still_open e.call there.1;
         rising = risen.rising;
         which = risen.which;
@@ -465,18 +471,18 @@ module _ (p : Params) (old now : Disk) (before after : EngineView) (commands : L
 
       by_refusal : (o : Option Refusal) → refusal_in m w op ≡ o → Works p old now (stage_of before w) line
       by_refusal None none = by_course its (inl (inl (made (op ∷ []) ok, asks_in holds (asked (sym same ∙ none)), sym (one_course m p.limit op w (used_in before))))) (accepted_course p before w op params none)
-      by_refusal (Some why) is = by_course (course [] (used_in before) Through) (inr (inr refl)) (refused_course p before w op why params is)
+      by_refusal (Some why) is = by_course (course [] (used_in before) Through) (inr (inr (inl refl))) (refused_course p before w op why params is)
 
 -- what is answered where nothing is done
 abbrev pub unmoved : {p : Params} {d : Disk} {engine : EngineView} {commands : List Command} {line : List ℕ} (reply : Reply) → (holds : Holds p d engine commands) → Replies p (open_in holds.world) commands line reply [] → GoesBy p (stage_of engine holds.world) line reply (stage_of engine holds.world)
     → Regroups line reply commands (open_in holds.world) (open_in holds.world) → IsOfEngine engine line reply → IsDone p d d engine engine holds.world commands line reply
-unmoved {engine = engine} {commands} reply holds replies goes regroups is_of = record {
+unmoved {engine = engine} {commands} {line} reply holds replies goes regroups is_of = record {
   added = [];
   replies = replies;
   quiet = refl;
   world = holds.world;
   shows = holds.shows;
-  commands_are = holds.commands_are ∙ sym (append-nil commands);
+  becomes = grows_to line reply commands [] (open_in holds.world) (open_in holds.world) regroups refl (holds.commands_are ∙ sym (append-nil commands));
   regroups = regroups;
   rising = omega arith;
   which = inl refl;
@@ -500,7 +506,7 @@ read_done {p} {before = before} {w = w} {commands} {line} reply replies regroups
   quiet = quiet;
   world = v;
   shows = shows;
-  commands_are = are ∙ sym (append-nil commands);
+  becomes = grows_to line reply commands [] (open_in w) (open_in w) (regroups (open_in w)) refl (are ∙ sym (append-nil commands));
   regroups = subst (λ (s : Stage). Regroups line reply commands (open_in w) (open_in s.world)) (sym same) (regroups (open_in w));
   rising = rising;
   which = which;
@@ -518,6 +524,7 @@ pub by_backup : {P : Type 0} (copies : Option ℕ) (request : Request) → ((IsB
 by_backup None (Keep trim) against beside = beside refl
 by_backup (Some n) (Keep trim) against beside = against (λ none. cc none)
 by_backup copies (Save bstart) against beside = against (λ it. it)
+by_backup copies (Group abort_group) against beside = against (λ it. it)
 by_backup copies request against beside = beside tt
 
 pub force_works : {p : Params} {old now : Disk} {before : EngineView} {commands : List Command} {line : List ℕ} → (holds : Holds p old before commands) → AsksFor line force → before.group ≡ None
@@ -540,7 +547,7 @@ force_done {p} {old} {now} {before} {after} {commands} {line} n holds asks alone
       quiet = it.call.quiet holds.shows.shows.told;
       world = run m w (force_steps m w);
       shows = there.1.shows;
-      commands_are = (run_upkept m w (force_steps m w) (upkeep_force m w) holds.shows.shows.running.live none).commands ∙ holds.commands_are ∙ sym (append-nil commands);
+      becomes = (run_upkept m w (force_steps m w) (upkeep_force m w) holds.shows.shows.running.live none).commands ∙ holds.commands_are ∙ sym (append-nil commands);
       regroups = none_open there.1.shows (it.call.group ∙ alone) ∙ sym (none_open holds.shows alone);
       rising = rose.rising;
       which = rose.which;
@@ -595,6 +602,10 @@ module _ (p : Params) (old now : Disk) (before after : EngineView) (commands : L
   rose : (ending : Ending) → (IsFailed ending → ⊥) → KeepsCommands all_meaning old now before after ending → HasRisen before after commands
   rose ending working keeps = ⊎_elim (λ failed. absurd (working failed)) (λ (k : of_engine.Kept all_meaning p before now after commands). risen holds k) (keeps.holds p commands (in_engine holds))
 
+  -- none is open still
+  none_still : IsAfterIn all_meaning p now after start way → open_in (run mean start way.steps) ≡ open_in start
+  none_still there = none_after there ∙ sym none_before
+
   -- a reply to it that adds nothing
   replies_so : (reply : Reply) (ending : Ending) → (IsFailed ending → ⊥) → IsEngineCall log_limit old now before after u.logged ending → KeepsCommands all_meaning old now before after ending → IsAfterIn all_meaning p now after start way
       → Replies p (open_in start) commands line reply [] → Regroups line reply commands (open_in start) (open_in (run mean start way.steps)) → GoesBy p (stage_of before start) line reply (stage_of after (run mean start way.steps)) → IsOfEngine after line reply
@@ -605,7 +616,8 @@ module _ (p : Params) (old now : Disk) (before after : EngineView) (commands : L
     quiet = call.quiet holds.shows.shows.told;
     world = run mean start way.steps;
     shows = there.shows;
-    commands_are = (run_upkept mean start way.steps plain holds.shows.shows.running.live (holds.shows.group ∙ alone)).commands ∙ holds.commands_are ∙ sym (append-nil commands);
+    becomes = grows_to line reply commands [] (open_in start) (open_in (run mean start way.steps)) regroups (none_still there)
+        ((run_upkept mean start way.steps plain holds.shows.shows.running.live (holds.shows.group ∙ alone)).commands ∙ holds.commands_are ∙ sym (append-nil commands));
     regroups = regroups;
     rising = (rose ending working keeps).rising;
     which = (rose ending working keeps).which;
@@ -619,10 +631,6 @@ module _ (p : Params) (old now : Disk) (before after : EngineView) (commands : L
   -- the answer by how the call ended
   abbrev Answered : Result Answer Early → Type 0
   Answered r = IfOk r (λ answer. IsDone p old now before after start commands line (reply_of answer))
-
-  -- none is open still
-  none_still : IsAfterIn all_meaning p now after start way → open_in (run mean start way.steps) ≡ open_in start
-  none_still there = none_after there ∙ sym none_before
 
   by_ending : (ending : Ending) (r : Result Answer Early) → IsAnswerOf ending r → IsEngineCall log_limit old now before after u.logged ending → FollowsIn all_meaning p now after start way ending → KeepsCommands all_meaning old now before after ending → Answered r
   by_ending Done r is call there keeps =

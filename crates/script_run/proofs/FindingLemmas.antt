@@ -21,7 +21,7 @@ use Rattle.script_lines.specs.Grammar.{Request}
 use Rattle.script_lines.specs.declared.line.Line.TheVariants.{Run as run, Ask, Force as force, Keep, Group, Skip as skip}
 use Rattle.script_lines.specs.declared.line.Question.TheVariants.{Get as get}
 use Rattle.script_lines.specs.declared.line.Upkeep.{Upkeep}
-use Rattle.script_lines.specs.declared.line.Grouping.TheVariants.{Begin as begin_group, End as end_group}
+use Rattle.script_lines.specs.declared.line.Grouping.TheVariants.{Begin as begin_group, End as end_group, Abort as abort_group}
 use Rattle.script_lines.specs.Replies.{Reply, backup_denied, bad, in_group, refused, reply_of, silence, value}
 use Rattle.script_lines.specs.declared.answer.Answer.{Answer}
 use Rattle.script_lines.specs.declared.answer.Answer.TheVariants as answers
@@ -49,7 +49,7 @@ use Rattle.script_run.specs.declared.outcome.Outcome.TheVariants.{Nothing, Told}
 use Rattle.script_run.proofs.AskLemmas.{asked_done, asked_images, asked_works}
 use Rattle.script_run.proofs.DoneLemmas.{AreCounted, IsExec, IsLiveMap, by_backup, by_group, denied_here, exec_done, exec_end, exec_full, exec_refused, exec_undamaged, exec_works, force_done, force_works, images_of, read_done, risen, still_attached, still_whole, unmoved, upkeep_done, upkeep_works}
 use Rattle.script_run.proofs.GroupLemmas.{none_open}
-use Rattle.script_run.proofs.GroupingLemmas.{ClosesGroup, begun_done, begun_works, closed, end_done, end_refused}
+use Rattle.script_run.proofs.GroupingLemmas.{ClosesGroup, begun_done, begun_works, closed, end_done, closing_refused}
 use Rattle.script_run.proofs.LineLemmas.{caused_beside}
 use Rattle.script_run.proofs.ListLemmas.{AreNoIdentities, IsOk, calls_attached, calls_cause, calls_unbroken, calls_undamaged, list_done, list_images, list_works}
 use Rattle.script_run.proofs.MomentLemmas.{works_at_once, works_still}
@@ -292,10 +292,13 @@ module _ {d : Disk} {engine after : EngineView} (lawful : IsDisk d) (fine : engi
 
   pub end_not_finds : engine.group ≡ None → after ≡ engine → FindsAnswer reply_of (IsLineOf (Some (Group end_group))) d d engine after (Ok answers.NoGroup)
   end_not_finds alone is = subst (λ (e : EngineView). FindsAnswer reply_of (IsLineOf (Some (Group end_group))) d d engine e (Ok answers.NoGroup)) (sym is)
-      (finds_at_once lawful fine (λ p commands line asks holds. end_refused holds asks alone))
+      (finds_at_once lawful fine (λ p commands line asks holds. closing_refused (Group end_group) tt holds asks alone))
 
--- a line that is skipped, and one that is bad
+-- an abort where no group is open, a line that is skipped, and one that is bad
 module _ {d : Disk} {engine : EngineView} (lawful : IsDisk d) (fine : engine.broken ≡ false) where
+  pub abort_not_finds : engine.group ≡ None → FindsAnswer reply_of (IsLineOf (Some (Group abort_group))) d d engine engine (Ok answers.NoGroup)
+  abort_not_finds alone = finds_at_once lawful fine (λ p commands line asks holds. closing_refused (Group abort_group) tt holds asks alone)
+
   pub skip_finds : FindsAnswer (outcome_reply engine) (IsLineOf (Some skip)) d d engine engine (Ok Nothing)
   skip_finds = finds_at_once lawful fine (λ p commands line asks holds. unmoved silence holds (asks, refl) refl refl tt)
 
@@ -390,7 +393,7 @@ finds_beside {reply = reply} disk {old = old} {now} backup {result} laws other f
   idle = λ line asked none. refl;
   images = f.images;
   works = f.works;
-  done = λ start p commands line asked holds. done_beside laws (other line asked) holds.shows reply result (f.done p commands line asked holds);
+  done = λ start p commands line asked holds. done_beside laws (other line asked) holds reply result (f.done p commands line asked holds);
 }
 
 -- The value of an object is asked, which was fetched.

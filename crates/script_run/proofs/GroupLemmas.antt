@@ -7,11 +7,11 @@ use Rattle.formats.specs.declared.params.Params.{Params}
 use Rattle.explain_core.specs.World.{World}
 use Rattle.script_lines.specs.Grammar.{Request, AsksFor}
 use Rattle.script_lines.specs.declared.line.Line.TheVariants.{Group}
-use Rattle.script_lines.specs.declared.line.Grouping.TheVariants.{Begin as begin_group, End as end_group}
+use Rattle.script_lines.specs.declared.line.Grouping.TheVariants.{Begin as begin_group, End as end_group, Abort as abort_group}
 use Rattle.script_lines.specs.Replies.{Reply, ok}
 use Rattle.store_engine.specs.Engine.{EngineView}
 use Rattle.shell_base.specs.Store.{Command, ShowsIn}
-use Rattle.script_run.specs.Groups.{Account, AreWhole, IsAfter, IsWhole, Span, begun_after, closed_with, ended, group_after, open_in}
+use Rattle.script_run.specs.Groups.{Account, AreInOrder, AreWhole, IsAfter, IsWhole, Span, begun_after, closed_with, ended, group_after, open_in}
 use Rattle.script_run.specs.Made.{AsksMade, Made, made, made_by}
 use Rattle.script_run.specs.Replies.{IsGranted, Replies}
 use Rattle.script_run.specs.StoryLaws.{AllEnd, after_closed}
@@ -34,15 +34,15 @@ closed_late kept now None spans are late = are
 closed_late kept now (Some n) spans are late = (inl late, are)
 
 -- all commands of an account split no group, where none is open
-pub whole_late : (kept : ℕ) (a : Account) → length a.commands ≤ kept → AllEnd (length a.commands) a.closed → a.group ≡ None → AreWhole kept a
+pub whole_late : (kept : ℕ) (a : Account) → length a.commands ≤ kept → AreInOrder a → a.group ≡ None → AreWhole kept a
 whole_late kept a late within none = record {
-  closed = all_whole kept (length a.commands) a.closed late within;
+  closed = all_whole kept (length a.commands) a.closed late within.ends;
   group = subst (λ (group : Option ℕ). IfSome group (λ n. kept ≤ n)) (sym none) tt;
 }
 
 -- or where it is closed
-pub whole_ended : {T : Type 0} (kept : ℕ) (a : Account) → AllEnd (length a.commands) a.closed → T × (length a.commands ≤ kept) → AreWhole kept (ended a)
-whole_ended kept a within (any, late) = record { closed = closed_late kept (length a.commands) a.group a.closed (all_whole kept (length a.commands) a.closed late within) late; group = tt }
+pub whole_ended : {T : Type 0} (kept : ℕ) (a : Account) → AreInOrder a → T × (length a.commands ≤ kept) → AreWhole kept (ended a)
+whole_ended kept a within (any, late) = record { closed = closed_late kept (length a.commands) a.group a.closed (all_whole kept (length a.commands) a.closed late within.ends) late; group = tt }
 
 -- a request that adds commands begins no group
 makes_none : (p : Params) (commands : List Command) (request : Request) (it : Made) → made_by p commands request ≡ Some it → request ≡ Group begin_group → ⊥
@@ -57,6 +57,7 @@ begin_adds once p group commands line added replies asks = ⊎_elim
 request_whole : (kept : ℕ) (a : Account) (request : Request) → AreWhole kept a → (request ≡ Group begin_group → kept ≤ length a.commands) → IfSome (group_after request a.group a.commands) (λ n. kept ≤ n)
 request_whole kept a (Group begin_group) w begins = begins refl
 request_whole kept a (Group end_group) w begins = tt
+request_whole kept a (Group abort_group) w begins = tt
 request_whole kept a request w begins = w.group
 
 -- what splits no group before an answer splits none after it

@@ -16,7 +16,7 @@ use Rattle.standing.specs.Moments.{TakesSome}
 use Rattle.running_store.specs.Courses.{force_steps}
 use Rattle.running_store.specs.Running.{run_upkept}
 use Rattle.cache_manager.specs.Upkeep.{upkeep_force}
-use Rattle.script_lines.specs.Grammar.{AsksFor}
+use Rattle.script_lines.specs.Grammar.{AsksFor, Request}
 use Rattle.script_lines.specs.declared.line.Line.TheVariants.{Group}
 use Rattle.script_lines.specs.declared.line.Grouping.TheVariants.{Begin as begin_group, End as end_group}
 use Rattle.script_lines.specs.Replies.{no_group, ok}
@@ -30,6 +30,7 @@ use Rattle.shell_base.specs.HoldLaws.{in_engine}
 use Rattle.script_run.specs.Courses.{Works}
 use Rattle.script_run.specs.Groups.{open_in}
 use Rattle.script_run.specs.Found.{IsDone}
+use Rattle.script_run.specs.Replies.{IsClosing}
 use Rattle.script_run.proofs.CourseLemmas.{logged_begin}
 use Rattle.script_run.proofs.DoneLemmas.{by_group, risen, stage_on, unmoved}
 use Rattle.script_run.proofs.GroupLemmas.{none_open}
@@ -81,7 +82,7 @@ module _ (p : Params) (old now : Disk) (before after : EngineView) (commands : L
         quiet = it.call.quiet holds.shows.shows.told;
         world = run m w c.steps;
         shows = there.1.shows;
-        commands_are = ap (λ (u : World Command). commands_of u.history) begun_world ∙ begun_commands ∙ sym (append-nil commands);
+        becomes = (Group begin_group, asks, ap (λ (u : World Command). commands_of u.history) begun_world ∙ begun_commands ∙ sym (append-nil commands));
         regroups = (Group begin_group, asks, ap (λ (u : World Command). open_in u) begun_world ∙ begun_open);
         rising = rose.rising;
         which = rose.which;
@@ -97,6 +98,11 @@ module _ (p : Params) (old now : Disk) (before after : EngineView) (commands : L
   -- what is done for it
   pub begun_works : (old.tells_moments → TakesSome m p old now w (begin_course m w (used_in before)).steps) → Works p old now (stage_of before w) line
   begun_works takes = works_by p old now (stage_of before w) line (begin_course m w (used_in before)) (inl (inr (inl (Group begin_group, 0, none_open holds.shows alone, tt, asks, refl)))) takes
+
+-- no group is open
+pub closing_refused : {p : Params} {d : Disk} {engine : EngineView} {commands : List Command} {line : List ℕ} (request : Request) → IsClosing request → (holds : Holds p d engine commands) → AsksFor line request → engine.group ≡ None
+    → IsDone p d d engine engine holds.world commands line no_group
+closing_refused request closing holds asks alone = unmoved no_group holds (request, closing, asks, none_open holds.shows alone, refl) refl refl tt
 
 -- the engine with its group closed
 abbrev pub closed : EngineView → EngineView
@@ -147,7 +153,7 @@ module _ {p : Params} {d : Disk} {engine : EngineView} {commands : List Command}
         quiet = refl;
         world = step mean start End;
         shows = there;
-        commands_are = ended_commands ∙ sym (append-nil commands);
+        becomes = (Group end_group, asks, ended_commands ∙ sym (append-nil commands));
         regroups = (Group end_group, asks, none_open there refl);
         rising = omega arith;
         which = inl refl;
@@ -159,6 +165,3 @@ module _ {p : Params} {d : Disk} {engine : EngineView} {commands : List Command}
         );
         is_of = tt;
       }
-
-  pub end_refused : engine.group ≡ None → IsDone p d d engine engine start commands line no_group
-  end_refused alone = unmoved no_group holds (asks, none_open holds.shows alone, refl) refl refl tt

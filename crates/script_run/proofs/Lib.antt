@@ -1,3 +1,4 @@
+pub mod AbortLemmas
 pub mod TrueLemmas
 pub mod MomentLemmas
 pub mod RunLemmas

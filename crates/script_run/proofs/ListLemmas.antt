@@ -43,7 +43,7 @@ use Rattle.execution.specs.declared.exec_err.ExecErr.TheVariants as exec_errors
 use Rattle.script_lines.specs.Grammar.{Request, AsksFor}
 use Rattle.script_lines.specs.declared.line.Line.TheVariants.{Run, Make, Group}
 use Rattle.script_lines.specs.declared.line.Making.TheVariants.{AppRun as arun, ProgramRun as prun, TreeInsert as tinsert, TreeDelete as tdelete, HashPut as hset, HashDelete as hdel}
-use Rattle.script_lines.specs.declared.line.Grouping.TheVariants.{Begin as begin_group, End as end_group}
+use Rattle.script_lines.specs.declared.line.Grouping.TheVariants.{Begin as begin_group, End as end_group, Abort as abort_group}
 use Rattle.script_lines.specs.Replies.{Reply, ok, ran, refused, bad_tree, tree_full, denied, full, end, reply_of}
 use Rattle.script_lines.specs.declared.answer.Answer.{Answer}
 use Rattle.store_engine.specs.Engine.{EngineView, forced_in, group_size, needed_in, params_of, used_in}
@@ -65,6 +65,7 @@ use Rattle.script_run.specs.Made.{AsksMade, AsksBehind, Made, call_end, hash_mad
 use Rattle.script_run.specs.Replies.{Replies}
 use Rattle.script_run.specs.Run.{Working}
 use Rattle.script_run.specs.Stages.{Ends, GoesBy}
+use Rattle.script_run.specs.StoryLaws.{grows_to}
 use Rattle.script_run.proofs.HashLemmas.{planned_delete_all, planned_put_all, some_hash}
 use Rattle.script_run.proofs.MomentLemmas.{works_by}
 use Rattle.script_run.proofs.DoneLemmas.{asks_in, last_number, left_stopped, over_limit, still_attached, still_whole}
@@ -269,6 +270,7 @@ made_some p commands it request is = of_request request it is
 pub made_keeps : (p : Params) (commands : List Command) (it : Made) (request : Request) → made_by p commands request ≡ Some it → (group : Option ℕ) → group_after request group commands ≡ group
 made_keeps p commands it (Group begin_group) same group = cc same
 made_keeps p commands it (Group end_group) same group = cc same
+made_keeps p commands it (Group abort_group) same group = cc same
 made_keeps p commands it request same group = refl
 
 -- no identity write is logged by commands
@@ -331,14 +333,15 @@ module _ (p : Params) (old now : Disk) (before after : EngineView) (commands : L
   all_done reply is replies goes is_of call a =
       let here = reached Done (λ f. f) a in
       let whole : take a.done it.ops ≡ it.ops = take_all a.done it.ops (omega (arith, a.all refl)) in
+      let regroups = regroups_so reply (open_in here.world) (same_group Done (λ f. f) a) in
       record {
         added = it.ops;
         replies = replies;
         quiet = call.quiet holds.shows.shows.told;
         world = here.world;
         shows = here.shows;
-        commands_are = here.commands_are ∙ ap (λ (l : List Command). commands ++ l) whole;
-        regroups = regroups_so reply (open_in here.world) (same_group Done (λ f. f) a);
+        becomes = grows_to line reply commands it.ops (open_in w) (open_in here.world) regroups (same_group Done (λ f. f) a) (here.commands_are ∙ ap (λ (l : List Command). commands ++ l) whole);
+        regroups = regroups;
         rising = rises Done (λ f. f) a;
         which = which_of Done (λ f. f) a;
         goes = goes here.world (ends_so Through here.world here.ends.0 here.ends.1 a.identities call.copied);
@@ -374,14 +377,15 @@ module _ (p : Params) (old now : Disk) (before after : EngineView) (commands : L
       → IsOfEngine after line reply → IsEngineCall p.limit old now before after 0 (Stopped stop) → IsDone p old now before after w commands line reply
   stopped_so stop reply a replies goes is_of call =
       let here = reached (Stopped stop) (λ f. f) a in
+      let regroups = regroups_so reply (open_in here.world) (same_group (Stopped stop) (λ f. f) a) in
       record {
         added = take a.done it.ops;
         replies = replies;
         quiet = call.quiet holds.shows.shows.told;
         world = here.world;
         shows = here.shows;
-        commands_are = here.commands_are;
-        regroups = regroups_so reply (open_in here.world) (same_group (Stopped stop) (λ f. f) a);
+        becomes = grows_to line reply commands (take a.done it.ops) (open_in w) (open_in here.world) regroups (same_group (Stopped stop) (λ f. f) a) here.commands_are;
+        regroups = regroups;
         rising = rises (Stopped stop) (λ f. f) a;
         which = which_of (Stopped stop) (λ f. f) a;
         goes = goes here.world (ends_so stop here.world here.ends.0 here.ends.1 a.identities call.copied);

@@ -13,7 +13,7 @@ use Rattle.store_engine.specs.Lists.{commands_course}
 use Rattle.script_lines.specs.Grammar.{Request}
 use Rattle.script_lines.specs.declared.line.Line.TheVariants.{Run as run, Keep, Group}
 use Rattle.script_lines.specs.declared.line.Upkeep.TheVariants.{Trim as trim}
-use Rattle.script_lines.specs.declared.line.Grouping.TheVariants.{Begin as begin_group, End as end_group}
+use Rattle.script_lines.specs.declared.line.Grouping.TheVariants.{Begin as begin_group, End as end_group, Abort as abort_group}
 use Rattle.store_engine.specs.Engine.{EngineView}
 use Rattle.shell_base.specs.Store.{Command, refusal_after}
 use Rattle.script_run.specs.Found.{EndsAtLast, IsStopped, MayStop}
@@ -32,6 +32,7 @@ made_unless p commands line op refusal is asks = subst (λ (r : Option Refusal).
 pub made_alike : (p : Params) (commands others : List Command) (it : Made) (group : Option ℕ) (request : Request) → made_by p commands request ≡ Some it → group_after request group others ≡ group
 made_alike p commands others it group (Group begin_group) makes = cc
 made_alike p commands others it group (Group end_group) makes = cc
+made_alike p commands others it group (Group abort_group) makes = cc
 made_alike p commands others it group request makes = refl
 
 -- and it asks for no trim, so that its `end` says the next number

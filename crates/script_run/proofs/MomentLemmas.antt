@@ -36,7 +36,7 @@ worked_none p s [] files shows = record {
 }
 worked_none p s (line ∷ todo) files shows = record {
   its = course [] s.used Through;
-  due = inr (inr refl);
+  due = inr (inr (inl refl));
   shows = after_none (meaning_in p) (FilesShow (meaning_in p) p files) s.world [] shows;
 }
 

@@ -4,7 +4,7 @@ use Rattle.std.specs.Prelude.{⊤, IfSome, IsTrue, slice_get}
 use Rattle.std.specs.Option.{is_some}
 use Rattle.std.proofs.lemmas.Bool.{both_ways}
 use Rattle.std.proofs.lemmas.List.{take-append-drop, take-append-le}
-use Rattle.std.proofs.Math.Seq.{drop-append_seam}
+use Rattle.std.proofs.Math.Seq.{drop-append_seam, take-append_seam}
 use Rattle.disk_model.specs.Disk.{Disk}
 use Rattle.oper_core.specs.Meaning.{Meaning}
 use Rattle.formats.specs.declared.params.Params.{Params}
@@ -14,10 +14,12 @@ use Rattle.explain_core.specs.Sound.{IsGroup, IsSound}
 use Rattle.explain_core.specs.StableLaws.{commands_of-append}
 use Rattle.explain_core.specs.World.{World, end_of}
 use Rattle.running_store.specs.Steps.Appended.{next_lsn}
+use Rattle.script_lines.specs.declared.line.Line.TheVariants.{Group}
+use Rattle.script_lines.specs.declared.line.Grouping.TheVariants.{Abort as abort_group}
 use Rattle.store_engine.specs.Engine.{EngineView, commands_since, group_size}
 use Rattle.store_engine.specs.Grouping.{ungrouped}
 use Rattle.shell_base.specs.Store.{Command, ShowsIn, meaning_in}
-use Rattle.script_run.specs.Groups.{begun_after, open_in, size_of, waiting}
+use Rattle.script_run.specs.Groups.{all_after, begun_after, open_in, size_of, waiting}
 
 -- members that are all commands
 abbrev AreCommands : List (Member Command) → Type 0
@@ -62,6 +64,14 @@ module _ {m : Meaning Command} {w : World Command} (sound : IsSound m w) where
       ap (λ (k : ℕ). drop (length (commands_of (take k w.history))) (commands_of w.history)) (stable_before begun is)
       ∙ ap (λ (l : List Command). drop (length stable) l) both
       ∙ drop-append_seam stable unstable
+
+  -- and those before it are stable: an abort leaves them
+  pub stable_are : (group : Option ℕ) (added : List Command) → w.group ≡ group → IsTrue (is_some group) → all_after (Group abort_group) (begun_after w group) (commands_of w.history) added ≡ stable
+  stable_are None added is some = absurd (both_ways _ refl some)
+  stable_are (Some begun) added is some =
+      ap (λ (k : ℕ). take (length (commands_of (take k w.history))) (commands_of w.history)) (stable_before begun is)
+      ∙ ap (λ (l : List Command). take (length stable) l) both
+      ∙ take-append_seam stable unstable
 
   -- so many has it
   size_is : (group : Option ℕ) → w.group ≡ group → commands_since (end_of w) group ≡ size_of (begun_after w group) (commands_of w.history)
@@ -118,3 +128,18 @@ in_open P engine said inside = by_group engine.group said inside
     by_group : (group : Option ℕ) → IfSome (commands_since engine.parts.log.next group) P → IsTrue (is_some group) → (size : ℕ) × P size
     by_group None said inside = absurd (both_ways _ refl inside)
     by_group (Some begun) said inside = (engine.parts.log.next - begun, said)
+
+-- a group is open in the engine exactly where it tells its size
+pub group_given : (engine : EngineView) (size : ℕ) (result : Option ℕ) → result ≡ group_size engine → result ≡ Some size → IsTrue (is_some engine.group)
+group_given engine size result told is = by_group engine.group (sym told ∙ is)
+  where
+    by_group : (group : Option ℕ) → commands_since engine.parts.log.next group ≡ Some size → IsTrue (is_some group)
+    by_group None some = cc some
+    by_group (Some begun) some = refl
+
+pub none_given : (engine : EngineView) (result : Option ℕ) → result ≡ group_size engine → result ≡ None → engine.group ≡ None
+none_given engine result told is = by_group engine.group (sym told ∙ is)
+  where
+    by_group : (group : Option ℕ) → commands_since engine.parts.log.next group ≡ None → group ≡ None
+    by_group None none = refl
+    by_group (Some begun) none = cc none

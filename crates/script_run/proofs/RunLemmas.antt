@@ -29,7 +29,7 @@ use Rattle.shell_base.specs.declared.status.Status.{Status}
 use Rattle.shell_base.specs.declared.status.Status.TheVariants.{DoneWithRefusals}
 use Rattle.shell_base.specs.declared.stop.Stop.{Stop}
 use Rattle.shell_base.specs.HoldLaws.{holds_as, holds_stays, holds_between, told_by}
-use Rattle.script_run.specs.Groups.{AreWhole, Regroups, account_of, open_in, waiting}
+use Rattle.script_run.specs.Groups.{AreWhole, Becomes, Regroups, account_of, open_in, waiting}
 use Rattle.script_run.specs.Made.{IsFront}
 use Rattle.script_run.specs.Replies.{Replies, IsTrueIn, is_refusing}
 use Rattle.script_run.specs.Stages.{IsKeptUp, IsQuestion, Ends, GoesBy, Leads, AllGoBy, finish_course}
@@ -41,7 +41,7 @@ use Rattle.script_run.specs.Run.{IsTrueSaying, IsTrueSoFar, IsAnswered, IsPartly
 use Rattle.script_run.proofs.GroupLemmas.{AsksOnce, after_whole, none_open, whole_ended, whole_late}
 use Rattle.script_run.proofs.MomentLemmas.{found_steps, images_show, worked_none, works_line}
 use Rattle.script_run.proofs.TrueLemmas.{truly_on, truly_quiet, line_behind, found_truly}
-use Rattle.script_run.specs.StoryLaws.{AreEven, after_commands, after_within, answers_even, ended_whole, next_in, goes_by_more, told_goes, told_truly, said_longer, Story, story_more, story_end, said_more, spoken_more, told_whole, told_silent, told_partly}
+use Rattle.script_run.specs.StoryLaws.{AreEven, after_within, answers_even, becomes_front, ended_whole, next_in, goes_by_more, told_goes, told_truly, said_longer, Story, story_more, story_end, said_more, spoken_more, told_whole, told_silent, told_partly}
 use Rattle.script_run.specs.StartLaws.{AreFew, moment_of, moment_at, first_moment}
 
 -- no upkeep is done
@@ -279,7 +279,7 @@ pub record GoneOn {tending : Tending} {p : Params} {first : Stage} {start now ne
   pub later : Going tending p first start new after commands script todo (refusing || kind)
   pub lines_are : later.lines ≡ g.lines ++ line ∷ []
   pub replies_are : later.replies ≡ g.replies ++ whole.reply ∷ []
-  pub commands_are : later.account.commands ≡ g.account.commands ++ whole.added
+  pub commands_are : later.account.commands ≡ whole.all
   pub world_is : later.holds.world ≡ whole.kept.holds.world
   pub fresh : IsFresh later
 
@@ -291,9 +291,10 @@ gone_on few once {tending} {p} {first} {start} {now} {new} {engine} {after} {com
     let reply = whole.reply in
     let added = whole.added in
     let replies = replies_in g line reply added whole.replies in
-    let next = next_in a0 line reply added (open_in whole.kept.holds.world) (subst (λ (o : Option ℕ). Regroups line reply a0.commands o (open_in whole.kept.holds.world)) (sym g.group) whole.regroups) in
+    let becomes = subst (λ (o : Option ℕ). Becomes line reply o a0.commands added whole.all) (sym g.group) whole.becomes in
+    let next = next_in once a0 line reply added whole.all (open_in whole.kept.holds.world) becomes (subst (λ (o : Option ℕ). Regroups line reply a0.commands o (open_in whole.kept.holds.world)) (sym g.group) whole.regroups) in
     let b = next.account in
-    let commands_are : b.commands ≡ a0.commands ++ added = after_commands a0 line reply added b next.after in
+    let within = (becomes_front line reply a0.group a0.commands added whole.all becomes (forced_in after) whole.kept.holds.says.forced).0 in
     let story = story_more line reply added b (story_of g) replies next.after in
     let ops = waiting a0.group (a0.commands ++ added) in
     let which : (forced_in after ≡ forced_in engine) ⊎ ((engine.group ≡ None) × (length a0.commands ≤ forced_in after)) = ⊎_elim (λ (same : forced_in after ≡ forced_in engine). inl same)
@@ -308,9 +309,9 @@ gone_on few once {tending} {p} {first} {start} {now} {new} {engine} {after} {com
         said_is = whole.said ∙ ap (λ (l : List ℕ). l ++ said_line reply) g.said_is ∙ append_assoc start.said (flat_map said_line g.replies) (said_line reply)
             ∙ ap (λ (l : List ℕ). start.said ++ l) (sym (said_more g.replies reply));
         answers = story.answers;
-        holds = holds_as (sym commands_are) whole.kept.holds;
+        holds = holds_as (sym next.commands_are) whole.kept.holds;
         group = next.group_is;
-        whole = after_whole once p (forced_in after) a0 line reply added b replies next.after (whole_at g (forced_in after) which) whole.kept.holds.says.forced;
+        whole = after_whole once p (forced_in after) a0 line reply added b replies next.after (whole_at g (forced_in after) which) within;
         ends_within = after_within a0 line reply added b next.after g.ends_within;
         all_before = omega (arith, g.all_before, whole.kept.rising);
         acked = acked_more g.replies reply (forced_in engine) (forced_in after) g.acked whole.kept.rising whole.acked;
@@ -325,7 +326,7 @@ gone_on few once {tending} {p} {first} {start} {now} {new} {engine} {after} {com
       };
       lines_are = refl;
       replies_are = refl;
-      commands_are = commands_are;
+      commands_are = next.commands_are;
       world_is = refl;
       fresh = refl;
     }
@@ -351,7 +352,7 @@ opened few {tending} {p} {start} {engine} {commands} script lawful holds all alo
   holds = holds;
   group = sym (none_open holds.shows alone);
   whole = record { closed = tt; group = tt };
-  ends_within = tt;
+  ends_within = record { ends = tt; group = tt };
   all_before = omega (arith, all);
   acked = λ n has. absurd (omega (arith, has.1));
   kind = refl;
@@ -371,7 +372,8 @@ pub record IsTold (tending : Tending) (p : Params) (first : Stage) (commands : L
   pub truly : SaysTruly tending p first commands script start new
   pub lines_are : with_line truly.says.story.lines truly.says.story.work ≡ lines
   pub replies_are : with_begun truly.says.story.replies truly.says.story.work ≡ replies
-  pub all : truly.says.story.account.commands ++ truly.says.story.added ≡ every
+  -- or these are the first of them
+  pub all : (truly.says.story.account.commands ++ truly.says.story.added ≡ every) ⊎ ((next ≡ []) × (n : ℕ) × (every ≡ take n (truly.says.story.account.commands ++ truly.says.story.added)))
   pub rest : List (List ℕ)
   pub taken_are : with_line truly.says.story.lines truly.says.story.work ++ take 1 truly.says.story.todo ≡ (lines ++ next) ++ rest
 
@@ -388,7 +390,7 @@ told_so_far_by {tending} {p} {first} {start} {now} {engine} {new = new} next res
   };
   lines_are = all.lines_are;
   replies_are = all.with_last;
-  all = all.all;
+  all = inl (append-nil g.account.commands);
   rest = rest;
   taken_are = ap (λ (l : List (List ℕ)). g.lines ++ l) is ∙ sym (append_assoc g.lines next rest);
 }
@@ -414,8 +416,9 @@ module _ {tending : Tending} {p : Params} {first : Stage} {start now new : Disk}
   pub told_quiet : new.said ≡ now.said → IsTold tending p first commands script start new g.lines g.replies g.account.commands (line ∷ [])
   told_quiet quiet = told_so_far_by (line ∷ []) [] refl g quiet (λ told. truly_quiet (even_of g) (g.truly told) g.said_is (a.images (time.moments_told.0 told)) line_behind)
 
-  pub told_begun : (part : IsPartly p now new (stage_of engine g.holds.world) g.account.commands line) → IsTold tending p first commands script start new (g.lines ++ line ∷ []) (g.replies ++ part.reply ∷ []) (g.account.commands ++ part.added) []
-  told_begun part =
+  pub told_begun : (part : IsPartly p now new (stage_of engine g.holds.world) g.account.commands line) (kept : ℕ) → kept ≤ length (g.account.commands ++ part.added) → AreWhole kept g.account
+      → IsTold tending p first commands script start new (g.lines ++ line ∷ []) (g.replies ++ part.reply ∷ []) (take kept (g.account.commands ++ part.added)) []
+  told_begun part kept within whole =
       let a0 = g.account in
       let ops = waiting a0.group (a0.commands ++ part.added) in
       let told_part = told_partly (λ ops line reply. ⊤) line part.reply part.added part.count (story_of g) (replies_in g line part.reply part.added part.replies) tt in
@@ -435,7 +438,7 @@ module _ {tending : Tending} {p : Params} {first : Stage} {start now new : Disk}
         };
         lines_are = told_part.lines_are;
         replies_are = told_part.with_last;
-        all = told_part.all;
+        all = inr (refl, kept, sym (told_part.all kept within whole).1);
         rest = take 1 told_part.story.todo;
         taken_are = ap (λ (l : List (List ℕ)). l ++ take 1 told_part.story.todo) (told_part.lines_are ∙ sym (append-nil (g.lines ++ line ∷ [])));
       }
@@ -445,7 +448,7 @@ pub ends_in_line : AreFew → {tending : Tending} {p : Params} {first : Stage} {
 ends_in_line few {tending} {p} {first} {start} {now} {new} {engine} {after} {commands} {script} {todo} {refusing} {result} {stop} line g time is a = record {
   says = ⊎_elim
       (λ (quiet : new.said ≡ now.said). (told_quiet line g time a quiet).truly)
-      (λ (part : IsPartly p now new (stage_of engine g.holds.world) g.account.commands line). (told_begun line g time a part).truly)
+      (λ (part : IsPartly p now new (stage_of engine g.holds.world) g.account.commands line). (told_begun line g time a part (forced_in engine) (omega (arith, g.holds.says.forced, length-append g.account.commands part.added)) g.whole).truly)
       (subst (λ (r : Result Bool Stop). OnErr r ((new.said ≡ now.said) ⊎ IsPartly p now new (stage_of engine g.holds.world) g.account.commands line)) is a.partly);
   images = λ told. moments_so_far (moments_more few line g time a told);
   steps = λ told. told_so_far (courses_more line g time a told);
@@ -537,6 +540,7 @@ found_images {p} {old} {mid} {new} {before} {after} {w} {commands} {line} {reply
     during : (f : Files) (s : List ℕ) → new.left_since mid.clock f s → LineMoment p old before (open_in w) commands line f s
     during f s left =
         let from = say.crash told_now f s left in
+        let front = becomes_front line reply (open_in w) commands found.added found.all found.becomes (forced_in after) found.kept.holds.says.forced in
         inr (record {
           reply = reply;
           added = found.added;
@@ -546,9 +550,9 @@ found_images {p} {old} {mid} {new} {before} {after} {w} {commands} {line} {reply
           said_is = from.1.2 ∙ ap (λ (l : List ℕ). l ++ take from.1.0 (said_line reply)) found.quiet;
           kept = forced_in after;
           enough = found.kept.rising;
-          within = found.kept.holds.says.forced;
+          within = front.0;
           which = ⊎_elim (λ (same : forced_in after ≡ forced_in before). inl same) (λ (later : (before.group ≡ None) × (accepted_in before ≤ forced_in after)). inr (later.0, omega (arith, later.1, was))) found.kept.which;
-          stands = subst (λ (x : Files). Stands p x (take (forced_in after) (commands ++ found.added))) (sym from.0.2) (found.kept.holds.says.images.1 told_now from.0.0 mid.said from.0.1);
+          stands = subst (λ (l : List Command). Stands p f l) front.1 (subst (λ (x : Files). Stands p x (take (forced_in after) found.all)) (sym from.0.2) (found.kept.holds.says.images.1 told_now from.0.0 mid.said from.0.1));
           acked = found.acked;
         })
 
@@ -577,6 +581,8 @@ found_said {reply = reply} (Ok kind) was images works time found say all is = re
     added = found.added;
     replies = found.replies;
     said = all (told_by found.kept.holds) ∙ ap (λ (l : List ℕ). l ++ said_line reply) found.quiet;
+    all = found.all;
+    becomes = found.becomes;
     kept = record { holds = holds_stays say found.kept.holds; rising = found.kept.rising; which = found.kept.which };
     regroups = found.regroups;
     acked = found.acked;
@@ -607,12 +613,12 @@ stops_before {p} {old} {new} {before} {after} {w} {commands} {line} (Err stop) i
 }
 
 -- a line leads to a stage with the commands that it adds
-pub leads_on : {p : Params} {old new : Stage} {line : List ℕ} (commands added : List Command) (reply : Reply) → commands_of old.world.history ≡ commands → commands_of new.world.history ≡ commands ++ added
+pub leads_on : {p : Params} {old new : Stage} {line : List ℕ} (commands added : List Command) (reply : Reply) → commands_of old.world.history ≡ commands → Becomes line reply (open_in old.world) commands added (commands_of new.world.history)
     → Replies p (open_in old.world) commands line reply added → GoesBy p old line reply new → Leads p old line reply new
-leads_on {p} {old} {new} {line} commands added reply was now replies goes = record {
+leads_on {p} {old} {new} {line} commands added reply was becomes replies goes = record {
   added = added;
   replies = subst (λ (l : List Command). Replies p (open_in old.world) l line reply added) (sym was) replies;
-  commands_are = subst (λ (l : List Command). commands_of new.world.history ≡ l ++ added) (sym was) now;
+  becomes = subst (λ (l : List Command). Becomes line reply (open_in old.world) l added (commands_of new.world.history)) (sym was) becomes;
   goes = goes;
 }
 

@@ -47,14 +47,15 @@ use Rattle.shell_base.specs.HoldLaws.{each_stays, in_engine}
 use Rattle.script_run.specs.Found.{IsDone, IsOfEngine}
 use Rattle.script_run.specs.Groups.{Regroups, open_in}
 use Rattle.script_run.specs.Replies.{IsBarred, IsDenied, Replies}
-use Rattle.script_run.specs.Saving.{BackupGoesOn, BackupGoing, BackupStays, FindsStore, IsSavingDone, KeepsAll, MayBeLeft, SaysOfBackup, WasThere, answer_of_backup_error, store_after, store_behind}
+use Rattle.script_run.specs.Saving.{BackupGoesOn, BackupGoing, FindsStore, IsSavingDone, KeepsAll, MayBeLeft, SaysOfBackup, WasThere, answer_of_backup_error, store_after, store_behind}
 use Rattle.script_run.specs.Stages.{GoesBy, IsDeniedAt, forced_stage, with_copied}
+use Rattle.script_run.specs.StoryLaws.{grows_to}
 use Rattle.script_run.proofs.CourseLemmas.{logged_force}
 use Rattle.script_run.proofs.DoneLemmas.{HasRisen, risen, unmoved}
 use Rattle.script_run.proofs.GroupLemmas.{none_open}
 use Rattle.script_run.proofs.OpenGroups.{some_open}
 use Rattle.script_run.proofs.SavingCalls.{CopyJudged, FinishJudged, StartJudged, answer_of_call, copy_barred, copy_denied, copy_allowed, copy_judged, finish_barred, finish_denied, finish_early, finish_allowed, finish_judged, refused_along, start_barred, start_denied, start_allowed, start_judged}
-use Rattle.script_run.proofs.SavingLemmas.{full_last, says_come, says_more, says_on, store_more}
+use Rattle.script_run.proofs.SavingLemmas.{GoesOnAll, StaysAll, full_last, goes_all, goes_so, same_first, says_come, says_more, says_on, stays_so, store_more}
 
 -- whether a store begins there
 list_cases : (xs ys : List ℕ) → (xs ≡ ys) ⊎ (xs ≡ ys → ⊥)
@@ -174,7 +175,7 @@ module _ {p : Params} {start t u : Disk} (lawful : IsDisk t) (ends : IsDisk u) (
 -- How the backup goes on by each answer.
 module _ (p : Params) (start old new t u : Disk) (before after : EngineView) (w v : World Command) (commands : List Command) (line : List ℕ) (lawful : IsDisk t) (ends : IsDisk u) (time : Passes t u) where
   abbrev GoesOn : Reply → World Command → Type 0
-  GoesOn reply x = BackupGoesOn p start old new before after w commands line t u reply [] x
+  GoesOn reply x = GoesOnAll p start old new before after w commands line t u reply x
 
   -- an answer after which no store is there, and the backup is still made
   shut_goes : (reply : Reply) → ((there : Type 0) → store_after there reply ≡ there) → {lines : List (List ℕ)} {replies : List Reply} → BackupGoing p start lines replies commands old before w t
@@ -249,25 +250,25 @@ module _ (p : Params) (start old new t u : Disk) (before after : EngineView) (w 
       }
 
   -- Where a call fails, what the answers say stays true.
-  pub start_stays : (t.tells_files → BeginsStore (t.reads Objects) → Stays t u) → (t.tells_moments → BeginsNone t.reads → LeavesOnly t u (OrAtStart t (NoneIn t))) → BackupStays p start old new before after w commands line t u
+  pub start_stays : (t.tells_files → BeginsStore (t.reads Objects) → Stays t u) → (t.tells_moments → BeginsNone t.reads → LeavesOnly t u (OrAtStart t (NoneIn t))) → StaysAll p start old new before after w commands line t u
   start_stays stays images told lines replies g = ⊎_elim
       (λ (begins : BeginsStore (t.reads Objects)). moved_still lawful ends time (line ∷ []) (stays told begins) told g.says)
       (λ (none : BeginsStore (t.reads Objects) → ⊥). moved_none lawful ends time (line ∷ []) g none (λ telling. images telling none))
       (begins_cases (t.reads Objects))
 
-  pub copy_stays : (k : ℕ) → before.copied ≡ Some k → Runs (In Objects KeepsGate) Same t u → BackupStays p start old new before after w commands line t u
+  pub copy_stays : (k : ℕ) → before.copied ≡ Some k → Runs (In Objects KeepsGate) Same t u → StaysAll p start old new before after w commands line t u
   copy_stays k is runs told lines replies g =
       moved_shut lawful ends time (line ∷ []) g told (subst (λ (o : Option ℕ). IfSome o (λ n. Copies all_meaning p old before w t)) is g.copying) runs
 
   pub finish_stays : AsksFor line (Save bfinish) → (k : ℕ) → before.copied ≡ Some k → commands_of w.history ≡ commands → (t.tells_moments → Copies all_meaning p old before w t → LeavesOnly t u (IsShutOrWhole all_meaning p (commands_of w.history) t))
-      → BackupStays p start old new before after w commands line t u
+      → StaysAll p start old new before after w commands line t u
   finish_stays asks k is are images told lines replies g =
       let copies = subst (λ (o : Option ℕ). IfSome o (λ n. Copies all_meaning p old before w t)) is g.copying in
       moved_whole lawful ends time asks g told copies are (λ telling. images telling copies)
 
 -- Nothing was done, and that is answered.
 still_goes : (p : Params) (start d t : Disk) (engine : EngineView) (w : World Command) (commands : List Command) (line : List ℕ) (reply : Reply) → ((n : ℕ) → reply ≡ saved n → ⊥) → ((there : Type 0) → store_after there reply ≡ there)
-    → ((there : Type 0) → FindsStore there line reply) → BackupGoesOn p start d d engine engine w commands line t t reply [] w
+    → ((there : Type 0) → FindsStore there line reply) → GoesOnAll p start d d engine engine w commands line t t reply w
 still_goes p start d t engine w commands line reply fresh same finds told lines replies g =
     let begins = BeginsStore (start.reads Objects) in
     let is = store_more begins replies reply ∙ same (store_behind begins replies) in
@@ -281,15 +282,20 @@ module _ (p : Params) (start d t : Disk) (engine : EngineView) (commands : List 
   abbrev Undone : Answer → Type 0
   Undone answer = IsSavingDone p start d d engine engine holds.world commands line t t (Ok answer)
 
+  -- the backup is as it was
+  undone_so : (reply : Reply) → ((n : ℕ) → GoesOnAll p start d d engine engine holds.world (take n commands) line t t reply holds.world)
+      → BackupGoesOn p start d d engine engine holds.world commands line t t reply (commands_of holds.world.history) holds.world
+  undone_so reply goes = goes_so reply holds.world (omega arith) (same_first commands _ (forced_in engine) (holds.commands_are ∙ sym (append-nil commands))) goes
+
   barred_so : (request : Request) → IsBarred request → AsksFor line request → IsTrue (is_some engine.group) → Undone answers.InGroup
   barred_so request barred asks inside = record {
-    whole = (unmoved in_group holds (request, barred, asks, some_open holds.shows inside, refl) refl refl tt, still_goes p start d t engine holds.world commands line in_group (λ n e. cc e) (λ there. refl) (λ there. tt));
+    whole = (unmoved in_group holds (request, barred, asks, some_open holds.shows inside, refl) refl refl tt, undone_so in_group (λ n. still_goes p start d t engine holds.world (take n commands) line in_group (λ n e. cc e) (λ there. refl) (λ there. tt)));
     stopped = tt;
   }
 
   denied_so : (why : BackupDenial) (request : Request) → IsDenied why request → AsksFor line request → engine.group ≡ None → IsDeniedAt p.objects engine.copied why → ((there : Type 0) → FindsStore there line (backup_denied why)) → Undone (answers.BackupDenied why)
   denied_so why request is asks alone at finds = record {
-    whole = (unmoved (backup_denied why) holds (request, is, asks, none_open holds.shows alone, refl) (at, refl) refl tt, still_goes p start d t engine holds.world commands line (backup_denied why) (λ n e. cc e) (λ there. refl) finds);
+    whole = (unmoved (backup_denied why) holds (request, is, asks, none_open holds.shows alone, refl) (at, refl) refl tt, undone_so (backup_denied why) (λ n. still_goes p start d t engine holds.world (take n commands) line (backup_denied why) (λ n e. cc e) (λ there. refl) finds));
     stopped = tt;
   }
 
@@ -303,6 +309,7 @@ record IsForcedSo (p : Params) (now : Disk) (before after : EngineView) (w : Wor
   pub identities : after.identities ≡ (forced_stage p (stage_of before w)).identities
   pub none_waits : after.parts.log.log.pending ≡ []
   pub alone : after.group ≡ None
+  pub all : forced_in after ≡ length commands
 
 forced_so : {p : Params} {old now : Disk} {before after : EngineView} {commands : List Command} {n : ℕ} → (holds : Holds p old before commands) → before.group ≡ None → HasForced all_meaning old now before after (Ok n)
     → IsForcedSo p now before after holds.world commands
@@ -322,6 +329,7 @@ forced_so {p} {old} {now} {before} {after} {commands} holds alone it =
       identities = it.call.identities ∙ ap (λ (l : List ℕ). before.identities + length l) (sym (logged_force m w));
       none_waits = it.empty;
       alone = it.call.group ∙ alone;
+      all = (it.forced p commands (in_engine holds)).1;
     }
 
 -- the stage after it, with so many objects copied
@@ -333,13 +341,13 @@ forced_stage_is {p} {w = w} copies f is = λ i. record { world = run (meaning_in
 abbrev forced_done : {p : Params} {old now : Disk} {before after : EngineView} {commands : List Command} {line : List ℕ} (quiet : now.said ≡ old.said) (reply : Reply) (holds : Holds p old before commands) (f : IsForcedSo p now before after holds.world commands)
     → Replies p (open_in holds.world) commands line reply [] → Regroups line reply commands (open_in holds.world) (open_in (run (meaning_in p) holds.world (force_steps (meaning_in p) holds.world)))
     → GoesBy p (stage_of before holds.world) line reply (stage_of after (run (meaning_in p) holds.world (force_steps (meaning_in p) holds.world))) → IsOfEngine after line reply → IsDone p old now before after holds.world commands line reply
-forced_done {p} quiet reply holds f replies regroups goes is_of = record {
+forced_done {p} {commands = commands} {line = line} quiet reply holds f replies regroups goes is_of = record {
   added = [];
   replies = replies;
   quiet = quiet;
   world = run (meaning_in p) holds.world (force_steps (meaning_in p) holds.world);
   shows = f.shows;
-  commands_are = f.commands_are;
+  becomes = grows_to line reply commands [] (open_in holds.world) (open_in (run (meaning_in p) holds.world (force_steps (meaning_in p) holds.world))) regroups f.group f.commands_are;
   regroups = regroups;
   rising = f.risen.rising;
   which = f.risen.which;
@@ -373,8 +381,8 @@ module _ {M T : Type 0} (disk : M → Disk) (other : T → Disk) (old new : M) (
       → IsSavingDone p start (disk old) (disk old) before before holds.world commands line (other t) (other t) (answer_of_backup_error why) → Answers (answer_of_call done call)
   refused_done call done why r here = refused_along r done (λ x e y result. IsSavingDone p start (disk old) (disk x) before e holds.world commands line (other t) (other y) result) here
 
-  failed_done : (stop : Early) → BackupStays p start (disk old) (disk new) before after holds.world commands line (other t) (other u) → Answers (Err stop)
-  failed_done stop stays = record { whole = tt; stopped = stays }
+  failed_done : (stop : Early) → StaysAll p start (disk old) (disk new) before after holds.world commands line (other t) (other u) → Answers (Err stop)
+  failed_done stop stays = record { whole = tt; stopped = stays_so p start (disk old) (disk new) before after holds.world commands line (other t) (other u) stays }
 
   -- a start
   module _ (asks : AsksFor line (Save bstart)) (kept : (other t).tells_files → BeginsStore ((other t).reads Objects) → Stays (other t) (other u))
@@ -386,8 +394,9 @@ module _ {M T : Type 0} (disk : M → Disk) (other : T → Disk) (old new : M) (
         let f = forced_so holds alone forced.1 in
         record {
           whole = (
-            forced_done (forced.1.call.quiet holds.shows.shows.told) ok holds f (inr (Save bstart, none_open holds.shows alone, asks, refl)) (Save bstart, asks, f.group) (inr (asks, none, forced_stage_is (Some 0) f copies)) tt,
-            started_goes p start (disk old) (disk new) (other t) (other u) before after holds.world (run (meaning_in p) holds.world (force_steps (meaning_in p) holds.world)) commands line lawful ends time (begun p holds.world holds.shows) cause moments,
+            forced_done (forced.1.call.quiet holds.shows.shows.told) ok holds f (inr (Save bstart, none_open holds.shows alone, asks, refl)) (Save bstart, asks, f.group) (inr (inl (asks, none, forced_stage_is (Some 0) f copies))) tt,
+            goes_so ok (run (meaning_in p) holds.world (force_steps (meaning_in p) holds.world)) f.risen.rising (same_first commands _ (forced_in before) f.commands_are)
+                (λ n. started_goes p start (disk old) (disk new) (other t) (other u) before after holds.world (run (meaning_in p) holds.world (force_steps (meaning_in p) holds.world)) (take n commands) line lawful ends time (begun p holds.world holds.shows) cause moments),
           );
           stopped = tt;
         }
@@ -396,7 +405,8 @@ module _ {M T : Type 0} (disk : M → Disk) (other : T → Disk) (old new : M) (
         (subst (λ (e : EngineView). IsSavingDone p start (disk old) (disk old) before e holds.world commands line (other t) (other u) (answer_of_backup_error errors.AlreadyStore)) (sym untouched.engine) (record {
           whole = (
             unmoved (backup_denied denials.AlreadyStore) holds (Save bstart, tt, asks, none_open holds.shows alone, refl) (none, refl) refl tt,
-            kept_goes p start (disk old) (disk old) (other t) (other u) before before holds.world holds.world commands line lawful ends time none cause kept,
+            goes_so (backup_denied denials.AlreadyStore) holds.world (omega arith) (same_first commands _ (forced_in before) (holds.commands_are ∙ sym (append-nil commands)))
+                (λ n. kept_goes p start (disk old) (disk old) (other t) (other u) before before holds.world holds.world (take n commands) line lawful ends time none cause kept),
           );
           stopped = tt;
         }))
@@ -448,14 +458,15 @@ module _ {M T : Type 0} (disk : M → Disk) (other : T → Disk) (old new : M) (
               quiet = read.kept.said holds.shows.shows.told;
               world = holds.world;
               shows = record { unbroken = shown.unbroken; sound = shown.sound; group = shown.group; shows = shown.shows; no_checkpoint = shown.no_checkpoint };
-              commands_are = holds.commands_are ∙ sym (append-nil commands);
+              becomes = holds.commands_are ∙ sym (append-nil commands);
               regroups = refl;
               rising = omega (arith, ap (λ (e : EngineView). forced_in e) read.engine);
               which = inl (ap (λ (e : EngineView). forced_in e) read.engine);
               goes = (k, count, asks, is, number, λ i. record { world = holds.world; used = used i; identities = identities i; copied = now i });
               is_of = tt;
             },
-            copied_goes p start (disk old) (disk new) (other t) (other u) before after holds.world holds.world commands line lawful ends time n k is (λ copies. ⊎_elim (λ failed. absurd (ok_no_fault (Ok n) n refl failed)) (λ c. c) (on p holds.world copies)) runs,
+            goes_so (copied n) holds.world (omega (arith, ap (λ (e : EngineView). forced_in e) read.engine)) (same_first commands _ (forced_in before) (holds.commands_are ∙ sym (append-nil commands)))
+                (λ k0. copied_goes p start (disk old) (disk new) (other t) (other u) before after holds.world holds.world (take k0 commands) line lawful ends time n k is (λ copies. ⊎_elim (λ failed. absurd (ok_no_fault (Ok n) n refl failed)) (λ c. c) (on p holds.world copies)) runs),
           );
           stopped = tt;
         }
@@ -532,7 +543,8 @@ module _ {M T : Type 0} (disk : M → Disk) (other : T → Disk) (old new : M) (
         record {
           whole = (
             forced_done (forced.call.quiet holds.shows.shows.told) (saved n) holds f (asks, none_open holds.shows alone, count, refl) f.group (all_copied k is high, long, forced_stage_is None f copies) tt,
-            saved_goes p start (disk old) (disk new) (other t) (other u) before after holds.world (run (meaning_in p) holds.world (force_steps (meaning_in p) holds.world)) commands line lawful ends time asks n k is copies count holds.commands_are (λ c told. (stands p holds.world c).1 told) (λ telling c. moments telling p holds.world c),
+            goes_all p start (disk old) (disk new) before after holds.world commands line (other t) (other u) (saved n) (run (meaning_in p) holds.world (force_steps (meaning_in p) holds.world)) (omega (arith, f.all)) f.commands_are
+                (saved_goes p start (disk old) (disk new) (other t) (other u) before after holds.world (run (meaning_in p) holds.world (force_steps (meaning_in p) holds.world)) commands line lawful ends time asks n k is copies count holds.commands_are (λ c told. (stands p holds.world c).1 told) (λ telling c. moments telling p holds.world c)),
           );
           stopped = tt;
         }
@@ -542,7 +554,8 @@ module _ {M T : Type 0} (disk : M → Disk) (other : T → Disk) (old new : M) (
           whole = (
             forced_done (forced.1.call.quiet holds.shows.shows.told) (full used need limit) holds f (inr (Save bfinish, tt, asks, none_open holds.shows alone, cause.1, cause.2, refl)) f.group
                 (inr (asks, all_copied k is high, cause.0 ∙ f.used, long, forced_stage_is before.copied f copies)) (inr (record { none_waits = f.none_waits; alone = f.alone; used_is = cause.0 })),
-            full_goes p start (disk old) (disk new) (other t) (other u) before after holds.world (run (meaning_in p) holds.world (force_steps (meaning_in p) holds.world)) commands line lawful ends time asks used need limit k is holds.commands_are (λ c. ⊎_elim (λ failed. absurd (full_no_fault (Err (errors.LogFull used need limit)) used need limit refl failed)) (λ c. c) (again p holds.world c)) (λ telling c. moments telling p holds.world c),
+            goes_all p start (disk old) (disk new) before after holds.world commands line (other t) (other u) (full used need limit) (run (meaning_in p) holds.world (force_steps (meaning_in p) holds.world)) (omega (arith, f.all)) f.commands_are
+                (full_goes p start (disk old) (disk new) (other t) (other u) before after holds.world (run (meaning_in p) holds.world (force_steps (meaning_in p) holds.world)) commands line lawful ends time asks used need limit k is holds.commands_are (λ c. ⊎_elim (λ failed. absurd (full_no_fault (Err (errors.LogFull used need limit)) used need limit refl failed)) (λ c. c) (again p holds.world c)) (λ telling c. moments telling p holds.world c)),
           );
           stopped = tt;
         }

@@ -1,8 +1,8 @@
 -- How a backup goes on beside the lines of a script.
-use Rattle.std.proofs.Common.{◌≡◌, ◌∙◌, sym, subst, refl, ◌⊎◌, inl, inr, ⊎_elim, ◌≤◌, ◌++◌, ℕ, List, [], ◌∷◌, length, length-append, take, arith, Contains, Option, Some, None, Result, Ok, Err, IsErr, IfOk, Bool}
+use Rattle.std.proofs.Common.{◌≡◌, ◌∙◌, ap, sym, subst, refl, ◌⊎◌, inl, inr, ⊎_elim, ◌≤◌, ◌+◌, ◌-◌, ◌++◌, ℕ, List, [], ◌∷◌, length, length-append, take, drop, arith, Contains, Option, Some, None, Result, Ok, Err, IsErr, IfOk, Bool}
 use Rattle.std.specs.Prelude.{IfSome, IsTrue}
 use Rattle.std.specs.Option.{is_some}
-use Rattle.std.proofs.lemmas.List.{take-append-le}
+use Rattle.std.proofs.lemmas.List.{append-nil, take-append-drop, take-append-le, take-take, take_all}
 use Rattle.std.proofs.lemmas.List.Elements.{Contains-append_left}
 use Rattle.disk_model.specs.Disk.{Files, Disk}
 use Rattle.disk_model.specs.declared.machine.FileNo.TheVariants.{Objects}
@@ -24,26 +24,27 @@ use Rattle.op_codec.specs.AllOps.{all_meaning}
 use Rattle.script_lines.specs.Grammar.{Request, AsksFor}
 use Rattle.script_lines.specs.declared.line.Line.TheVariants.{Keep, Group, Save}
 use Rattle.script_lines.specs.declared.line.Upkeep.TheVariants.{Install as install, Drain as drain, Checkpoint as checkpoint, Trim as trim}
-use Rattle.script_lines.specs.declared.line.Grouping.TheVariants.{Begin as begin_group, End as end_group}
+use Rattle.script_lines.specs.declared.line.Grouping.TheVariants.{Begin as begin_group, End as end_group, Abort as abort_group}
 use Rattle.script_lines.specs.declared.line.Saving.TheVariants.{Start as bstart, Copy as bcopy, Finish as bfinish}
 use Rattle.script_lines.specs.Replies.{Reply, ok, ran, value, pairs, forced, bad, refused, bad_tree, tree_full, denied, in_group, no_group, full, end, object_value, command_count, stat, copied, saved, backup_denied, summary, silence}
 use Rattle.script_lines.specs.declared.backup_denial.BackupDenial.TheVariants.{AlreadyStore}
 use Rattle.store_engine.specs.Beside.{MayGoBeside}
 use Rattle.store_engine.specs.Calls.{begin_course, end_course}
-use Rattle.store_engine.specs.Engine.{EngineView, InEachImage, so_far}
+use Rattle.store_engine.specs.Engine.{EngineView, InEachImage, forced_in, group_size, so_far}
 use Rattle.store_engine.specs.Lists.{commands_course}
 use Rattle.backup_copy.specs.Copies.{Copies}
 use Rattle.shell_base.specs.First.{Stage, stage_of}
-use Rattle.shell_base.specs.Store.{Command, ShowsIn, Stands, meaning_in}
+use Rattle.shell_base.specs.Store.{Command, Holds, ShowsIn, Stands, meaning_in}
 use Rattle.shell_base.specs.declared.stop.Stop.{Stop as Early}
 use Rattle.script_run.specs.Found.{IsDone}
-use Rattle.script_run.specs.Groups.{begun_after, open_in}
+use Rattle.script_run.specs.Groups.{Becomes, begun_after, open_in, size_of}
 use Rattle.script_run.specs.Made.{Made, AsksMade}
 use Rattle.script_run.specs.Replies.{IsDenied, IsGranted, IsOfBackup, Replies}
 use Rattle.script_run.specs.Run.{Answering}
-use Rattle.script_run.specs.Saving.{AllFindStore, AnsweringBeside, AsksBackup, IsDoneBeside, AsksFinish, BackupGoesOn, FindsStore, FinishIsFull, IsNoneOrSaved, MayBeLeft, SaysOfBackup, store_after, store_behind}
-use Rattle.script_run.specs.Stages.{Ends, GoesBy, HasCourse, IsBackupFull, IsBesideBackup, IsQuestion, StartsBackup, forced_stage, stage_after, upkeep_course}
-use Rattle.script_run.specs.StoryLaws.{answer_cases}
+use Rattle.script_run.specs.Saving.{AllFindStore, AnsweringBeside, AsksBackup, IsDoneBeside, AsksFinish, BackupGoesOn, BackupGoing, BackupSoFar, BackupStays, FindsStore, FinishIsFull, IsNoneOrSaved, MayBeLeft, SaysOfBackup, store_after, store_behind}
+use Rattle.script_run.specs.Stages.{Aborts, Ends, GoesBy, HasCourse, IsBackupFull, IsBesideBackup, IsQuestion, StartsBackup, forced_stage, stage_after, upkeep_course}
+use Rattle.script_run.specs.StoryLaws.{IsCut, answer_cases, becomes_cuts}
+use Rattle.script_run.proofs.OpenGroups.{open_size}
 
 -- What is said of the courses of the engine beside a copy, and of a backup beside them, between two states of the store's
 -- machine, while the backup's is not touched.
@@ -99,6 +100,7 @@ module _ {old new backup : Disk} (laws : BesideLaws old new backup) {p : Params}
   granted_beside n copies epoch used (Group begin_group) may beside = laws.begin b n w used (small_in shows) (running (group_none w w.group may))
   granted_beside n copies epoch used (Group end_group) may beside = laws.end b n w used (group_some w w.group may)
   granted_beside n copies epoch used (Save bstart) may beside = absurd beside
+  granted_beside n copies epoch used (Group abort_group) may beside = absurd beside
   granted_beside n copies epoch used request may beside = absurd may.0
 
   module _ (after : EngineView) where
@@ -147,38 +149,42 @@ module _ {old new backup : Disk} (laws : BesideLaws old new backup) {p : Params}
     by_force now alone same = goes_as (forced_stage p here) now same
         (record { copies = refl; keeps = by_steps (force_steps m w) (laws.force b (so_far before.copied) w here.used (small_in shows) (running (group_none w w.group alone))) })
 
-    goes_on : (line : List ℕ) (reply : Reply) (commands added : List Command) (now : Stage) → (AsksBackup line → ⊥) → Replies p (open_in w) commands line reply added → GoesBy p here line reply now → Goes now
+    -- so it does after each line, or none is made any more
+    goes_on : (line : List ℕ) (reply : Reply) (commands added : List Command) (now : Stage) → (AsksBackup line → ⊥) → Replies p (open_in w) commands line reply added → GoesBy p here line reply now → Goes now ⊎ (now.copied ≡ None)
     goes_on line ok commands added now other replies goes = ⊎_elim
-        (λ (ends : Ends p here line Through now). by_course line Through now ends)
+        (λ (ends : Ends p here line Through now). inl (by_course line Through now ends))
+        (λ (rest : StartsBackup here line (forced_stage p here) now ⊎ Aborts p here line now). ⊎_elim
         (λ (starts : StartsBackup here line (forced_stage p here) now). absurd (other (Save bstart, tt, starts.0)))
+        (λ (aborts : Aborts p here line now). inr (ap (λ (s : Stage). s.copied) aborts.2))
+        rest)
         goes
-    goes_on line (ran k) commands added now other replies goes = by_course line Through now goes
-    goes_on line (refused why) commands added now other replies goes = by_course line Through now goes
-    goes_on line bad_tree commands added now other replies goes = by_course line Through now goes
-    goes_on line tree_full commands added now other replies goes = by_course line Through now goes
-    goes_on line (denied why) commands added now other replies goes = by_course line Through now goes
+    goes_on line (ran k) commands added now other replies goes = inl (by_course line Through now goes)
+    goes_on line (refused why) commands added now other replies goes = inl (by_course line Through now goes)
+    goes_on line bad_tree commands added now other replies goes = inl (by_course line Through now goes)
+    goes_on line tree_full commands added now other replies goes = inl (by_course line Through now goes)
+    goes_on line (denied why) commands added now other replies goes = inl (by_course line Through now goes)
     goes_on line (full used need limit) commands added now other replies goes = ⊎_elim
-        (λ (ends : Ends p here line (Full used need limit) now). by_course line (Full used need limit) now ends)
+        (λ (ends : Ends p here line (Full used need limit) now). inl (by_course line (Full used need limit) now ends))
         (λ (saves : IsBackupFull p here line used need (forced_stage p here) now). absurd (other (Save bfinish, tt, saves.0)))
         goes
     goes_on line (end number) commands added now other replies goes = ⊎_elim
-        (λ (last : Ends p here line (At_end number) now). by_course line (At_end number) now last)
-        (λ (worn : Ends p here line (Worn number) now). by_course line (Worn number) now worn)
+        (λ (last : Ends p here line (At_end number) now). inl (by_course line (At_end number) now last))
+        (λ (worn : Ends p here line (Worn number) now). inl (by_course line (Worn number) now worn))
         goes
-    goes_on line (forced k) commands added now other replies goes = by_force now replies.1 goes
-    goes_on line (stat counts) commands added now other replies goes = still now goes.1
+    goes_on line (forced k) commands added now other replies goes = inl (by_force now replies.1 goes)
+    goes_on line (stat counts) commands added now other replies goes = inl (still now goes.1)
     goes_on line (copied k) commands added now other replies goes = absurd (other (Save (bcopy goes.1), tt, goes.2))
     goes_on line (saved k) commands added now other replies goes = absurd (other (Save bfinish, tt, replies.0))
-    goes_on line (backup_denied why) commands added now other replies goes = still now goes.1
-    goes_on line (value bytes) commands added now other replies goes = still now goes
-    goes_on line (pairs pair others) commands added now other replies goes = still now goes
-    goes_on line bad commands added now other replies goes = still now goes
-    goes_on line in_group commands added now other replies goes = still now goes
-    goes_on line no_group commands added now other replies goes = still now goes
-    goes_on line silence commands added now other replies goes = still now goes
-    goes_on line (object_value object bytes) commands added now other replies goes = still now goes
-    goes_on line (command_count k) commands added now other replies goes = still now goes
-    goes_on line (summary totals) commands added now other replies goes = still now goes
+    goes_on line (backup_denied why) commands added now other replies goes = inl (still now goes.1)
+    goes_on line (value bytes) commands added now other replies goes = inl (still now goes)
+    goes_on line (pairs pair others) commands added now other replies goes = inl (still now goes)
+    goes_on line bad commands added now other replies goes = inl (still now goes)
+    goes_on line in_group commands added now other replies goes = inl (still now goes)
+    goes_on line no_group commands added now other replies goes = inl (still now goes)
+    goes_on line silence commands added now other replies goes = inl (still now goes)
+    goes_on line (object_value object bytes) commands added now other replies goes = inl (still now goes)
+    goes_on line (command_count k) commands added now other replies goes = inl (still now goes)
+    goes_on line (summary totals) commands added now other replies goes = inl (still now goes)
 
 -- What the answers say of a backup goes on with each answer.
 
@@ -290,30 +296,113 @@ module _ {p : Params} {start : Disk} where
       → FindsStore (store_behind (BeginsStore (start.reads Objects)) replies) line reply → SaysOfBackup p start (lines ++ line ∷ []) (replies ++ reply ∷ []) [] (commands ++ added) now
   says_more line reply added says none finds = says_on line reply added says (λ n is. absurd (none n is)) (λ files asks stands. absurd (no_finish asks)) finds
 
+  -- what is said of the first commands is true of all
+  pub says_longer : {lines : List (List ℕ)} {replies : List Reply} {now : Disk} (n : ℕ) (commands : List Command) → SaysOfBackup p start lines replies [] (take n commands) now → SaysOfBackup p start lines replies [] commands now
+  says_longer {lines} {replies} {now} n commands says =
+      let split : take n commands ++ drop n commands ≡ commands = take-append-drop n commands in
+      let long : length (take n commands) ≤ length commands = omega (arith, ap length split, length-append (take n commands) (drop n commands)) in
+      let first : (k : ℕ) → k ≤ length (take n commands) → take k (take n commands) ≡ take k commands
+      = λ k le. sym (take-append-le k (take n commands) (drop n commands) le) ∙ ap (λ (l : List Command). take k l) split in
+      record {
+        time = says.time;
+        saves = λ k has. let (le, each) = says.saves k has in (omega (arith, le, long), subst (λ (l : List Command). InEachImage now (λ files. Stands p files l)) (first k le) each);
+        finds = says.finds;
+        kept = says.kept;
+        images = λ told. or_weaker start now (λ files said. MayBeLeft p lines replies [] (take n commands) files) (λ files said. MayBeLeft p lines replies [] commands files) (says.images told)
+            (λ files said. left_longer files long first (λ k has. (says.saves k has).0));
+      }
+    where
+      left_longer : (files : Files) → length (take n commands) ≤ length commands → ((k : ℕ) → k ≤ length (take n commands) → take k (take n commands) ≡ take k commands) → ((k : ℕ) → Contains replies (saved k) → k ≤ length (take n commands))
+          → MayBeLeft p lines replies [] (take n commands) files → MayBeLeft p lines replies [] commands files
+      left_longer files long first few (inl (inl none)) = inl (inl none)
+      left_longer files long first few (inl (inr (inl (k, has, stands)))) = inl (inr (inl (k, has, subst (λ (l : List Command). Stands p files l) (first k (few k has)) stands)))
+      left_longer files long first few (inl (inr (inr (is_full, k, le, stands)))) = inl (inr (inr (is_full, k, omega (arith, le, long), subst (λ (l : List Command). Stands p files l) (first k le) stands)))
+      left_longer files long first few (inr (asks, stands)) = absurd (no_finish asks)
+
+  -- so the backup is, of all commands
+  abbrev pub whole_going : {lines : List (List ℕ)} {replies : List Reply} {commands : List Command} {d : Disk} {engine : EngineView} {w : World Command} {now : Disk} → BackupSoFar p start lines replies commands d engine w now → BackupGoing p start lines replies commands d engine w now
+  whole_going {commands = commands} g = record { says = says_longer g.count commands g.going.says; store = g.going.store; copying = g.going.copying }
+
+module _ (p : Params) (start old new : Disk) (before after : EngineView) (w : World Command) (commands : List Command) (line : List ℕ) (backup backed : Disk) where
+  -- the same of all commands, which stay: how the backup goes on, and what stays true where there is no answer
+  abbrev pub GoesOnAll : Reply → World Command → Type 0
+  GoesOnAll reply v = backup.tells_files → (lines : List (List ℕ)) (replies : List Reply) → BackupGoing p start lines replies commands old before w backup
+      → BackupGoing p start (lines ++ line ∷ []) (replies ++ reply ∷ []) (commands ++ []) new after v backed
+
+  abbrev pub StaysAll : Type 0
+  StaysAll = backup.tells_files → (lines : List (List ℕ)) (replies : List Reply) → BackupGoing p start lines replies commands old before w backup → SaysOfBackup p start lines replies (line ∷ []) commands backed
+
+  pub stays_so : StaysAll → BackupStays p start old new before after w commands line backup backed
+  stays_so stays told lines replies g = stays told lines replies (whole_going g)
+
+  -- where all commands are forced, it goes on with all
+  pub goes_all : (reply : Reply) (v : World Command) {all : List Command} → length commands ≤ forced_in after → all ≡ commands ++ [] → GoesOnAll reply v → BackupGoesOn p start old new before after w commands line backup backed reply all v
+  goes_all reply v {all} forced same goes told lines replies g = record {
+    count = length commands;
+    forced = forced;
+    going = subst (λ (l : List Command). BackupGoing p start (lines ++ line ∷ []) (replies ++ reply ∷ []) l new after v backed)
+        (append-nil commands ∙ sym (take_all (length commands) commands (omega arith)) ∙ ap (λ (l : List Command). take (length commands) l) (sym (same ∙ append-nil commands)))
+        (goes told lines replies (whole_going g));
+  }
+
+-- or with those of which it is said so far
+pub goes_so : {p : Params} {start old new : Disk} {before after : EngineView} {w : World Command} {commands all : List Command} {line : List ℕ} {backup backed : Disk} (reply : Reply) (v : World Command) → forced_in before ≤ forced_in after
+    → ((n : ℕ) → n ≤ forced_in before → take n all ≡ take n commands) → ((n : ℕ) → GoesOnAll p start old new before after w (take n commands) line backup backed reply v) → BackupGoesOn p start old new before after w commands line backup backed reply all v
+goes_so {p} {start} {new = new} {after = after} {commands = commands} {all} {line} {backed = backed} reply v rising first goes told lines replies g = record {
+  count = g.count;
+  forced = omega (arith, g.forced, rising);
+  going = subst (λ (l : List Command). BackupGoing p start (lines ++ line ∷ []) (replies ++ reply ∷ []) l new after v backed) (append-nil (take g.count commands) ∙ sym (first g.count g.forced)) (goes g.count told lines replies g.going);
+}
+
+-- the commands are the same
+pub same_first : (commands all : List Command) (most : ℕ) → all ≡ commands ++ [] → (n : ℕ) → n ≤ most → take n all ≡ take n commands
+same_first commands all most same n le = ap (λ (l : List Command). take n l) (same ∙ append-nil commands)
+
+-- or those that are forced are still there: no group that is open has any of them
+pub forced_first : {p : Params} {d : Disk} {engine : EngineView} {commands : List Command} (holds : Holds p d engine commands) (line : List ℕ) (reply : Reply) (added all : List Command) → Becomes line reply (open_in holds.world) commands added all
+    → (n : ℕ) → n ≤ forced_in engine → take n all ≡ take n commands
+forced_first {engine = engine} {commands} holds line reply added all becomes n le = ⊎_elim
+    (λ (same : all ≡ commands ++ added). ap (λ (l : List Command). take n l) same ∙ take-append-le n commands added (omega (arith, le, holds.says.forced)))
+    (λ (cut : IsCut (open_in holds.world) commands all). ap (λ (l : List Command). take n l) cut.left ∙ take-take n cut.before commands (omega (arith, le, early cut.before cut.group_is)))
+    (becomes_cuts line reply (open_in holds.world) commands added all becomes)
+  where
+    early : (k : ℕ) → open_in holds.world ≡ Some k → forced_in engine ≤ k
+    early k is =
+        let size : group_size engine ≡ Some (length commands - k) = open_size holds.shows holds.commands_are ∙ ap (λ (o : Option ℕ). size_of o commands) is in
+        let sum = subst (λ (o : Option ℕ). IfSome o (λ n. forced_in engine + n ≡ length commands)) size holds.says.group_waits in
+        omega (arith, sum)
+
+module _ {p : Params} {start : Disk} where
   -- a line of no backup leaves it as it was
-  module _ {old new backup : Disk} (laws : BesideLaws old new backup) {before after : EngineView} {w : World Command} {commands : List Command} {line : List ℕ} (other : AsksBackup line → ⊥) (shows : ShowsIn p old before w) where
-    other_goes_on : (reply : Reply) (added : List Command) (v : World Command) → Replies p (open_in w) commands line reply added → GoesBy p (stage_of before w) line reply (stage_of after v) → ShowsIn p new after v
-        → BackupGoesOn p start old new before after w commands line backup backup reply added v
-    other_goes_on reply added v here goes now told lines replies g =
+  module _ {old new backup : Disk} (laws : BesideLaws old new backup) {before after : EngineView} {commands : List Command} {line : List ℕ} (other : AsksBackup line → ⊥) (holds : Holds p old before commands) where
+    other_goes_on : (reply : Reply) (d : IsDone p old new before after holds.world commands line reply) (n : ℕ) → GoesOnAll p start old new before after holds.world (take n commands) line backup backup reply d.world
+    other_goes_on reply d n told lines replies g =
+        let group = open_in holds.world in
         let begins = BeginsStore (start.reads Objects) in
-        let it = goes_on laws shows after line reply commands added (stage_of after v) other here goes in
-        let same = store_more begins replies reply ∙ same_store (store_behind begins replies) reply (other_saves p (open_in w) commands line added other reply here) in
+        let it = goes_on laws holds.shows after line reply commands d.added (stage_of after d.world) other d.replies d.goes in
+        let same = store_more begins replies reply ∙ same_store (store_behind begins replies) reply (other_saves p group commands line d.added other reply d.replies) in
         record {
-          says = says_more line reply added g.says (other_saves p (open_in w) commands line added other reply here) (other_finds p (open_in w) commands line added other (store_behind begins replies) reply here);
+          says = says_more line reply [] g.says (other_saves p group commands line d.added other reply d.replies) (other_finds p group commands line d.added other (store_behind begins replies) reply d.replies);
           store = (λ is. subst (λ (A : Type 0). A) (sym same) (g.store.0 is), λ is. g.store.1 (subst (λ (A : Type 0). A) same is));
-          copying = still_copying it before.copied refl g.copying;
+          copying = ⊎_elim
+              (λ (goes : Goes laws holds.shows after (stage_of after d.world)). still_copying d.world d.shows goes before.copied refl g.copying)
+              (λ (none : after.copied ≡ None). subst (λ (x : Option ℕ). IfSome x (λ n. Copies all_meaning p new after d.world backup)) (sym none) tt)
+              it;
         }
       where
-        still_copying : Goes laws shows after (stage_of after v) → (o : Option ℕ) → before.copied ≡ o → IfSome o (λ n. Copies all_meaning p old before w backup) → IfSome after.copied (λ n. Copies all_meaning p new after v backup)
-        still_copying it None was copies = subst (λ (x : Option ℕ). IfSome x (λ n. Copies all_meaning p new after v backup)) (sym (it.copies ∙ was)) tt
-        still_copying it (Some n) was copies = subst (λ (x : Option ℕ). IfSome x (λ n. Copies all_meaning p new after v backup)) (sym (it.copies ∙ was)) (it.keeps now it.copies copies)
+        still_copying : (v : World Command) → ShowsIn p new after v → Goes laws holds.shows after (stage_of after v) → (o : Option ℕ) → before.copied ≡ o → IfSome o (λ n. Copies all_meaning p old before holds.world backup) → IfSome after.copied (λ n. Copies all_meaning p new after v backup)
+        still_copying v now it None was copies = subst (λ (x : Option ℕ). IfSome x (λ n. Copies all_meaning p new after v backup)) (sym (it.copies ∙ was)) tt
+        still_copying v now it (Some n) was copies = subst (λ (x : Option ℕ). IfSome x (λ n. Copies all_meaning p new after v backup)) (sym (it.copies ∙ was)) (it.keeps now it.copies copies)
 
-    pub done_beside : {A : Type 0} (reply : A → Reply) (result : Result A Early) → IfOk result (λ found. IsDone p old new before after w commands line (reply found)) → IsDoneBeside p start old new before after w commands line backup backup reply result
-    done_beside reply (Ok found) d = record { whole = (d, other_goes_on (reply found) d.added d.world d.replies d.goes d.shows); stopped = tt }
-    done_beside reply (Err stop) d = record { whole = tt; stopped = λ told lines replies g. says_come (line ∷ []) g.says }
+    pub done_beside : {A : Type 0} (reply : A → Reply) (result : Result A Early) → IfOk result (λ found. IsDone p old new before after holds.world commands line (reply found)) → IsDoneBeside p start old new before after holds.world commands line backup backup reply result
+    done_beside reply (Ok found) d = record {
+      whole = (d, goes_so (reply found) d.world d.rising (forced_first holds line (reply found) d.added (commands_of d.world.history) d.becomes) (other_goes_on (reply found) d));
+      stopped = tt;
+    }
+    done_beside reply (Err stop) d = record { whole = tt; stopped = stays_so p start old new before after holds.world commands line backup backup (λ told lines replies g. says_come (line ∷ []) g.says) }
 
   -- nothing was said of the line, whatever it asks
   pub beside_quiet : {old new : Disk} {before after : EngineView} {w : World Command} {commands : List Command} {line : List ℕ} (backup : Disk) (result : Result Bool Early) → IsErr result → new.said ≡ old.said
       → Answering p old new before after w commands line result → AnsweringBeside p start old new before after w commands line backup backup result
   beside_quiet backup (Ok refusing) is quiet a = absurd (cc is)
-  beside_quiet {line = line} backup (Err stop) is quiet a = record { whole = tt; partly = inl (quiet, λ told lines replies g. says_come (line ∷ []) g.says); images = a.images; steps = a.steps }
+  beside_quiet {line = line} backup (Err stop) is quiet a = record { whole = tt; partly = inl (quiet, λ told lines replies g. says_come (line ∷ []) (whole_going g).says); images = a.images; steps = a.steps }

@@ -1,10 +1,12 @@
 -- The answer to a line of a backup is said.
-use Rattle.std.proofs.Common.{◌≡◌, ◌∙◌, sym, subst, refl, inl, inr, ◌++◌, arith, ℕ, List, [], ◌∷◌, Option, Some, None, Result, Ok, Err, IfErr, IfOk, IsErr, OnErr, OnOk, Bool}
+use Rattle.std.proofs.Common.{◌≡◌, ◌∙◌, sym, subst, refl, inl, inr, ◌++◌, arith, ℕ, List, [], ◌∷◌, take, Option, Some, None, Result, Ok, Err, IfErr, IfOk, IsErr, OnErr, OnOk, Bool}
 use Rattle.std.specs.Prelude.{IfSome, IsTrue}
 use Rattle.std.specs.Option.{is_some}
 use Rattle.std.specs.Result.{IsErrAnd}
+use Rattle.std.proofs.lemmas.List.{take-take}
 use Rattle.disk_model.specs.Disk.{Disk, IsDisk, LeavesOnly, Passes, Runs, Same, SaysFront}
 use Rattle.formats.specs.declared.params.Params.{Params}
+use Rattle.explain_core.specs.History.{commands_of}
 use Rattle.explain_core.specs.World.{World}
 use Rattle.standing.specs.Moments.{TakesSome}
 use Rattle.op_codec.specs.AllOps.{all_meaning}
@@ -15,7 +17,7 @@ use Rattle.script_lines.specs.declared.line.Saving.TheVariants.{Start as bstart,
 use Rattle.script_lines.specs.Replies.{Reply, said_line}
 use Rattle.store_engine.specs.Engine as of_engine
 use Rattle.backup_copy.specs.Copies.{Copies}
-use Rattle.store_engine.specs.Engine.{EngineView, used_in}
+use Rattle.store_engine.specs.Engine.{EngineView, forced_in, used_in}
 use Rattle.shell_base.specs.Stops.{IsCaused}
 use Rattle.shell_base.specs.First.{Stage, stage_of}
 use Rattle.shell_base.specs.Store.{Command, Holds, Says, meaning_in}
@@ -23,17 +25,21 @@ use Rattle.shell_base.specs.declared.stop.Stop.{Stop}
 use Rattle.shell_base.specs.declared.stop.Stop.TheVariants.{DiskFault, Damaged, ReadFault, SayFault, BackupFault, Memory, TooLong}
 use Rattle.shell_base.specs.HoldLaws.{rises_within, shows_stays}
 use Rattle.script_run.specs.Courses.{IsCourseDue, Works}
+use Rattle.script_run.specs.Found.{IsDone}
+use Rattle.script_run.specs.Groups.{open_in}
 use Rattle.script_run.specs.Replies.{is_refusing}
 use Rattle.script_run.specs.Run.{Answering, IsCausedBeside, Working}
-use Rattle.script_run.specs.Saving.{AnsweringBeside, BackupGoing, BackupStays, IsDoneBeside, saving_course}
+use Rattle.script_run.specs.Saving.{AnsweringBeside, BackupGoesOn, BackupGoing, BackupIsSaid, BackupStays, IsDoneBeside, SaysOfBackup, saving_course}
+use Rattle.script_run.specs.StoryLaws.{becomes_front}
 use Rattle.script_run.proofs.DoneLemmas.{SaysAlone, SaysWithin, by_group, done_holds, found_of}
 use Rattle.script_run.proofs.MomentLemmas.{works_at_once, works_by}
 use Rattle.script_run.proofs.RunLemmas.{found_partly, found_said, stops_before}
+use Rattle.script_run.proofs.SavingLemmas.{says_longer}
 
 -- what may be done for the line
 saving_due : (p : Params) (s : Stage) (line : List ℕ) (saving : Saving) → AsksFor line (Save saving) → s.world.group ≡ None → IsCourseDue p s (line ∷ []) (saving_course (Save saving) (meaning_in p) s.world s.used)
 saving_due p s line bstart asks alone = inr (inl (Save bstart, tt, asks, alone, refl))
-saving_due p s line (bcopy count) asks alone = inr (inr refl)
+saving_due p s line (bcopy count) asks alone = inr (inr (inl refl))
 saving_due p s line bfinish asks alone = inr (inl (Save bfinish, tt, asks, alone, refl))
 
 pub saving_works : {p : Params} {old now : Disk} {before : EngineView} {commands : List Command} {line : List ℕ} (saving : Saving) → IsDisk old → (holds : Holds p old before commands) → AsksFor line (Save saving)
@@ -101,6 +107,23 @@ said_going {p} {start} {mid} {new} {after} {lines} {replies} {commands} {w} {bac
     some_still None goes here = tt
     some_still (Some n) goes here = goes n here
 
+-- what is said of the backup with a beginning of the answer
+said_partly : {p : Params} {start old mid : Disk} {before after : EngineView} {commands : List Command} (new : Disk) (line : List ℕ) (reply : Reply) (holds : Holds p old before commands) (d : IsDone p old mid before after holds.world commands line reply)
+    → Says p mid after (commands_of d.world.history) → (backup backed : Disk) → BackupGoesOn p start old mid before after holds.world commands line backup backed reply (commands_of d.world.history) d.world
+    → BackupIsSaid p start old new before after holds.world commands line backup backed reply d.added
+said_partly {p} {start} {after = after} {commands} new line reply holds d says backup backed goes =
+    let all = commands_of d.world.history in
+    let kept = forced_in after in
+    let front = becomes_front line reply (open_in holds.world) commands d.added all d.becomes kept says.forced in (
+      kept,
+      front.0,
+      d.which,
+      λ told lines replies g.
+          let b = goes told lines replies g in
+          subst (λ (l : List Command). SaysOfBackup p start (lines ++ line ∷ []) (replies ++ reply ∷ []) [] l backed) front.1
+          (says_longer b.count (take kept all) (subst (λ (l : List Command). SaysOfBackup p start (lines ++ line ∷ []) (replies ++ reply ∷ []) [] l backed) (sym (take-take b.count kept all b.forced)) b.going.says)),
+    )
+
 -- the answer that was found has been said, or a beginning of it
 pub saving_said : {A : Type 0} (reply : A → Reply) (found : A) {p : Params} {start old mid new : Disk} {before after : EngineView} {commands : List Command} {line : List ℕ} {backup backed : Disk} (result : Result Bool Stop)
     → (holds : Holds p old before commands) → IsDoneBeside p start old mid before after holds.world commands line backup backed reply (Ok found)
@@ -114,20 +137,20 @@ saving_said reply found {p} {start} {old} {mid} {new} {before} {after} {commands
         → AnsweringBeside p start old new before after holds.world commands line backup backed result
     by_result (Ok kind) all is =
         let d = done.whole.0 in
-        let a = found_said (Ok kind) holds.says.accepted images works time (found_of holds d (says (commands ++ d.added) (done_holds d)) alone within) say all is in
+        let a = found_said (Ok kind) holds.says.accepted images works time (found_of holds d (says (commands_of d.world.history) (done_holds d)) alone within) say all is in
         record {
-          whole = (a.whole, λ told lines replies g. said_going say (done.whole.1 told lines replies g));
+          whole = (a.whole, λ told lines replies g. let b = done.whole.1 told lines replies g in record { count = b.count; forced = b.forced; going = said_going say b.going });
           partly = tt;
           images = a.images;
           steps = a.steps;
         }
     by_result (Err stop) all is =
         let d = done.whole.0 in
-        let it = found_of holds d (says (commands ++ d.added) (done_holds d)) alone within in
+        let it = found_of holds d (says (commands_of d.world.history) (done_holds d)) alone within in
         let a = found_said (Err stop) holds.says.accepted images works time it say all is in
         record {
           whole = tt;
-          partly = inr (found_partly images time it say, λ told lines replies g. (done.whole.1 told lines replies g).says);
+          partly = inr (found_partly images time it say, said_partly new line (reply found) holds d (says (commands_of d.world.history) (done_holds d)) backup backed done.whole.1);
           images = a.images;
           steps = a.steps;
         }

@@ -25,6 +25,7 @@ use Rattle.script_run.specs.StartLaws.{AreFew}
 use Rattle.script_run.specs.Stages.{IsKeptUp}
 use Rattle.script_run.specs.Tended.{IsTended, Tends}
 use Rattle.script_run.specs.declared.tending.Tending.{Tending}
+use Rattle.script_run.proofs.SavingLemmas.{whole_going}
 use Rattle.script_run.proofs.BackupLemmas.{FreshBeside, GoingBeside, backed_up, passes_as}
 use Rattle.script_run.proofs.RunLemmas.{FreshGoing, IsFresh, IsTold, even_of, moments_so_far, tending_moment, told_so_far, told_so_far_by, whole_at}
 use Rattle.script_run.proofs.TendLemmas.{kept_so}
@@ -150,8 +151,8 @@ module _ (few : AreFew) {T : Type 0} {tending : Tending} {p : Params} {first : S
           passes = b.passes;
           backup = λ tells.
               let was = b.backup tells in
-              record { says = was.says; store = was.store; copying = still_copying p now new engine after (disk mid) b.going.holds.world it.kept.holds.world engine.copied refl law was.copying it.kept.holds.shows it.copied it.beside };
+              record { count = was.count; forced = omega (arith, was.forced, it.kept.rising); going = record { says = was.going.says; store = was.going.store; copying = still_copying p now new engine after (disk mid) b.going.holds.world it.kept.holds.world engine.copied refl law was.going.copying it.kept.holds.shows it.copied it.beside } };
         }
 
     pub ends_in_tending_beside : {stop : Stop} → FreshBeside tending disk before mid p first start now engine commands script todo refusing → Tends {T = T} tending now new engine after (Err stop) → IsBackedUp tending disk p first commands script start new before mid
-    ends_in_tending_beside (b, fresh) t = backed_up disk (told_tending few b.going fresh time t) (passes_as before mid (sym (append-nil b.going.lines)) b.passes) (λ tells. (b.backup tells).says)
+    ends_in_tending_beside (b, fresh) t = backed_up disk (told_tending few b.going fresh time t) (passes_as before mid (sym (append-nil b.going.lines)) b.passes) (λ tells. (whole_going (b.backup tells)).says)

@@ -15,7 +15,7 @@ use Rattle.script_lines.specs.Replies.{Reply, said_line}
 use Rattle.shell_base.specs.declared.budget.Budget.{Budget}
 use Rattle.shell_base.specs.Store.{Command, meaning_in}
 use Rattle.shell_base.specs.First.{Stage, IsFirst, OpeningMoment}
-use Rattle.script_run.specs.Stages.{HasCourse, IsKeptUp, IsUpkeep, Leads, AllGoBy, finish_course}
+use Rattle.script_run.specs.Stages.{GivesUp, HasCourse, IsKeptUp, IsUpkeep, Leads, AllGoBy, abort_course, finish_course}
 use Rattle.script_run.specs.declared.tending.Tending.{Tending}
 use Rattle.script_run.specs.declared.tending.Tending.TheVariants.{ByHand, ByLine}
 
@@ -27,11 +27,12 @@ IsForcing (Save bfinish) = ⊤
 IsForcing request = ⊥
 
 -- What may be done for the next of these lines before anything is said of it: the course that the line has the engine take,
--- a force for `force`, and as a backup starts and ends, where no group is open, and after the last line the end of an open
--- group and a force; nothing may be done for any line.
+-- a force for `force`, and as a backup starts and ends, where no group is open, a restart for `abort`, where one is, and after
+-- the last line the end of an open group and a force; nothing may be done for any line.
 abbrev pub IsCourseDue : Params → Stage → List (List ℕ) → Course Command → Type 0
 IsCourseDue p s [] c = c ≡ finish_course (meaning_in p) s.world s.used
-IsCourseDue p s (line ∷ lines) c = HasCourse p s line c ⊎ (((request : Request) × IsForcing request × AsksFor line request × (s.world.group ≡ None) × (c ≡ force_course (meaning_in p) s.world s.used)) ⊎ (c ≡ course [] s.used Through))
+IsCourseDue p s (line ∷ lines) c = HasCourse p s line c ⊎ (((request : Request) × IsForcing request × AsksFor line request × (s.world.group ≡ None) × (c ≡ force_course (meaning_in p) s.world s.used))
+    ⊎ ((c ≡ course [] s.used Through) ⊎ ((used : ℕ) × GivesUp p s line used × (c ≡ abort_course p s.world used))))
 
 -- the image shows the world after some first steps of what is due, none or all among them
 pub record IsWorkedOn (p : Params) (s : Stage) (todo : List (List ℕ)) (files : Files) : Type 0 where

@@ -1,5 +1,5 @@
 -- How the answer to a line is found, before it is said.
-use Rattle.std.specs.Prelude.{◌≡◌, ◌<◌, ◌≤◌, ◌⊎◌, ◌+◌, ◌^◌, ◌++◌, ⊤, ℕ, List, [], length, Option, None, Some, Result, Ok, Err, IfOk}
+use Rattle.std.specs.Prelude.{◌≡◌, ◌<◌, ◌≤◌, ◌⊎◌, ◌+◌, ◌^◌, ⊤, ℕ, List, [], length, Option, None, Some, Result, Ok, Err, IfOk}
 use Rattle.std.specs.Option.{is_some}
 use Rattle.disk_model.specs.Disk.{Disk}
 use Rattle.disk_model.specs.declared.machine.FileNo.{FileNo}
@@ -34,13 +34,15 @@ use Rattle.script_lines.specs.Replies.{Reply, forced, full, end, pairs_reply, re
 use Rattle.script_lines.specs.declared.answer.Answer.{Answer}
 use Rattle.script_lines.specs.declared.answer.Answer.TheVariants as answers
 use Rattle.store_engine.specs.Engine.{EngineView, KeepsCommands, TakesIn, forced_in, logged_since, so_far, used_in}
+use Rattle.stable_objects.specs.declared.open_err.OpenErr.{OpenErr}
+use Rattle.stable_objects.specs.declared.open_err.OpenErr.TheVariants as open_errors
 use Rattle.store_engine.specs.declared.work_err.WorkErr.{WorkErr}
 use Rattle.store_engine.specs.declared.work_err.WorkErr.TheVariants as work_errors
 use Rattle.shell_base.specs.Store.{IsAttached, IsEngineCall, Command, Holds, ShowsIn, state_of}
 use Rattle.shell_base.specs.First.{stage_of}
 use Rattle.shell_base.specs.declared.stop.Stop.{Stop}
 use Rattle.shell_base.specs.declared.stop.Stop.TheVariants.{DiskFault, Damaged, Memory}
-use Rattle.script_run.specs.Groups.{Regroups, open_in}
+use Rattle.script_run.specs.Groups.{Becomes, Regroups, open_in}
 use Rattle.script_run.specs.Made.{Made, made_by, tree_answer}
 use Rattle.script_run.specs.Replies.{Replies, IsNumbered, IsOver}
 use Rattle.script_run.specs.Stages.{GoesBy, IsBesideBackup, upkeep_course}
@@ -78,7 +80,7 @@ pub record IsDone (p : Params) (old now : Disk) (before after : EngineView) (w :
   pub quiet : now.said ≡ old.said
   pub world : World Command
   pub shows : ShowsIn p now after world
-  pub commands_are : commands_of world.history ≡ commands ++ added
+  pub becomes : Becomes line reply (open_in w) commands added (commands_of world.history)
   pub regroups : Regroups line reply commands (open_in w) (open_in world)
   pub rising : forced_in before ≤ forced_in after
   pub which : (forced_in after ≡ forced_in before) ⊎ ((before.group ≡ None) × (length commands ≤ forced_in after))
@@ -105,6 +107,11 @@ answer_of_work_error work_errors.Memory = Err Memory
 abbrev pub answer_of_work : {T : Type 0} → Result T WorkErr → Result Answer Stop
 answer_of_work (Ok done) = Ok answers.Done
 answer_of_work (Err error) = answer_of_work_error error
+
+-- why a run ends where a store that stands for commands is not opened again
+abbrev pub stop_of_opening : OpenErr → Stop
+stop_of_opening open_errors.DiskFault = DiskFault
+stop_of_opening cause = Memory
 
 -- how the end of a call is answered
 abbrev pub IsAnswerOf : Ending → Result Answer Stop → Type 0

@@ -11,7 +11,7 @@ use Rattle.script_lines.specs.Grammar.{Request, AsksFor, IsBad}
 use Rattle.script_lines.specs.declared.line.Line.TheVariants.{Run as run, Ask, Force as force, Keep, Group, Save, Stat as asks_stat, Skip as skip}
 use Rattle.script_lines.specs.declared.line.Question.TheVariants.{Get as get}
 use Rattle.script_lines.specs.declared.line.Upkeep.TheVariants.{Install as install, Drain as drain, Trim as trim}
-use Rattle.script_lines.specs.declared.line.Grouping.TheVariants.{Begin as begin_group, End as end_group}
+use Rattle.script_lines.specs.declared.line.Grouping.TheVariants.{Begin as begin_group, End as end_group, Abort as abort_group}
 use Rattle.script_lines.specs.declared.line.Saving.TheVariants.{Start as bstart, Copy as bcopy, Finish as bfinish}
 use Rattle.script_lines.specs.Replies.{Reply, ok, ran, value, pairs, forced, bad, refused, bad_tree, tree_full, denied, in_group, no_group, full, end, object_value, command_count, stat, copied, saved, backup_denied, summary, silence}
 use Rattle.script_lines.specs.declared.denial.Denial.TheVariants.{BadHash}
@@ -62,6 +62,12 @@ IsBarred force = ⊤
 IsBarred (Save saving) = ⊤
 IsBarred request = IsUpkeep request
 
+-- one that asks for an open group
+abbrev pub IsClosing : Request → Type 0
+IsClosing (Group end_group) = ⊤
+IsClosing (Group abort_group) = ⊤
+IsClosing request = ⊥
+
 -- one that is refused so by how far a backup is
 abbrev pub IsDenied : BackupDenial → Request → Type 0
 IsDenied InBackup (Save bstart) = ⊤
@@ -76,6 +82,7 @@ IsDenied why request = ⊥
 abbrev pub IsGranted : Option ℕ → Request → Type 0
 IsGranted group (Group begin_group) = group ≡ None
 IsGranted group (Group end_group) = IsTrue (is_some group)
+IsGranted group (Group abort_group) = IsTrue (is_some group)
 IsGranted group (Save bstart) = group ≡ None
 IsGranted group request = IsUpkeep request × (group ≡ None)
 
@@ -99,7 +106,7 @@ Replies p group commands line bad_tree added = AsksMade p commands line (made ad
 Replies p group commands line tree_full added = AsksMade p commands line (made added tree_full)
 Replies p group commands line (denied why) added = AsksMade p commands line (made added (denied why)) ⊎ ((why ≡ BadHash) × AsksTree p commands line (denied why) × (added ≡ []))
 Replies p group commands line in_group added = (request : Request) × IsBarred request × AsksFor line request × IsTrue (is_some group) × (added ≡ [])
-Replies p group commands line no_group added = AsksFor line (Group end_group) × (group ≡ None) × (added ≡ [])
+Replies p group commands line no_group added = (request : Request) × IsClosing request × AsksFor line request × (group ≡ None) × (added ≡ [])
 Replies p group commands line (full used need limit) added =
     ((op : Command) × AsksBehind p commands line added op × (need ≡ needed_in (size_of group (commands ++ added)) (record_length p op)) × (limit ≡ p.limit) × (limit < used + need))
     ⊎ ((request : Request) × IsLogged request × AsksFor line request × (group ≡ None) × (limit ≡ 2 ^ 48) × IsOver request used need limit × (added ≡ []))

@@ -1,6 +1,6 @@
 -- One line's answer, and a whole run.
 use Rattle.std.specs.Prelude.{◌≡◌, ℕ, ◌≤◌, ◌⊎◌, ◌↔◌, ⊤, ◌++◌, List, [], ◌∷◌, length, take, Contains, Option, None, Bool, true, Result, IfOk, OnErr}
-use Rattle.std.specs.List.{AllByRecursion, flat_map, list_any}
+use Rattle.std.specs.List.{flat_map, list_any}
 use Rattle.disk_model.specs.Disk.{Files, Disk, LeavesOnly, Rises, IsSettled}
 use Rattle.disk_model.specs.Silent.{IsSilent}
 use Rattle.formats.specs.Image.{EndsAt}
@@ -17,7 +17,7 @@ use Rattle.shell_base.specs.declared.status.Status.TheVariants.{DoneWithRefusals
 use Rattle.shell_base.specs.declared.stop.Stop.{Stop}
 use Rattle.shell_base.specs.declared.stop.Stop.TheVariants.{DiskFault, Damaged, ReadFault, SayFault, BackupFault, Memory, TooLong}
 use Rattle.shell_base.specs.Stops.{IsCaused}
-use Rattle.script_run.specs.Groups.{Account, AreWhole, Regroups, account_of, open_in, waiting}
+use Rattle.script_run.specs.Groups.{Account, AreInOrder, AreWhole, Becomes, Regroups, account_of, open_in, waiting}
 use Rattle.script_run.specs.Made.{IsFront}
 use Rattle.script_run.specs.Replies.{Replies, IsTrueIn, is_refusing}
 use Rattle.script_run.specs.Answers.{Answers, Moment, EndsInside, TrueWithin, SaysTruly}
@@ -43,7 +43,9 @@ pub record IsAnswered (p : Params) (old new : Disk) (before after : EngineView) 
   pub added : List Command
   pub replies : Replies p (open_in w) commands line reply added
   pub said : new.said ≡ old.said ++ said_line reply
-  pub kept : Kept p before new after (commands ++ added)
+  pub all : List Command
+  pub becomes : Becomes line reply (open_in w) commands added all
+  pub kept : Kept p before new after all
   pub regroups : Regroups line reply commands (open_in w) (open_in kept.holds.world)
   pub acked : (n : ℕ) → reply ≡ forced n → n ≤ forced_in after
   pub kind : refusing ≡ is_refusing reply
@@ -114,8 +116,7 @@ pub record Going (tending : Tending) (p : Params) (first : Stage) (start now : D
   pub holds : Holds p now engine account.commands
   pub group : account.group ≡ open_in holds.world
   pub whole : AreWhole (forced_in engine) account
-  -- each closed group ended with one of the commands
-  pub ends_within : AllByRecursion (λ span. span.to ≤ length account.commands) account.closed
+  pub ends_within : AreInOrder account
   pub all_before : length commands ≤ forced_in engine
   pub acked : (n : ℕ) → Contains replies (forced n) → n ≤ forced_in engine
   pub kind : refusing ≡ list_any is_refusing replies
@@ -150,7 +151,9 @@ pub record IsAnswerFound (p : Params) (old now : Disk) (before after : EngineVie
   pub added : List Command
   pub replies : Replies p (open_in w) commands line reply added
   pub quiet : now.said ≡ old.said
-  pub kept : Kept p before now after (commands ++ added)
+  pub all : List Command
+  pub becomes : Becomes line reply (open_in w) commands added all
+  pub kept : Kept p before now after all
   pub regroups : Regroups line reply commands (open_in w) (open_in kept.holds.world)
   pub tied : InEachImage now (λ files. IsTrueIn p files (waiting (open_in w) (commands ++ added)) line reply)
   pub leads : Leads p (stage_of before w) line reply (stage_of after kept.holds.world)

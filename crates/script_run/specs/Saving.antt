@@ -4,6 +4,7 @@ use Rattle.disk_model.specs.Disk.{Files, Disk, LeavesOnly, Passes, Rises}
 use Rattle.disk_model.specs.declared.machine.FileNo.TheVariants.{Objects}
 use Rattle.formats.specs.Objects.{BeginsStore}
 use Rattle.formats.specs.declared.params.Params.{Params}
+use Rattle.explain_core.specs.History.{commands_of}
 use Rattle.explain_core.specs.World.{World}
 use Rattle.restart.specs.Starts.{OrAtStart}
 use Rattle.op_codec.specs.AllOps.{all_meaning}
@@ -124,24 +125,30 @@ module _ (p : Params) (start : Disk) where
     pub store : BeginsStore (now.reads Objects) ↔ store_behind (BeginsStore (start.reads Objects)) replies
     pub copying : IfSome engine.copied (λ n. Copies all_meaning p d engine w now)
 
+  -- So it is of the first of these commands, all of them forced: an abort takes none of them away.
+  pub record BackupSoFar (lines : List (List ℕ)) (replies : List Reply) (commands : List Command) (d : Disk) (engine : EngineView) (w : World Command) (now : Disk) : Type 0 where
+    pub count : ℕ
+    pub forced : count ≤ forced_in engine
+    pub going : BackupGoing lines replies (take count commands) d engine w now
+
   module _ (old new : Disk) (before after : EngineView) (w : World Command) (commands : List Command) (line : List ℕ) (backup backed : Disk) where
-    -- with this answer to the line the backup goes on to this world
+    -- with this answer to the line the backup goes on to this world, and these commands
     abbrev pub BackupGoesOn : Reply → List Command → World Command → Type 0
-    BackupGoesOn reply added v = backup.tells_files → (lines : List (List ℕ)) (replies : List Reply) → BackupGoing lines replies commands old before w backup
-        → BackupGoing (lines ++ line ∷ []) (replies ++ reply ∷ []) (commands ++ added) new after v backed
+    BackupGoesOn reply all v = backup.tells_files → (lines : List (List ℕ)) (replies : List Reply) → BackupSoFar lines replies commands old before w backup
+        → BackupSoFar (lines ++ line ∷ []) (replies ++ reply ∷ []) all new after v backed
 
     -- what the answers say stays true where the line gets none
     abbrev pub BackupStays : Type 0
-    BackupStays = backup.tells_files → (lines : List (List ℕ)) (replies : List Reply) → BackupGoing lines replies commands old before w backup → SaysOfBackup lines replies (line ∷ []) commands backed
+    BackupStays = backup.tells_files → (lines : List (List ℕ)) (replies : List Reply) → BackupSoFar lines replies commands old before w backup → SaysOfBackup lines replies (line ∷ []) commands backed
 
-    -- and where a beginning of its answer was said, with that
+    -- and where a beginning of its answer was said, with that, of so many commands, which split no group
     abbrev pub BackupIsSaid : Reply → List Command → Type 0
-    BackupIsSaid reply added = backup.tells_files → (lines : List (List ℕ)) (replies : List Reply) → BackupGoing lines replies commands old before w backup
-        → SaysOfBackup (lines ++ line ∷ []) (replies ++ reply ∷ []) [] (commands ++ added) backed
+    BackupIsSaid reply added = (kept : ℕ) × (kept ≤ length (commands ++ added)) × ((kept ≡ forced_in before) ⊎ ((before.group ≡ None) × (length commands ≤ kept)))
+        × (backup.tells_files → (lines : List (List ℕ)) (replies : List Reply) → BackupSoFar lines replies commands old before w backup → SaysOfBackup (lines ++ line ∷ []) (replies ++ reply ∷ []) [] (take kept (commands ++ added)) backed)
 
     -- what the line asks for is done, and nothing is said of it yet; or the call ended without an answer
     pub record IsDoneBeside {A : Type 0} (reply : A → Reply) (result : Result A Stop) : Type 0 where
-      pub whole : IfOk result (λ found. (d : IsDone p old new before after w commands line (reply found)) × BackupGoesOn (reply found) d.added d.world)
+      pub whole : IfOk result (λ found. (d : IsDone p old new before after w commands line (reply found)) × BackupGoesOn (reply found) (commands_of d.world.history) d.world)
       pub stopped : OnErr result BackupStays
 
     abbrev pub IsSavingDone : Result Answer Stop → Type 0
@@ -149,7 +156,7 @@ module _ (p : Params) (start : Disk) where
 
     -- The line was answered, or a beginning of its answer was said, or nothing, and the backup went on.
     pub record AnsweringBeside (result : Result Bool Stop) : Type 0 where
-      pub whole : IfOk result (λ refusing. (a : IsAnswered p old new before after w commands line refusing) × BackupGoesOn a.reply a.added a.kept.holds.world)
+      pub whole : IfOk result (λ refusing. (a : IsAnswered p old new before after w commands line refusing) × BackupGoesOn a.reply a.all a.kept.holds.world)
       pub partly : OnErr result (((new.said ≡ old.said) × BackupStays) ⊎ ((part : IsPartly p old new (stage_of before w) commands line) × BackupIsSaid part.reply part.added))
       pub images : old.tells_moments → LeavesOnly old new (LineMoment p old before (open_in w) commands line)
       pub steps : old.tells_moments → LeavesOnly old new (LineStage p (stage_of before w) old.said line)

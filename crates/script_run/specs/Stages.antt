@@ -14,23 +14,25 @@ use Rattle.op_codec.specs.AllOps.{all_meaning}
 use Rattle.script_lines.specs.Grammar.{Request, AsksFor}
 use Rattle.script_lines.specs.declared.line.Line.TheVariants.{Ask, Keep, Group, Save}
 use Rattle.script_lines.specs.declared.line.Upkeep.TheVariants.{Install as install, Drain as drain, Checkpoint as checkpoint, Trim as trim}
-use Rattle.script_lines.specs.declared.line.Grouping.TheVariants.{Begin as begin_group, End as end_group}
+use Rattle.script_lines.specs.declared.line.Grouping.TheVariants.{Begin as begin_group, End as end_group, Abort as abort_group}
 use Rattle.script_lines.specs.declared.line.Saving.TheVariants.{Start as bstart, Copy as bcopy, Finish as bfinish}
 use Rattle.script_lines.specs.Replies.{Reply, ok, ran, forced, refused, bad_tree, tree_full, denied, full, end, stat, copied, saved, backup_denied}
 use Rattle.script_lines.specs.declared.backup_denial.BackupDenial.{BackupDenial}
 use Rattle.script_lines.specs.declared.backup_denial.BackupDenial.TheVariants.{InBackup, NoBackup, AlreadyStore, NotCopied}
 use Rattle.script_lines.specs.declared.answer.StatLine.{StatLine}
 use Rattle.checkpointing.specs.Courses.{checkpoint_course, trim_course, upkeep_course as tending_course}
+use Rattle.restart.specs.Courses.{restart_course}
 use Rattle.store_engine.specs.Calls.{begin_course, end_course}
-use Rattle.store_engine.specs.Engine.{is_name, so_far}
+use Rattle.store_engine.specs.Engine.{group_bytes, is_name, so_far}
 use Rattle.store_engine.specs.Paces.{due_at, load_of}
 use Rattle.store_engine.specs.declared.pace.Pace.{Pace}
 use Rattle.backup_copy.specs.Length.{backup_length}
 use Rattle.store_engine.specs.Lists.{commands_course}
 use Rattle.shell_base.specs.Store.{Command, meaning_in}
-use Rattle.shell_base.specs.First.{Stage}
+use Rattle.shell_base.specs.First.{Stage, marks_of}
+use Rattle.shell_base.specs.declared.budget.Budget.TheVariants.{Usual}
 use Rattle.script_run.specs.Made.{Made, AsksMade}
-use Rattle.script_run.specs.Groups.{open_in}
+use Rattle.script_run.specs.Groups.{Becomes, open_in, waiting}
 use Rattle.script_run.specs.Replies.{Replies, IsGranted}
 use Rattle.script_run.specs.declared.tending.Tending.{Tending}
 use Rattle.script_run.specs.declared.tending.Tending.TheVariants.{ByHand, ByLine}
@@ -54,10 +56,11 @@ upkeep_course epoch copies (Group begin_group) m w used = begin_course m w used
 upkeep_course epoch copies (Group end_group) m w used = end_course m w used
 upkeep_course epoch copies request m w used = course [] used Through
 
--- such a request may be done beside a backup: a trim may not, and the start of one takes its own course
+-- such a request may be done beside a backup: a trim may not, and the start of one and an abort take courses of their own
 abbrev pub IsBesideBackup : Option ℕ → Request → Type 0
 IsBesideBackup copies (Keep trim) = copies ≡ None
 IsBesideBackup copies (Save bstart) = ⊥
+IsBesideBackup copies (Group abort_group) = ⊥
 IsBesideBackup copies request = ⊤
 
 -- a request for values changes nothing
@@ -84,6 +87,24 @@ HasCourse p s line c = ((it : Made) × AsksMade p (commands_of s.world.history) 
 -- the course ends so, and leads from the old stage to the new one
 abbrev pub Ends : Params → Stage → List ℕ → Stop → Stage → Type 0
 Ends p old line stop new = (c : Course Command) × HasCourse p old line c × (c.stop ≡ stop) × (new ≡ stage_after p old c)
+
+-- The line gives up the open group, whose commands all wait: without them the log has so many bytes, those in the files.
+pub record GivesUp (p : Params) (s : Stage) (line : List ℕ) (used : ℕ) : Type 0 where
+  pub asks : AsksFor line (Group abort_group)
+  pub inside : IsTrue (is_some (open_in s.world))
+  pub waits : s.used ≡ used + group_bytes all_meaning p (waiting (open_in s.world) (commands_of s.world.history))
+
+-- what is done for it: the files are opened again, as after a crash
+abbrev pub abort_course : Params → World Command → ℕ → Course Command
+abort_course p w used = restart_course (meaning_in p) (marks_of Usual p) w used
+
+-- the stage after that, as a call begins with it
+abbrev pub reopened : Params → World Command → ℕ → Stage
+reopened p w used = record { world = run (meaning_in p) w (abort_course p w used).steps; used = (abort_course p w used).used; identities = 0; copied = None }
+
+-- so an abort leads from the old stage to the new one: a backup is given up too
+abbrev pub Aborts : Params → Stage → List ℕ → Stage → Type 0
+Aborts p old line new = (used : ℕ) × GivesUp p old line used × (new ≡ reopened p old.world used)
 
 -- the counts that are told of a stage: of its graph, its cache and its log, and of the commands that are forced and accepted
 pub record IsCounted (p : Params) (s : Stage) (counts : StatLine) : Type 0 where
@@ -129,10 +150,10 @@ IsDeniedAt objects copies NotCopied = (n : ℕ) × (copies ≡ Some n) × (n < o
 
 -- What an answer says of the old stage, and the new one: where nothing stops the course it is `ok`, `ran` or a refusal, `full`
 -- comes where its next record or log has no room, with these numbers, and `end` where no number is left for a record, or no
--- epoch for a log; `forced` comes after a force; `stat` counts. A backup starts with an `ok` too, `copied` says how far it is,
+-- epoch for a log; `forced` comes after a force; `stat` counts. A backup starts with an `ok` too, and an open group is given up; `copied` says how far it is,
 -- it ends with `saved`, after a force, where its log has at most 2^48 bytes, and its lines are denied by how far it is. No other answer changes anything.
 abbrev pub GoesBy : Params → Stage → List ℕ → Reply → Stage → Type 0
-GoesBy p old line ok new = Ends p old line Through new ⊎ StartsBackup old line (forced_stage p old) new
+GoesBy p old line ok new = Ends p old line Through new ⊎ (StartsBackup old line (forced_stage p old) new ⊎ Aborts p old line new)
 GoesBy p old line (ran k) new = Ends p old line Through new
 GoesBy p old line (refused why) new = Ends p old line Through new
 GoesBy p old line bad_tree new = Ends p old line Through new
@@ -147,11 +168,12 @@ GoesBy p old line (saved n) new = EndsBackup p old (forced_stage p old) new
 GoesBy p old line (backup_denied why) new = IsDeniedAt p.objects old.copied why × (new ≡ old)
 GoesBy p old line reply new = new ≡ old
 
--- A line asked in the old stage gets this answer, goes by it to the new stage, and adds commands to those of the world.
+-- A line asked in the old stage gets this answer, goes by it to the new stage, and adds commands to those of the world, or takes
+-- those of the open group away.
 pub record Leads (p : Params) (old : Stage) (line : List ℕ) (reply : Reply) (new : Stage) : Type 0 where
   pub added : List Command
   pub replies : Replies p (open_in old.world) (commands_of old.world.history) line reply added
-  pub commands_are : commands_of new.world.history ≡ commands_of old.world.history ++ added
+  pub becomes : Becomes line reply (open_in old.world) (commands_of old.world.history) added (commands_of new.world.history)
   pub goes : GoesBy p old line reply new
 
 -- This is the course of the upkeep that a pace finds due in a stage in which no group is open: first the trim, and, though that may

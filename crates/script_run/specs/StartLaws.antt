@@ -146,9 +146,10 @@ pub moment_of : AreFew → {p : Params} {commands : List Command} {script lines 
     → AreWhole kept account → Stands p f (take kept every) → ((n : ℕ) → Contains replies (forced n) → n ≤ kept) → MomentSoFar p commands script before f s
 moment_of few {p} before bytes f s kept told since all_before no_more whole stands acked =
     let unclosed = told.whole kept no_more whole in
+    let (within, same) = told.all kept no_more whole in
     record {
-      is = moment_at few before bytes f s kept told.story since all_before (omega (arith, no_more, ap length told.all)) (ended_whole kept told.story.todo told.story.account unclosed)
-          (subst (λ (l : List Command). Stands p f (take kept l)) (sym told.all) stands) (λ n has. acked n (told.spoken n has));
+      is = moment_at few before bytes f s kept told.story since all_before within (ended_whole kept told.story.todo told.story.account unclosed)
+          (subst (λ (l : List Command). Stands p f l) (sym same) stands) (λ n has. acked n (told.spoken n has));
       unclosed = unclosed;
     }
 

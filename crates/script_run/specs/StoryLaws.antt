@@ -1,7 +1,8 @@
 -- How what was said goes on from answer to answer.
-use Rattle.std.proofs.Common.{◌≡◌, ◌⊎◌, inl, inr, ⊎_elim, ◌≤◌, ◌<◌, ◌^◌, ◌++◌, List, ℕ, [], ◌∷◌, zero, suc, length, take, length-append, append_assoc, refl, ap, ◌∙◌, sym, subst, arith, Contains, Option, None, Some}
+use Rattle.std.proofs.Common.{◌≡◌, ◌⊎◌, inl, inr, ⊎_elim, ◌≤◌, ◌<◌, ◌^◌, ◌+◌, ◌-◌, ◌++◌, List, ℕ, [], ◌∷◌, zero, suc, length, min, take, length-append, length-take, append_assoc, refl, ap, ◌∙◌, sym, subst, arith, Contains, Option, None, Some}
 use Rattle.std.specs.Prelude.{IfSome}
-use Rattle.std.proofs.lemmas.List.{append-nil, take-append-le, take_all}
+use Rattle.std.proofs.Math.Seq.{take-append-add}
+use Rattle.std.proofs.lemmas.List.{append-nil, take-append-le, take-take, take_all}
 use Rattle.std.proofs.lemmas.List.Elements.{Contains-append_left, Contains-append_cases}
 use Rattle.std.proofs.lemmas.List.Concat.{flat_map-append}
 use Rattle.std.specs.List.{AllByRecursion, flat_map}
@@ -10,13 +11,13 @@ use Rattle.formats.specs.declared.params.Params.{Params}
 use Rattle.script_lines.specs.Grammar.{Request, AsksFor}
 use Rattle.script_lines.specs.declared.line.Line.TheVariants.{Keep, Group, Save}
 use Rattle.script_lines.specs.declared.line.Upkeep.TheVariants.{Install as install, Drain as drain, Checkpoint as checkpoint, Trim as trim}
-use Rattle.script_lines.specs.declared.line.Grouping.TheVariants.{Begin as begin_group, End as end_group}
+use Rattle.script_lines.specs.declared.line.Grouping.TheVariants.{Begin as begin_group, End as end_group, Abort as abort_group}
 use Rattle.script_lines.specs.declared.line.Saving.TheVariants.{Start as bstart}
 use Rattle.script_lines.specs.Replies.{Reply, ok, ran, pairs, bad_tree, tree_full, denied, in_group, no_group, value, forced, bad, refused, full, end, object_value, command_count, stat, copied, saved, backup_denied, summary, silence, text_of, said_line}
 use Rattle.shell_base.specs.Store.{Command}
 use Rattle.shell_base.specs.First.{Stage}
 use Rattle.script_run.specs.declared.tending.Tending.{Tending}
-use Rattle.script_run.specs.Groups.{Account, AreWhole, IsAfter, IsWhole, Regroups, Span, account_before, account_of, closed_after, closed_with, group_after, waiting}
+use Rattle.script_run.specs.Groups.{Account, AreInOrder, AreWhole, Becomes, IsAfter, IsWhole, Regroups, Span, account_before, account_of, all_after, closed_after, closed_with, group_after, waiting}
 use Rattle.script_run.specs.Made.{Made, AsksMade, IsFront, made, made_by}
 use Rattle.script_run.specs.Replies.{IsGranted, Replies}
 use Rattle.script_run.specs.Stages.{LeadsOn, AllGoBy}
@@ -24,9 +25,51 @@ use Rattle.script_run.specs.Answers.{Answers, Begun, IsSilent, Said, TrueWithin,
 
 -- the account after a line
 
-pub after_commands : (a : Account) (line : List ℕ) (reply : Reply) (added : List Command) (b : Account) → IsAfter a line reply added b → b.commands ≡ a.commands ++ added
-after_commands a line ok added b is = ap (λ (x : Account). x.commands) is.2
-after_commands a line reply added b is = ap (λ (x : Account). x.commands) is
+-- they are those that were there and what was added, or an abort has left those before the open group
+pub record IsCut (group : Option ℕ) (commands all : List Command) : Type 0 where
+  pub before : ℕ
+  pub group_is : group ≡ Some before
+  pub left : all ≡ take before commands
+
+pub request_cuts : (request : Request) (group : Option ℕ) (commands added : List Command) → (all_after request group commands added ≡ commands ++ added) ⊎ IsCut group commands (all_after request group commands added)
+request_cuts (Group abort_group) None commands added = inl refl
+request_cuts (Group abort_group) (Some n) commands added = inr (record { before = n; group_is = refl; left = refl })
+request_cuts request group commands added = inl refl
+
+pub becomes_cuts : (line : List ℕ) (reply : Reply) (group : Option ℕ) (commands added all : List Command) → Becomes line reply group commands added all → (all ≡ commands ++ added) ⊎ IsCut group commands all
+becomes_cuts line ok group commands added all is = subst (λ (l : List Command). (l ≡ commands ++ added) ⊎ IsCut group commands l) (sym is.2) (request_cuts is.0 group commands added)
+becomes_cuts line reply group commands added all is = inl is
+
+-- as many of the commands before as are left are the first of them
+cut_front : (kept n : ℕ) (commands added : List Command) → kept ≤ length (take n commands) → (kept ≤ length (commands ++ added)) × (take kept (take n commands) ≡ take kept (commands ++ added))
+cut_front kept n commands added le =
+    let short : length (take n commands) ≡ min n (length commands) = length-take n commands in
+    let few : kept ≤ n = omega (arith, le, short) in
+    let most : kept ≤ length commands = omega (arith, le, short) in
+    (omega (arith, most, length-append commands added), take-take kept n commands few ∙ sym (take-append-le kept commands added most))
+
+pub becomes_front : (line : List ℕ) (reply : Reply) (group : Option ℕ) (commands added all : List Command) → Becomes line reply group commands added all → (kept : ℕ) → kept ≤ length all
+    → (kept ≤ length (commands ++ added)) × (take kept all ≡ take kept (commands ++ added))
+becomes_front line reply group commands added all is kept le = ⊎_elim
+    (λ (same : all ≡ commands ++ added). (omega (arith, le, ap length same), ap (λ (l : List Command). take kept l) same))
+    (λ (cut : IsCut group commands all).
+    let here = cut_front kept cut.before commands added (omega (arith, le, ap length cut.left)) in
+    (here.0, ap (λ (l : List Command). take kept l) cut.left ∙ here.1))
+    (becomes_cuts line reply group commands added all is)
+
+-- where a line leaves the open group as it is, no command is taken away
+pub grows_so : (line : List ℕ) (reply : Reply) (commands added : List Command) (before after : Option ℕ) → Regroups line reply commands before after → after ≡ before → Becomes line reply before commands added (commands ++ added)
+grows_so line ok commands added before after is same = (is.0, is.1, request_grows is.0 before commands added (sym is.2 ∙ same))
+  where
+    request_grows : (request : Request) (group : Option ℕ) (commands added : List Command) → group_after request group commands ≡ group → commands ++ added ≡ all_after request group commands added
+    request_grows (Group abort_group) None commands added same = refl
+    request_grows (Group abort_group) (Some n) commands added same = cc same
+    request_grows request group commands added same = refl
+grows_so line reply commands added before after is same = refl
+
+pub grows_to : (line : List ℕ) (reply : Reply) (commands added : List Command) (before after : Option ℕ) {all : List Command} → Regroups line reply commands before after → after ≡ before → all ≡ commands ++ added
+    → Becomes line reply before commands added all
+grows_to line reply commands added before after is same are = subst (λ (l : List Command). Becomes line reply before commands added l) (sym are) (grows_so line reply commands added before after is same)
 
 -- an open group of which nothing is kept is whole as it closes
 pub closed_whole : (kept last : ℕ) (group : Option ℕ) (spans : List Span) → AllByRecursion (IsWhole kept) spans → IfSome group (λ n. kept ≤ n) → AllByRecursion (IsWhole kept) (closed_with group last spans)
@@ -54,47 +97,66 @@ pub end_within : (n most : ℕ) (spans : List Span) → n ≤ most → AllEnd n 
 end_within n most [] le are = tt
 end_within n most (span ∷ spans) le are = (omega (arith, le, are.0), end_within n most spans le are.1)
 
-request_ends : (request : Request) (a : Account) → AllEnd (length a.commands) a.closed → AllEnd (length a.commands) (closed_after request a)
-request_ends (Group end_group) a are = close a.group
-  where
-    close : (group : Option ℕ) → AllEnd (length a.commands) (closed_with group (length a.commands) a.closed)
-    close None = are
-    close (Some n) = (omega arith, are)
-request_ends request a are = are
+-- an answer keeps the groups in order
+module _ (commands added : List Command) (closed : List Span) (ends : AllEnd (length commands) closed) where
+  later : AllEnd (length (commands ++ added)) closed
+  later = end_within (length commands) (length (commands ++ added)) closed (omega (arith, length-append commands added)) ends
 
-after_ends : (a : Account) (line : List ℕ) (reply : Reply) (added : List Command) (b : Account) → IsAfter a line reply added b → AllEnd (length a.commands) a.closed → AllEnd (length a.commands) b.closed
-after_ends a line ok added b is are = subst (λ (x : Account). AllEnd (length a.commands) x.closed) (sym is.2) (request_ends is.0 a are)
-after_ends a line reply added b is are = subst (λ (x : Account). AllEnd (length a.commands) x.closed) (sym is) are
+  same_order : (group : Option ℕ) → IfSome group (λ n. (n ≤ length commands) × AllEnd n closed) → AreInOrder (record { commands = commands ++ added; closed = closed; group = group })
+  same_order None early = record { ends = later; group = tt }
+  same_order (Some n) early = record { ends = later; group = (omega (arith, early.0, length-append commands added), early.1) }
 
-pub after_within : (a : Account) (line : List ℕ) (reply : Reply) (added : List Command) (b : Account) → IsAfter a line reply added b → AllEnd (length a.commands) a.closed → AllEnd (length b.commands) b.closed
-after_within a line reply added b is are =
-    end_within (length a.commands) (length b.commands) b.closed (omega (arith, ap length (after_commands a line reply added b is), length-append a.commands added)) (after_ends a line reply added b is are)
+  closed_order : (group : Option ℕ) → AllEnd (length (commands ++ added)) (closed_with group (length commands) closed)
+  closed_order None = later
+  closed_order (Some n) = (omega (arith, length-append commands added), later)
 
--- The account that an answer leads to, where its open group is this one.
-pub record IsNext (a : Account) (line : List ℕ) (reply : Reply) (added : List Command) (group : Option ℕ) : Type 0 where
+  cut_order : (group : Option ℕ) → IfSome group (λ n. (n ≤ length commands) × AllEnd n closed) → AllEnd (length (all_after (Group abort_group) group commands added)) closed
+  cut_order None early = later
+  cut_order (Some n) early = end_within n (length (take n commands)) closed (omega (arith, early.0, length-take n commands)) early.1
+
+request_order : (request : Request) (added : List Command) (a : Account) → AreInOrder a
+    → AreInOrder (record { commands = all_after request a.group a.commands added; closed = closed_after request a; group = group_after request a.group a.commands })
+request_order (Group begin_group) added a o = record { ends = later a.commands added a.closed o.ends; group = (omega (arith, length-append a.commands added), o.ends) }
+request_order (Group end_group) added a o = record { ends = closed_order a.commands added a.closed o.ends a.group; group = tt }
+request_order (Group abort_group) added a o = record { ends = cut_order a.commands added a.closed o.ends a.group o.group; group = tt }
+request_order request added a o = same_order a.commands added a.closed o.ends a.group o.group
+
+pub after_within : (a : Account) (line : List ℕ) (reply : Reply) (added : List Command) (b : Account) → IsAfter a line reply added b → AreInOrder a → AreInOrder b
+after_within a line ok added b is o = subst AreInOrder (sym is.2) (request_order is.0 added a o)
+after_within a line reply added b is o = subst AreInOrder (sym is) (same_order a.commands added a.closed o.ends a.group o.group)
+
+-- The account that an answer leads to, where its open group is this one, and these are its commands.
+pub record IsNext (a : Account) (line : List ℕ) (reply : Reply) (added all : List Command) (group : Option ℕ) : Type 0 where
   pub account : Account
   pub after : IsAfter a line reply added account
+  pub commands_are : account.commands ≡ all
   pub group_is : account.group ≡ group
 
-pub next_in : (a : Account) (line : List ℕ) (reply : Reply) (added : List Command) (group : Option ℕ) → Regroups line reply a.commands a.group group → IsNext a line reply added group
-next_in a line ok added group is = record {
-  account = record { commands = a.commands ++ added; closed = closed_after is.0 a; group = group_after is.0 a.group a.commands };
+pub next_in : ((line : List ℕ) (a b : Request) → AsksFor line a → AsksFor line b → a ≡ b) → (a : Account) (line : List ℕ) (reply : Reply) (added all : List Command) (group : Option ℕ)
+    → Becomes line reply a.group a.commands added all → Regroups line reply a.commands a.group group → IsNext a line reply added all group
+next_in once a line ok added all group becomes is = record {
+  account = record { commands = all_after is.0 a.group a.commands added; closed = closed_after is.0 a; group = group_after is.0 a.group a.commands };
   after = (is.0, is.1, refl);
+  commands_are = ap (λ (request : Request). all_after request a.group a.commands added) (once line is.0 becomes.0 is.1 becomes.1) ∙ sym becomes.2;
   group_is = sym is.2;
 }
-next_in a line reply added group is = record { account = record { commands = a.commands ++ added; closed = a.closed; group = a.group }; after = refl; group_is = sym is }
+next_in once a line reply added all group becomes is
+    = record { account = record { commands = a.commands ++ added; closed = a.closed; group = a.group }; after = refl; commands_are = sym becomes; group_is = sym is }
 
 -- The account that an answer of a plain map leads to. A number of commands that splits no group before splits none after it.
 pub record Next (a : Account) (line : List ℕ) (reply : Reply) (added : List Command) : Type 0 where
   pub account : Account
   pub after : IsAfter a line reply added account
   pub whole : (kept : ℕ) → kept ≤ length (a.commands ++ added) → AreWhole kept a → AreWhole kept account
+  -- and its commands are still there
+  pub front : (kept : ℕ) → kept ≤ length (a.commands ++ added) → AreWhole kept a → (kept ≤ length account.commands) × (take kept account.commands ≡ take kept (a.commands ++ added))
 
 same_next : (a : Account) (line : List ℕ) (reply : Reply) (added : List Command) → IsAfter a line reply added (record { commands = a.commands ++ added; closed = a.closed; group = a.group }) → Next a line reply added
 same_next a line reply added is = record {
   account = record { commands = a.commands ++ added; closed = a.closed; group = a.group };
   after = is;
   whole = λ kept le w. record { closed = w.closed; group = w.group };
+  front = λ kept le w. (le, refl);
 }
 
 -- no line that asks for commands begins or ends a group
@@ -102,24 +164,46 @@ pub made_group : (p : Params) (commands : List Command) (it : Made) (request : R
     → (group_after request a.group a.commands ≡ a.group) × (closed_after request a ≡ a.closed)
 made_group p commands it (Group begin_group) a is = absurd (cc is)
 made_group p commands it (Group end_group) a is = absurd (cc is)
+made_group p commands it (Group abort_group) a is = absurd (cc is)
 made_group p commands it request a is = (refl, refl)
+
+-- or takes commands away
+pub made_grows : (p : Params) (commands : List Command) (it : Made) (request : Request) → made_by p commands request ≡ Some it → (group : Option ℕ) (all added : List Command) → all_after request group all added ≡ all ++ added
+made_grows p commands it (Group abort_group) is group all added = absurd (cc is)
+made_grows p commands it request is group all added = refl
 
 next_made : (p : Params) (a : Account) (line : List ℕ) (added : List Command) (it : Made) → AsksMade p a.commands line it → Next a line ok added
 next_made p a line added it m =
     let same = made_group p a.commands it m.request a m.makes in
-    same_next a line ok added (m.request, m.asks, λ i. record { commands = a.commands ++ added; closed = sym same.1 i; group = sym same.0 i })
+    let grows = made_grows p a.commands it m.request m.makes a.group a.commands added in
+    same_next a line ok added (m.request, m.asks, λ i. record { commands = sym grows i; closed = sym same.1 i; group = sym same.0 i })
 
 next_granted : (a : Account) (line : List ℕ) (added : List Command) (request : Request) → IsGranted a.group request → AsksFor line request → added ≡ [] → Next a line ok added
 next_granted a line added (Group begin_group) may asks none = record {
   account = record { commands = a.commands ++ added; closed = a.closed; group = Some (length a.commands) };
   after = (Group begin_group, asks, refl);
   whole = λ kept le w. record { closed = w.closed; group = omega (arith, le, length-append a.commands added, ap length none) };
+  front = λ kept le w. (le, refl);
 }
 next_granted a line added (Group end_group) may asks none = record {
   account = record { commands = a.commands ++ added; closed = closed_with a.group (length a.commands) a.closed; group = None };
   after = (Group end_group, asks, refl);
   whole = λ kept le w. record { closed = closed_whole kept (length a.commands) a.group a.closed w.closed w.group; group = tt };
+  front = λ kept le w. (le, refl);
 }
+next_granted a line added (Group abort_group) may asks none = record {
+  account = record { commands = all_after (Group abort_group) a.group a.commands added; closed = a.closed; group = None };
+  after = (Group abort_group, asks, refl);
+  whole = λ kept le w. record { closed = w.closed; group = tt };
+  front = λ kept le w. by_group kept le a.group w.group;
+}
+  where
+    by_group : (kept : ℕ) → kept ≤ length (a.commands ++ added) → (group : Option ℕ) → IfSome group (λ n. kept ≤ n)
+        → (kept ≤ length (all_after (Group abort_group) group a.commands added)) × (take kept (all_after (Group abort_group) group a.commands added) ≡ take kept (a.commands ++ added))
+    by_group kept le None early = (le, refl)
+    by_group kept le (Some n) early =
+        let few : kept ≤ length (take n a.commands) = omega (arith, le, early, length-append a.commands added, ap length none, length-take n a.commands) in
+        (few, (cut_front kept n a.commands added few).1)
 next_granted a line added (Keep install) may asks none = same_next a line ok added (Keep install, asks, refl)
 next_granted a line added (Keep drain) may asks none = same_next a line ok added (Keep drain, asks, refl)
 next_granted a line added (Keep checkpoint) may asks none = same_next a line ok added (Keep checkpoint, asks, refl)
@@ -146,14 +230,48 @@ answers_even p a (line ∷ lines) (reply ∷ replies) (ops ∷ waits) b (added, 
     let even = answers_even p mid lines replies waits b rest in (omega (arith, even.0), omega (arith, even.1))
 answers_even p a lines replies waits b none = absurd none
 
--- they add commands to those that were there
-pub answers_grow : (p : Params) (a : Account) (lines : List (List ℕ)) (replies : List Reply) (waits : List (List Command)) (b : Account) → Answers p a lines replies waits b
-    → (acc : List Command) × (b.commands ≡ a.commands ++ acc)
-answers_grow p a [] [] [] b is = ([], ap (λ (x : Account). x.commands) is ∙ sym (append-nil a.commands))
-answers_grow p a (line ∷ lines) (reply ∷ replies) (ops ∷ waits) b (added, mid, here, same, after, rest) =
-    let (acc, is) = answers_grow p mid lines replies waits b rest in
-    (added ++ acc, is ∙ ap (λ (l : List Command). l ++ acc) (after_commands a line reply added mid after) ∙ append_assoc a.commands added acc)
-answers_grow p a lines replies waits b none = absurd none
+-- These commands are the first of the account's, and its open group began behind them: no abort takes them away.
+pub record StandsOn (first : List Command) (a : Account) : Type 0 where
+  pub more : List Command
+  pub commands_are : a.commands ≡ first ++ more
+  pub group : IfSome a.group (λ n. length first ≤ n)
+
+module _ (first commands more added : List Command) (are : commands ≡ first ++ more) where
+  longer : commands ++ added ≡ first ++ (more ++ added)
+  longer = ap (λ (l : List Command). l ++ added) are ∙ append_assoc first more added
+
+  shorter : (n : ℕ) → length first ≤ n → take n commands ≡ first ++ take (n - length first) more
+  shorter n late =
+      let split : n ≡ length first + (n - length first) = omega (arith, late) in
+      ap (λ (l : List Command). take n l) are ∙ ap (λ (k : ℕ). take k (first ++ more)) split ∙ take-append-add first more (n - length first)
+
+  stands_cut : (group : Option ℕ) → IfSome group (λ n. length first ≤ n) → (rest : List Command) × (all_after (Group abort_group) group commands added ≡ first ++ rest)
+  stands_cut None late = (more ++ added, longer)
+  stands_cut (Some n) late = (take (n - length first) more, shorter n late)
+
+  stands_request : (request : Request) (closed : List Span) (group : Option ℕ) → IfSome group (λ n. length first ≤ n)
+      → StandsOn first (record { commands = all_after request group commands added; closed = closed; group = group_after request group commands })
+  stands_request (Group begin_group) closed group late = record { more = more ++ added; commands_are = longer; group = omega (arith, ap length are, length-append first more) }
+  stands_request (Group end_group) closed group late = record { more = more ++ added; commands_are = longer; group = tt }
+  stands_request (Group abort_group) closed group late = let cut = stands_cut group late in record { more = cut.0; commands_are = cut.1; group = tt }
+  stands_request request closed group late = record { more = more ++ added; commands_are = longer; group = late }
+
+stands_after : (first : List Command) (a : Account) (line : List ℕ) (reply : Reply) (added : List Command) (b : Account) → IsAfter a line reply added b → StandsOn first a → StandsOn first b
+stands_after first a line ok added b is s = subst (λ (x : Account). StandsOn first x) (sym is.2) (stands_request first a.commands s.more added s.commands_are is.0 (closed_after is.0 a) a.group s.group)
+stands_after first a line reply added b is s
+    = subst (λ (x : Account). StandsOn first x) (sym is) (record { more = s.more ++ added; commands_are = longer first a.commands s.more added s.commands_are; group = s.group })
+
+answers_stand : (p : Params) (first : List Command) (a : Account) (lines : List (List ℕ)) (replies : List Reply) (waits : List (List Command)) (b : Account) → Answers p a lines replies waits b → StandsOn first a → StandsOn first b
+answers_stand p first a [] [] [] b is s = subst (λ (x : Account). StandsOn first x) (sym is) s
+answers_stand p first a (line ∷ lines) (reply ∷ replies) (ops ∷ waits) b (added, mid, here, same, after, rest) s = answers_stand p first mid lines replies waits b rest (stands_after first a line reply added mid after s)
+answers_stand p first a lines replies waits b none s = absurd none
+
+-- they add commands to those that were there at the start
+pub answers_grow : (p : Params) (commands : List Command) (lines : List (List ℕ)) (replies : List Reply) (waits : List (List Command)) (b : Account) → Answers p (account_of commands) lines replies waits b
+    → (acc : List Command) × (b.commands ≡ commands ++ acc)
+answers_grow p commands lines replies waits b is =
+    let s = answers_stand p commands (account_of commands) lines replies waits b is (record { more = []; commands_are = sym (append-nil commands); group = tt }) in
+    (s.more, s.commands_are)
 
 -- one line more
 pub answers_more : (p : Params) (a : Account) (lines : List (List ℕ)) (replies : List Reply) (waits : List (List Command)) (b : Account) (line : List ℕ) (reply : Reply) (added : List Command) (c : Account)
@@ -172,10 +290,10 @@ pub record Story (p : Params) (commands : List Command) (script todo : List (Lis
   pub answers : Answers p (account_of commands) lines replies waits account
 
 -- Bytes said, with all commands after them and the numbers that they say to be forced. A number of commands that splits no
--- group of the account splits none of the story's.
+-- group of the account splits none of the story's, which has these commands too.
 pub record Told (p : Params) (tie : List Command → List ℕ → Reply → Type 0) (commands : List Command) (script lines : List (List ℕ)) (replies : List Reply) (waits : List (List Command)) (account : Account) (every : List Command) (said : List ℕ) : Type 0 where
   pub story : Said p tie commands script said
-  pub all : story.account.commands ++ story.added ≡ every
+  pub all : (kept : ℕ) → kept ≤ length every → AreWhole kept account → (kept ≤ length (story.account.commands ++ story.added)) × (take kept (story.account.commands ++ story.added) ≡ take kept every)
   pub whole : (kept : ℕ) → kept ≤ length every → AreWhole kept account → AreWhole kept story.account
   pub spoken : (n : ℕ) → Contains story.replies (forced n) → Contains replies (forced n)
   pub with_last : with_begun story.replies story.work ≡ replies
@@ -217,6 +335,9 @@ pub spoken_more : (replies : List Reply) (reply : Reply) (n : ℕ) → Contains 
 spoken_more replies reply n has = answer_cases replies reply (forced n) has
 
 -- whole answers were said, and nothing of the next
+pub all_same : {kept : ℕ} (every others : List Command) → others ≡ every → kept ≤ length every → (kept ≤ length others) × (take kept others ≡ take kept every)
+all_same {kept} every others same le = (omega (arith, le, ap length same), ap (λ (l : List Command). take kept l) same)
+
 abbrev pub told_whole : {p : Params} (tie : List Command → List ℕ → Reply → Type 0) {commands : List Command} {script todo : List (List ℕ)} {replies : List Reply} {waits : List (List Command)} {account : Account}
     → (s : Story p commands script todo replies waits account) → Told p tie commands script s.lines replies waits account account.commands (flat_map said_line replies)
 told_whole {p} tie {commands} {script} {todo} {replies} {waits} {account} s = record {
@@ -233,7 +354,7 @@ told_whole {p} tie {commands} {script} {todo} {replies} {waits} {account} s = re
     answers = s.answers;
     work = inl (refl, inl refl);
   };
-  all = append-nil account.commands;
+  all = λ kept le w. all_same account.commands (account.commands ++ []) (append-nil account.commands) le;
   whole = λ kept le w. w;
   spoken = λ n has. has;
   with_last = refl;
@@ -258,7 +379,7 @@ told_silent {p} tie {commands} {script} {todo} {replies} {waits} {account} added
     answers = s.answers;
     work = inl (refl, silent);
   };
-  all = refl;
+  all = λ kept le w. (le, refl);
   whole = λ kept le w. w;
   spoken = λ n has. has;
   with_last = refl;
@@ -324,7 +445,7 @@ told_partly {p} tie {commands} {script} {todo} {replies} {waits} {account} line 
             answers = s.answers;
             work = inr (record { line = line; rest = todo; reply = reply; count = count; next = refl; replies = here; begun = beginning reply count less; tied = tied });
           };
-          all = refl;
+          all = λ kept le w. (le, refl);
           whole = λ kept le w. w;
           spoken = λ n has. Contains-append_left replies (reply ∷ []) (forced n) has;
           with_last = refl;
@@ -338,12 +459,14 @@ told_partly {p} tie {commands} {script} {todo} {replies} {waits} {account} line 
         let same : flat_map said_line (replies ++ reply ∷ []) ≡ flat_map said_line replies ++ take count (said_line reply)
         = said_more replies reply ∙ ap (λ (l : List ℕ). flat_map said_line replies ++ l) (sym (take_all count (said_line reply) all)) in
         let next = next_of p account line reply added here in
-        let commands_are = after_commands account line reply added next.account next.after in
         let told = told_whole tie (story_more line reply added next.account s here next.after) in
         subst (λ (l : List ℕ). Told p tie commands script (s.lines ++ line ∷ []) (replies ++ reply ∷ []) (waits ++ waiting account.group (account.commands ++ added) ∷ []) account (account.commands ++ added) l) same (record {
           story = told.story;
-          all = told.all ∙ commands_are;
-          whole = λ kept le w. told.whole kept (omega (arith, le, ap length commands_are)) (next.whole kept le w);
+          all = λ kept le w.
+              let here = next.front kept le w in
+              let there = told.all kept here.0 (next.whole kept le w) in
+              (there.0, there.1 ∙ here.1);
+          whole = λ kept le w. told.whole kept (next.front kept le w).0 (next.whole kept le w);
           spoken = told.spoken;
           with_last = told.with_last;
           lines_are = told.lines_are;

@@ -6,7 +6,7 @@
 //! number that was printed to be forced. The answers go by the stages of the store, from the world that a restart finds in the
 //! files: `full`, `end` and the counts follow from the course that each line takes. A line may make several commands, a beginning
 //! of which stays where the log, memory or the disk ends them. A group that is open at the end of a script is closed, and where the
-//! input or the output fails nothing of it stays. A run may tend its store ([`Tending`]): then bounded upkeep may be done before each
+//! input or the output fails nothing of it stays; nothing does of one that a line gives up, for which the store is opened again. A run may tend its store ([`Tending`]): then bounded upkeep may be done before each
 //! line, and the line is answered from the stage behind it (`IsKeptUp`). Laws say which answer a line gets
 //! ([`a_line_gets_the_answer_of_its_cause`], [`a_backup_line_gets_the_answer_of_its_cause`]), and that what was printed tells the
 //! answers ([`the_lines_said_are_the_answers`]).

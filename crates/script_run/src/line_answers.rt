@@ -6,9 +6,8 @@ ghost use Rattle.formats.specs.declared.params.Params.{Params};
 ghost use Rattle.oper_core.specs.declared.refusal.Refusal.{Refusal as Why};
 ghost use Rattle.oper_core.specs.declared.refusal.Refusal.TheVariants.{NoObject};
 ghost use Rattle.script_lines.specs.Grammar.{AsksFor, IsBad, Request};
-ghost use Rattle.script_lines.specs.declared.line.Line.TheVariants.{Save, Group, Ask, Force as force, Stat as asks_stat, Skip as skip};
+ghost use Rattle.script_lines.specs.declared.line.Line.TheVariants.{Save, Ask, Force as force, Stat as asks_stat, Skip as skip};
 ghost use Rattle.script_lines.specs.declared.line.Question.TheVariants.{Get as get};
-ghost use Rattle.script_lines.specs.declared.line.Grouping.TheVariants.{End as end_group};
 ghost use Rattle.script_lines.specs.declared.line.Saving.TheVariants.{Start as bstart, Copy as bcopy, Finish as bfinish};
 ghost use Rattle.script_lines.specs.Replies.{Reply, ok, bad, value, refused, forced, in_group, no_group, full, stat, copied, saved, backup_denied, silence, text_of, said_line, HasSmallNumbers};
 ghost use Rattle.script_lines.specs.declared.answer.StatLine.{StatLine};
@@ -22,7 +21,7 @@ ghost use Rattle.explain_core.specs.History.{commands_of};
 ghost use Rattle.shell_base.specs.Store.{Command, meaning_in, refusal_after, state_of, record_length};
 ghost use Rattle.shell_base.specs.First.{Stage};
 ghost use Rattle.script_run.specs.Printed.{whole_lines, texts_of};
-ghost use Rattle.script_run.specs.Replies.{AsksCommand, Replies, IsBarred, IsDenied, IsFull};
+ghost use Rattle.script_run.specs.Replies.{AsksCommand, Replies, IsBarred, IsClosing, IsDenied, IsFull};
 ghost use Rattle.script_run.specs.Stages.{GoesBy, IsDeniedAt, Leads, backup_bytes, forced_stage, with_copied};
 ghost use Rattle.script_run.specs.Groups.{open_in};
 ghost use Rattle.script_run.specs.Saving.{FindsStore, store_behind};
@@ -50,7 +49,7 @@ pub fn a_line_gets_the_answer_of_its_cause()
     ensures in_group { (p : Params) (group : Option ℕ) (commands : List Command) (line : List ℕ) (reply : Reply) (added : List Command) → Replies p group commands line reply added →
         (reply ≡ in_group) ↔ ((request : Request) × IsBarred request × AsksFor line request × IsTrue (is_some group)) }
     ensures no_group { (p : Params) (group : Option ℕ) (commands : List Command) (line : List ℕ) (reply : Reply) (added : List Command) → Replies p group commands line reply added →
-        (reply ≡ no_group) ↔ (AsksFor line (Group end_group) × (group ≡ None)) }
+        (reply ≡ no_group) ↔ ((request : Request) × IsClosing request × AsksFor line request × (group ≡ None)) }
     ensures counts { (p : Params) (group : Option ℕ) (commands : List Command) (line : List ℕ) (reply : Reply) (added : List Command) → Replies p group commands line reply added →
         AsksFor line asks_stat → (counts : StatLine) × (reply ≡ stat counts) }
     ensures silence { (p : Params) (group : Option ℕ) (commands : List Command) (line : List ℕ) (reply : Reply) (added : List Command) → Replies p group commands line reply added →

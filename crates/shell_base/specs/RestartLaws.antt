@@ -92,7 +92,7 @@ abbrev pub restarted : {budget : Budget} {p : Params} {commands : List Command} 
 restarted {budget} {p} is = run (meaning_in p) is.world (restart_course (meaning_in p) (marks_of budget p) is.world is.used).steps
 
 -- where no group is open an engine shows what its parts show
-shown_alone : {p : Params} {d : Disk} {engine : EngineView} {w : World Command} → engine.broken ≡ false → engine.group ≡ None → Shows (meaning_in p) p d engine.parts w → ShowsIn p d engine w
+pub shown_alone : {p : Params} {d : Disk} {engine : EngineView} {w : World Command} → engine.broken ≡ false → engine.group ≡ None → Shows (meaning_in p) p d engine.parts w → ShowsIn p d engine w
 shown_alone {p} {d} {engine} {w} unbroken alone shows = record {
   unbroken = unbroken;
   sound = shows.running.sound;

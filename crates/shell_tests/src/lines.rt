@@ -50,6 +50,7 @@ const FORMS: [(&[u8], u32); 33] = [
     (b"bstart", 31),
     (b"bcopy 4294967295", 32),
     (b"bfinish", 33),
+    (b"abort", 34),
 ];
 
 // Lines, and the plain ones that ask the same.
@@ -234,6 +235,7 @@ fn line_told(line: &Line) -> [u32; 4] {
         Line::Stat => [21, 0, 0, 0],
         Line::Group(Grouping::Begin) => [22, 0, 0, 0],
         Line::Group(Grouping::End) => [23, 0, 0, 0],
+        Line::Group(Grouping::Abort) => [34, 0, 0, 0],
         Line::Save(Saving::Start) => [31, 0, 0, 0],
         Line::Save(Saving::Copy { .. }) => [32, 0, 0, 0],
         Line::Save(Saving::Finish) => [33, 0, 0, 0],
