@@ -1,5 +1,4 @@
 // What a process does with the files of a machine, and one that is stopped.
-use crate::gates::tend;
 use crate::installs::open;
 use crate::running::run;
 use crate::trees::grow;
@@ -16,8 +15,6 @@ pub enum Act {
     Restart(usize),
     /// It opens the files, makes two puts and a swap, and installs three times, by calls of the crates, and says each install.
     Installs,
-    /// It opens the files, and takes turns of at most so many nodes.
-    Tends(usize),
     /// It opens the files, and makes a tree whose root is split, by calls of the engine, and says that it is forced.
     Grows,
 }
@@ -35,7 +32,6 @@ pub fn does<M: Machine>(alloc: Global, machine: &mut M, act: Act) -> (Status, u6
         Act::Program(words, input) => run(alloc, machine, words, input),
         Act::Restart(dirty) => (ended(open(alloc, machine, dirty, false)), 0),
         Act::Installs => (ended(open(alloc, machine, 64, true)), 0),
-        Act::Tends(most) => (ended(tend(alloc, machine, most)), 0),
         Act::Grows => (ended(grow(alloc, machine)), 0),
     }
 }

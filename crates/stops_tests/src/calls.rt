@@ -51,11 +51,3 @@ pub fn drains<M: Machine>(engine: &mut Engine<AllOps>, machine: &mut M) -> bool 
     }
     engine.drain(machine).is_ok()
 }
-
-// Whether a turn of at most so many nodes is taken.
-pub fn tends<M: Machine>(engine: &mut Engine<AllOps>, machine: &mut M, most: usize) -> bool {
-    if engine.is_broken() {
-        return false;
-    }
-    engine.tend(machine, most).is_ok()
-}

@@ -1,28 +1,10 @@
-// Turns of several nodes that are stopped: whichever gates of a round a crash leaves open, a restart finds all commands.
+// Rounds of a drain that are stopped: whichever gates of a round a crash leaves open, a restart finds all commands.
 use crate::acts::{Act, calls_of, stopped};
-use crate::calls::{TUNING, tends};
 use crate::inits::made;
-use crate::installs::status_of;
 use crate::running::{Room, copied, crashed, run};
 use disk_model::{Crash, FileNo, Machine, MemMachine};
-use op_codec::AllOps;
-use redo_shell::Status;
 use std::alloc::{AllocError, Global};
 use std::test::Fail;
-use store_engine::Engine;
-
-// Opens a store, and takes turns of at most so many nodes until none is left; it has eight commands at most.
-pub fn tend<M: Machine>(alloc: Global, machine: &mut M, most: usize) -> Result<(), Status> {
-    match Engine::<AllOps>::restart(alloc, machine, TUNING) {
-        Ok(mut engine) => {
-            for _ in 0..8u32 {
-                tends(&mut engine, machine, most);
-            }
-            Ok(())
-        }
-        Err(cause) => Err(status_of(cause)),
-    }
-}
 
 const ROOM: Room = Room {
     sizes: [1264, 4096, 4096],
@@ -50,6 +32,8 @@ const HELD: &[u8] = b"0 b0b0b0b0b0b0b0b0\n\
     6 a0a0a0a0a0a0a0a0\n\
     commands 8\n";
 
+const DRAINED: Act = Act::Program("redo run", b"drain\n");
+
 // A store of these commands, of which none is installed.
 fn waiting(alloc: Global) -> Result<MemMachine, AllocError> {
     let mut machine = copied(alloc, ROOM, &made(alloc)?, 0)?;
@@ -57,16 +41,15 @@ fn waiting(alloc: Global) -> Result<MemMachine, AllocError> {
     Ok(crashed(machine, Crash::New))
 }
 
-// What is left of it where turns are stopped after so many calls.
+// What is left of it where a drain is stopped after so many calls.
 fn left(
     alloc: Global,
     store: &MemMachine,
-    most: usize,
     calls: u64,
     how: Crash,
 ) -> Result<MemMachine, AllocError> {
     let machine = copied(alloc, ROOM, store, 0)?;
-    Ok(crashed(stopped(alloc, machine, calls, Act::Tends(most)), how))
+    Ok(crashed(stopped(alloc, machine, calls, DRAINED), how))
 }
 
 // The bytes of the objects file that are others in the second machine, with their places.
@@ -117,14 +100,9 @@ fn holds(
 
 // Whether each subset of the gates that are opened since the last sync may be left after so many calls, and how many subsets
 // were tried: none where a slot is filled, of which more bytes than six change.
-fn holds_by_any(
-    alloc: Global,
-    store: &MemMachine,
-    most: usize,
-    calls: u64,
-) -> Result<(bool, u64), AllocError> {
-    let old = left(alloc, store, most, calls, Crash::Old)?;
-    let new = left(alloc, store, most, calls, Crash::New)?;
+fn holds_by_any(alloc: Global, store: &MemMachine, calls: u64) -> Result<(bool, u64), AllocError> {
+    let old = left(alloc, store, calls, Crash::Old)?;
+    let new = left(alloc, store, calls, Crash::New)?;
     let bytes = changed(alloc, &old, &new)?;
     if bytes.is_empty() || bytes.len() > 6 {
         return Ok((true, 0));
@@ -138,32 +116,25 @@ fn holds_by_any(
 }
 
 // Whether that is so at each stop, and how many subsets were tried.
-fn holds_at_each(alloc: Global, most: usize) -> Result<(bool, u64), AllocError> {
+fn holds_at_each(alloc: Global) -> Result<(bool, u64), AllocError> {
     let store = waiting(alloc)?;
-    let calls = calls_of(
-        alloc,
-        &mut copied(alloc, ROOM, &store, 0)?,
-        Act::Tends(most),
-    );
+    let calls = calls_of(alloc, &mut copied(alloc, ROOM, &store, 0)?, DRAINED);
     let mut all = true;
     let mut tried = 0u64;
     for call in 0..=calls {
-        let (held, more) = holds_by_any(alloc, &store, most, call)?;
+        let (held, more) = holds_by_any(alloc, &store, call)?;
         all &= held;
         tried = tried.saturating_add(more);
     }
     Ok((all, tried))
 }
 
-// How many nodes a turn installs at most, and how many subsets the gates of its first round have at least, as they are opened
-// one after the other: a round of n gates has 2 + 4 + .. + 2^n.
-const ROWS: [(usize, u64); 3] = [(1, 2), (4, 30), (6, 126)];
+// The first round has six gates, which are opened one after the other: of the first n there are 2^n subsets, 126 in all.
+const SUBSETS: u64 = 126;
 
 #[test]
 fn any_gates_of_a_round_may_be_left_open(rt: HostRuntime) -> Result<(), Fail> {
-    for (most, subsets) in ROWS {
-        let (held, tried) = holds_at_each(rt.alloc(), most)?;
-        assert!(rt; held && tried >= subsets, "{most}: {held}, {tried}");
-    }
+    let (held, tried) = holds_at_each(rt.alloc())?;
+    assert!(rt; held && tried >= SUBSETS, "{held}, {tried}");
     Ok(())
 }
