@@ -1,13 +1,15 @@
 -- A map, and what it holds, depend on the objects of its range alone; and an empty root is a map.
-use Rattle.std.proofs.Common.{◌≡◌, ℕ, zero, suc, ◌+◌, ◌<◌, ◌≤◌, ◌==◌, Bool, true, false, List, [], ◌∷◌, if◌then◌else◌, refl, ap, ◌∙◌, arith}
+use Rattle.std.proofs.Common.{◌≡◌, ℕ, zero, suc, ◌+◌, ◌<◌, ◌≤◌, ◌==◌, Bool, true, false, List, [], ◌∷◌, if◌then◌else◌, length, refl, ap, ◌∙◌, arith}
 use Rattle.std.specs.Prelude.{IsTrue, nat_lt, nat_le}
 use Rattle.std.proofs.lemmas.Bool.{eq-eqb, ltb-true, leb-true}
 use Rattle.std.specs.FinMap.{empty}
 use Rattle.oper_core.specs.State.{State}
+use Rattle.oper_core.specs.declared.bounds.Bounds.{Bounds}
 use Rattle.key_entries.specs.EntryLaws.{both_true}
 use Rattle.call_plans.specs.Laws.{AreAlike}
 use Rattle.page_ops.specs.Effects.{to_fill}
 use Rattle.page_map.specs.Map.{Tree, root_of, cells_in, Each, bytes_at, is_child, Holds, IsMap, content_of, one_if}
+use Rattle.page_map.specs.Sets.{IsKept}
 use Rattle.page_map.proofs.MapLemmas.{held_again}
 
 each_too : {Child : Type 0} (P Q : Child → Type 0) → ((child : Child) → P child → Q child) → (children : List (List ℕ × Child)) → Each P children → Each Q children
@@ -60,3 +62,8 @@ empty_map lo hi s order none =
       once = λ x. one_at_most (lo == x);
     } in
     (is, refl)
+
+-- and one that calls keep
+pub empty_kept : (b : Bounds) (lo hi : ℕ) (s : State) → ((x : ℕ) → length (s x) ≤ b.cap) → lo ≤ hi → s lo ≡ [] → (is : IsKept b lo hi s) × (content_of is.map ≡ empty)
+unfolding empty_map
+empty_kept b lo hi s low order none = (record { map = (empty_map lo hi s order none).0; short = refl; values_fit = low }, (empty_map lo hi s order none).1)

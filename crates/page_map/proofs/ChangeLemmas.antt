@@ -30,7 +30,8 @@ use Rattle.page_ops.specs.Operation.{fits_code, objects_of, page_meaning, read_b
 use Rattle.page_ops.specs.declared.page_op.PageOp.{PageOp}
 use Rattle.page_ops.specs.declared.page_op.PageOp.TheVariants.{Put, Set, Delete}
 use Rattle.page_map.specs.Map.{Span, is_within, is_below, all_within, all_past, all_keys, pairs_in, bytes_at, IsMap, content_of, objects_in, times}
-use Rattle.page_map.specs.Plan.{Admits, OnlyTooLarge, set_at, set_in, delete_at, delete_in, at_leaf, at_place, Makes, SetMakes, DeleteMakes}
+use Rattle.page_map.specs.Plan.{Admits, set_command, OnlyTooLarge, set_at, set_in, delete_at, delete_in, at_leaf, at_place, Makes, SetMakes, DeleteMakes}
+use Rattle.page_map.specs.Sets.{AreShortPairs, is_short_pair}
 use Rattle.page_map.proofs.MapLemmas.{Searches, less_is, turned, IsLeafFor, map_leaf, moved, walk_is, leaf_tells, past_is_above, within_parts}
 
 -- ---- lists of cells
@@ -65,23 +66,24 @@ out_front key span (c ∷ cells) past below all =
       | false ↦ out_front key span cells past below all
     ]
 
-within_put : (test : List ℕ → Bool) (key value : List ℕ) (cells : List Cell) → IsTrue (test key) → IsTrue (list_all (λ c. test c.0) cells) → IsTrue (list_all (λ c. test c.0) (put byte_order key value cells))
-within_put test key value [] here all = true_both (test key) true here refl
-within_put test key value (c ∷ cells) here all =
-    let parts = both_true (test c.0) (list_all (λ c. test c.0) cells) all in
-    elim (byte_order key c.0) as (λ o. IsTrue (list_all (λ c. test c.0) (by_order o ((key, value) ∷ c ∷ cells) ((c.0, value) ∷ cells) (c ∷ put byte_order key value cells)))) [
-      | Less ↦ true_both (test key) (list_all (λ c. test c.0) (c ∷ cells)) here all
-      | Equal ↦ true_both (test c.0) (list_all (λ c. test c.0) cells) parts.0 parts.1
-      | Greater ↦ true_both (test c.0) (list_all (λ c. test c.0) (put byte_order key value cells)) parts.0 (within_put test key value cells here parts.1)
-    ]
+-- a test that the cells meet, and the new one does, is met by all
+pub all_put : (test : Cell → Bool) (key value : List ℕ) (cells : List Cell) → IsTrue (test (key, value)) → IsTrue (list_all test cells) → IsTrue (list_all test (put byte_order key value cells))
+all_put test key value [] here all = true_both (test (key, value)) true here refl
+all_put test key value (c ∷ cells) here all =
+    let parts = both_true (test c) (list_all test cells) all in
+    elim (byte_order key c.0) as (λ o. byte_order key c.0 ≡ o → IsTrue (list_all test (by_order o ((key, value) ∷ c ∷ cells) ((c.0, value) ∷ cells) (c ∷ put byte_order key value cells)))) [
+      | Less ↦ λ e. true_both (test (key, value)) (list_all test (c ∷ cells)) here all
+      | Equal ↦ λ e. true_both (test (c.0, value)) (list_all test cells) (subst (λ (k : List ℕ). IsTrue (test (k, value))) (same_key key c.0 e) here) parts.1
+      | Greater ↦ λ e. true_both (test c) (list_all test (put byte_order key value cells)) parts.0 (all_put test key value cells here parts.1)
+    ] refl
 
-within_out : (test : List ℕ → Bool) (key : List ℕ) (cells : List Cell) → IsTrue (list_all (λ c. test c.0) cells) → IsTrue (list_all (λ c. test c.0) (without key cells))
-within_out test key [] all = refl
-within_out test key (c ∷ cells) all =
-    let parts = both_true (test c.0) (list_all (λ c. test c.0) cells) all in
-    elim (not (eq_by_cmp byte_order key c.0)) as (λ t. IsTrue (list_all (λ c. test c.0) (cond t (c ∷ without key cells) (without key cells)))) [
-      | true ↦ true_both (test c.0) (list_all (λ c. test c.0) (without key cells)) parts.0 (within_out test key cells parts.1)
-      | false ↦ within_out test key cells parts.1
+all_out : (test : Cell → Bool) (key : List ℕ) (cells : List Cell) → IsTrue (list_all test cells) → IsTrue (list_all test (without key cells))
+all_out test key [] all = refl
+all_out test key (c ∷ cells) all =
+    let parts = both_true (test c) (list_all test cells) all in
+    elim (not (eq_by_cmp byte_order key c.0)) as (λ t. IsTrue (list_all test (cond t (c ∷ without key cells) (without key cells)))) [
+      | true ↦ true_both (test c) (list_all test (without key cells)) parts.0 (all_out test key cells parts.1)
+      | false ↦ all_out test key cells parts.1
     ]
 
 -- ---- what is found after a change of some of the cells
@@ -119,7 +121,7 @@ changed_inside key v before after old new none also update q =
 
 -- ---- the place of a key
 
-place_most : (key : List ℕ) (cells : List Cell) → place_for key cells ≤ length cells
+pub place_most : (key : List ℕ) (cells : List Cell) → place_for key cells ≤ length cells
 place_most key [] = omega arith
 place_most key (c ∷ cells) =
     elim (is_lt (byte_order c.0 key)) as (λ t. (if t then suc (place_for key cells) else 0) ≤ suc (length cells)) [ true ↦ omega (arith, place_most key cells) | false ↦ omega arith ]
@@ -137,13 +139,13 @@ place_in key (c ∷ cells) there =
 
 -- ---- one object is written
 
-written_there : (s : State) (x : ℕ) (v : List ℕ) → with_values s (x ∷ []) (v ∷ []) x ≡ v
+pub written_there : (s : State) (x : ℕ) (v : List ℕ) → with_values s (x ∷ []) (v ∷ []) x ≡ v
 written_there s x v = ap (λ (t : Bool). if t || false then (if t then v else []) else s x) (eq-eqb x x refl)
 
-written_else : (s : State) (x y : ℕ) (v : List ℕ) → y ≢ x → with_values s (x ∷ []) (v ∷ []) y ≡ s y
+pub written_else : (s : State) (x y : ℕ) (v : List ℕ) → y ≢ x → with_values s (x ∷ []) (v ∷ []) y ≡ s y
 written_else s x y v apart = ap (λ (t : Bool). if t || false then (if t then v else []) else s y) (ne_eqb y x apart)
 
-fits_tell : (cap : ℕ) (bytes : List ℕ) → result_err (where_fits cap (Ok bytes)) ≡ None → IsTrue (nat_le (length bytes) cap && nat_lt (length bytes) 65536)
+pub fits_tell : (cap : ℕ) (bytes : List ℕ) → result_err (where_fits cap (Ok bytes)) ≡ None → IsTrue (nat_le (length bytes) cap && nat_lt (length bytes) 65536)
 fits_tell cap bytes none =
     elim (nat_le (length bytes) cap && nat_lt (length bytes) 65536) as (λ t. result_err (if t then Ok bytes else Err TooLarge) ≡ None → IsTrue t) [
       | true ↦ λ e. refl
@@ -155,7 +157,7 @@ no_check None check none = none
 no_check (Some r) check none = cc
 
 -- the value that an operation reads, as the range has it
-read_as : (lo : ℕ) (s : State) (x : ℕ) → (s x ≡ bytes_at lo s x) ⊎ ((s x ≡ []) × (bytes_at lo s x ≡ page_of 0 []))
+pub read_as : (lo : ℕ) (s : State) (x : ℕ) → (s x ≡ bytes_at lo s x) ⊎ ((s x ≡ []) × (bytes_at lo s x ≡ page_of 0 []))
 read_as lo s x =
     elim (x == lo) as (λ t. (s x ≡ (if t then to_fill (s x) else s x)) ⊎ ((s x ≡ []) × ((if t then to_fill (s x) else s x) ≡ page_of 0 []))) [
       | true ↦ elim (s x) as (λ v. (v ≡ to_fill v) ⊎ ((v ≡ []) × (to_fill v ≡ page_of 0 []))) [ [] ↦ inr (refl, refl) | b ∷ bytes ↦ inl refl ]
@@ -207,37 +209,48 @@ none_in_empty : (i : ℕ) (key : List ℕ) → stands_at (page_of 0 []) i key �
 none_in_empty i key = ap (λ (t : Bool). (t && empty_fits i) && is_eq (byte_order (key_of (page_of 0 []) i) key)) (le-ltb i 0 (omega arith))
 
 module _ (searches : Searches) (changes : Changes) (lo hi : ℕ) (small : hi < 2 ^ 32) (b : Bounds) (s : State) (key : List ℕ) (is : IsMap lo hi s) where
-  abbrev here : IsLeafFor searches lo hi small s key is.level all_keys is.tree
+  abbrev pub here : IsLeafFor searches lo hi small s key is.level all_keys is.tree
   here = map_leaf searches lo hi small s key is
 
-  abbrev object : ℕ
+  abbrev pub object : ℕ
   object = here.leaf.object
 
-  abbrev past : List Cell
+  abbrev pub past : List Cell
   past = here.leaf.past
 
-  abbrev whole : List Cell
+  abbrev pub whole : List Cell
   whole = here.leaf.cells ++ past
 
   abbrev page : Page
   page = record { level = 0; cells = whole }
 
-  abbrev bytes : List ℕ
+  abbrev pub bytes : List ℕ
   bytes = bytes_at lo s object
 
-  abbrev place : ℕ
+  abbrev pub place : ℕ
   place = place_for key whole
 
-  abbrev IsDone : Option (List ℕ) → PageOp → Type 0
-  IsDone v op = (kept : IsMap lo hi (after (page_meaning b) s op)) × ((q : List ℕ) → get (content_of kept) q ≡ (if eq_by_cmp byte_order q key then v else get (content_of is) q))
+  -- what comes in is as short as the other pairs
+  abbrev pub new_short : ℕ → Option (List ℕ) → Bool
+  new_short room None = true
+  new_short room (Some value) = is_short_pair room (key, value)
+
+  abbrev pub IsDone : Option (List ℕ) → PageOp → Type 0
+  IsDone v op =
+      (kept : IsMap lo hi (after (page_meaning b) s op)) × ((q : List ℕ) → get (content_of kept) q ≡ (if eq_by_cmp byte_order q key then v else get (content_of is) q))
+      × ((room : ℕ) → IsTrue (new_short room v) → AreShortPairs room is.level is.tree → AreShortPairs room kept.level kept.tree)
+
+  abbrev pub set_op : Bool → List ℕ → PageOp
+  set_op there value = if there then Set object place value else Put object place key value
 
   key_ends : IsTrue (is_below key here.leaf_span.to)
   key_ends = (within_parts here.leaf_span key here.within).1
 
   -- the map where the leaf has other cells
   changed : (op : PageOp) (cells : List Cell) (v : Option (List ℕ)) → after (page_meaning b) s op ≡ with_values s (object ∷ []) (page_of 0 (cells ++ past) ∷ [])
-      → AreShort (cells ++ past) → T (is_sorted byte_order (cells ++ past)) → IsTrue (all_within here.leaf_span cells) → IsUpdate key v here.leaf.cells cells → IsDone v op
-  changed op cells v written short rise within update =
+      → AreShort (cells ++ past) → T (is_sorted byte_order (cells ++ past)) → IsTrue (all_within here.leaf_span cells) → IsUpdate key v here.leaf.cells cells
+      → ((room : ℕ) → IsTrue (new_short room v) → IsTrue (list_all (is_short_pair room) here.leaf.cells) → IsTrue (list_all (is_short_pair room) cells)) → IsDone v op
+  changed op cells v written short rise within update shorts =
       let new : State = after (page_meaning b) s op in
       let value : List ℕ = page_of 0 (cells ++ past) in
       let there : new object ≡ value = ap (λ (t : State). t object) written ∙ written_there s object value in
@@ -260,18 +273,20 @@ module _ (searches : Searches) (changes : Changes) (lo hi : ℕ) (small : hi < 2
             get-from_entries nat_list_cmp_total (pairs_in is.level again.tree) q ∙ ap (find byte_order q) again.pairs_are
             ∙ changed_inside key v here.before here.after here.leaf.cells cells here.none_before here.none_after update q
             ∙ ap (λ (o : Option (List ℕ)). if eq_by_cmp byte_order q key then v else o) (sym (get-from_entries nat_list_cmp_total (pairs_in is.level is.tree) q ∙ ap (find byte_order q) here.split)),
+        λ room new all. again.short room (shorts room new (here.short_there room all)) all,
       )
 
   -- an operation that makes a leaf of other cells, where it is accepted
   applied : (op : PageOp) (places : Bool) (target cells : List Cell) (v : Option (List ℕ)) → (page_meaning b).check op (read_values (page_meaning b) s op) ≡ result_err (leaf_made b.cap places target)
       → after (page_meaning b) s op ≡ with_values s (object ∷ []) (written_on (leaf_made b.cap places target) ∷ []) → target ≡ cells ++ past → T (is_sorted byte_order (cells ++ past))
-      → IsTrue (all_within here.leaf_span cells) → IsUpdate key v here.leaf.cells cells → Accepts (page_meaning b) s op → IsDone v op
-  applied op places target cells v check effect is_target rise within update accepted =
+      → IsTrue (all_within here.leaf_span cells) → IsUpdate key v here.leaf.cells cells
+      → ((room : ℕ) → IsTrue (new_short room v) → IsTrue (list_all (is_short_pair room) here.leaf.cells) → IsTrue (list_all (is_short_pair room) cells)) → Accepts (page_meaning b) s op → IsDone v op
+  applied op places target cells v check effect is_target rise within update shorts accepted =
       let made = made_tells b.cap places target (sym check ∙ no_check ((page_meaning b).shape op) ((page_meaning b).check op (read_values (page_meaning b) s op)) accepted) in
       let short : AreShort target = changes.short (record { level = 0; cells = target }) made.1 in
       changed op cells v
       (effect ∙ ap (λ (r : Result (List ℕ) Refusal). with_values s (object ∷ []) (written_on r ∷ [])) made.0 ∙ ap (λ (l : List Cell). with_values s (object ∷ []) (page_of 0 l ∷ [])) is_target)
-      (subst (λ (l : List Cell). AreShort l) is_target short) rise within update
+      (subst (λ (l : List Cell). AreShort l) is_target short) rise within update shorts
 
   pages_short : All IsShortPage (page ∷ [])
   pages_short = All-cons IsShortPage page [] here.held.short (All-nil IsShortPage)
@@ -341,21 +356,27 @@ module _ (searches : Searches) (changes : Changes) (lo hi : ℕ) (small : hi < 2
   delete_check there =
       ap (λ (v : List ℕ). (page_meaning b).check (Delete object place) (v ∷ [])) (read_there there) ∙ changes.check b (Delete object place) (page ∷ []) pages_short refl
 
+  set_shape : (value : List ℕ) → length value < 65536 → Admits b hi → (page_meaning b).shape (Set object place value) ≡ None
+  set_shape value short admits =
+      shaped (Set object place value) admits refl
+      (true_both (nat_lt object (256 ^ 4)) (nat_lt place (256 ^ 2) && nat_lt (length value) 65536) (object_fits admits)
+      (true_both (nat_lt place (256 ^ 2)) (nat_lt (length value) 65536) place_fits (text_fits value short)))
+
   set_refused : (value : List ℕ) → has key whole ≡ true → length value < 65536 → OnlyTooLarge b lo hi s is (Set object place value)
   set_refused value there short admits =
-      only_too_large (Set object place value) (nat_lt place (length whole)) (replaced place 1 ((key_at whole place, value) ∷ []) whole)
-      (shaped (Set object place value) admits refl
-      (true_both (nat_lt object (256 ^ 4)) (nat_lt place (256 ^ 2) && nat_lt (length value) 65536) (object_fits admits)
-      (true_both (nat_lt place (256 ^ 2)) (nat_lt (length value) 65536) place_fits (text_fits value short))))
+      only_too_large (Set object place value) (nat_lt place (length whole)) (replaced place 1 ((key_at whole place, value) ∷ []) whole) (set_shape value short admits)
       (set_check value there) (lt-ltb place (length whole) (place_in key whole there))
+
+  put_shape : (value : List ℕ) → length key < 65536 → length value < 65536 → Admits b hi → (page_meaning b).shape (Put object place key value) ≡ None
+  put_shape value short also admits =
+      shaped (Put object place key value) admits refl
+      (true_both (nat_lt object (256 ^ 4)) (nat_lt place (256 ^ 2) && (nat_lt (length key) 65536 && nat_lt (length value) 65536)) (object_fits admits)
+      (true_both (nat_lt place (256 ^ 2)) (nat_lt (length key) 65536 && nat_lt (length value) 65536) place_fits
+      (true_both (nat_lt (length key) 65536) (nat_lt (length value) 65536) (text_fits key short) (text_fits value also))))
 
   put_refused : (value : List ℕ) → has key whole ≡ false → length key < 65536 → length value < 65536 → OnlyTooLarge b lo hi s is (Put object place key value)
   put_refused value none short also admits =
-      only_too_large (Put object place key value) (may_stand whole place key) (replaced place 0 ((key, value) ∷ []) whole)
-      (shaped (Put object place key value) admits refl
-      (true_both (nat_lt object (256 ^ 4)) (nat_lt place (256 ^ 2) && (nat_lt (length key) 65536 && nat_lt (length value) 65536)) (object_fits admits)
-      (true_both (nat_lt place (256 ^ 2)) (nat_lt (length key) 65536 && nat_lt (length value) 65536) place_fits
-      (true_both (nat_lt (length key) 65536) (nat_lt (length value) 65536) (text_fits key short) (text_fits value also)))))
+      only_too_large (Put object place key value) (may_stand whole place key) (replaced place 0 ((key, value) ∷ []) whole) (put_shape value short also admits)
       (put_check value) (changes.goes key whole here.held.rise none)
 
   delete_refused : has key whole ≡ true → OnlyTooLarge b lo hi s is (Delete object place)
@@ -363,6 +384,28 @@ module _ (searches : Searches) (changes : Changes) (lo hi : ℕ) (small : hi < 2
       only_too_large (Delete object place) (nat_lt place (length whole)) (replaced place 1 [] whole)
       (shaped (Delete object place) admits refl (true_both (nat_lt object (256 ^ 4)) (nat_lt place (256 ^ 2)) (object_fits admits) place_fits))
       (delete_check there) (lt-ltb place (length whole) (place_in key whole there))
+
+  -- where the leaf with the pair fits, the command is accepted
+  put_fits : (op : PageOp) (places : Bool) (target : List Cell) (value : List ℕ) → (page_meaning b).shape op ≡ None
+      → (page_meaning b).check op (read_values (page_meaning b) s op) ≡ result_err (leaf_made b.cap places target) → IsTrue places → target ≡ put byte_order key value whole
+      → IsTrue (nat_le (length (page_of 0 (put byte_order key value whole))) b.cap && nat_lt (length (page_of 0 (put byte_order key value whole))) 65536) → Accepts (page_meaning b) s op
+  put_fits op places target value shape check right same fits =
+      ap (λ (o : Option Refusal). or_else o ((page_meaning b).check op (read_values (page_meaning b) s op))) shape ∙ check
+      ∙ (λ k. result_err (where_fits b.cap (code_of (where_places (right k) (with_cells 0 (same k))))))
+      ∙ ap (λ (t : Bool). result_err (if t then Ok (page_of 0 (put byte_order key value whole)) else Err TooLarge)) fits
+
+  pub set_fits : (value : List ℕ) → Admits b hi → length key < 65536 → length value < 65536
+      → IsTrue (nat_le (length (page_of 0 (put byte_order key value whole))) b.cap && nat_lt (length (page_of 0 (put byte_order key value whole))) 65536)
+      → Accepts (page_meaning b) s (set_op (has key whole) value)
+  set_fits value admits short also fits =
+      elim (has key whole) as (λ t. has key whole ≡ t → Accepts (page_meaning b) s (set_op t value)) [
+        | true ↦ λ there.
+            put_fits (Set object place value) (nat_lt place (length whole)) (replaced place 1 ((key_at whole place, value) ∷ []) whole) value (set_shape value also admits) (set_check value there)
+            (lt-ltb place (length whole) (place_in key whole there)) (changes.set key value whole here.held.rise there) fits
+        | false ↦ λ none.
+            put_fits (Put object place key value) (may_stand whole place key) (replaced place 0 ((key, value) ∷ []) whole) value (put_shape value short also admits) (put_check value)
+            (changes.goes key whole here.held.rise none) (changes.put_new key value whole here.held.rise none) fits
+      ] refl
 
   -- ---- what is made
 
@@ -374,7 +417,8 @@ module _ (searches : Searches) (changes : Changes) (lo hi : ℕ) (small : hi < 2
       (set_check value there)
       (ap (with_values s (object ∷ [])) (ap ((page_meaning b).effect op) values ∙ changes.effect b op (page ∷ []) pages_short refl))
       (changes.set key value whole here.held.rise there ∙ put_rises value) (sorted_put value)
-      (within_put (is_within here.leaf_span) key value here.leaf.cells here.within here.stands) (put_updates key value here.leaf.cells) accepted
+      (all_put (λ c. is_within here.leaf_span c.0) key value here.leaf.cells here.within here.stands) (put_updates key value here.leaf.cells)
+      (λ room new all. all_put (is_short_pair room) key value here.leaf.cells new all) accepted
 
   put_done : (value : List ℕ) → has key whole ≡ false → Accepts (page_meaning b) s (Put object place key value) → IsDone (Some value) (Put object place key value)
   put_done value none accepted =
@@ -383,25 +427,31 @@ module _ (searches : Searches) (changes : Changes) (lo hi : ℕ) (small : hi < 2
       (put_check value)
       (ap (with_values s (object ∷ [])) (read_for_put ((page_meaning b).effect op) (changes.empty_effect b object place key value) ∙ changes.effect b op (page ∷ []) pages_short refl))
       (changes.put_new key value whole here.held.rise none ∙ put_rises value) (sorted_put value)
-      (within_put (is_within here.leaf_span) key value here.leaf.cells here.within here.stands) (put_updates key value here.leaf.cells) accepted
+      (all_put (λ c. is_within here.leaf_span c.0) key value here.leaf.cells here.within here.stands) (put_updates key value here.leaf.cells)
+      (λ room new all. all_put (is_short_pair room) key value here.leaf.cells new all) accepted
 
-  abbrev set_op : Bool → List ℕ → PageOp
-  set_op there value = if there then Set object place value else Put object place key value
+  pub set_is_done : (value : List ℕ) → Accepts (page_meaning b) s (set_op (has key whole) value) → IsDone (Some value) (set_op (has key whole) value)
+  set_is_done value =
+      elim (has key whole) as (λ t. has key whole ≡ t → Accepts (page_meaning b) s (set_op t value) → IsDone (Some value) (set_op t value)) [
+        | true ↦ λ there accepted. set_done value there accepted
+        | false ↦ λ none accepted. put_done value none accepted
+      ] refl
 
-  inserted : (value : List ℕ) (op : PageOp) → IsDone (Some value) op → Makes b lo hi s is (λ m. insert m key value) op
-  inserted value op done = record { kept = done.0; content = same_map nat_list_cmp_total same_key _ _ (λ q. done.1 q ∙ sym (get-insert nat_list_cmp_total (content_of is) key value q)) }
+  pub set_content : (value : List ℕ) (op : PageOp) (done : IsDone (Some value) op) → content_of done.0 ≡ insert (content_of is) key value
+  set_content value op done = same_map nat_list_cmp_total same_key _ _ (λ q. done.1 q ∙ sym (get-insert nat_list_cmp_total (content_of is) key value q))
+
+  pub set_command_is : (value : List ℕ) → set_command lo hi s key value ≡ Ok (set_op (has key whole) value)
+  set_command_is value =
+      ap (at_leaf (λ x. set_in x (bytes_at lo s x) key value)) (walk_is searches lo hi small s key is)
+      ∙ ap (at_place (set_at object bytes key value) object) found_place ∙ ap (λ (t : Bool). Ok (set_op t value)) stands
 
   pub set_makes : (value : List ℕ) → SetMakes b lo hi s is key value
   set_makes value = record {
     op = set_op (has key whole) value;
-    command =
-        ap (at_leaf (λ x. set_in x (bytes_at lo s x) key value)) (walk_is searches lo hi small s key is)
-        ∙ ap (at_place (set_at object bytes key value) object) found_place ∙ ap (λ (t : Bool). Ok (set_op t value)) stands;
-    makes =
-        elim (has key whole) as (λ t. has key whole ≡ t → Accepts (page_meaning b) s (set_op t value) → Makes b lo hi s is (λ m. insert m key value) (set_op t value)) [
-          | true ↦ λ there accepted. inserted value (Set object place value) (set_done value there accepted)
-          | false ↦ λ none accepted. inserted value (Put object place key value) (put_done value none accepted)
-        ] refl;
+    command = set_command_is value;
+    makes = λ accepted.
+        let done = set_is_done value accepted in
+        record { kept = done.0; content = set_content value (set_op (has key whole) value) done };
     causes = λ short also.
         elim (has key whole) as (λ t. has key whole ≡ t → OnlyTooLarge b lo hi s is (set_op t value)) [
           | true ↦ λ there. set_refused value there also
@@ -421,7 +471,7 @@ module _ (searches : Searches) (changes : Changes) (lo hi : ℕ) (small : hi < 2
       (ap (with_values s (object ∷ [])) (ap ((page_meaning b).effect op) values ∙ changes.effect b op (page ∷ []) pages_short refl))
       (changes.delete key whole here.held.rise there ∙ out_of_whole)
       (subst (λ (l : List Cell). T (is_sorted byte_order l)) out_of_whole (is_sorted-where_key byte_order (λ x. not (eq_by_cmp byte_order key x)) whole here.held.rise))
-      (within_out (is_within here.leaf_span) key here.leaf.cells here.stands) (delete_updates key here.leaf.cells) accepted
+      (all_out (λ c. is_within here.leaf_span c.0) key here.leaf.cells here.stands) (delete_updates key here.leaf.cells) (λ room new all. all_out (is_short_pair room) key here.leaf.cells all) accepted
 
   -- the map has the key where the leaf has it
   has_too : is_some (get (content_of is) key) ≡ has key whole

@@ -1,3 +1,14 @@
 pub mod MapLemmas
 pub mod ChangeLemmas
 pub mod AlikeLemmas
+pub mod CutLemmas
+pub mod TreeLemmas
+pub mod TwoLemmas
+pub mod WayLemmas
+pub mod HalfLemmas
+pub mod PlaceLemmas
+pub mod OpLemmas
+pub mod DueLemmas
+pub mod SettleLemmas
+pub mod TurnLemmas
+pub mod SetLemmas

@@ -20,6 +20,7 @@ use Rattle.page_ops.specs.Seen.{child_cell}
 use Rattle.page_ops.specs.OnCells.{beside_at}
 use Rattle.page_ops.specs.Search.{last_under, next_under}
 use Rattle.page_map.specs.Map.{Span, is_below, is_within, Leaf, Tree, root_of, pairs_in, cells_in, IsHeld, Each, bytes_at, is_child, Holds, all_within, all_past, Share, StandIn, all_keys, IsMap, content_of, objects_in, one_if, times}
+use Rattle.page_map.specs.Sets.{AreShortPairs, is_short_key, is_short_pair}
 use Rattle.page_map.specs.Walk.{is_on, child_for, on_from, walk_from, walk, get_in, get_at, get_answer}
 
 -- ---- the order of keys
@@ -33,7 +34,7 @@ less_is Equal e = cc
 less_is Greater e = cc
 
 -- a key below one that is not above another is below that
-below_through : (x y z : List ℕ) → is_lt (byte_order x y) ≡ true → is_lt (byte_order z y) ≡ false → is_lt (byte_order x z) ≡ true
+pub below_through : (x y z : List ℕ) → is_lt (byte_order x y) ≡ true → is_lt (byte_order z y) ≡ false → is_lt (byte_order x z) ≡ true
 below_through x y z one two =
     elim (byte_order z y) as (λ o. byte_order z y ≡ o → is_lt o ≡ false → is_lt (byte_order x z) ≡ true) [
       | Less ↦ λ e f. absurd (true≢false f)
@@ -41,10 +42,10 @@ below_through x y z one two =
       | Greater ↦ λ e f. ap is_lt (nat_list_cmp_total.trans x y z (less_is (byte_order x y) one) (turned y z ∙ ap ordering_reverse e))
     ] refl two
 
-below_both : (x y z : List ℕ) → is_lt (byte_order x y) ≡ true → is_lt (byte_order y z) ≡ true → is_lt (byte_order x z) ≡ true
+pub below_both : (x y z : List ℕ) → is_lt (byte_order x y) ≡ true → is_lt (byte_order y z) ≡ true → is_lt (byte_order x z) ≡ true
 below_both x y z one two = ap is_lt (nat_list_cmp_total.trans x y z (less_is (byte_order x y) one) (less_is (byte_order y z) two))
 
-not_below_itself : (x : List ℕ) → is_lt (byte_order x x) ≡ false
+pub not_below_itself : (x : List ℕ) → is_lt (byte_order x x) ≡ false
 not_below_itself x =
     elim (byte_order x x) as (λ o. byte_order x x ≡ o → is_lt o ≡ false) [
       | Less ↦ λ e. absurd (true≢false (ap is_lt (sym e ∙ turned x x ∙ ap ordering_reverse e)))
@@ -52,14 +53,14 @@ not_below_itself x =
       | Greater ↦ λ e. refl
     ] refl
 
-not_both : (x y : List ℕ) → is_lt (byte_order x y) ≡ true → is_lt (byte_order y x) ≡ false
+pub not_both : (x y : List ℕ) → is_lt (byte_order x y) ≡ true → is_lt (byte_order y x) ≡ false
 not_both x y one = ap is_lt (turned y x ∙ ap ordering_reverse (less_is (byte_order x y) one))
 
-not_true : (b : Bool) → IsTrue (not b) → b ≡ false
+pub not_true : (b : Bool) → IsTrue (not b) → b ≡ false
 not_true false e = refl
 not_true true e = cc
 
-true_not : (b : Bool) → b ≡ false → IsTrue (not b)
+pub true_not : (b : Bool) → b ≡ false → IsTrue (not b)
 true_not false e = refl
 true_not true e = cc
 
@@ -69,11 +70,11 @@ within_parts span key e =
     let both = both_true (not (is_lt (byte_order key span.from))) (is_below key span.to) e in
     (not_true (is_lt (byte_order key span.from)) both.0, both.1)
 
-parts_within : (span : Span) (key : List ℕ) → is_lt (byte_order key span.from) ≡ false → IsTrue (is_below key span.to) → IsTrue (is_within span key)
+pub parts_within : (span : Span) (key : List ℕ) → is_lt (byte_order key span.from) ≡ false → IsTrue (is_below key span.to) → IsTrue (is_within span key)
 parts_within span key one two = true_both (not (is_lt (byte_order key span.from))) (is_below key span.to) (true_not (is_lt (byte_order key span.from)) one) two
 
 -- a key below one within a span ends there too
-ends_too : (key other : List ℕ) (to : Option (List ℕ)) → is_lt (byte_order key other) ≡ true → IsTrue (is_below other to) → IsTrue (is_below key to)
+pub ends_too : (key other : List ℕ) (to : Option (List ℕ)) → is_lt (byte_order key other) ≡ true → IsTrue (is_below other to) → IsTrue (is_below key to)
 ends_too key other None one two = refl
 ends_too key other (Some end) one two = below_both key other end one two
 
@@ -109,38 +110,38 @@ other_key key test (c ∷ cells) all fails =
 
 -- ---- spans
 
-wider : (test other : List ℕ → Bool) → ((key : List ℕ) → IsTrue (test key) → IsTrue (other key)) → (cells : List Cell) → IsTrue (list_all (λ c. test c.0) cells) → IsTrue (list_all (λ c. other c.0) cells)
+pub wider : (test other : List ℕ → Bool) → ((key : List ℕ) → IsTrue (test key) → IsTrue (other key)) → (cells : List Cell) → IsTrue (list_all (λ c. test c.0) cells) → IsTrue (list_all (λ c. other c.0) cells)
 wider test other goes [] all = refl
 wider test other goes (c ∷ cells) all =
     let parts = both_true (test c.0) (list_all (λ c. test c.0) cells) all in
     true_both (other c.0) (list_all (λ c. other c.0) cells) (goes c.0 parts.0) (wider test other goes cells parts.1)
 
-all_both : (test : List ℕ → Bool) (a b : List Cell) → IsTrue (list_all (λ c. test c.0) a) → IsTrue (list_all (λ c. test c.0) b) → IsTrue (list_all (λ c. test c.0) (a ++ b))
+pub all_both : (test : List ℕ → Bool) (a b : List Cell) → IsTrue (list_all (λ c. test c.0) a) → IsTrue (list_all (λ c. test c.0) b) → IsTrue (list_all (λ c. test c.0) (a ++ b))
 all_both test [] b one two = two
 all_both test (c ∷ a) b one two =
     let parts = both_true (test c.0) (list_all (λ c. test c.0) a) one in
     true_both (test c.0) (list_all (λ c. test c.0) (a ++ b)) parts.0 (all_both test a b parts.1 two)
 
-abbrev lower : Span → List ℕ → Span
+abbrev pub lower : Span → List ℕ → Span
 lower span key = record { from = span.from; to = Some key }
 
-abbrev upper : Span → List ℕ → Span
+abbrev pub upper : Span → List ℕ → Span
 upper span key = record { from = key; to = span.to }
 
-lower_within : (span : Span) (d key : List ℕ) → IsTrue (is_within span d) → IsTrue (is_within (lower span d) key) → IsTrue (is_within span key)
+pub lower_within : (span : Span) (d key : List ℕ) → IsTrue (is_within span d) → IsTrue (is_within (lower span d) key) → IsTrue (is_within span key)
 lower_within span d key stands e =
     let here = within_parts (lower span d) key e in
     parts_within span key here.0 (ends_too key d span.to here.1 (within_parts span d stands).1)
 
 -- a key from another on, which is not below a third, is not below that
-not_below_through : (key d from : List ℕ) → is_lt (byte_order key d) ≡ false → is_lt (byte_order d from) ≡ false → is_lt (byte_order key from) ≡ false
+pub not_below_through : (key d from : List ℕ) → is_lt (byte_order key d) ≡ false → is_lt (byte_order d from) ≡ false → is_lt (byte_order key from) ≡ false
 not_below_through key d from one two =
     elim (is_lt (byte_order key from)) as (λ t. is_lt (byte_order key from) ≡ t → t ≡ false) [
       | true ↦ λ e. sym (below_through key from d e two) ∙ one
       | false ↦ λ e. refl
     ] refl
 
-upper_within : (span : Span) (d key : List ℕ) → IsTrue (is_within span d) → IsTrue (is_within (upper span d) key) → IsTrue (is_within span key)
+pub upper_within : (span : Span) (d key : List ℕ) → IsTrue (is_within span d) → IsTrue (is_within (upper span d) key) → IsTrue (is_within span key)
 upper_within span d key stands e =
     let here = within_parts (upper span d) key e in
     parts_within span key (not_below_through key d span.from here.0 (within_parts span d stands).0) here.1
@@ -185,12 +186,29 @@ with_child i other [] = []
 with_child zero other (c ∷ children) = (c.0, other) ∷ children
 with_child (suc i) other (c ∷ children) = c ∷ with_child i other children
 
-times_both : (x : ℕ) (a b : List ℕ) → times x (a ++ b) ≡ times x a + times x b
+pub times_both : (x : ℕ) (a b : List ℕ) → times x (a ++ b) ≡ times x a + times x b
 times_both x [] b = omega arith
 times_both x (y ∷ a) b = let rest = times_both x a b in omega (arith, rest)
 
 module _ {Child : Type 0} where
-  shared_again : (In : Span → Child → Type 0) (span : Span) (children : List (List ℕ × Child)) (i : ℕ) (child other : Child) → IsAt i child children → Share In span children
+  pub each_at : (P : Child → Type 0) (children : List (List ℕ × Child)) (i : ℕ) (child : Child) → IsAt i child children → Each P children → P child
+  each_at P [] i child at all = absurd at
+  each_at P (c ∷ children) zero child at all = subst P at all.0
+  each_at P (c ∷ children) (suc i) child at all = each_at P children i child at all.1
+
+  pub each_with : (P : Child → Type 0) (children : List (List ℕ × Child)) (i : ℕ) (other : Child) → Each P children → P other → Each P (with_child i other children)
+  each_with P [] i other all new = tt
+  each_with P (c ∷ children) zero other all new = (new, all.1)
+  each_with P (c ∷ children) (suc i) other all new = (all.0, each_with P children i other all.1 new)
+
+  pub keys_with : (test : List ℕ → Bool) (children : List (List ℕ × Child)) (i : ℕ) (other : Child) → IsTrue (list_all (λ c. test c.0) children) → IsTrue (list_all (λ c. test c.0) (with_child i other children))
+  keys_with test [] i other all = refl
+  keys_with test (c ∷ children) zero other all = all
+  keys_with test (c ∷ children) (suc i) other all =
+      let parts = both_true (test c.0) (list_all (λ c. test c.0) children) all in
+      true_both (test c.0) (list_all (λ c. test c.0) (with_child i other children)) parts.0 (keys_with test children i other parts.1)
+
+  pub shared_again : (In : Span → Child → Type 0) (span : Span) (children : List (List ℕ × Child)) (i : ℕ) (child other : Child) → IsAt i child children → Share In span children
       → In (span_of span children i) other → Share In span (with_child i other children)
   shared_again In span [] i child other at share stands = absurd share
   shared_again In span (c ∷ []) zero child other at share stands = (share.0, stands)
@@ -201,7 +219,7 @@ module _ {Child : Type 0} where
   shared_again In span (c ∷ d ∷ children) (suc (suc i)) child other at share stands =
       (share.0, share.1, share.2, shared_again In (upper span d.0) (d ∷ children) (suc i) child other at share.3 stands)
 
-  cells_again : (root : Child → ℕ) (children : List (List ℕ × Child)) (i : ℕ) (child other : Child) → IsAt i child children → root other ≡ root child
+  pub cells_again : (root : Child → ℕ) (children : List (List ℕ × Child)) (i : ℕ) (child other : Child) → IsAt i child children → root other ≡ root child
       → map (λ c. child_cell c.0 (root c.1)) (with_child i other children) ≡ map (λ c. child_cell c.0 (root c.1)) children
   cells_again root [] i child other at same = refl
   cells_again root (c ∷ children) zero child other at same = ap (λ (x : ℕ). child_cell c.0 x ∷ map (λ c. child_cell c.0 (root c.1)) children) (same ∙ ap root (sym at))
@@ -211,20 +229,20 @@ module _ {Child : Type 0} where
     abbrev all_objects : List (List ℕ × Child) → List ℕ
     all_objects children = flat_map (λ c. objects c.1) children
 
-    objects_again : (children : List (List ℕ × Child)) (i : ℕ) (child other : Child) → IsAt i child children → objects other ≡ objects child
+    pub objects_again : (children : List (List ℕ × Child)) (i : ℕ) (child other : Child) → IsAt i child children → objects other ≡ objects child
         → all_objects (with_child i other children) ≡ all_objects children
     objects_again [] i child other at same = refl
     objects_again (c ∷ children) zero child other at same = ap (λ (l : List ℕ). l ++ all_objects children) (same ∙ ap objects (sym at))
     objects_again (c ∷ children) (suc i) child other at same = ap (λ (l : List ℕ). objects c.1 ++ l) (objects_again children i child other at same)
 
     -- an object of the child is one of all
-    among : (x : ℕ) (children : List (List ℕ × Child)) (i : ℕ) (child : Child) → IsAt i child children → times x (objects child) ≤ times x (all_objects children)
+    pub among : (x : ℕ) (children : List (List ℕ × Child)) (i : ℕ) (child : Child) → IsAt i child children → times x (objects child) ≤ times x (all_objects children)
     among x [] i child at = absurd at
     among x (c ∷ children) zero child at = omega (arith, times_both x (objects c.1) (all_objects children), ap (λ (k : Child). times x (objects k)) at)
     among x (c ∷ children) (suc i) child at = omega (arith, times_both x (objects c.1) (all_objects children), among x children i child at)
 
     module _ (Held Held' : Child → Type 0) (x : ℕ) (moves : (child : Child) → times x (objects child) ≡ 0 → Held child → Held' child) where
-      each_moved : (children : List (List ℕ × Child)) → times x (all_objects children) ≡ 0 → Each Held children → Each Held' children
+      pub each_moved : (children : List (List ℕ × Child)) → times x (all_objects children) ≡ 0 → Each Held children → Each Held' children
       each_moved [] none held = tt
       each_moved (c ∷ children) none held =
           let both = times_both x (objects c.1) (all_objects children) in
@@ -358,13 +376,13 @@ held_again level bytes new cells others held same is = record {
 
 -- ---- objects that are not reached
 
-one_here : (x : ℕ) (rest : List ℕ) → times x (x ∷ rest) ≡ 1 + times x rest
+pub one_here : (x : ℕ) (rest : List ℕ) → times x (x ∷ rest) ≡ 1 + times x rest
 one_here x rest = ap (λ (t : Bool). one_if t + times x rest) (eq-eqb x x refl)
 
-not_twice : (y x : ℕ) (rest : List ℕ) → times x (y ∷ rest) ≤ 1 → 1 ≤ times x rest → y ≡ x → ⊥
+pub not_twice : (y x : ℕ) (rest : List ℕ) → times x (y ∷ rest) ≤ 1 → 1 ≤ times x rest → y ≡ x → ⊥
 not_twice y x rest once there same = absurd (omega (arith, once, there, ap (λ (z : ℕ). times x (z ∷ rest)) same, one_here x rest))
 
-absent_here : (y x : ℕ) (rest : List ℕ) → times x (y ∷ rest) ≡ 0 → y ≡ x → ⊥
+pub absent_here : (y x : ℕ) (rest : List ℕ) → times x (y ∷ rest) ≡ 0 → y ≡ x → ⊥
 absent_here y x rest none same = absurd (omega (arith, none, ap (λ (z : ℕ). times x (z ∷ rest)) same, one_here x rest))
 
 module _ (lo hi : ℕ) (s : State) where
@@ -388,19 +406,20 @@ pub record Searches : Type 0 where
   pub got : (page : Page) (key : List ℕ) → AreShort page.cells → T (is_sorted byte_order page.cells) → found_in (page_code page) key ≡ Some (find byte_order key page.cells)
 
 module _ (searches : Searches) (lo hi : ℕ) (small : hi < 2 ^ 32) (s : State) (key : List ℕ) where
-  on_level : (level : ℕ) (bytes : List ℕ) (cells : List Cell) → IsHeld level bytes cells → is_on level bytes ≡ true
+  pub on_level : (level : ℕ) (bytes : List ℕ) (cells : List Cell) → IsHeld level bytes cells → is_on level bytes ≡ true
   on_level level bytes cells held =
       ap (λ (b : List ℕ). is_on level b) held.code
       ∙ ap (λ (t : Bool). t && (level == level)) (searches.opens (record { level = level; cells = cells }) held.short) ∙ eq-eqb level level refl
 
   -- the pages of another state: the same objects, with these pairs
-  pub record IsChanged (new : State) (level : ℕ) (outer : Span) (t : Tree level) (pairs : List Cell) : Type 0 where
+  pub record IsChanged (new : State) (level : ℕ) (outer : Span) (t : Tree level) (cells pairs : List Cell) : Type 0 where
     pub tree : Tree level
     pub root : root_of level tree ≡ root_of level t
     pub objects : objects_in level tree ≡ objects_in level t
     pub holds : Holds lo hi new level tree
     pub stand : StandIn level outer tree
     pub pairs_are : pairs_in level tree ≡ pairs
+    pub short : (room : ℕ) → IsTrue (list_all (is_short_pair room) cells) → AreShortPairs room level t → AreShortPairs room level tree
 
   -- the leaf of the key: the pairs of the other leaves do not have it, and another state may have others in it
   pub record IsLeafFor (level : ℕ) (outer : Span) (t : Tree level) : Type 0 where
@@ -421,10 +440,11 @@ module _ (searches : Searches) (lo hi : ℕ) (small : hi < 2 ^ 32) (s : State) (
     pub past_too : IsTrue (all_past leaf_span leaf.past)
     pub again : ((x : ℕ) → times x (objects_in level t) ≤ 1) → (cells : List Cell) → IsTrue (all_within leaf_span cells) → (new : State)
         → ((x : ℕ) → x ≢ leaf.object → bytes_at lo new x ≡ bytes_at lo s x) → IsHeld 0 (bytes_at lo new leaf.object) (cells ++ leaf.past)
-        → IsChanged new level outer t (before ++ (cells ++ after))
+        → IsChanged new level outer t cells (before ++ (cells ++ after))
+    pub short_there : (room : ℕ) → AreShortPairs room level t → IsTrue (list_all (is_short_pair room) leaf.cells)
 
   -- the child of the key is the one that the bytes name
-  child_named : (level : ℕ) (bytes : List ℕ) (cells : List Cell) (i child : ℕ) → IsHeld level bytes cells → last_under key cells ≡ Some i → i < length cells
+  pub child_named : (level : ℕ) (bytes : List ℕ) (cells : List Cell) (i child : ℕ) → IsHeld level bytes cells → last_under key cells ≡ Some i → i < length cells
       → beside_at cells i ≡ little_bytes 4 child → IsTrue (is_child lo hi child) → child_for lo hi bytes (under bytes key) ≡ Some child
   child_named level bytes cells i child held is inside beside there =
       let page : Page = record { level = level; cells = cells } in
@@ -458,7 +478,9 @@ module _ (searches : Searches) (lo hi : ℕ) (small : hi < 2 ^ 32) (s : State) (
       holds = held';
       stand = (there, stands.1);
       pairs_are = sym (append-nil cells);
+      short = λ room there short. there;
     };
+    short_there = λ room short. short;
     walk = ap (λ (b : Bool). if b then Ok t.object else Err t.object) (on_level 0 (bytes_at lo s t.object) (t.cells ++ t.past) holds);
     held = holds;
     none_past = other_key key (λ k. not (is_below k span.to)) t.past stands.1 (ap not (within_parts span key within).1);
@@ -502,7 +524,12 @@ module _ (searches : Searches) (lo hi : ℕ) (small : hi < 2 ^ 32) (s : State) (
               );
               stand = (shared_again (StandIn level) span t.children found.place found.child changed.tree found.at stands.0 changed.stand, stands.1);
               pairs_are = joined found.before rest.before cells rest.after found.after _ _ (found.again changed.tree) changed.pairs_are;
+              short = λ room there short. (
+                keys_with (is_short_key room) t.children found.place changed.tree short.0,
+                each_with (AreShortPairs room level) t.children found.place changed.tree short.1 (changed.short room there (each_at (AreShortPairs room level) t.children found.place found.child found.at short.1)),
+              );
             };
+        short_there = λ room short. rest.short_there room (each_at (AreShortPairs room level) t.children found.place found.child found.at short.1);
         walk =
             ap (λ (b : Bool). if b then on_from (walk_from lo hi s key level) t.object (child_for lo hi bytes (under bytes key)) else Err t.object)
             (on_level (suc level) bytes (cells_in (suc level) t) holds.0)
@@ -518,11 +545,11 @@ module _ (searches : Searches) (lo hi : ℕ) (small : hi < 2 ^ 32) (s : State) (
         none_after = find_behind key rest.after found.after rest.none_after ∙ found.none_after;
       }
 
-  root_held : (level : ℕ) (t : Tree level) → Holds lo hi s level t → IsHeld level (bytes_at lo s (root_of level t)) (cells_in level t)
+  pub root_held : (level : ℕ) (t : Tree level) → Holds lo hi s level t → IsHeld level (bytes_at lo s (root_of level t)) (cells_in level t)
   root_held zero t holds = holds
   root_held (suc level) t holds = holds.0
 
-  in_all : (key : List ℕ) → IsTrue (is_within all_keys key)
+  pub in_all : (key : List ℕ) → IsTrue (is_within all_keys key)
   in_all [] = refl
   in_all (b ∷ key) = refl
 

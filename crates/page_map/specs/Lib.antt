@@ -1,3 +1,5 @@
 pub mod Map
 pub mod Walk
 pub mod Plan
+pub mod Splits
+pub mod Sets

@@ -1,6 +1,6 @@
 //! What holds of maps, as laws on definitions.
 
-ghost use Rattle.std.specs.Prelude.{◌≡◌, ◌<◌, ◌≤◌, ◌^◌, ℕ, Ok, List, []};
+ghost use Rattle.std.specs.Prelude.{◌≡◌, ◌<◌, ◌≤◌, ◌^◌, ◌+◌, ◌*◌, ℕ, Ok, List, [], length};
 ghost use Rattle.std.specs.FinMap.{empty, get};
 ghost use Rattle.oper_core.specs.State.{State};
 ghost use Rattle.oper_core.specs.Meaning.{after};
@@ -9,7 +9,8 @@ ghost use Rattle.call_plans.specs.Laws.{AreAlike};
 ghost use Rattle.page_ops.specs.Operation.{page_meaning, written_by};
 ghost use Rattle.page_ops.specs.declared.page_op.PageOp.{PageOp};
 ghost use Rattle.page_map.specs.Map.{IsMap, content_of, objects_in, times};
-ghost use Rattle.page_map.specs.Plan.{DeleteMakes, SetMakes};
+ghost use Rattle.page_map.specs.Plan.{Admits, DeleteMakes, SetMakes};
+ghost use Rattle.page_map.specs.Sets.{IsKept, IsTurn, Sets, set_plan, set_turn};
 ghost use Rattle.page_map.specs.Walk.{get_answer};
 
 use page_ops::{a_search_finds_the_place, operations_are_on_cells};
@@ -44,7 +45,31 @@ pub fn a_map_depends_on_its_range()
     ensures { (lo hi : ℕ) (s t : State) → AreAlike lo hi s t → (is : IsMap lo hi s) → (also : IsMap lo hi t) × (content_of also ≡ content_of is) }
 {}
 
-/// A range whose first object is empty is a map without pairs.
+/// A range whose first object is empty is a map without pairs, and where no value is longer than CAP it is one that calls keep.
 pub fn an_empty_root_is_an_empty_map()
-    ensures { (lo hi : ℕ) (s : State) → lo ≤ hi → s lo ≡ [] → (is : IsMap lo hi s) × (content_of is ≡ empty) }
+    ensures map { (lo hi : ℕ) (s : State) → lo ≤ hi → s lo ≡ [] → (is : IsMap lo hi s) × (content_of is ≡ empty) }
+    ensures kept { (b : Bounds) (lo hi : ℕ) (s : State) → ((x : ℕ) → length (s x) ≤ b.cap) → lo ≤ hi → s lo ≡ [] → (is : IsKept b lo hi s) × (content_of is.map ≡ empty) }
 {}
+
+/// On a map what comes next in a set is one of three: commands that cut a page in two, or take out cells past its span, each of
+/// which is accepted on the state that those before it leave, and behind each of which the range is a map with the old content;
+/// the command that ends the call and makes the map with the pair; or a refusal, because the key or the value is too long, fewer
+/// than two objects are empty, or the map has all its levels.
+pub fn a_set_goes_by_turns()
+    ensures { (b : Bounds) (lo hi : ℕ) (s : State) (key value : List ℕ) → hi < 2 ^ 32 → Admits b hi → (is : IsKept b lo hi s)
+        → IsTurn b lo hi s is key value (set_turn b lo hi key value s) }
+{
+    a_search_finds_the_place();
+    operations_are_on_cells();
+}
+
+/// On a map the commands of a set are accepted one after the other, and behind each the range is a map: with the old content
+/// before the last one, and with the pair behind it; or the set is refused by its cause, and all of them keep the content. On
+/// each level no more is cut than the page on the way, so there are six commands for each, and seven.
+pub fn a_set_is_done_or_refused()
+    ensures { (b : Bounds) (lo hi : ℕ) (s : State) (key value : List ℕ) → hi < 2 ^ 32 → Admits b hi → (is : IsKept b lo hi s)
+        → Sets b lo hi s is key value (set_plan b lo hi key value s) (6 * is.map.level + 7) }
+{
+    a_search_finds_the_place();
+    operations_are_on_cells();
+}

@@ -1,0 +1,123 @@
+-- Where a page is cut in two, by which key the new page is named, and which page on the way to a leaf has to be cut first.
+use Rattle.std.specs.Prelude.{ℕ, zero, suc, ◌+◌, ◌*◌, ◌-◌, ◌==◌, Bool, Option, None, Some, List, [], ◌∷◌, length, map, nat_le, nat_lt, if◌then◌else◌, option_map}
+use Rattle.std.specs.List.{range_with_len}
+use Rattle.std.specs.FinMap.Entries.{put}
+use Rattle.byteorder.specs.Endian.{little_number}
+use Rattle.oper_core.specs.State.{State}
+use Rattle.key_entries.specs.Entries.{byte_order}
+use Rattle.page_ops.specs.Page.{Cell, cell_code}
+use Rattle.page_ops.specs.Reading.{beside_of, count_in, key_of}
+use Rattle.page_ops.specs.OnCells.{beside_at, key_at}
+use Rattle.page_ops.specs.Search.{last_under, place_for}
+use Rattle.page_map.specs.Map.{bytes_at, is_below}
+
+-- the cells of a page, as they read
+abbrev pub cells_read : List ℕ → List Cell
+cells_read bytes = map (λ i. (key_of bytes i, beside_of bytes i)) (range_with_len 0 (count_in bytes))
+
+-- those from the front whose keys are below the end of a span: the others are past it
+abbrev pub front_of : Option (List ℕ) → List Cell → List Cell
+front_of to [] = []
+front_of to (c ∷ cells) = if is_below c.0 to then c ∷ front_of to cells else []
+
+-- the shortest key that is above one and not above another, which is above it
+abbrev pub separator : List ℕ → List ℕ → List ℕ
+separator low [] = []
+separator [] (b ∷ high) = b ∷ []
+separator (a ∷ low) (b ∷ high) = if a == b then a ∷ separator low high else b ∷ []
+
+-- how many bytes a cell has, with those of its place
+abbrev pub cell_size : Cell → ℕ
+cell_size c = length (cell_code c) + 2
+
+abbrev pub size_of : List Cell → ℕ
+size_of [] = 0
+size_of (c ∷ cells) = cell_size c + size_of cells
+
+-- so many cells stand more before the middle of all than behind it; this many bytes stand in front of the first
+abbrev pub middle_from : ℕ → ℕ → List Cell → ℕ
+middle_from all front [] = 0
+middle_from all front (c ∷ cells) = if nat_le all (2 * front + cell_size c) then 0 else suc (middle_from all (front + cell_size c) cells)
+
+-- where cells are cut in two of about one size
+abbrev pub middle : List Cell → ℕ
+middle cells = middle_from (size_of cells) 0 cells
+
+-- A page that is to be cut: the cells from a place up to the span's end go to a new page, which is named by a key. Where cells
+-- are past the span they go first.
+pub record Split : Type 0 where
+  pub object : ℕ
+  pub level : ℕ
+  pub place : ℕ
+  pub count : ℕ
+  pub has_past : Bool
+  pub key : List ℕ
+
+-- an inner page is cut in the middle, and its key there names the new page
+abbrev pub inner_split : ℕ → ℕ → List Cell → List Cell → Split
+inner_split x level cells front = record {
+  object = x;
+  level = level;
+  place = middle front;
+  count = length front;
+  has_past = nat_lt (length front) (length cells);
+  key = key_at front (middle front);
+}
+
+-- the shortest key that parts cells in the middle
+abbrev pub middle_key : List Cell → List ℕ
+middle_key cells = separator (key_at cells (middle cells - 1)) (key_at cells (middle cells))
+
+-- a leaf is cut in the middle of what it would be with the pair
+abbrev pub leaf_split : ℕ → List ℕ → List ℕ → List Cell → List Cell → Split
+leaf_split x key value cells front = record {
+  object = x;
+  level = 0;
+  place = place_for (middle_key (put byte_order key value front)) front;
+  count = length front;
+  has_past = nat_lt (length front) (length cells);
+  key = middle_key (put byte_order key value front);
+}
+
+-- The leaf has room for the pair; or a page asks the one above it to name a new page; or the page above, with its cell, has room
+-- for the name.
+pub data Due : Type 0 where
+  fits : Due
+  asks : Split → Due
+  granted : Split → ℕ → ℕ → Due
+
+abbrev pub due_in_leaf : ℕ → ℕ → List ℕ → List ℕ → Option (List ℕ) → List Cell → Due
+due_in_leaf room x key value to cells =
+    if nat_le (4 + size_of (put byte_order key value cells)) room then fits else asks (leaf_split x key value cells (front_of to cells))
+
+-- where the span of a child ends: at the next key, or where that of its page does
+abbrev pub end_of : List Cell → ℕ → Option (List ℕ) → Option (List ℕ)
+end_of front i to = if nat_lt (suc i) (length front) then Some (key_at front (suc i)) else to
+
+abbrev pub child_at : List Cell → ℕ → ℕ
+child_at cells i = little_number 4 (beside_at cells i)
+
+-- a page of so many bytes has room for one more child with this key
+abbrev pub has_room : ℕ → ℕ → List ℕ → Bool
+has_room room size key = nat_le (size + (length key + 8)) room
+
+-- what a child asks for is granted where there is room; else the page asks for itself
+abbrev pub ask_above : ℕ → ℕ → ℕ → ℕ → Split → Due → Due
+ask_above room size x i own fits = fits
+ask_above room size x i own (asks child) = if has_room room size child.key then granted child x i else asks own
+ask_above room size x i own (granted split q j) = granted split q j
+
+module _ (room lo : ℕ) (s : State) (key value : List ℕ) where
+  -- what is due below the cell i of a page
+  abbrev pub due_under : (ℕ → Option (List ℕ) → Option Due) → ℕ → ℕ → Option (List ℕ) → List Cell → Option ℕ → Option Due
+  due_under below level x to cells None = None
+  due_under below level x to cells (Some i) =
+      option_map (ask_above room (length (bytes_at lo s x)) x i (inner_split x level cells (front_of to cells)))
+      (below (child_at cells i) (end_of (front_of to cells) i to))
+
+  -- From the leaf of the key upwards: the first page whose name the page above it has room for, or else the page that is
+  -- begun with. The end of its span is carried along.
+  abbrev pub due_from : ℕ → ℕ → Option (List ℕ) → Option Due
+  due_from zero x to = Some (due_in_leaf room x key value to (cells_read (bytes_at lo s x)))
+  due_from (suc level) x to =
+      due_under (due_from level) (suc level) x to (cells_read (bytes_at lo s x)) (last_under key (cells_read (bytes_at lo s x)))
