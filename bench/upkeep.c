@@ -23,11 +23,16 @@ static void fail(const char *what) {
 }
 #define MUST(what, done) do { if (!(done)) fail(what); } while (0)
 
-/* The syncs of the libraries go through these. */
+/* The syncs of the libraries go through these; each takes as many milliseconds more as SYNC_MS says, as on a slower disk. */
 static unsigned long syncs;
-int fsync(int file) { return syncs++, (int)syscall(SYS_fsync, file); }
-int fdatasync(int file) { return syncs++, (int)syscall(SYS_fdatasync, file); }
-int msync(void *at, size_t length, int flags) { return syncs++, (int)syscall(SYS_msync, at, length, flags); }
+static struct timespec more;
+static void count_sync(void) {
+    syncs++;
+    if (more.tv_nsec) nanosleep(&more, NULL);
+}
+int fsync(int file) { return count_sync(), (int)syscall(SYS_fsync, file); }
+int fdatasync(int file) { return count_sync(), (int)syscall(SYS_fdatasync, file); }
+int msync(void *at, size_t length, int flags) { return count_sync(), (int)syscall(SYS_msync, at, length, flags); }
 
 /* What the work needs. `settle` brings to its place what is durable already; `tend` does a piece of that, and says whether any was
  * left; `sync` makes durable what `commit` did not. Null is what a library has not. */
@@ -261,6 +266,8 @@ int main(int argc, char **argv) {
 #endif
     };
     const peer_t *peer = 0;
+    const char *slower = getenv("SYNC_MS");
+    if (slower) more.tv_nsec = strtol(slower, 0, 10) % 1000 * 1000000;
     MUST("the name", argc > 1);
     if (strcmp(argv[1], "file") == 0) return write_once(), 0;
     for (size_t i = 0; i < sizeof peers / sizeof *peers; i++)
