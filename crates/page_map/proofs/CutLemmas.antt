@@ -1,14 +1,13 @@
 -- Cells that are cut in two: a key between two others, the middle, sizes, and the order of both parts.
-use Rattle.std.proofs.Common.{◌≡◌, ℕ, zero, suc, ◌+◌, ◌*◌, ◌^◌, ◌<◌, ◌≤◌, ◌==◌, Bool, true, false, not, ◌&&◌, if◌then◌else◌, Option, None, Some, List, [], ◌∷◌, ◌++◌, T, map, length, take, drop, Ordering, Less, Equal, Greater, is_lt, nat_cmp, refl, sym, ap, ◌∙◌, subst, arith, true≢false, length-append, append_assoc, take-append-drop, slice_index_or}
-use Rattle.std.specs.Prelude.{IsTrue, nat_le, nat_lt, flat_map}
+use Rattle.std.proofs.Common.{◌≡◌, ℕ, zero, suc, ◌+◌, ◌*◌, ◌<◌, ◌≤◌, ◌==◌, Bool, true, false, not, if◌then◌else◌, Option, List, [], ◌∷◌, ◌++◌, T, map, length, take, drop, Ordering, Less, Equal, Greater, is_lt, nat_cmp, refl, sym, ap, ◌∙◌, subst, arith, true≢false, length-append, append_assoc, take-append-drop, slice_index_or}
+use Rattle.std.specs.Prelude.{IsTrue, nat_le, flat_map}
 use Rattle.std.specs.List.{list_all, range_with_len}
-use Rattle.std.specs.Ordering.{ordering_then, ordering_reverse}
+use Rattle.std.specs.Ordering.{ordering_then}
 use Rattle.std.specs.Cmp.{nat_cmp_total, tied_itself}
-use Rattle.std.specs.Cmp.Lexicographic.{nat_list_cmp_total}
 use Rattle.std.specs.FinMap.{nat_cmp-IsAntisymmetric}
 use Rattle.std.specs.FinMap.Entries.{below_all, by_order, is_sorted, put}
 use Rattle.std.proofs.lemmas.Bool.{leb-true, leb-false, eq-eqb, eqb-true}
-use Rattle.byteorder.specs.Endian.{little_bytes, little_number}
+use Rattle.byteorder.specs.Endian.{little_bytes}
 use Rattle.oper_core.specs.LittleEndian.{length-little_bytes, little_number-little_bytes}
 use Rattle.key_entries.specs.Entries.{byte_order}
 use Rattle.key_entries.specs.EntryLaws.{both_true, true_both}
@@ -21,7 +20,7 @@ use Rattle.page_ops.specs.OperationLaws.{built_length}
 use Rattle.page_ops.specs.Search.{place_for}
 use Rattle.page_map.specs.Map.{is_below}
 use Rattle.page_map.specs.Splits.{cells_read, front_of, separator, cell_size, size_of, middle_from, middle}
-use Rattle.page_map.proofs.MapLemmas.{below_both, below_through, not_true, true_not, turned, less_is}
+use Rattle.page_map.proofs.MapLemmas.{below_both, not_true, true_not}
 
 -- ---- a key between two others
 

@@ -1,28 +1,25 @@
 -- Which page is cut first: it can be cut, and the page above it has room for the name of the new one.
-use Rattle.std.proofs.Common.{◌≡◌, ℕ, zero, suc, ◌+◌, ◌-◌, ◌*◌, ◌/◌, ◌^◌, ◌<◌, ◌≤◌, ◌==◌, Bool, true, false, not, ◌&&◌, if◌then◌else◌, Option, None, Some, Ok, Err, Result, List, [], ◌∷◌, ◌++◌, T, map, flat_map, length, take, drop, Ordering, Less, Equal, Greater, is_lt, refl, sym, ap, ◌∙◌, subst, arith, true≢false, option_map, length-append}
+use Rattle.std.proofs.Common.{◌≡◌, ℕ, zero, suc, ◌+◌, ◌-◌, ◌*◌, ◌/◌, ◌^◌, ◌<◌, ◌≤◌, Bool, true, false, if◌then◌else◌, Some, Ok, Err, Result, List, [], ◌∷◌, ◌++◌, T, map, length, take, drop, Less, Equal, Greater, is_lt, refl, sym, ap, ◌∙◌, subst, arith, option_map, length-append}
 use Rattle.std.specs.Prelude.{IsTrue, nat_lt, nat_le}
 use Rattle.std.specs.List.{list_all}
-use Rattle.std.specs.Cmp.{both_ways}
 use Rattle.std.specs.Cmp.Lexicographic.{nat_list_cmp_total}
 use Rattle.std.specs.FinMap.Entries.{by_order, put, is_sorted, is_sorted-put}
 use Rattle.std.proofs.lemmas.List.{append-nil, length-map}
-use Rattle.std.proofs.lemmas.Bool.{leb-true, leb-false, le-leb, le-ltb, lt-ltb, ltb-true, ltb-false}
-use Rattle.byteorder.specs.Endian.{little_bytes, little_number}
-use Rattle.oper_core.specs.LittleEndian.{length-little_bytes, little_number-little_bytes}
+use Rattle.std.proofs.lemmas.Bool.{leb-true, leb-false, le-leb, ltb-false}
+use Rattle.oper_core.specs.LittleEndian.{length-little_bytes}
 use Rattle.oper_core.specs.State.{State}
 use Rattle.key_entries.specs.Entries.{byte_order}
 use Rattle.key_entries.specs.EntryLaws.{both_true, true_both}
-use Rattle.key_entries.specs.KeyLaws.{same_key}
-use Rattle.page_ops.specs.Page.{Cell, page_of, AreShort}
+use Rattle.page_ops.specs.Page.{Cell}
 use Rattle.page_ops.specs.Reading.{under}
 use Rattle.page_ops.specs.Seen.{child_cell}
-use Rattle.page_ops.specs.OnCells.{beside_at, key_at}
+use Rattle.page_ops.specs.OnCells.{key_at}
 use Rattle.page_ops.specs.Search.{last_under, place_for}
-use Rattle.page_map.specs.Map.{Span, is_below, is_within, Tree, Leaf, root_of, pairs_in, cells_in, IsHeld, bytes_at, is_child, Holds, all_within, all_past, Share, StandIn}
+use Rattle.page_map.specs.Map.{Span, is_below, is_within, Tree, Leaf, root_of, pairs_in, cells_in, IsHeld, bytes_at, Holds, all_within, Share, StandIn}
 use Rattle.page_map.specs.Walk.{child_for, on_from, walk_from}
 use Rattle.page_map.specs.Splits.{Split, Due, fits, asks, granted, ask_above, cell_size, cells_read, due_from, due_in_leaf, front_of, has_room, inner_split, leaf_split, middle, middle_key, size_of}
 use Rattle.page_map.specs.Sets.{AreShortPairs, is_short_key, is_short_pair}
-use Rattle.page_map.proofs.MapLemmas.{Searches, below_both, below_through, not_true, within_parts, lower, upper, IsAt, each_at, span_of, child_found, child_named, on_level, pairs_within}
+use Rattle.page_map.proofs.MapLemmas.{Searches, within_parts, IsAt, each_at, span_of, child_found, child_named, on_level, pairs_within}
 use Rattle.page_map.proofs.CutLemmas.{ReadsCells, all_at, all_sizes, all_weaker, front_is, middle_inside, middle_is, next_above, page_size, pair_size, size_put, separator_above, separator_reached, separator_short}
 use Rattle.page_map.proofs.ChangeLemmas.{all_put}
 use Rattle.page_map.proofs.TreeLemmas.{HoldsChild, IsCut, live_in, past_in, whole_is, leaf_cut, inner_cut}

@@ -1,6 +1,5 @@
 -- What is found in the two halves of a page that was cut.
-use Rattle.std.proofs.Common.{◌≡◌, ℕ, zero, suc, ◌+◌, ◌*◌, ◌/◌, ◌<◌, ◌≤◌, Bool, true, false, not, if◌then◌else◌, Option, None, Some, List, [], ◌∷◌, ◌++◌, T, map, length, take, drop, take_at, Ordering, Less, Equal, Greater, is_lt, refl, sym, ap, ◌∙◌, subst, arith, true≢false}
-use Rattle.std.specs.Prelude.{IsTrue}
+use Rattle.std.proofs.Common.{◌≡◌, ℕ, zero, suc, ◌+◌, ◌<◌, Bool, true, false, if◌then◌else◌, Option, None, Some, List, [], ◌∷◌, ◌++◌, T, map, length, take, drop, take_at, Ordering, Less, Equal, Greater, is_lt, refl, sym, ap, ◌∙◌, subst, arith, true≢false}
 use Rattle.std.specs.Ordering.{ordering_reverse}
 use Rattle.std.specs.FinMap.Entries.{by_order, below_all, is_sorted, put}
 use Rattle.key_entries.specs.Entries.{byte_order}
@@ -11,8 +10,7 @@ use Rattle.page_ops.specs.Seen.{child_cell}
 use Rattle.page_ops.specs.OnCells.{key_at}
 use Rattle.page_ops.specs.Search.{last_under, next_under, place_for}
 use Rattle.page_map.specs.Map.{Span}
-use Rattle.page_map.specs.Splits.{size_of}
-use Rattle.page_map.proofs.MapLemmas.{IsAt, below_both, below_through, less_is, lower, span_of, turned, upper}
+use Rattle.page_map.proofs.MapLemmas.{IsAt, below_both, lower, span_of, turned, upper}
 use Rattle.page_map.proofs.TwoLemmas.{below_at, with_two}
 
 -- ---- a leaf that is cut where a key stands: the pair comes into one half

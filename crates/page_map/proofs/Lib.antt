@@ -12,3 +12,6 @@ pub mod DueLemmas
 pub mod SettleLemmas
 pub mod TurnLemmas
 pub mod SetLemmas
+pub mod LeafLemmas
+pub mod RangeLemmas
+pub mod ReadLemmas

@@ -1,20 +1,12 @@
 -- A page among those of a tree, with its span: others may stand in its place.
-use Rattle.std.proofs.Common.{◌≡◌, ◌≢◌, ℕ, zero, suc, ◌+◌, ◌<◌, ◌≤◌, ◌==◌, ◌^◌, Bool, true, false, not, ◌&&◌, ◌||◌, if◌then◌else◌, Option, None, Some, List, [], ◌∷◌, ◌++◌, T, map, flat_map, length, take, drop, Ordering, Less, Equal, Greater, is_lt, refl, sym, ap, ◌∙◌, subst, arith, append_assoc}
-use Rattle.std.specs.Prelude.{⊤, IsTrue, nat_lt, nat_le}
-use Rattle.std.specs.List.{list_all}
-use Rattle.std.specs.Ordering.{ordering_reverse}
-use Rattle.std.specs.FinMap.Entries.{by_order, below_all, put, is_sorted}
+use Rattle.std.proofs.Common.{◌≡◌, ◌≢◌, ℕ, zero, suc, ◌+◌, ◌<◌, ◌≤◌, ◌^◌, Option, Some, List, [], ◌∷◌, ◌++◌, flat_map, refl, sym, ap, ◌∙◌, subst, arith, append_assoc}
+use Rattle.std.specs.Prelude.{IsTrue, nat_lt, nat_le}
 use Rattle.std.proofs.lemmas.List.{append-nil}
-use Rattle.std.proofs.lemmas.Bool.{eq-eqb, leb-true, lt-ltb, le-ltb, ltb-true}
-use Rattle.byteorder.specs.Endian.{little_bytes}
+use Rattle.std.proofs.lemmas.Bool.{leb-true}
 use Rattle.oper_core.specs.State.{State}
-use Rattle.key_entries.specs.Entries.{byte_order}
-use Rattle.key_entries.specs.EntryLaws.{both_true, true_both}
-use Rattle.key_entries.specs.KeyLaws.{first, second, both, less_if}
-use Rattle.page_ops.specs.Page.{Cell, page_of, AreShort}
-use Rattle.page_ops.specs.Seen.{child_cell}
-use Rattle.page_ops.specs.OnCells.{key_at, replaced, has_below, has_above, may_precede}
-use Rattle.page_map.specs.Map.{Span, is_below, is_within, Tree, root_of, pairs_in, cells_in, IsHeld, Each, bytes_at, is_child, Holds, all_within, all_past, Share, StandIn, objects_in, one_if, times}
+use Rattle.key_entries.specs.EntryLaws.{both_true}
+use Rattle.page_ops.specs.Page.{Cell}
+use Rattle.page_map.specs.Map.{Span, is_below, Tree, root_of, pairs_in, cells_in, IsHeld, Each, bytes_at, is_child, Holds, Share, StandIn, objects_in, times}
 use Rattle.page_ops.specs.Search.{last_under}
 use Rattle.page_map.specs.Sets.{AreShortPairs, is_short_key}
 use Rattle.page_map.proofs.MapLemmas.{each_at, each_with, keys_with, lower, upper, IsAt, span_of, with_child, shared_again, cells_again, times_both, among, one_here, held_again}

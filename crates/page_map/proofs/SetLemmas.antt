@@ -1,20 +1,19 @@
 -- What comes next in a set: on a map that calls keep, commands that keep it, the command that puts the pair in, or a refusal by its cause.
-use Rattle.std.proofs.Common.{◌≡◌, ◌≢◌, ◌⊎◌, inl, inr, ℕ, zero, suc, ◌+◌, ◌-◌, ◌*◌, ◌^◌, ◌<◌, ◌≤◌, ◌==◌, Bool, true, false, not, ◌&&◌, ◌||◌, if◌then◌else◌, Option, None, Some, Result, Ok, Err, List, [], ◌∷◌, ◌++◌, T, length, take, unwrap_or, refl, sym, ap, ◌∙◌, subst, arith, length-append}
+use Rattle.std.proofs.Common.{◌≡◌, ◌≢◌, inl, inr, ℕ, zero, suc, ◌+◌, ◌-◌, ◌*◌, ◌^◌, ◌<◌, ◌≤◌, ◌==◌, Bool, true, false, ◌&&◌, ◌||◌, if◌then◌else◌, Option, None, Some, List, [], ◌∷◌, ◌++◌, length, take, unwrap_or, refl, sym, ap, ◌∙◌, subst, arith, length-append}
 use Rattle.std.specs.Prelude.{IsTrue, nat_lt, nat_le}
 use Rattle.std.specs.FinMap.{from_entries, insert}
 use Rattle.std.specs.FinMap.Entries.{put}
-use Rattle.std.proofs.lemmas.Bool.{cases_lt, leb-true, le-ltb, ltb-true, ltb-false}
+use Rattle.std.proofs.lemmas.Bool.{leb-true, le-ltb, ltb-true, ltb-false}
 use Rattle.oper_core.specs.State.{State}
-use Rattle.oper_core.specs.Meaning.{Accepts, after, read_values, refusal_of}
+use Rattle.oper_core.specs.Meaning.{Accepts, after, read_values}
 use Rattle.oper_core.specs.declared.bounds.Bounds.{Bounds}
-use Rattle.oper_core.specs.declared.refusal.Refusal.{Refusal}
 use Rattle.key_entries.specs.Entries.{byte_order}
 use Rattle.key_entries.specs.EntryLaws.{both_true, same_some}
 use Rattle.key_entries.specs.Pairs.{has}
 use Rattle.call_plans.specs.Laws.{after_all}
 use Rattle.call_plans.specs.Plan.{Plan}
-use Rattle.call_plans.specs.Free.{free_from, is_empty, objects_from}
-use Rattle.call_plans.specs.FreeLaws.{FirstFree, first_free}
+use Rattle.call_plans.specs.Free.{free_from}
+use Rattle.call_plans.specs.FreeLaws.{first_free}
 use Rattle.page_ops.specs.Page.{Cell, page_of}
 use Rattle.page_ops.specs.Reading.{level_in}
 use Rattle.page_ops.specs.Effects.{made_by, where_short}
@@ -22,18 +21,17 @@ use Rattle.page_ops.specs.Operation.{page_meaning, value_made, written_by}
 use Rattle.page_ops.specs.OperationLaws.{short_made}
 use Rattle.page_ops.specs.declared.page_op.PageOp.{PageOp}
 use Rattle.page_ops.specs.declared.page_op.PageOp.TheVariants.{Part, Keep, TurnTwo, Root}
-use Rattle.page_map.specs.Map.{IsHeld, Tree, StandIn, all_keys, all_past, bytes_at, cells_in, content_of, pairs_in, root_of}
+use Rattle.page_map.specs.Map.{IsHeld, Tree, StandIn, all_keys, all_past, bytes_at, cells_in, content_of, root_of}
 use Rattle.page_map.specs.Plan.{Admits, set_command}
-use Rattle.page_map.specs.Walk.{walk_from}
 use Rattle.page_map.specs.Splits.{Split, Due, fits, asks, granted, cells_read, due_from, has_room, size_of}
-use Rattle.page_map.specs.Sets.{Turn, does, ends, refuses, AreShortPairs, Inserts, IsCause, IsKept, IsTurn, Keeps, child_split, is_pair, is_short_key, is_short_pair, room_of, due_in, by_turn, root_split, set_by, set_from, set_plan, set_turn, Sets, turn_of}
+use Rattle.page_map.specs.Sets.{Turn, does, ends, refuses, Inserts, IsCause, IsKept, IsTurn, Keeps, child_split, is_pair, is_short_key, is_short_pair, room_of, due_in, by_turn, root_split, set_by, set_from, set_plan, set_turn, Sets, turn_of}
 use Rattle.page_map.specs.declared.refusal.MapRefusal.{MapRefusal}
-use Rattle.page_map.specs.declared.refusal.MapRefusal.TheVariants.{BadMap, MapFull, TooLong}
-use Rattle.page_map.proofs.MapLemmas.{Searches, IsLeafFor, in_all, map_leaf, root_held, span_of}
+use Rattle.page_map.specs.declared.refusal.MapRefusal.TheVariants.{MapFull, TooLong}
+use Rattle.page_map.proofs.MapLemmas.{Searches, IsLeafFor, in_all, map_leaf, root_held}
 use Rattle.page_map.proofs.CutLemmas.{ReadsCells, cells_are, page_size}
 use Rattle.page_map.proofs.ChangeLemmas.{Changes, read_as, set_command_is, set_content, set_fits, set_is_done, set_op, whole}
 use Rattle.page_map.proofs.TreeLemmas.{live_in, past_in, whole_is}
-use Rattle.page_map.proofs.OpLemmas.{fits_room, room_cap, room_low}
+use Rattle.page_map.proofs.OpLemmas.{fits_room, room_low}
 use Rattle.page_map.proofs.WayLemmas.{IsLess, Settled, rank}
 use Rattle.page_map.proofs.SettleLemmas.{rank_low}
 use Rattle.page_map.proofs.DueLemmas.{DueFound, IsAsked, IsDue, IsGranted, due_found, none_past}

@@ -1,5 +1,5 @@
 -- Behind a cut, what is due comes before: the half that the key goes to has room.
-use Rattle.std.proofs.Common.{◌≡◌, ◌≢◌, ℕ, zero, suc, ◌+◌, ◌*◌, ◌/◌, ◌^◌, ◌<◌, ◌≤◌, Bool, true, false, not, ◌&&◌, if◌then◌else◌, Option, None, Some, List, [], ◌∷◌, ◌++◌, T, map, flat_map, length, take, drop, is_lt, refl, sym, ap, ◌∙◌, subst, arith, option_map}
+use Rattle.std.proofs.Common.{◌≡◌, ◌≢◌, ℕ, zero, suc, ◌+◌, ◌*◌, ◌/◌, ◌^◌, ◌<◌, ◌≤◌, Bool, true, false, if◌then◌else◌, Option, Some, List, [], ◌∷◌, ◌++◌, T, flat_map, length, take, drop, is_lt, refl, sym, ap, ◌∙◌, subst, arith, option_map}
 use Rattle.std.specs.Prelude.{IsTrue, nat_lt, nat_le}
 use Rattle.std.specs.FinMap.Entries.{is_sorted, put}
 use Rattle.std.proofs.lemmas.List.{append-nil, length-map}
@@ -7,11 +7,10 @@ use Rattle.std.proofs.lemmas.Bool.{leb-true, le-leb, le-ltb}
 use Rattle.oper_core.specs.State.{State}
 use Rattle.key_entries.specs.Entries.{byte_order}
 use Rattle.key_entries.specs.EntryLaws.{both_true}
-use Rattle.page_ops.specs.Page.{Cell, page_of}
+use Rattle.page_ops.specs.Page.{Cell}
 use Rattle.page_ops.specs.Seen.{child_cell}
-use Rattle.page_ops.specs.OnCells.{key_at}
 use Rattle.page_ops.specs.Search.{last_under}
-use Rattle.page_map.specs.Map.{Span, is_below, is_within, Tree, root_of, pairs_in, cells_in, IsHeld, Each, bytes_at, is_child, Holds, all_past, Share, StandIn, objects_in, times}
+use Rattle.page_map.specs.Map.{Span, is_below, is_within, Tree, root_of, pairs_in, cells_in, IsHeld, bytes_at, Holds, all_past, Share, StandIn, objects_in, times}
 use Rattle.page_map.specs.Splits.{Split, Due, fits, asks, granted, ask_above, cells_read, due_in_leaf, front_of, has_room, inner_split, leaf_split, size_of}
 use Rattle.page_map.specs.Sets.{is_short_key}
 use Rattle.page_map.proofs.MapLemmas.{child_found, each_at, held_again, lower, pairs_within, span_of, upper, IsAt, among, one_here, within_parts}

@@ -1,26 +1,22 @@
 -- Trees of pages: a page that is cut in two, and a page among others that is replaced.
-use Rattle.std.proofs.Common.{◌≡◌, ◌≢◌, ℕ, zero, suc, ◌+◌, ◌<◌, ◌≤◌, ◌==◌, Bool, true, false, not, ◌&&◌, ◌||◌, if◌then◌else◌, Option, None, Some, List, [], ◌∷◌, ◌++◌, T, map, flat_map, length, take, drop, Ordering, Less, Equal, Greater, is_lt, refl, sym, ap, ◌∙◌, subst, arith, append_assoc, take-append-drop, drop-cons, slice_index_or}
-use Rattle.std.specs.Prelude.{⊤, IsTrue, nat_lt, nat_le}
+use Rattle.std.proofs.Common.{◌≡◌, ℕ, zero, suc, ◌+◌, ◌<◌, ◌≤◌, ◌==◌, true, false, not, if◌then◌else◌, List, [], ◌∷◌, ◌++◌, T, map, flat_map, length, take, drop, is_lt, refl, sym, ap, ◌∙◌, subst, arith, take-append-drop, drop-cons, slice_index_or}
+use Rattle.std.specs.Prelude.{⊤, IsTrue}
 use Rattle.std.specs.List.{list_all, take-map, drop-map}
-use Rattle.std.specs.Ordering.{ordering_reverse}
-use Rattle.std.specs.FinMap.Entries.{by_order, below_all, put, is_sorted}
+use Rattle.std.specs.FinMap.Entries.{below_all, is_sorted}
 use Rattle.std.proofs.lemmas.List.{append-nil, length-map}
 use Rattle.std.proofs.lemmas.List.Concat.{flat_map-append}
-use Rattle.std.proofs.lemmas.Bool.{eq-eqb, leb-true, lt-ltb, le-ltb}
-use Rattle.byteorder.specs.Endian.{little_bytes}
 use Rattle.oper_core.specs.State.{State}
 use Rattle.key_entries.specs.Entries.{byte_order}
-use Rattle.key_entries.specs.EntryLaws.{both_true, true_both}
-use Rattle.key_entries.specs.KeyLaws.{first, second, both, less_if}
-use Rattle.page_ops.specs.Page.{Cell, page_of, AreShort}
+use Rattle.key_entries.specs.EntryLaws.{true_both}
+use Rattle.key_entries.specs.KeyLaws.{first, second}
+use Rattle.page_ops.specs.Page.{Cell}
 use Rattle.page_ops.specs.Seen.{child_cell}
-use Rattle.page_ops.specs.OnCells.{key_at, replaced, has_below, has_above, may_precede}
+use Rattle.page_ops.specs.OnCells.{key_at}
 use Rattle.page_ops.specs.Search.{place_for}
 use Rattle.page_map.specs.Map.{Span, is_below, is_within, Tree, Leaf, root_of, pairs_in, cells_in, IsHeld, Each, bytes_at, is_child, Holds, all_within, all_past, Share, StandIn, objects_in, one_if, times}
-use Rattle.page_map.specs.Splits.{end_of}
 use Rattle.page_map.specs.Sets.{AreShortPairs, is_short_key, is_short_pair}
-use Rattle.page_map.proofs.MapLemmas.{below_both, below_through, not_below_itself, not_both, not_true, true_not, turned, less_is, within_parts, parts_within, lower, upper, lower_within, upper_within, past_is_above, ends_too, IsAt, span_of, with_child, shared_again, cells_again, times_both, among, one_here, held_again}
-use Rattle.page_map.proofs.CutLemmas.{all_taken, all_together, all_weaker, below_place, reached_place, not_below_behind, sorted_taken, next_above}
+use Rattle.page_map.proofs.MapLemmas.{below_both, not_below_itself, not_true, true_not, within_parts, parts_within, lower, upper, times_both, held_again}
+use Rattle.page_map.proofs.CutLemmas.{all_taken, all_together, below_place, reached_place, not_below_behind, sorted_taken, next_above}
 
 -- ---- the cells of a page
 

@@ -1,5 +1,5 @@
 -- The commands of a turn are accepted one after the other, and behind each the range is a map with the same pairs.
-use Rattle.std.proofs.Common.{◌≡◌, ◌≢◌, ℕ, zero, suc, ◌+◌, ◌-◌, ◌*◌, ◌^◌, ◌<◌, ◌≤◌, ◌==◌, Bool, true, false, not, ◌&&◌, if◌then◌else◌, Option, None, Some, option_map, List, [], ◌∷◌, ◌++◌, T, map, flat_map, length, take, drop, take_all, take_at, take-append-drop, length-append, length-drop, inl, inr, is_lt, refl, sym, ap, ◌∙◌, subst, arith}
+use Rattle.std.proofs.Common.{◌≡◌, ◌≢◌, ℕ, zero, suc, ◌+◌, ◌-◌, ◌*◌, ◌^◌, ◌<◌, ◌≤◌, ◌==◌, Bool, true, false, ◌&&◌, if◌then◌else◌, Option, None, Some, option_map, List, [], ◌∷◌, ◌++◌, T, flat_map, length, take, drop, take_all, take_at, take-append-drop, length-append, length-drop, inl, inr, is_lt, refl, sym, ap, ◌∙◌, subst, arith}
 use Rattle.std.specs.Prelude.{IsTrue, nat_lt, nat_le}
 use Rattle.std.specs.FinMap.{from_entries}
 use Rattle.std.specs.FinMap.Entries.{is_sorted, put}
@@ -12,26 +12,26 @@ use Rattle.oper_core.specs.Meaning.{Accepts, Meaning, after}
 use Rattle.oper_core.specs.declared.bounds.Bounds.{Bounds}
 use Rattle.key_entries.specs.Entries.{byte_order}
 use Rattle.key_entries.specs.EntryLaws.{both_true, true_both}
-use Rattle.call_plans.specs.Laws.{AllAccepted, after_all}
-use Rattle.page_ops.specs.Page.{Cell, page_of, cells_code, AreShort}
+use Rattle.call_plans.specs.Laws.{after_all}
+use Rattle.page_ops.specs.Page.{Cell, page_of, AreShort}
 use Rattle.page_ops.specs.Seen.{child_cell}
 use Rattle.page_ops.specs.OnCells.{key_at, replaced}
 use Rattle.page_ops.specs.Operation.{page_meaning}
 use Rattle.page_ops.specs.declared.page_op.PageOp.{PageOp}
 use Rattle.page_ops.specs.declared.page_op.PageOp.TheVariants.{Part, Keep, TurnTwo, Root}
-use Rattle.page_map.specs.Map.{Span, is_below, is_within, all_keys, all_past, Tree, root_of, pairs_in, cells_in, IsHeld, Each, bytes_at, is_child, Holds, Share, StandIn, IsMap, content_of, objects_in, one_if, times}
+use Rattle.page_map.specs.Map.{Span, is_below, is_within, all_keys, all_past, Tree, root_of, pairs_in, cells_in, IsHeld, Each, bytes_at, is_child, Holds, Share, StandIn, content_of, objects_in, one_if, times}
 use Rattle.page_map.specs.Plan.{Admits}
 use Rattle.page_ops.specs.Search.{last_under, next_under}
-use Rattle.page_map.specs.Splits.{Split, ask_above, cell_size, has_room, inner_split, size_of}
+use Rattle.page_map.specs.Splits.{Split, ask_above, has_room, inner_split, size_of}
 use Rattle.page_map.specs.Sets.{AreShortPairs, IsKept, Keeps, is_short_key, room_of}
-use Rattle.page_map.proofs.MapLemmas.{lower, upper, not_both, parts_within, IsAt, cells_again, each_at, each_with, keys_with, objects_again, shared_again, span_of, with_child, among, one_here, times_both, held_again}
+use Rattle.page_map.proofs.MapLemmas.{lower, not_both, parts_within, IsAt, cells_again, each_at, each_with, keys_with, objects_again, shared_again, span_of, with_child, among, one_here, times_both, held_again}
 use Rattle.page_map.proofs.CutLemmas.{ReadsCells, code_size, not_below_none, page_size, pair_size, size_both, size_put, size_taken, sorted_parts, sorted_taken}
 use Rattle.page_map.proofs.ChangeLemmas.{Changes, read_as}
-use Rattle.page_map.proofs.TreeLemmas.{HoldsBelow, HoldsChild, IsCut, bare, bare_held, bare_objects, bare_pairs, bare_root, bare_short, bare_stands, below_held, first_cells, first_held, first_part, first_root, last_cells, last_held, last_part, last_root, live_in, parts_objects, parts_pairs, parts_short, past_in, root_held, whole_is}
+use Rattle.page_map.proofs.TreeLemmas.{HoldsBelow, HoldsChild, IsCut, bare, bare_held, bare_objects, bare_pairs, bare_root, bare_short, bare_stands, below_held, first_held, first_part, first_root, last_held, last_part, last_root, live_in, parts_objects, parts_pairs, parts_short, past_in, root_held, whole_is}
 use Rattle.page_map.proofs.PlaceLemmas.{IsPlace, SameAt, below_over, each_same, each_swapped, held_over, at_with, end_with, pairs_with, root_reached, share_at}
 use Rattle.page_map.proofs.TwoLemmas.{above_cell, cell_inside, cells_two, each_two, keys_two, pairs_two, precedes_next, put_two, shared_two, times_two, two_rise, with_two}
 use Rattle.page_map.proofs.HalfLemmas.{at_left, at_right, end_left, end_right, under_two}
-use Rattle.page_map.proofs.WayLemmas.{IsLess, Settled, due_at, due_down, from_below, rank, settled_up}
+use Rattle.page_map.proofs.WayLemmas.{Settled, due_at, due_down, from_below, rank, settled_up}
 use Rattle.page_map.proofs.DueLemmas.{IsAsked}
 use Rattle.page_map.proofs.SettleLemmas.{bare_settles, left_settles, right_settles}
 use Rattle.page_map.proofs.OpLemmas.{IsWritten, bytes_else, bytes_there, fits_after, keep_done, part_done, read_child, read_inner, root_done, room_cap, room_fits, room_low, two_done, value_else}

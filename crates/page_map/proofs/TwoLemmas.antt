@@ -1,5 +1,5 @@
 -- A child becomes two: the page above names the new one behind it.
-use Rattle.std.proofs.Common.{◌≡◌, ◌⊎◌, inl, inr, ℕ, zero, suc, ◌+◌, ◌<◌, ◌==◌, Bool, true, false, not, ◌&&◌, ◌||◌, List, [], ◌∷◌, ◌++◌, T, map, flat_map, length, take, drop, Ordering, Less, Equal, Greater, is_lt, refl, sym, ap, ◌∙◌, subst, arith, append_assoc, slice_index_or, length-append}
+use Rattle.std.proofs.Common.{◌≡◌, ◌⊎◌, inl, inr, ℕ, zero, suc, ◌+◌, ◌<◌, ◌==◌, Bool, true, not, List, [], ◌∷◌, ◌++◌, T, map, flat_map, length, take, drop, Ordering, is_lt, refl, sym, ap, ◌∙◌, subst, arith, append_assoc, slice_index_or, length-append}
 use Rattle.std.specs.Prelude.{IsTrue, nat_lt}
 use Rattle.std.specs.List.{list_all}
 use Rattle.std.specs.Ordering.{ordering_reverse}
@@ -13,7 +13,7 @@ use Rattle.key_entries.specs.EntryLaws.{both_true, true_both}
 use Rattle.key_entries.specs.KeyLaws.{first, second, both, less_if}
 use Rattle.page_ops.specs.Page.{Cell}
 use Rattle.page_ops.specs.Seen.{child_cell}
-use Rattle.page_ops.specs.OnCells.{key_at, replaced, has_below, has_above, may_precede}
+use Rattle.page_ops.specs.OnCells.{key_at, replaced, has_above, may_precede}
 use Rattle.page_map.specs.Map.{Span, is_below, is_within, Each, all_past, Share, times}
 use Rattle.page_map.proofs.MapLemmas.{below_both, not_both, turned, less_is, within_parts, parts_within, lower, upper, lower_within, past_is_above, IsAt, span_of, times_both, with_child}
 

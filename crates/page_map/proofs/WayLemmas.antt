@@ -1,6 +1,6 @@
 -- The way to the leaf of a key, as the search for the page that is cut first goes it.
-use Rattle.std.proofs.Common.{◌≡◌, ℕ, zero, suc, ◌+◌, ◌*◌, ◌^◌, ◌<◌, ◌≤◌, ◌==◌, Bool, true, false, not, ◌&&◌, if◌then◌else◌, Option, None, Some, List, [], ◌∷◌, ◌++◌, T, map, length, is_lt, refl, sym, ap, ◌∙◌, subst, arith, true≢false, option_map}
-use Rattle.std.specs.Prelude.{⊤, IsTrue, nat_lt, nat_le}
+use Rattle.std.proofs.Common.{◌≡◌, ℕ, zero, suc, ◌+◌, ◌*◌, ◌^◌, ◌<◌, ◌≤◌, Bool, true, false, if◌then◌else◌, Option, None, Some, List, [], ◌∷◌, map, length, is_lt, refl, sym, ap, ◌∙◌, subst, arith, true≢false, option_map}
+use Rattle.std.specs.Prelude.{⊤, IsTrue, nat_lt}
 use Rattle.std.specs.List.{list_all}
 use Rattle.std.specs.Cmp.{both_ways}
 use Rattle.std.proofs.lemmas.List.{append-nil}
@@ -15,7 +15,7 @@ use Rattle.page_ops.specs.Seen.{child_cell}
 use Rattle.page_ops.specs.OnCells.{key_at}
 use Rattle.page_ops.specs.Search.{last_under}
 use Rattle.page_map.specs.Map.{Span, is_below, is_within, Tree, root_of, cells_in, IsHeld, bytes_at, all_past, Share, StandIn}
-use Rattle.page_map.specs.Splits.{Split, Due, fits, asks, granted, ask_above, cells_read, child_at, due_from, due_under, end_of, front_of, has_room, inner_split}
+use Rattle.page_map.specs.Splits.{Split, Due, fits, asks, granted, ask_above, cells_read, child_at, due_from, due_under, end_of, front_of, inner_split}
 use Rattle.page_map.proofs.MapLemmas.{below_through, within_parts, upper, IsAt, span_of}
 use Rattle.page_map.proofs.CutLemmas.{ReadsCells, cells_are, front_is}
 use Rattle.page_map.proofs.TreeLemmas.{live_in}

@@ -3,3 +3,5 @@ pub mod Walk
 pub mod Plan
 pub mod Splits
 pub mod Sets
+pub mod Reads
+pub mod Ranges

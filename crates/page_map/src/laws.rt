@@ -1,15 +1,19 @@
 //! What holds of maps, as laws on definitions.
 
-ghost use Rattle.std.specs.Prelude.{◌≡◌, ◌<◌, ◌≤◌, ◌^◌, ◌+◌, ◌*◌, ℕ, Ok, List, [], length};
-ghost use Rattle.std.specs.FinMap.{empty, get};
+ghost use Rattle.std.specs.Prelude.{◌≡◌, ◌<◌, ◌≤◌, ◌^◌, ◌+◌, ◌*◌, ℕ, IsTrue, Ok, List, [], length, slice_get};
+ghost use Rattle.std.specs.List.{list_all};
+ghost use Rattle.std.specs.FinMap.{FinMap, empty, entries, get};
 ghost use Rattle.oper_core.specs.State.{State};
 ghost use Rattle.oper_core.specs.Meaning.{after};
 ghost use Rattle.oper_core.specs.declared.bounds.Bounds.{Bounds};
+ghost use Rattle.key_entries.specs.Entries.{byte_order};
 ghost use Rattle.call_plans.specs.Laws.{AreAlike};
 ghost use Rattle.page_ops.specs.Operation.{page_meaning, written_by};
 ghost use Rattle.page_ops.specs.declared.page_op.PageOp.{PageOp};
-ghost use Rattle.page_map.specs.Map.{IsMap, content_of, objects_in, times};
+ghost use Rattle.page_map.specs.Map.{IsMap, Span, all_keys, content_of, objects_in, times};
 ghost use Rattle.page_map.specs.Plan.{Admits, DeleteMakes, SetMakes};
+ghost use Rattle.page_map.specs.Ranges.{back_answer, count_answer, range_answer};
+ghost use Rattle.page_map.specs.Reads.{above, are_bytes, back_of, below, count_of, first_of, last_of, next_of, pairs_of, prefix_of, prefix_span, prev_of, range_of};
 ghost use Rattle.page_map.specs.Sets.{IsKept, IsTurn, Sets, set_plan, set_turn};
 ghost use Rattle.page_map.specs.Walk.{get_answer};
 
@@ -73,3 +77,23 @@ pub fn a_set_is_done_or_refused()
     a_search_finds_the_place();
     operations_are_on_cells();
 }
+
+/// On a map ranges are read from its leaves: the pairs of a span from its beginning on, or from its end back, at most so many, and
+/// how many there are.
+pub fn ranges_are_read_from_leaves()
+    ensures range { (lo hi : ℕ) (s : State) (span : Span) (most : ℕ) → hi < 2 ^ 32 → (is : IsMap lo hi s) → range_answer lo hi s span most ≡ Ok (range_of (content_of is) span most) }
+    ensures back { (lo hi : ℕ) (s : State) (span : Span) (most : ℕ) → hi < 2 ^ 32 → (is : IsMap lo hi s) → back_answer lo hi s span most ≡ Ok (back_of (content_of is) span most) }
+    ensures count { (lo hi : ℕ) (s : State) (span : Span) → hi < 2 ^ 32 → (is : IsMap lo hi s) → count_answer lo hi s span ≡ Ok (count_of (content_of is) span) }
+{
+    a_search_finds_the_place();
+}
+
+/// The first pair of a map and the last one, the first above a key and the last below it are ranges of one pair; and where keys are
+/// bytes, the pairs whose keys begin with some bytes are those of a span.
+pub fn reads_are_ranges()
+    ensures first { (m : FinMap byte_order (List ℕ)) → first_of m ≡ slice_get (range_of m all_keys 1) 0 }
+    ensures last { (m : FinMap byte_order (List ℕ)) → last_of m ≡ slice_get (back_of m all_keys 1) 0 }
+    ensures next { (m : FinMap byte_order (List ℕ)) (key : List ℕ) → next_of m key ≡ slice_get (range_of m (above key) 1) 0 }
+    ensures prev { (m : FinMap byte_order (List ℕ)) (key : List ℕ) → prev_of m key ≡ slice_get (back_of m (below key) 1) 0 }
+    ensures prefix { (m : FinMap byte_order (List ℕ)) (bytes : List ℕ) → IsTrue (list_all (λ c. are_bytes c.0) (entries m)) → prefix_of m bytes ≡ pairs_of m (prefix_span bytes) }
+{}
