@@ -11,7 +11,7 @@ _WHY = {
     "BadPlace": "K is more than the length of the value of X",
     "BadWidth": "W has to divide the length of the value of X",
     "TooLarge": "an object of this store has at most {cap} bytes; a map needs a store whose CAP is 1024 or more",
-    "InGroup": "a group is open: `end` ends it, `.abort` gives it up",
+    "InGroup": "a group is open: `end` ends it, `abort` gives it up",
     "NoGroup": "no group is open: `begin` begins one",
     "NoKey": "the key is not there",
     "NotApp": "the value is no state of such an application; the empty value (put A -) is a new one",

@@ -100,6 +100,8 @@ class Session:
             return self._begin()
         if line.word == "end":
             return self._end()
+        if line.word == "abort":
+            return self.abort()
         if line.word in explain.OTHERS:
             raise BadLine(0, explain.no_call(line))
         return lines.done(self.opened(), line)
@@ -116,6 +118,16 @@ class Session:
             raise redo.NoGroup("no group is open")
         group, self.group = self.group, None
         group.close()
+        return answers.OK
+
+    def abort(self) -> Answer:
+        """Gives up the group that is open, and opens the store anew. Raises redo.Error, and where that fails none is open."""
+        store = self.opened()
+        if self.group is None:
+            raise redo.NoGroup("no group is open")
+        lost = store.stat()
+        self.reopen()
+        self.tell(f"{lost.accepted - lost.forced} commands of the group are given up, and the store is opened anew")
         return answers.OK
 
     def opened(self) -> redo.Store:

@@ -5,8 +5,6 @@ import time
 from collections.abc import Callable
 from typing import Optional, Union
 
-import redo
-
 from . import answers, forms, transfer
 from .answers import Answer
 from .session import Leave, Session, Watch, folder_for
@@ -111,16 +109,6 @@ def _trim(s: Session) -> Answer:
     return answers.OK
 
 
-def _abort(s: Session) -> Answer:
-    store = s.opened()
-    if s.group is None:
-        raise redo.NoGroup("no group is open")
-    lost = store.stat()
-    s.reopen()
-    s.tell(f"{lost.accepted - lost.forced} commands of the group are given up, and the store is opened anew")
-    return answers.OK
-
-
 def _watch(s: Session, target: Union[int, str], seconds: str = "0") -> None:
     if target == "off":
         s.watch = None
@@ -153,7 +141,7 @@ WORDS: dict[str, Callable[..., Optional[Answer]]] = {
     ".backup": _backup,
     ".drain": _drain,
     ".trim": _trim,
-    ".abort": _abort,
+    ".abort": Session.abort,
     ".watch": _watch,
     ".timer": _timer,
     ".quit": _quit,

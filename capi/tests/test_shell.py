@@ -138,7 +138,7 @@ def notations(folder):
 def table(_):
     """Each line has a form that reads its example, and is done by a call or by the session."""
     words = {form.word for form in forms.LINES}
-    assert words - lines.CALLS.keys() == {"begin", "end", "bstart", "bcopy", "bfinish"} and lines.CALLS.keys() <= words
+    assert words - lines.CALLS.keys() == {"begin", "end", "abort", "bstart", "bcopy", "bfinish"} and lines.CALLS.keys() <= words
     assert shell_main.WORDS.keys() == {form.word for form in forms.WORDS}
     for form in forms.FORMS.values():
         line = reading.read(form.example)
@@ -207,6 +207,7 @@ def refusals(folder):
         (f"put 1 {'ab' * 65}", "refused TooLarge",
          "an object of this store has at most 64 bytes; a map needs a store whose CAP is 1024 or more"),
         ("end", "refused NoGroup", "no group is open: `begin` begins one"),
+        ("abort", "refused NoGroup", "no group is open: `begin` begins one"),
         (".abort", "refused NoGroup", "no group is open: `begin` begins one"),
         ("tdelete 1 2 aa", "refused NoKey", "the key is not there"),
     ]

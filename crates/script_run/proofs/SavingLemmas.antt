@@ -337,9 +337,9 @@ module _ (p : Params) (start old new : Disk) (before after : EngineView) (w : Wo
 
   -- where all commands are forced, it goes on with all
   pub goes_all : (reply : Reply) (v : World Command) {all : List Command} → length commands ≤ forced_in after → all ≡ commands ++ [] → GoesOnAll reply v → BackupGoesOn p start old new before after w commands line backup backed reply all v
-  goes_all reply v {all} forced same goes told lines replies g = record {
+  goes_all reply v {all} enough same goes told lines replies g = record {
     count = length commands;
-    forced = forced;
+    forced = enough;
     going = subst (λ (l : List Command). BackupGoing p start (lines ++ line ∷ []) (replies ++ reply ∷ []) l new after v backed)
         (append-nil commands ∙ sym (take_all (length commands) commands (omega arith)) ∙ ap (λ (l : List Command). take (length commands) l) (sym (same ∙ append-nil commands)))
         (goes told lines replies (whole_going g));

@@ -150,8 +150,9 @@ IsDeniedAt objects copies NotCopied = (n : ℕ) × (copies ≡ Some n) × (n < o
 
 -- What an answer says of the old stage, and the new one: where nothing stops the course it is `ok`, `ran` or a refusal, `full`
 -- comes where its next record or log has no room, with these numbers, and `end` where no number is left for a record, or no
--- epoch for a log; `forced` comes after a force; `stat` counts. A backup starts with an `ok` too, and an open group is given up; `copied` says how far it is,
--- it ends with `saved`, after a force, where its log has at most 2^48 bytes, and its lines are denied by how far it is. No other answer changes anything.
+-- epoch for a log; `forced` comes after a force; `stat` counts. A backup starts with an `ok` too, and an open group is given up;
+-- `copied` says how far it is, it ends with `saved`, after a force, where its log has at most 2^48 bytes, and its lines are
+-- denied by how far it is. No other answer changes anything.
 abbrev pub GoesBy : Params → Stage → List ℕ → Reply → Stage → Type 0
 GoesBy p old line ok new = Ends p old line Through new ⊎ (StartsBackup old line (forced_stage p old) new ⊎ Aborts p old line new)
 GoesBy p old line (ran k) new = Ends p old line Through new

@@ -31,7 +31,8 @@ fn end_answer<M: Machine>(
     }
 }
 
-/// Why a run ends where the store is not opened again: with the disk, or for want of memory. Files that stand for commands are not damaged.
+/// Why a run ends where the store is not opened again: with the disk, or for want of memory. Files that stand for commands are not
+/// damaged.
 fn unopened(cause: OpenErr) -> Stop
     ensures { result ≡ stop_of_opening cause }
 {
