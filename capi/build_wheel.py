@@ -7,7 +7,9 @@ import os
 import zipfile
 
 HERE = os.path.dirname(os.path.abspath(__file__))
-LIBRARIES = [os.path.join(HERE, os.pardir, "release", "libredo-x86_64-linux.so"), os.path.join(HERE, "build", "libredo.so.1")]
+TOP = os.path.join(HERE, os.pardir)
+LIBRARIES = [os.path.join(TOP, "release", "libredo-x86_64-linux.so"), os.path.join(HERE, "build", "libredo.so.1")]
+LICENSES = ["LICENSE-MIT", "LICENSE-APACHE", "THIRD-PARTY"]
 NAME, TAG = "redo_store", "py3-none-linux_x86_64"
 
 
@@ -19,10 +21,17 @@ def _read(path: str) -> bytes:
 def _version() -> str:
     """That of the program."""
     try:
-        with open(os.path.join(HERE, os.pardir, "release", "start")) as file:
+        with open(os.path.join(TOP, "release", "start")) as file:
             return next(line[len("version="):].strip() for line in file if line.startswith("version="))
     except FileNotFoundError:
         return "0"
+
+
+def _metadata(version: str) -> bytes:
+    lines = ["Metadata-Version: 2.4", "Name: redo-store", f"Version: {version}",
+             "Summary: A recoverable store of objects within a process", "Requires-Python: >=3.9",
+             "License-Expression: MIT OR Apache-2.0", *(f"License-File: {name}" for name in LICENSES)]
+    return "".join(f"{line}\n" for line in lines).encode()
 
 
 def _files(version: str) -> dict[str, bytes]:
@@ -37,7 +46,8 @@ def _files(version: str) -> dict[str, bytes]:
         **{f"redo/shell/{name}": _read(os.path.join(HERE, "shell", name)) for name in shell},
         "redo/py.typed": b"",
         "redo/libredo.so.1": _read(library),
-        f"{info}/METADATA": f"Metadata-Version: 2.1\nName: redo-store\nVersion: {version}\nRequires-Python: >=3.9\n".encode(),
+        f"{info}/METADATA": _metadata(version),
+        **{f"{info}/licenses/{name}": _read(os.path.join(TOP, name)) for name in LICENSES},
         f"{info}/entry_points.txt": b"[console_scripts]\nredo-shell = redo.shell.main:main\n",
         f"{info}/WHEEL": f"Wheel-Version: 1.0\nGenerator: redo\nRoot-Is-Purelib: false\nTag: {TAG}\n".encode(),
     }
