@@ -30,7 +30,7 @@ use Rattle.page_ops.specs.Operation.{fits_code, objects_of, page_meaning, read_b
 use Rattle.page_ops.specs.declared.page_op.PageOp.{PageOp}
 use Rattle.page_ops.specs.declared.page_op.PageOp.TheVariants.{Put, Set, Delete}
 use Rattle.page_map.specs.Map.{Span, is_within, is_below, all_within, all_past, all_keys, pairs_in, bytes_at, IsMap, content_of, objects_in, times}
-use Rattle.page_map.specs.Plan.{Admits, set_command, OnlyTooLarge, set_at, set_in, delete_at, delete_in, at_leaf, at_place, Makes, SetMakes, DeleteMakes}
+use Rattle.page_map.specs.Plan.{Admits, delete_command, set_command, OnlyTooLarge, set_at, set_in, delete_at, delete_in, at_leaf, at_place, SetMakes, DeleteMakes}
 use Rattle.page_map.specs.Sets.{AreShortPairs, is_short_pair}
 use Rattle.page_map.proofs.MapLemmas.{Searches, less_is, turned, IsLeafFor, map_leaf, moved, walk_is, leaf_tells, past_is_above, within_parts}
 
@@ -298,7 +298,7 @@ module _ (searches : Searches) (changes : Changes) (lo hi : ℕ) (small : hi < 2
   found_place = ap (λ (b : List ℕ). seek b key) here.held.code ∙ changes.place page key here.held.short here.held.rise
 
   -- what is read: where the key is there, the object is not empty
-  read_there : has key whole ≡ true → s object ≡ page_of 0 whole
+  pub read_there : has key whole ≡ true → s object ≡ page_of 0 whole
   read_there there = elim (read_as lo s object) [
     | inl same ↦ same ∙ here.held.code
     | inr none ↦ absurd (true≢false (sym there ∙ sym stands ∙ ap (λ (b : List ℕ). stands_at b place key) none.1 ∙ none_in_empty place key))
@@ -379,20 +379,21 @@ module _ (searches : Searches) (changes : Changes) (lo hi : ℕ) (small : hi < 2
       only_too_large (Put object place key value) (may_stand whole place key) (replaced place 0 ((key, value) ∷ []) whole) (put_shape value short also admits)
       (put_check value) (changes.goes key whole here.held.rise none)
 
+  delete_shape : Admits b hi → (page_meaning b).shape (Delete object place) ≡ None
+  delete_shape admits = shaped (Delete object place) admits refl (true_both (nat_lt object (256 ^ 4)) (nat_lt place (256 ^ 2)) (object_fits admits) place_fits)
+
   delete_refused : has key whole ≡ true → OnlyTooLarge b lo hi s is (Delete object place)
   delete_refused there admits =
-      only_too_large (Delete object place) (nat_lt place (length whole)) (replaced place 1 [] whole)
-      (shaped (Delete object place) admits refl (true_both (nat_lt object (256 ^ 4)) (nat_lt place (256 ^ 2)) (object_fits admits) place_fits))
-      (delete_check there) (lt-ltb place (length whole) (place_in key whole there))
+      only_too_large (Delete object place) (nat_lt place (length whole)) (replaced place 1 [] whole) (delete_shape admits) (delete_check there) (lt-ltb place (length whole) (place_in key whole there))
 
-  -- where the leaf with the pair fits, the command is accepted
-  put_fits : (op : PageOp) (places : Bool) (target : List Cell) (value : List ℕ) → (page_meaning b).shape op ≡ None
-      → (page_meaning b).check op (read_values (page_meaning b) s op) ≡ result_err (leaf_made b.cap places target) → IsTrue places → target ≡ put byte_order key value whole
-      → IsTrue (nat_le (length (page_of 0 (put byte_order key value whole))) b.cap && nat_lt (length (page_of 0 (put byte_order key value whole))) 65536) → Accepts (page_meaning b) s op
-  put_fits op places target value shape check right same fits =
+  -- where the changed leaf fits, the command is accepted
+  made_fits : (op : PageOp) (places : Bool) (target made : List Cell) → (page_meaning b).shape op ≡ None
+      → (page_meaning b).check op (read_values (page_meaning b) s op) ≡ result_err (leaf_made b.cap places target) → IsTrue places → target ≡ made
+      → IsTrue (nat_le (length (page_of 0 made)) b.cap && nat_lt (length (page_of 0 made)) 65536) → Accepts (page_meaning b) s op
+  made_fits op places target made shape check right same fits =
       ap (λ (o : Option Refusal). or_else o ((page_meaning b).check op (read_values (page_meaning b) s op))) shape ∙ check
       ∙ (λ k. result_err (where_fits b.cap (code_of (where_places (right k) (with_cells 0 (same k))))))
-      ∙ ap (λ (t : Bool). result_err (if t then Ok (page_of 0 (put byte_order key value whole)) else Err TooLarge)) fits
+      ∙ ap (λ (t : Bool). result_err (if t then Ok (page_of 0 made) else Err TooLarge)) fits
 
   pub set_fits : (value : List ℕ) → Admits b hi → length key < 65536 → length value < 65536
       → IsTrue (nat_le (length (page_of 0 (put byte_order key value whole))) b.cap && nat_lt (length (page_of 0 (put byte_order key value whole))) 65536)
@@ -400,12 +401,18 @@ module _ (searches : Searches) (changes : Changes) (lo hi : ℕ) (small : hi < 2
   set_fits value admits short also fits =
       elim (has key whole) as (λ t. has key whole ≡ t → Accepts (page_meaning b) s (set_op t value)) [
         | true ↦ λ there.
-            put_fits (Set object place value) (nat_lt place (length whole)) (replaced place 1 ((key_at whole place, value) ∷ []) whole) value (set_shape value also admits) (set_check value there)
+            made_fits (Set object place value) (nat_lt place (length whole)) (replaced place 1 ((key_at whole place, value) ∷ []) whole) (put byte_order key value whole) (set_shape value also admits) (set_check value there)
             (lt-ltb place (length whole) (place_in key whole there)) (changes.set key value whole here.held.rise there) fits
         | false ↦ λ none.
-            put_fits (Put object place key value) (may_stand whole place key) (replaced place 0 ((key, value) ∷ []) whole) value (put_shape value short also admits) (put_check value)
+            made_fits (Put object place key value) (may_stand whole place key) (replaced place 0 ((key, value) ∷ []) whole) (put byte_order key value whole) (put_shape value short also admits) (put_check value)
             (changes.goes key whole here.held.rise none) (changes.put_new key value whole here.held.rise none) fits
       ] refl
+
+  pub delete_fits : Admits b hi → has key whole ≡ true → IsTrue (nat_le (length (page_of 0 (without key whole))) b.cap && nat_lt (length (page_of 0 (without key whole))) 65536)
+      → Accepts (page_meaning b) s (Delete object place)
+  delete_fits admits there fits =
+      made_fits (Delete object place) (nat_lt place (length whole)) (replaced place 1 [] whole) (without key whole) (delete_shape admits) (delete_check there) (lt-ltb place (length whole) (place_in key whole there))
+      (changes.delete key whole here.held.rise there) fits
 
   -- ---- what is made
 
@@ -462,7 +469,7 @@ module _ (searches : Searches) (changes : Changes) (lo hi : ℕ) (small : hi < 2
   out_of_whole : without key whole ≡ without key here.leaf.cells ++ past
   out_of_whole = out_front key here.leaf_span here.leaf.cells past key_ends here.past_too
 
-  delete_done : has key whole ≡ true → Accepts (page_meaning b) s (Delete object place) → IsDone None (Delete object place)
+  pub delete_done : has key whole ≡ true → Accepts (page_meaning b) s (Delete object place) → IsDone None (Delete object place)
   delete_done there accepted =
       let op : PageOp = Delete object place in
       let values : ◌≡◌ {A = List (List ℕ)} (s object ∷ []) (page_of 0 whole ∷ []) = ap (λ (v : List ℕ). v ∷ []) (read_there there) in
@@ -474,19 +481,24 @@ module _ (searches : Searches) (changes : Changes) (lo hi : ℕ) (small : hi < 2
       (all_out (λ c. is_within here.leaf_span c.0) key here.leaf.cells here.stands) (delete_updates key here.leaf.cells) (λ room new all. all_out (is_short_pair room) key here.leaf.cells all) accepted
 
   -- the map has the key where the leaf has it
-  has_too : is_some (get (content_of is) key) ≡ has key whole
+  pub has_too : is_some (get (content_of is) key) ≡ has key whole
   has_too = ap (λ (o : Option (List ℕ)). is_some o) (leaf_tells searches lo hi small s key is)
 
-  removed : IsDone None (Delete object place) → Makes b lo hi s is (λ m. remove m key) (Delete object place)
-  removed done = record { kept = done.0; content = same_map nat_list_cmp_total same_key _ _ (λ q. done.1 q ∙ sym (get-remove nat_list_cmp_total (content_of is) key q)) }
+  pub delete_content : (done : IsDone None (Delete object place)) → content_of done.0 ≡ remove (content_of is) key
+  delete_content done = same_map nat_list_cmp_total same_key _ _ (λ q. done.1 q ∙ sym (get-remove nat_list_cmp_total (content_of is) key q))
+
+  pub delete_command_is : delete_command lo hi s key ≡ Ok (if is_some (get (content_of is) key) then Some (Delete object place) else None)
+  delete_command_is =
+      ap (at_leaf (λ x. delete_in x (bytes_at lo s x) key)) (walk_is searches lo hi small s key is)
+      ∙ ap (at_place (delete_at object bytes key) object) found_place ∙ ap (λ (t : Bool). Ok (if t then Some (Delete object place) else None)) (stands ∙ sym has_too)
 
   pub delete_makes : DeleteMakes b lo hi s is key
   delete_makes = record {
     op = Delete object place;
-    command =
-        ap (at_leaf (λ x. delete_in x (bytes_at lo s x) key)) (walk_is searches lo hi small s key is)
-        ∙ ap (at_place (delete_at object bytes key) object) found_place ∙ ap (λ (t : Bool). Ok (if t then Some (Delete object place) else None)) (stands ∙ sym has_too);
-    makes = λ there accepted. removed (delete_done (sym has_too ∙ there) accepted);
+    command = delete_command_is;
+    makes = λ there accepted.
+        let done = delete_done (sym has_too ∙ there) accepted in
+        record { kept = done.0; content = delete_content done };
     causes = λ there. delete_refused (sym has_too ∙ there);
   }
 

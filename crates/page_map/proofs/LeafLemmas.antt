@@ -5,8 +5,6 @@ use Rattle.std.specs.List.{list_all}
 use Rattle.std.proofs.lemmas.List.{append-nil}
 use Rattle.std.proofs.lemmas.List.Concat.{flat_map-append}
 use Rattle.std.proofs.lemmas.Bool.{eq-eqb, leb-true, ltb-true}
-use Rattle.byteorder.specs.Endian.{little_bytes, little_number}
-use Rattle.oper_core.specs.LittleEndian.{little_number-little_bytes}
 use Rattle.oper_core.specs.State.{State}
 use Rattle.key_entries.specs.Entries.{byte_order}
 use Rattle.key_entries.specs.EntryLaws.{both_true}
@@ -18,11 +16,11 @@ use Rattle.page_map.specs.Map.{Span, is_below, is_within, all_past, all_within, 
 use Rattle.page_map.specs.Splits.{cells_read, child_at, end_of, front_of}
 use Rattle.page_map.specs.Ranges.{Stop, at_child, child_span, last_below, one_before, stop_from}
 use Rattle.page_map.proofs.MapLemmas.{Searches, all_both, below_through, child_found, each_at, ends_too, IsAt, lower, not_below_itself, not_below_through, not_both, not_true, on_level, pairs_within, parts_within, span_of, upper, wider, within_parts}
-use Rattle.page_map.proofs.CutLemmas.{ReadsCells, cells_are, front_is}
-use Rattle.page_map.proofs.TreeLemmas.{HoldsChild, live_in}
-use Rattle.page_map.proofs.TwoLemmas.{cell_is, from_is}
+use Rattle.page_map.proofs.CutLemmas.{ReadsCells, cells_are}
+use Rattle.page_map.proofs.TreeLemmas.{HoldsChild}
+use Rattle.page_map.proofs.TwoLemmas.{from_is}
 use Rattle.page_map.proofs.PlaceLemmas.{share_at}
-use Rattle.page_map.proofs.WayLemmas.{end_is, keys_below}
+use Rattle.page_map.proofs.WayLemmas.{child_ends, child_is}
 
 -- ---- lists that share a span
 
@@ -277,14 +275,9 @@ module _ (searches : Searches) (reads : ReadsCells) (lo hi : ℕ) (small : hi < 
           let on : ℕ → Span → Result Stop ℕ = stop_from lo hi s choose level in
           let read : cells_read (bytes_at lo s x) ≡ cells = ap cells_read holds.0.code ∙ cells_are reads (suc level) cells holds.0.short in
           let low : root_of level child ≤ hi = leb-true (root_of level child) hi (both_true (nat_lt lo (root_of level child)) (nat_le (root_of level child) hi) below.0).1 in
-          let named : child_at cells i ≡ root_of level child =
-          ap (λ (c : Cell). little_number 4 c.1) (cell_is (StandIn level) (root_of level) t.children t.past i child picked.at) ∙ ap (little_number 4) (sym (append-nil (little_bytes 4 (root_of level child))))
-          ∙ little_number-little_bytes 4 (root_of level child) [] (omega (arith, small, low)) in
-          let front : front_of span.to cells ≡ live_in (suc level) t =
-          front_is span.to (live_in (suc level) t) t.past (keys_below (StandIn level) (root_of level) span t.children stand.0 (begins span good)) stand.1 in
+          let named : child_at cells i ≡ root_of level child = child_is hi small level t i child picked.at low in
           let from : key_at cells i ≡ inner.from = from_is (StandIn level) (root_of level) span t.children t.past i child picked.at stand.0 in
-          let to : end_of (front_of span.to cells) i span.to ≡ inner.to =
-          ap (λ (l : List Cell). end_of l i span.to) front ∙ end_is (StandIn level) (root_of level) span t.children i child picked.at in
+          let to : end_of (front_of span.to cells) i span.to ≡ inner.to = child_ends level span t stand.0 stand.1 (begins span good) i child picked.at in
           let spans : child_span cells i span ≡ inner = λ k. record { from = from k; to = to k } in
           let parts = parted (StandIn level) (leaves level) (leaves_share level) span t.children i child picked.at stand.0 in
           let here : List (List ℕ × Leaf) = (rest.stop.span.from, rest.among.leaf) ∷ rest.among.back in

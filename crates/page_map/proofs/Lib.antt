@@ -15,3 +15,6 @@ pub mod SetLemmas
 pub mod LeafLemmas
 pub mod RangeLemmas
 pub mod ReadLemmas
+pub mod GoneLemmas
+pub mod TidyLemmas
+pub mod DeleteLemmas

@@ -73,6 +73,10 @@ within_parts span key e =
 pub parts_within : (span : Span) (key : List ℕ) → is_lt (byte_order key span.from) ≡ false → IsTrue (is_below key span.to) → IsTrue (is_within span key)
 parts_within span key one two = true_both (not (is_lt (byte_order key span.from))) (is_below key span.to) (true_not (is_lt (byte_order key span.from)) one) two
 
+pub in_all : (key : List ℕ) → IsTrue (is_within all_keys key)
+in_all [] = refl
+in_all (b ∷ key) = refl
+
 -- a key below one within a span ends there too
 pub ends_too : (key other : List ℕ) (to : Option (List ℕ)) → is_lt (byte_order key other) ≡ true → IsTrue (is_below other to) → IsTrue (is_below key to)
 ends_too key other None one two = refl
@@ -548,10 +552,6 @@ module _ (searches : Searches) (lo hi : ℕ) (small : hi < 2 ^ 32) (s : State) (
   pub root_held : (level : ℕ) (t : Tree level) → Holds lo hi s level t → IsHeld level (bytes_at lo s (root_of level t)) (cells_in level t)
   root_held zero t holds = holds
   root_held (suc level) t holds = holds.0
-
-  pub in_all : (key : List ℕ) → IsTrue (is_within all_keys key)
-  in_all [] = refl
-  in_all (b ∷ key) = refl
 
   pub map_leaf : (is : IsMap lo hi s) → IsLeafFor is.level all_keys is.tree
   map_leaf is = leaf_found is.level all_keys is.tree is.holds is.stand (in_all key)

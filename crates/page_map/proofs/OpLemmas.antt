@@ -21,7 +21,7 @@ use Rattle.page_ops.specs.Effects.{to_fill, where_kind, where_places}
 use Rattle.page_ops.specs.OnCells.{IsShortPage, code_of, key_at, replaced, has_below, has_run, may_precede, made_on, on_cells, where_fits, with_cells, written_on}
 use Rattle.page_ops.specs.Operation.{fits_code, objects_of, page_meaning, read_by, shape_of, written_by}
 use Rattle.page_ops.specs.declared.page_op.PageOp.{PageOp}
-use Rattle.page_ops.specs.declared.page_op.PageOp.TheVariants.{Part, Keep, TurnTwo, Root}
+use Rattle.page_ops.specs.declared.page_op.PageOp.TheVariants.{Part, Keep, Turn, TurnTwo, Root, Free}
 use Rattle.page_map.specs.Map.{bytes_at}
 use Rattle.page_map.specs.Plan.{Admits}
 use Rattle.page_map.specs.Splits.{size_of}
@@ -190,3 +190,27 @@ module _ (changes : Changes) (b : Bounds) (hi : ℕ) (small : hi < 2 ^ 32) (admi
       (true_both (nat_lt level (256 ^ 1)) (nat_lt left (256 ^ 4) && tail) (lt-ltb level (256 ^ 1) (omega (arith, level_low)))
       (true_both (nat_lt left (256 ^ 4)) tail (object_fits left left_low)
       (true_both (nat_lt (length key) 65536) (nat_lt right (256 ^ 4)) (lt-ltb (length key) 65536 key_short) (object_fits right right_low)))))
+
+  -- two cells become one with another child
+  pub turn_done : (q i x level : ℕ) (cells target : List Cell) → s q ≡ page_of (suc level) cells → AreShort cells → length (page_of (suc level) cells) ≤ room_of b.cap → q ≤ hi → x ≤ hi → i + 2 ≤ length cells
+      → target ≡ replaced i 2 (child_cell (key_at cells i) x ∷ []) cells → size_of target ≤ size_of cells → IsWritten b s (Turn q i 2 x) (suc level) target
+  turn_done q i x level cells target read short size q_low x_low inside is less =
+      let run : IsTrue (has_run cells i 2) = true_both (nat_lt 0 2) (nat_le (i + 2) (length cells)) (lt-ltb 0 2 (omega arith)) (le-leb (i + 2) (length cells) inside) in
+      let made : List Cell = replaced i 2 (child_cell (key_at cells i) x ∷ []) cells in
+      op_written (Turn q i 2 x) (record { level = suc level; cells = cells } ∷ []) (suc level) target (ap (λ (v : List ℕ). v ∷ []) read) (one_short (suc level) cells short) refl
+      ((λ k. where_kind (not (ne_eqb (suc level) 0 (λ e. absurd (omega (arith, e))) k)) (where_places (run k) (with_cells (suc level) made))) ∙ ap (with_cells (suc level)) (sym is))
+      (omega (arith, size, less, page_size (suc level) cells, page_size (suc level) target)) (one_below q q_low) refl
+      (true_both (nat_lt q (256 ^ 4)) (nat_lt i (256 ^ 2) && (nat_lt 2 (256 ^ 2) && nat_lt x (256 ^ 4))) (object_fits q q_low)
+      (true_both (nat_lt i (256 ^ 2)) (nat_lt 2 (256 ^ 2) && nat_lt x (256 ^ 4)) (place_fits i cells short (omega (arith, inside)))
+      (true_both (nat_lt 2 (256 ^ 2)) (nat_lt x (256 ^ 4)) (lt-ltb 2 (256 ^ 2) (omega arith)) (object_fits x x_low))))
+
+  -- an object is given back
+  pub free_done : (x : ℕ) → x ≤ hi → Accepts (page_meaning b) s (Free x) × (after (page_meaning b) s (Free x) ≡ with_values s (x ∷ []) ([] ∷ []))
+  free_done x low =
+      let made : made_on b.cap (Free x) [] ≡ Ok [] = ap (λ (t : Bool). if t then Ok [] else Err TooLarge) (true_both (nat_le 0 b.cap) (nat_lt 0 65536) (le-leb 0 b.cap (omega arith)) (lt-ltb 0 65536 (omega arith))) in
+      let shape : shape_of b (Free x) ≡ None =
+      ap (λ (t : Bool). if t then named b.objects (x ∷ []) (fits_code (Free x)) else Some NoPages) admits.more ∙ named_by b.objects (x ∷ []) (fits_code (Free x)) (one_below x low) refl (object_fits x low) in
+      let check : (page_meaning b).check (Free x) [] ≡ None = changes.check b (Free x) [] (All-nil IsShortPage) refl ∙ ap result_err made in (
+        ap (λ (o : Option Refusal). or_else o ((page_meaning b).check (Free x) [])) shape ∙ check,
+        ap (with_values s (x ∷ [])) (changes.effect b (Free x) [] (All-nil IsShortPage) refl ∙ ap (λ (r : Result (List ℕ) Refusal). written_on r ∷ []) made),
+      )

@@ -389,7 +389,7 @@ module _ (searches : Searches) (reads : ReadsCells) (lo hi : ℕ) (small : hi < 
   stop_at : (key : List ℕ) → StopsAt key
   stop_at key =
       stop_found searches reads lo hi small s (last_under key) (λ span. IsTrue (is_within span key)) (begins_at key) (picks_under searches reads lo hi small s key (begins_at key)) level all_keys t is.holds is.stand
-      (in_all searches lo hi small s key key)
+      (in_all key)
 
   begins_before : (end : Option (List ℕ)) (span : Span) → EndsIn end span → IsTrue (is_below span.from span.to)
   begins_before end span ends = ends.ends span.from ends.begins

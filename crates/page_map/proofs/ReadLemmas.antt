@@ -13,6 +13,7 @@ use Rattle.key_entries.specs.EntryLaws.{both_true}
 use Rattle.page_ops.specs.Page.{Cell}
 use Rattle.page_map.specs.Map.{all_keys, is_below, is_within}
 use Rattle.page_map.specs.Reads.{above, are_bytes, back_of, begins_with, below, first_of, last_of, next_of, pairs_of, prefix_end, prefix_of, prefix_span, prev_of, raised, range_of}
+use Rattle.page_map.proofs.MapLemmas.{in_all}
 use Rattle.page_map.proofs.CutLemmas.{not_below_none}
 
 -- ---- lists
@@ -48,9 +49,6 @@ module _ {A : Type 0} where
   filter_all test same (x ∷ l) = ap (λ (t : Bool). cond t (x ∷ filter test l) (filter test l)) (same x) ∙ ap (λ (m : List A). x ∷ m) (filter_all test same l)
 
 -- ---- spans
-
-all_inside : (key : List ℕ) → is_within all_keys key ≡ true
-all_inside key = ap (λ (t : Bool). not t && true) (not_below_none key)
 
 below_is : (end key : List ℕ) → is_within (below end) key ≡ is_lt (byte_order key end)
 below_is end key = ap (λ (t : Bool). not t && is_lt (byte_order key end)) (not_below_none key)
@@ -107,7 +105,7 @@ past_prefix b c key None more low =
     ] refl
 
 prefix_is : (bytes key : List ℕ) → IsTrue (are_bytes key) → begins_with bytes key ≡ is_within (prefix_span bytes) key
-prefix_is [] key are = sym (all_inside key)
+prefix_is [] key are = sym (in_all key)
 prefix_is (b ∷ bytes) [] are = refl
 prefix_is (b ∷ bytes) (c ∷ key) are =
     let parts = both_true (nat_lt c 256) (are_bytes key) are in
@@ -134,12 +132,12 @@ prefixes bytes (c ∷ cells) are =
 
 module _ (m : FinMap byte_order (List ℕ)) where
   pub first_is : first_of m ≡ slice_get (range_of m all_keys 1) 0
-  first_is = first_taken (entries m) ∙ ap (λ (l : List Cell). slice_get (take 1 l) 0) (sym (filter_all (λ c. is_within all_keys c.0) (λ c. all_inside c.0) (entries m)))
+  first_is = first_taken (entries m) ∙ ap (λ (l : List Cell). slice_get (take 1 l) 0) (sym (filter_all (λ c. is_within all_keys c.0) (λ c. in_all c.0) (entries m)))
 
   pub last_is : last_of m ≡ slice_get (back_of m all_keys 1) 0
   last_is =
       first_taken (reverse (entries m))
-      ∙ ap (λ (l : List Cell). slice_get (take 1 (reverse l)) 0) (sym (filter_all (λ c. is_within all_keys c.0) (λ c. all_inside c.0) (entries m)))
+      ∙ ap (λ (l : List Cell). slice_get (take 1 (reverse l)) 0) (sym (filter_all (λ c. is_within all_keys c.0) (λ c. in_all c.0) (entries m)))
 
   pub next_is : (key : List ℕ) → next_of m key ≡ slice_get (range_of m (above key) 1) 0
   next_is key =

@@ -42,7 +42,7 @@ nothing_past : (past : List Cell) → IsTrue (all_past all_keys past) → past �
 nothing_past [] all = refl
 nothing_past (c ∷ past) all = cc
 
-root_ends : (level : ℕ) (t : Tree level) → StandIn level all_keys t → past_in level t ≡ []
+pub root_ends : (level : ℕ) (t : Tree level) → StandIn level all_keys t → past_in level t ≡ []
 root_ends zero t stand = nothing_past t.past stand.1
 root_ends (suc level) t stand = nothing_past t.past stand.1
 
@@ -64,7 +64,7 @@ free_second lo hi s order x y free e =
     (record { above = omega (arith, found.above, next.above); low = omega (arith, found.ends, next.ends, order); empty = next.empty }, omega (arith, next.above))
 
 -- a value that a command writes fits a store of these bounds
-fits_too : (b : Bounds) (s : State) (op : PageOp) → ((x : ℕ) → length (s x) ≤ b.cap) → (x : ℕ) → length (after (page_meaning b) s op x) ≤ b.cap
+pub fits_too : (b : Bounds) (s : State) (op : PageOp) → ((x : ℕ) → length (s x) ≤ b.cap) → (x : ℕ) → length (after (page_meaning b) s op x) ≤ b.cap
 fits_too b s op low x =
     let made = where_short b.cap (made_by op (read_values (page_meaning b) s op)) in
     elim (x == written_by op) as (λ t. length (if t || false then (if t then value_made made else []) else s x) ≤ b.cap) [
@@ -255,7 +255,7 @@ module _ (searches : Searches) (changes : Changes) (reads : ReadsCells) (b : Bou
 
     found : DueFound reads lo hi small s room key value leaf level all_keys t
     found =
-        due_found reads lo hi small s room key value leaf searches short_pair pages_fit level all_keys t is.map.holds is.map.stand is.short (in_all searches lo hi small s key key) here.walk
+        due_found reads lo hi small s room key value leaf searches short_pair pages_fit level all_keys t is.map.holds is.map.stand is.short (in_all key) here.walk
 
     due_is : due_in b lo hi key value s ≡ Some found.due
     due_is = (λ k. due_from room lo s key value (top_level k) (sym is.map.root k) None) ∙ found.comes

@@ -68,6 +68,22 @@ module _ {Child : Type 0} (In : Span → Child → Type 0) (root : Child → ℕ
 
 -- ---- one page down
 
+-- the cells of an inner page that are within its span are its children
+pub front_live : (level : ℕ) (span : Span) (t : Tree (suc level)) → Share (StandIn level) span t.children → IsTrue (all_past span t.past) → IsTrue (is_below span.from span.to)
+    → front_of span.to (cells_in (suc level) t) ≡ live_in (suc level) t
+front_live level span t share past below = front_is span.to (live_in (suc level) t) t.past (keys_below (StandIn level) (root_of level) span t.children share below) past
+
+-- a cell tells its child, and where its span ends
+pub child_is : (hi : ℕ) → hi < 2 ^ 32 → (level : ℕ) (t : Tree (suc level)) (i : ℕ) (child : Tree level) → IsAt i child t.children → root_of level child ≤ hi → child_at (cells_in (suc level) t) i ≡ root_of level child
+child_is hi small level t i child at low =
+    ap (λ (c : Cell). little_number 4 c.1) (cell_is (StandIn level) (root_of level) t.children t.past i child at) ∙ ap (little_number 4) (sym (append-nil (little_bytes 4 (root_of level child))))
+    ∙ little_number-little_bytes 4 (root_of level child) [] (omega (arith, small, low))
+
+pub child_ends : (level : ℕ) (span : Span) (t : Tree (suc level)) → Share (StandIn level) span t.children → IsTrue (all_past span t.past) → IsTrue (is_below span.from span.to) → (i : ℕ) (child : Tree level)
+    → IsAt i child t.children → end_of (front_of span.to (cells_in (suc level) t)) i span.to ≡ (span_of span t.children i).to
+child_ends level span t share past below i child at =
+    ap (λ (l : List Cell). end_of l i span.to) (front_live level span t share past below) ∙ end_is (StandIn level) (root_of level) span t.children i child at
+
 -- pages below others come first; of one page, that its cells past the span go
 abbrev pub rank : Split → ℕ
 rank w = 2 * w.level + (if w.has_past then 1 else 0)
@@ -95,10 +111,8 @@ module _ (reads : ReadsCells) (lo hi : ℕ) (small : hi < 2 ^ 32) (room : ℕ) (
       let size : ℕ = length (bytes_at lo s t.object) in
       let all : List Cell = cells_in (suc level) t in
       let live : List Cell = live_in (suc level) t in
-      let front : front_of span.to all ≡ live = front_is span.to live t.past (keys_below (StandIn level) (root_of level) span t.children share below) past in
-      let beside : child_at all i ≡ root_of level child =
-      ap (λ (c : Cell). little_number 4 c.1) (cell_is (StandIn level) (root_of level) t.children t.past i child at) ∙ ap (little_number 4) (sym (append-nil (little_bytes 4 (root_of level child))))
-      ∙ little_number-little_bytes 4 (root_of level child) [] (omega (arith, small, low)) in
+      let front : front_of span.to all ≡ live = front_live level span t share past below in
+      let beside : child_at all i ≡ root_of level child = child_is hi small level t i child at low in
       let end : end_of live i span.to ≡ (span_of span t.children i).to = end_is (StandIn level) (root_of level) span t.children i child at in
       ap (λ (l : List Cell). due_under room lo s key value (due_at level) (suc level) t.object span.to l (last_under key l)) (page_cells (suc level) t.object all held)
       ∙ ap (due_under room lo s key value (due_at level) (suc level) t.object span.to all) under

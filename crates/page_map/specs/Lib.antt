@@ -5,3 +5,4 @@ pub mod Splits
 pub mod Sets
 pub mod Reads
 pub mod Ranges
+pub mod Deletes

@@ -18,7 +18,7 @@ use Rattle.page_map.specs.Map.{Tree, Each, bytes_at, IsMap, content_of}
 use Rattle.page_map.specs.Plan.{set_command}
 use Rattle.page_map.specs.Splits.{Split, Due, fits, asks, granted, due_from}
 use Rattle.page_map.specs.declared.refusal.MapRefusal.{MapRefusal}
-use Rattle.page_map.specs.declared.refusal.MapRefusal.TheVariants.{BadMap, MapFull, TooLong}
+use Rattle.page_map.specs.declared.refusal.MapRefusal.TheVariants.{BadMap, MapFull, NoKey, TooLong}
 
 -- the most bytes of a page: places have two bytes
 abbrev pub room_of : ℕ → ℕ
@@ -115,6 +115,7 @@ module _ (b : Bounds) (lo hi : ℕ) (s : State) (is : IsKept b lo hi s) where
   abbrev pub IsCause : List ℕ → List ℕ → MapRefusal → Type 0
   IsCause key value TooLong = is_pair (room_of b.cap) (key, value) ≡ false
   IsCause key value MapFull = (length (free_from s (suc lo) (hi - lo)) < 2) ⊎ (255 ≤ is.map.level)
+  IsCause key value NoKey = ⊥
   IsCause key value (BadMap x) = ⊥
 
   abbrev pub IsTurn : List ℕ → List ℕ → Turn → Type 0

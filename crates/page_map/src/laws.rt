@@ -10,11 +10,12 @@ ghost use Rattle.key_entries.specs.Entries.{byte_order};
 ghost use Rattle.call_plans.specs.Laws.{AreAlike};
 ghost use Rattle.page_ops.specs.Operation.{page_meaning, written_by};
 ghost use Rattle.page_ops.specs.declared.page_op.PageOp.{PageOp};
+ghost use Rattle.page_map.specs.Deletes.{Deletes, delete_plan, tidy_commands};
 ghost use Rattle.page_map.specs.Map.{IsMap, Span, all_keys, content_of, objects_in, times};
 ghost use Rattle.page_map.specs.Plan.{Admits, DeleteMakes, SetMakes};
 ghost use Rattle.page_map.specs.Ranges.{back_answer, count_answer, range_answer};
 ghost use Rattle.page_map.specs.Reads.{above, are_bytes, back_of, below, count_of, first_of, last_of, next_of, pairs_of, prefix_of, prefix_span, prev_of, range_of};
-ghost use Rattle.page_map.specs.Sets.{IsKept, IsTurn, Sets, set_plan, set_turn};
+ghost use Rattle.page_map.specs.Sets.{IsKept, IsTurn, Keeps, Sets, set_plan, set_turn};
 ghost use Rattle.page_map.specs.Walk.{get_answer};
 
 use page_ops::{a_search_finds_the_place, operations_are_on_cells};
@@ -32,6 +33,17 @@ pub fn a_get_finds_what_the_map_has()
 pub fn changes_are_those_of_the_map()
     ensures set { (b : Bounds) (lo hi : ℕ) (s : State) (key value : List ℕ) → hi < 2 ^ 32 → (is : IsMap lo hi s) → SetMakes b lo hi s is key value }
     ensures delete { (b : Bounds) (lo hi : ℕ) (s : State) (key : List ℕ) → hi < 2 ^ 32 → (is : IsMap lo hi s) → DeleteMakes b lo hi s is key }
+{
+    a_search_finds_the_place();
+    operations_are_on_cells();
+}
+
+/// On a map the commands of a delete are accepted one after the other, and behind each the range is a map: from the first one on,
+/// without the key. It is refused exactly where the map lacks the key. The commands that tidy the way to a key, where a leaf without
+/// cells gives way and a root with one child becomes it, keep what the map holds.
+pub fn a_delete_is_done_or_refused()
+    ensures delete { (b : Bounds) (lo hi : ℕ) (s : State) (key : List ℕ) → hi < 2 ^ 32 → Admits b hi → (is : IsKept b lo hi s) → Deletes b lo hi s is key (delete_plan b lo hi key s) }
+    ensures tidy { (b : Bounds) (lo hi : ℕ) (s : State) (key : List ℕ) → hi < 2 ^ 32 → Admits b hi → (is : IsKept b lo hi s) → Keeps b lo hi s is (tidy_commands b lo hi key s) }
 {
     a_search_finds_the_place();
     operations_are_on_cells();

@@ -2,20 +2,22 @@
 //!
 //! As code the library has one type, why a call is refused (`MapRefusal`). The definitions are which ranges are maps and what they
 //! hold (`Map`), the way to the leaf of a key and what a get answers (`Walk`), the command that a set or a delete is (`Plan`), where
-//! a page is cut (`Splits`), the turns of a set (`Sets`), what is read of a map (`Reads`), and how ranges are read leaf by leaf
-//! (`Ranges`). The laws: on a map a get finds what the map has; the command of a set or a delete leaves a map with the change, and
-//! is refused only where the leaf would be too large; a set cuts pages until the pair has room, in commands each of which leaves a
-//! map with the old content, and the last with the pair; ranges, both ways, are those of the map, and so are the pairs beside a key,
-//! at either end and with a prefix. A delete takes no page out yet. The crate depends on page_ops for pages and operations, on
-//! key_entries for the order of keys, on call_plans for plans and free objects, and on oper_core.
+//! a page is cut (`Splits`), the turns of a set (`Sets`), the commands of a delete (`Deletes`), what is read of a map (`Reads`), and
+//! how ranges are read leaf by leaf (`Ranges`). The laws: on a map a get finds what the map has; the command of a set or a delete
+//! leaves a map with the change, and is refused only where the leaf would be too large; a set cuts pages until the pair has room, in
+//! commands each of which leaves a map with the old content, and the last with the pair; a delete takes the key out first, and then
+//! the leaf, where it has no cells left and its page another child; ranges, both ways, are those of the map, and so are the pairs
+//! beside a key, at either end and with a prefix. Pages that are not empty are not joined yet. The crate depends on page_ops for
+//! pages and operations, on key_entries for the order of keys, on call_plans for plans and free objects, and on oper_core.
 #![tactic(auto)]
 
 mod laws;
 mod refusal;
 
 pub use laws::{
-    a_get_finds_what_the_map_has, a_map_depends_on_its_range, a_set_goes_by_turns,
-    a_set_is_done_or_refused, an_empty_root_is_an_empty_map, changes_are_those_of_the_map,
-    ranges_are_read_from_leaves, reads_are_ranges, what_is_not_reached_may_be_written,
+    a_delete_is_done_or_refused, a_get_finds_what_the_map_has, a_map_depends_on_its_range,
+    a_set_goes_by_turns, a_set_is_done_or_refused, an_empty_root_is_an_empty_map,
+    changes_are_those_of_the_map, ranges_are_read_from_leaves, reads_are_ranges,
+    what_is_not_reached_may_be_written,
 };
 pub use refusal::MapRefusal;

@@ -6,4 +6,6 @@ pub enum MapRefusal {
     TooLong,
     /// A page has to be cut, and no object is empty, or the map has all its levels.
     MapFull,
+    /// The key to delete isn't there.
+    NoKey,
 }
