@@ -18,3 +18,6 @@ mod Stays
 mod Decoded
 mod OnePrimary
 mod Logged
+mod Compared
+mod Mirrored
+mod Loaded

@@ -5,3 +5,4 @@ pub mod Attaching
 pub mod Upkeep
 pub mod Steps
 pub mod OnePrimary
+pub mod Same

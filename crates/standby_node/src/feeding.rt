@@ -48,7 +48,7 @@ fn has_lsn<O: Oper>(logged: &Record<O>) -> bool
 }
 
 // The record that the bytes begin with, and the length of its code, if it may stand in a frame.
-fn decode_shipped<O: Oper>(
+pub(crate) fn decode_shipped<O: Oper>(
     alloc: Global,
     b: Bounds,
     bytes: &[u8],

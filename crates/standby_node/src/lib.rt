@@ -13,16 +13,25 @@
 //! Between two frames the standby may install, take a checkpoint and trim its log, and goes on. It logs no identity write of its own, so
 //! that its records keep their LSNs.
 //!
+//! A stream may be compared before it is followed: a [`Mirror`] has the records of the store's log in memory, and those that the
+//! stream brings, and finds the first record that is another one than the store's ([`Mirror::take`], [`a_stream_is_compared`]).
+//!
 //! It depends on store_engine, whose engine it is made of, and on frame_stream for the frames.
 #![tactic(auto)]
 
+mod compare_err;
 mod feeding;
 mod follow_err;
+mod mirror;
+mod mirroring;
 mod standby;
 mod standby_laws;
 mod upkeep;
 
+pub use compare_err::CompareErr;
 pub use follow_err::FollowErr;
+pub use mirror::Mirror;
+pub use mirroring::a_stream_is_compared;
 pub use standby::Standby;
 pub use standby_laws::{
     a_log_is_shipped, a_primary_is_followed, a_standby_catches_up, a_stream_is_followed_in_one_way,
