@@ -1,0 +1,8 @@
+mod Runs
+mod Leading
+mod Ends
+mod Numerals
+mod Numbers
+mod Bulks
+mod Plain
+mod Arrays

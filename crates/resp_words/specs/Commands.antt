@@ -1,0 +1,93 @@
+-- Commands as bytes.
+use Rattle.std.specs.Prelude.{◌≡◌, ◌≢◌, ◌≤◌, ◌⊎◌, ⊤, ℕ, List, [], ◌∷◌, ◌++◌, length, map}
+use Rattle.std.specs.Fmt.{decimal}
+use Rattle.std.specs.List.{AllByRecursion, flat_map}
+use Rattle.resp_words.specs.declared.found.Command.{Command}
+use Rattle.resp_words.specs.declared.found.Found.{Found}
+use Rattle.resp_words.specs.declared.found.Found.TheVariants.{Whole, More, Bad}
+use Rattle.resp_words.specs.declared.limits.Limits.{Limits}
+use Rattle.resp_words.specs.Lines.{AreWords, IsPlainLine}
+use Rattle.resp_words.specs.Reading.{IsBad, IsFront}
+
+-- a text and the end of its line
+abbrev pub ended : List ℕ → List ℕ
+ended text = text ++ 13 ∷ 10 ∷ []
+
+-- a word: a dollar sign, its length, and its bytes
+abbrev pub bulk : List ℕ → List ℕ
+bulk word = 36 ∷ (ended (decimal (length word)) ++ ended word)
+
+-- a command in the array form: a star, how many words it has, and each of them
+abbrev pub command_bytes : List (List ℕ) → List ℕ
+command_bytes words = 42 ∷ (ended (decimal (length words)) ++ flat_map bulk words)
+
+-- the end of a line, which means nothing
+abbrev pub IsLineEnd : List ℕ → ⊤ → Type 0
+IsLineEnd text nothing = text ≡ 13 ∷ 10 ∷ []
+
+-- a number up to this one
+pub record IsNumberLine (most : ℕ) (text : List ℕ) (n : ℕ) : Type 0 where
+  pub is : text ≡ ended (decimal n)
+  pub small : n ≤ most
+
+-- so many bytes
+pub record IsEnded (count : ℕ) (text word : List ℕ) : Type 0 where
+  pub is : text ≡ ended word
+  pub long : length word ≡ count
+
+abbrev pub IsShort : ℕ → List ℕ → Type 0
+IsShort most word = length word ≤ most
+
+-- a word of at most so many bytes
+pub record IsBulk (most : ℕ) (text word : List ℕ) : Type 0 where
+  pub is : text ≡ bulk word
+  pub short : IsShort most word
+
+-- so many such words
+pub record AreBulks (count most : ℕ) (text : List ℕ) (words : List (List ℕ)) : Type 0 where
+  pub is : text ≡ flat_map bulk words
+  pub all : length words ≡ count
+  pub short : AllByRecursion (IsShort most) words
+
+-- words that the limits allow
+pub record IsWithin (limits : Limits) (words : List (List ℕ)) : Type 0 where
+  pub count : length words ≤ limits.words
+  pub short : AllByRecursion (IsShort limits.bytes) words
+
+pub record IsArray (limits : Limits) (text : List ℕ) (words : List (List ℕ)) : Type 0 where
+  pub is : text ≡ command_bytes words
+  pub within : IsWithin limits words
+
+-- the first byte is no star, if there is one
+abbrev pub BeginsOtherwise : List ℕ → Type 0
+BeginsOtherwise [] = ⊤
+BeginsOtherwise (byte ∷ bytes) = byte ≢ 42
+
+-- a command in one line, which is its words with blanks between them
+pub record IsLine (limits : Limits) (text : List ℕ) (words : List (List ℕ)) : Type 0 where
+  pub line : List ℕ
+  pub is : IsPlainLine limits.line text line
+  pub other : BeginsOtherwise line
+  pub parts : AreWords line words
+
+-- what the words of a command may be written as
+abbrev pub IsCommand : Limits → List ℕ → List (List ℕ) → Type 0
+IsCommand limits text words = IsArray limits text words ⊎ IsLine limits text words
+
+abbrev pub words_of : Command → List (List ℕ)
+words_of command = map (λ word. word.now) command.words.items
+
+-- the bytes begin with a command, which has these words and takes so many bytes
+pub record IsFound (limits : Limits) (bytes : List ℕ) (words : List (List ℕ)) (used : ℕ) : Type 0 where
+  pub text : List ℕ
+  pub later : List ℕ
+  pub means : IsCommand limits text words
+  pub is : bytes ≡ text ++ later
+  pub long : used ≡ length text
+
+-- They begin with a command; they are the front of one; or no command begins with them, whatever comes. No two of these hold
+-- at once.
+abbrev pub Finds : Limits → List ℕ → Found Command → Type 0
+Finds limits bytes (Whole command) = IsFound limits bytes (words_of command) command.used
+Finds limits bytes More = IsFront (IsCommand limits) bytes
+Finds limits bytes (Bad error) = IsBad (IsCommand limits) bytes

@@ -1,0 +1,18 @@
+//! RESP 2, the protocol of Redis's clients: commands are read, and replies are written. Nothing in this repository serves it yet.
+#![tactic(auto)]
+
+mod array;
+mod bulk;
+mod command;
+mod found;
+mod kind;
+mod limits;
+mod line;
+mod number;
+mod protocol_error;
+mod run;
+
+pub use command::next_command;
+pub use found::{Command, Found};
+pub use limits::Limits;
+pub use protocol_error::ProtocolError;
