@@ -6,3 +6,4 @@ mod Numbers
 mod Bulks
 mod Plain
 mod Arrays
+mod Apart

@@ -7,7 +7,7 @@ use Rattle.resp_words.specs.declared.found.Found.{Found}
 use Rattle.resp_words.specs.declared.found.Found.TheVariants.{Whole, More, Bad}
 use Rattle.resp_words.specs.declared.limits.Limits.{Limits}
 use Rattle.resp_words.specs.Lines.{AreWords, IsPlainLine}
-use Rattle.resp_words.specs.Reading.{IsBad, IsFront}
+use Rattle.resp_words.specs.Reading.{Begins, IsBad, IsFront, IsRead}
 
 -- a text and the end of its line
 abbrev pub ended : List ℕ → List ℕ
@@ -91,3 +91,22 @@ abbrev pub Finds : Limits → List ℕ → Found Command → Type 0
 Finds limits bytes (Whole command) = IsFound limits bytes (words_of command) command.used
 Finds limits bytes More = IsFront (IsCommand limits) bytes
 Finds limits bytes (Bad error) = IsBad (IsCommand limits) bytes
+
+-- what was found is these words, which take so many bytes
+abbrev pub IsThis : List (List ℕ) → ℕ → Found Command → Type 0
+IsThis words used (Whole command) = (words_of command ≡ words) × (command.used ≡ used)
+IsThis words used More = ⊥
+IsThis words used (Bad error) = ⊥
+
+-- two answers are one, but for the text of what is bad
+abbrev pub Agree : Found Command → Found Command → Type 0
+Agree (Whole command) other = IsThis (words_of command) command.used other
+Agree More other = other ≡ More
+Agree (Bad error) (Bad other) = ⊤
+Agree (Bad error) (Whole command) = ⊥
+Agree (Bad error) More = ⊥
+
+-- the bytes are these commands, and a rest that begins with no whole one
+abbrev pub AreCommands : Limits → List ℕ → List (List (List ℕ)) → List ℕ → Type 0
+AreCommands limits bytes [] rest = (bytes ≡ rest) × (Begins (IsCommand limits) rest → ⊥)
+AreCommands limits bytes (words ∷ commands) rest = (later : List ℕ) × IsRead (IsCommand limits) bytes words later × AreCommands limits later commands rest

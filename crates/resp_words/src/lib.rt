@@ -4,6 +4,7 @@
 mod array;
 mod bulk;
 mod command;
+mod command_laws;
 mod found;
 mod kind;
 mod limits;
@@ -13,6 +14,7 @@ mod protocol_error;
 mod run;
 
 pub use command::next_command;
+pub use command_laws::{a_command_is_found, commands_are_told_apart};
 pub use found::{Command, Found};
 pub use limits::Limits;
 pub use protocol_error::ProtocolError;
