@@ -7,3 +7,4 @@ mod Bulks
 mod Plain
 mod Arrays
 mod Apart
+mod Told

@@ -2,3 +2,4 @@ pub mod Runs
 pub mod Reading
 pub mod Lines
 pub mod Commands
+pub mod Replies

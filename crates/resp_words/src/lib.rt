@@ -11,6 +11,8 @@ mod limits;
 mod line;
 mod number;
 mod protocol_error;
+mod reply;
+mod reply_laws;
 mod run;
 
 pub use command::next_command;
@@ -18,3 +20,5 @@ pub use command_laws::{a_command_is_found, commands_are_told_apart};
 pub use found::{Command, Found};
 pub use limits::Limits;
 pub use protocol_error::ProtocolError;
+pub use reply::Reply;
+pub use reply_laws::replies_are_told_apart;
