@@ -1,5 +1,5 @@
 -- Commands one after the other.
-use Rattle.std.proofs.Common.{◌≡◌, ◌∙◌, refl, sym, ap, subst, ◌+◌, ◌^◌, ◌<◌, ◌⊎◌, inl, inr, ℕ, List, [], ◌∷◌, ◌++◌, length, drop, get_or, arith, append_assoc, length-append}
+use Rattle.std.proofs.Common.{◌≡◌, ◌∙◌, refl, sym, ap, subst, ◌^◌, ◌<◌, inl, inr, ℕ, List, [], ◌∷◌, ◌++◌, length, drop, arith, append_assoc, length-append}
 use Rattle.std.proofs.lemmas.List.{append-nil}
 use Rattle.std.specs.Fmt.{decimal}
 use Rattle.std.specs.List.{AllByRecursion, flat_map}
@@ -70,12 +70,12 @@ front_not_bad limits bytes it bad = bad it.later (record { text = bytes ++ it.la
 pub one_answer : (limits : Limits) (bytes : List ℕ) (found other : Found Command) → Finds limits bytes found → Finds limits bytes other → Agree found other
 one_answer limits bytes (Whole c) (Whole d) p q = found_same limits bytes (words_of c) (words_of d) c.used d.used p q
 one_answer limits bytes (Whole c) More p q = q.none (found_begins limits bytes (words_of c) c.used p)
-one_answer limits bytes (Whole c) (Bad f) p q = not_bad limits bytes (found_begins limits bytes (words_of c) c.used p) q
+one_answer limits bytes (Whole c) (Bad f) p q = not_bad limits bytes (found_begins limits bytes (words_of c) c.used p) q.0
 one_answer limits bytes More (Whole d) p q = absurd (p.none (found_begins limits bytes (words_of d) d.used q))
 one_answer limits bytes More More p q = refl
-one_answer limits bytes More (Bad f) p q = absurd (front_not_bad limits bytes p q)
-one_answer limits bytes (Bad e) (Whole d) p q = not_bad limits bytes (found_begins limits bytes (words_of d) d.used q) p
-one_answer limits bytes (Bad e) More p q = front_not_bad limits bytes q p
+one_answer limits bytes More (Bad f) p q = absurd (front_not_bad limits bytes p q.0)
+one_answer limits bytes (Bad e) (Whole d) p q = not_bad limits bytes (found_begins limits bytes (words_of d) d.used q) p.0
+one_answer limits bytes (Bad e) More p q = front_not_bad limits bytes q p.0
 one_answer limits bytes (Bad e) (Bad f) p q = tt
 
 array_found : (limits : Limits) (words : List (List ℕ)) (later : List ℕ) → IsWithin limits words → IsFound limits (command_bytes words ++ later) words (length (command_bytes words))
@@ -86,7 +86,7 @@ whole_found limits words later (Whole c) within p =
     found_same limits (command_bytes words ++ later) words (words_of c) (length (command_bytes words)) c.used (array_found limits words later within) p
 whole_found limits words later More within p = p.none (found_begins limits (command_bytes words ++ later) words (length (command_bytes words)) (array_found limits words later within))
 whole_found limits words later (Bad e) within p =
-    not_bad limits (command_bytes words ++ later) (found_begins limits (command_bytes words ++ later) words (length (command_bytes words)) (array_found limits words later within)) p
+    not_bad limits (command_bytes words ++ later) (found_begins limits (command_bytes words ++ later) words (length (command_bytes words)) (array_found limits words later within)) p.0
 
 pub part_found : (limits : Limits) (words : List (List ℕ)) (front rest : List ℕ) (found : Found Command) → IsWithin limits words → command_bytes words ≡ front ++ rest → 0 < length rest → Finds limits front found → found ≡ More
 part_found limits words front rest (Whole c) within is some p =
@@ -95,7 +95,7 @@ part_found limits words front rest (Whole c) within is some p =
     absurd (omega (arith, some, ap length both.1, length-append p.later rest))
 part_found limits words front rest More within is some p = refl
 part_found limits words front rest (Bad e) within is some p =
-    absurd (p rest (record { text = command_bytes words; meaning = words; later = []; means = inl (record { is = refl; within = within }); is = sym is ∙ sym (append-nil (command_bytes words)) }))
+    absurd (p.0 rest (record { text = command_bytes words; meaning = words; later = []; means = inl (record { is = refl; within = within }); is = sym is ∙ sym (append-nil (command_bytes words)) }))
 
 read_begins : (limits : Limits) (bytes later : List ℕ) (words : List (List ℕ)) → IsRead (IsCommand limits) bytes words later → Begins (IsCommand limits) bytes
 read_begins limits bytes later words it = record { text = it.text; meaning = words; later = later; means = it.means; is = it.is }

@@ -1,9 +1,9 @@
 -- Commands in the array form.
-use Rattle.std.proofs.Common.{◌≡◌, ◌≢◌, ◌∙◌, refl, sym, ap, ◌^◌, ◌≤◌, ◌<◌, ◌⊎◌, inl, inr, ℕ, List, [], ◌∷◌, ◌++◌, length, drop, get_or, replicate, arith, append_assoc, length-append}
+use Rattle.std.proofs.Common.{◌≡◌, ◌∙◌, refl, sym, ap, ◌≤◌, inl, inr, ℕ, List, [], ◌∷◌, ◌++◌, length, drop, get_or, replicate, arith, append_assoc, length-append}
 use Rattle.std.proofs.lemmas.List.{length-replicate}
 use Rattle.std.specs.Fmt.{decimal}
 use Rattle.std.specs.List.{flat_map}
-use Rattle.resp_words.specs.Commands.{AreBulks, BeginsOtherwise, IsArray, IsCommand, IsLine, IsNumberLine, bulk, command_bytes, ended}
+use Rattle.resp_words.specs.Commands.{AreBulks, BeginsOtherwise, IsArray, IsCommand, IsNumberLine, bulk, command_bytes, ended}
 use Rattle.resp_words.specs.Reading.{Begins, IsFront, IsRead}
 use Rattle.resp_words.specs.declared.limits.Limits.{Limits}
 use Rattle.resp_words.proofs.Bulks.{empty_words}

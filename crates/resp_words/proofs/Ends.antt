@@ -1,7 +1,7 @@
 -- The end of a line.
-use Rattle.std.proofs.Common.{◌≡◌, ◌≢◌, ◌<◌, ◌∙◌, sym, ap, refl, ℕ, List, [], ◌∷◌, ◌++◌, length, get_or, arith, length-append}
+use Rattle.std.proofs.Common.{◌≡◌, ◌<◌, ◌∙◌, ap, refl, ℕ, List, [], ◌∷◌, ◌++◌, length, get_or, arith}
 use Rattle.resp_words.specs.Commands.{IsLineEnd}
-use Rattle.resp_words.specs.Reading.{Begins, IsBad, IsFront, IsRead}
+use Rattle.resp_words.specs.Reading.{Begins, IsBad, IsFront}
 
 -- what bytes that begin with the end of a line are
 pub end_stands : (bytes : List ℕ) → (begins : Begins IsLineEnd bytes) → bytes ≡ 13 ∷ 10 ∷ begins.later

@@ -1,9 +1,10 @@
 -- From what bytes behind a front begin with to what all of them begin with.
 use Rattle.std.proofs.Common.{◌≡◌, ◌∙◌, sym, ap, subst, ℕ, List, [], ◌++◌, append_assoc}
 use Rattle.std.proofs.lemmas.List.{append-nil}
-use Rattle.resp_words.specs.Reading.{Begins, IsBad, IsFront, IsRead, Reads}
+use Rattle.resp_words.specs.Reading.{Begins, IsBad, IsFront, Reads}
 use Rattle.resp_words.specs.declared.found.Found.{Found}
 use Rattle.resp_words.specs.declared.found.Found.TheVariants.{Whole, More, Bad}
+use Rattle.resp_words.specs.declared.protocol_error.ProtocolError.{ProtocolError}
 
 -- behind this front, a text of L goes on as one of M does
 pub record Leads {A B : Type 0} (front : List ℕ) (L : List ℕ → A → Type 0) (M : List ℕ → B → Type 0) : Type 0 where
@@ -39,12 +40,12 @@ carries_leads L M front carries = record {
   ends = λ text a means. ([], a, subst (λ (l : List ℕ). L (front ++ l) a) (sym (append-nil text)) (carries.same text a means));
 }
 
-pub carries_reads : {A X : Type 0} (L M : List ℕ → A → Type 0) (meaning : X → A) (behind : X → List ℕ) (front rest bytes : List ℕ) (found : Found X)
-    → Carries front L M → bytes ≡ front ++ rest → Reads M meaning behind rest found → Reads L meaning behind bytes found
-carries_reads L M meaning behind front rest bytes (Whole x) carries is read = record {
+pub carries_reads : {A X : Type 0} (L M : List ℕ → A → Type 0) (meaning : X → A) (behind : X → List ℕ) (why because : ProtocolError → Type 0) (front rest bytes : List ℕ) (found : Found X)
+    → Carries front L M → bytes ≡ front ++ rest → ((error : ProtocolError) → IsBad M rest → because error → why error) → Reads M meaning behind because rest found → Reads L meaning behind why bytes found
+carries_reads L M meaning behind why because front rest bytes (Whole x) carries is tells read = record {
   text = front ++ read.text;
   means = carries.same read.text (meaning x) read.means;
   is = is ∙ ap (λ (l : List ℕ). front ++ l) read.is ∙ sym (append_assoc front read.text (behind x));
 }
-carries_reads L M meaning behind front rest bytes More carries is it = front_leads L M front rest bytes (carries_leads L M front carries) is it
-carries_reads L M meaning behind front rest bytes (Bad error) carries is bad = bad_leads L M front rest bytes (carries_leads L M front carries) is bad
+carries_reads L M meaning behind why because front rest bytes More carries is tells it = front_leads L M front rest bytes (carries_leads L M front carries) is it
+carries_reads L M meaning behind why because front rest bytes (Bad error) carries is tells bad = (bad_leads L M front rest bytes (carries_leads L M front carries) is bad.0, tells error bad.0 bad.1)

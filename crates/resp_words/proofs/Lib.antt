@@ -8,3 +8,4 @@ mod Plain
 mod Arrays
 mod Apart
 mod Told
+mod Faults

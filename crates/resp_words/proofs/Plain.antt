@@ -1,8 +1,8 @@
 -- Commands in one line.
-use Rattle.std.proofs.Common.{◌≡◌, ◌≢◌, ◌∙◌, refl, sym, ap, subst, ◌+◌, ◌≤◌, ◌<◌, ◌⊎◌, inl, inr, not, Bool, true, false, ℕ, List, [], ◌∷◌, ◌++◌, length, drop, get_or, arith, append_assoc, length-append}
+use Rattle.std.proofs.Common.{◌≡◌, ◌∙◌, refl, sym, ap, subst, ◌≤◌, ◌<◌, ◌⊎◌, inl, inr, not, true, false, ℕ, List, [], ◌∷◌, ◌++◌, length, get_or, arith, append_assoc, length-append}
 use Rattle.std.proofs.lemmas.Bool.{cases_Bool, not-true}
 use Rattle.std.proofs.lemmas.List.{append-nil, get_or_append_left, nil_from_length}
-use Rattle.resp_words.specs.Commands.{BeginsOtherwise, IsCommand, IsLine}
+use Rattle.resp_words.specs.Commands.{BeginsOtherwise, IsCommand}
 use Rattle.resp_words.specs.Lines.{AreWords, IsFirstWord, IsPlainLine}
 use Rattle.resp_words.specs.Reading.{Begins, IsBad, IsFront, IsRead}
 use Rattle.resp_words.specs.Runs.{AllPass, IsCut, StopsAt, is_blank, is_plain, is_solid}

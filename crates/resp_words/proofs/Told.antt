@@ -1,6 +1,6 @@
 -- Replies one after the other.
-use Rattle.std.proofs.Common.{◌≡◌, ◌∙◌, refl, sym, ap, subst, ◌^◌, ◌<◌, ◌||◌, ◌==◌, not, Bool, true, false, ℕ, suc, ℤ, List, [], ◌∷◌, ◌++◌, Option, Some, None, length, drop, get_or, map, arith, append_assoc}
-use Rattle.std.proofs.lemmas.Bool.{both_ways, cases_Bool}
+use Rattle.std.proofs.Common.{◌≡◌, ◌∙◌, refl, sym, ap, subst, ◌^◌, ◌<◌, ◌==◌, not, Bool, ℕ, suc, ℤ, List, [], ◌∷◌, ◌++◌, Some, None, length, drop, get_or, arith, append_assoc}
+use Rattle.std.proofs.lemmas.Bool.{both_ways}
 use Rattle.std.proofs.lemmas.Bool.Decides.{nat_tests}
 use Rattle.std.proofs.lemmas.Fmt.{decimal_injective, digits_decimal, signed_decimal_injective}
 use Rattle.std.specs.Fmt.{decimal, signed_decimal}

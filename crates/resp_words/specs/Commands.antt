@@ -1,13 +1,16 @@
 -- Commands as bytes.
-use Rattle.std.specs.Prelude.{◌≡◌, ◌≢◌, ◌≤◌, ◌⊎◌, ⊤, ℕ, List, [], ◌∷◌, ◌++◌, length, map}
+use Rattle.std.specs.Prelude.{◌≡◌, ◌≢◌, ◌<◌, ◌≤◌, false, ◌⊎◌, ⊤, ℕ, List, [], ◌∷◌, ◌++◌, length, map}
 use Rattle.std.specs.Fmt.{decimal}
 use Rattle.std.specs.List.{AllByRecursion, flat_map}
 use Rattle.resp_words.specs.declared.found.Command.{Command}
 use Rattle.resp_words.specs.declared.found.Found.{Found}
 use Rattle.resp_words.specs.declared.found.Found.TheVariants.{Whole, More, Bad}
 use Rattle.resp_words.specs.declared.limits.Limits.{Limits}
+use Rattle.resp_words.specs.declared.protocol_error.ProtocolError.{ProtocolError}
+use Rattle.resp_words.specs.declared.protocol_error.ProtocolError.TheVariants.{BadCount, NoDollar, BadLength, LongLine, BadByte}
 use Rattle.resp_words.specs.Lines.{AreWords, IsPlainLine}
 use Rattle.resp_words.specs.Reading.{Begins, IsBad, IsFront, IsRead}
+use Rattle.resp_words.specs.Runs.{AllPass, is_plain}
 
 -- a text and the end of its line
 abbrev pub ended : List ℕ → List ℕ
@@ -85,12 +88,35 @@ pub record IsFound (limits : Limits) (bytes : List ℕ) (words : List (List ℕ)
   pub is : bytes ≡ text ++ later
   pub long : used ≡ length text
 
--- They begin with a command; they are the front of one; or no command begins with them, whatever comes. No two of these hold
--- at once.
+-- behind a count and fewer words than it tells stands this
+pub record IsInArray (limits : Limits) (bytes rest : List ℕ) : Type 0 where
+  pub count : ℕ
+  pub words : List (List ℕ)
+  pub is : bytes ≡ 42 ∷ (ended (decimal count) ++ (flat_map bulk words ++ rest))
+  pub fewer : length words < count
+  pub small : count ≤ limits.words
+  pub short : AllByRecursion (IsShort limits.bytes) words
+
+-- behind a part of a line, which is no array, stands this
+pub record IsInLine (bytes line rest : List ℕ) : Type 0 where
+  pub is : bytes ≡ line ++ rest
+  pub other : BeginsOtherwise bytes
+  pub plain : AllPass is_plain line
+
+-- why no command begins with the bytes
+abbrev pub HasCause : Limits → List ℕ → ProtocolError → Type 0
+HasCause limits bytes BadCount = (rest : List ℕ) × (bytes ≡ 42 ∷ rest) × IsBad (IsNumberLine limits.words) rest
+HasCause limits bytes (NoDollar got) = (rest : List ℕ) × IsInArray limits bytes (got ∷ rest) × (got ≢ 36)
+HasCause limits bytes BadLength = (rest : List ℕ) × IsInArray limits bytes (36 ∷ rest) × IsBad (IsBulk limits.bytes) (36 ∷ rest)
+HasCause limits bytes LongLine = (line rest : List ℕ) × IsInLine bytes line rest × (limits.line ≤ length line)
+HasCause limits bytes BadByte = (line : List ℕ) × (byte : ℕ) × (rest : List ℕ) × IsInLine bytes line (byte ∷ rest) × (byte ≢ 10) × (is_plain byte ≡ false)
+
+-- They begin with a command; they are the front of one; or no command begins with them, whatever comes, for this cause. No two
+-- of these hold at once.
 abbrev pub Finds : Limits → List ℕ → Found Command → Type 0
 Finds limits bytes (Whole command) = IsFound limits bytes (words_of command) command.used
 Finds limits bytes More = IsFront (IsCommand limits) bytes
-Finds limits bytes (Bad error) = IsBad (IsCommand limits) bytes
+Finds limits bytes (Bad error) = IsBad (IsCommand limits) bytes × HasCause limits bytes error
 
 -- what was found is these words, which take so many bytes
 abbrev pub IsThis : List (List ℕ) → ℕ → Found Command → Type 0

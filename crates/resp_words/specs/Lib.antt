@@ -3,3 +3,4 @@ pub mod Reading
 pub mod Lines
 pub mod Commands
 pub mod Replies
+pub mod Faults

@@ -2,6 +2,7 @@
 use Rattle.std.specs.Prelude.{◌≡◌, ℕ, List, ◌++◌}
 use Rattle.resp_words.specs.declared.found.Found.{Found}
 use Rattle.resp_words.specs.declared.found.Found.TheVariants.{Whole, More, Bad}
+use Rattle.resp_words.specs.declared.protocol_error.ProtocolError.{ProtocolError}
 
 -- the bytes begin with a text of the language
 pub record Begins {A : Type 0} (L : List ℕ → A → Type 0) (bytes : List ℕ) : Type 0 where
@@ -28,8 +29,8 @@ pub record IsRead {A : Type 0} (L : List ℕ → A → Type 0) (bytes : List ℕ
   pub means : L text meaning
   pub is : bytes ≡ text ++ rest
 
--- which of the three it is
-abbrev pub Reads : {A X : Type 0} → (List ℕ → A → Type 0) → (X → A) → (X → List ℕ) → List ℕ → Found X → Type 0
-Reads L meaning rest bytes (Whole x) = IsRead L bytes (meaning x) (rest x)
-Reads L meaning rest bytes More = IsFront L bytes
-Reads L meaning rest bytes (Bad error) = IsBad L bytes
+-- which of the three it is, and why they are bad
+abbrev pub Reads : {A X : Type 0} → (List ℕ → A → Type 0) → (X → A) → (X → List ℕ) → (ProtocolError → Type 0) → List ℕ → Found X → Type 0
+Reads L meaning rest why bytes (Whole x) = IsRead L bytes (meaning x) (rest x)
+Reads L meaning rest why bytes More = IsFront L bytes
+Reads L meaning rest why bytes (Bad error) = IsBad L bytes × why error

@@ -1,4 +1,7 @@
+ghost use Rattle.std.specs.Prelude.{◌≡◌};
+ghost use Rattle.resp_words.specs.Faults.{IsBulkFault};
 ghost use Rattle.resp_words.specs.Reading.{Reads};
+ghost use Rattle.resp_words.specs.declared.protocol_error.ProtocolError.TheVariants.{BadLength as NoLength};
 ghost use Rattle.resp_words.specs.Commands.{IsBulk, IsEnded};
 
 use crate::found::Found;
@@ -7,7 +10,7 @@ use crate::protocol_error::ProtocolError;
 
 // So many bytes and the end of their line, and what follows.
 fn next_bytes(bytes: &[u8], length: u32) -> Found<(&[u8], &[u8])>
-    ensures { Reads (IsEnded length) (λ x. x.0.now) (λ x. x.1.now) bytes.now result }
+    ensures { Reads (IsEnded length) (λ x. x.0.now) (λ x. x.1.now) (λ e. e ≡ NoLength) bytes.now result }
 {
     if bytes.len() < length as usize {
         return Found::More;
@@ -22,7 +25,7 @@ fn next_bytes(bytes: &[u8], length: u32) -> Found<(&[u8], &[u8])>
 
 /// A word of the array form, which these bytes begin with, and what follows.
 pub(crate) fn next_bulk(bytes: &[u8], most: u32) -> Found<(&[u8], &[u8])>
-    ensures { Reads (IsBulk most) (λ x. x.0.now) (λ x. x.1.now) bytes.now result }
+    ensures { Reads (IsBulk most) (λ x. x.0.now) (λ x. x.1.now) (IsBulkFault bytes.now) bytes.now result }
 {
     let Some((first, rest)) = bytes.split_first() else {
         return Found::More;

@@ -1,5 +1,5 @@
 ghost use Rattle.std.specs.Prelude.{IfOk, map};
-ghost use Rattle.resp_words.specs.Commands.{Finds, IsCommand};
+ghost use Rattle.resp_words.specs.Commands.{Finds, HasCause, IsCommand};
 ghost use Rattle.resp_words.specs.Reading.{Reads};
 
 use crate::array::next_array;
@@ -11,7 +11,7 @@ use std::alloc::Global;
 
 // The words of the command that these bytes begin with, and what follows it.
 fn next_words<'a>(alloc: Global, bytes: &'a [u8], limits: Limits) -> Result<Found<(Vec<&'a [u8]>, &'a [u8])>, Memory>
-    ensures { IfOk result (λ found. Reads (IsCommand limits) (λ x. map (λ word. word.now) x.0.items) (λ x. x.1.now) bytes.now found) }
+    ensures { IfOk result (λ found. Reads (IsCommand limits) (λ x. map (λ word. word.now) x.0.items) (λ x. x.1.now) (HasCause limits bytes.now) bytes.now found) }
 {
     let Some((first, rest)) = bytes.split_first() else {
         return Ok(Found::More);

@@ -1,6 +1,7 @@
 ghost use Rattle.std.specs.Prelude.{◌≢◌, ◌<◌, IfNone, IfOk, IfSome, length, map, slice_index};
+ghost use Rattle.resp_words.specs.Faults.{IsLineFault};
 ghost use Rattle.resp_words.specs.Reading.{Reads};
-ghost use Rattle.resp_words.specs.Commands.{IsCommand};
+ghost use Rattle.resp_words.specs.Commands.{HasCause, IsCommand};
 ghost use Rattle.resp_words.specs.Lines.{AreWords, IsFirstWord, IsPlainLine};
 ghost use Rattle.resp_words.specs.Runs.{AllPass, is_blank};
 
@@ -39,7 +40,7 @@ fn words_in_line(alloc: Global, line: &[u8]) -> Result<Vec<&[u8]>, Memory>
 
 // The line that these bytes begin with, without its end, and what follows.
 fn next_plain(bytes: &[u8], most: u32) -> Found<(&[u8], &[u8])>
-    ensures { Reads (IsPlainLine most) (λ x. x.0.now) (λ x. x.1.now) bytes.now result }
+    ensures { Reads (IsPlainLine most) (λ x. x.0.now) (λ x. x.1.now) (IsLineFault most bytes.now) bytes.now result }
 {
     let (line, rest) = split_run(Kind::Plain, bytes);
     if line.len() >= most as usize {
@@ -58,7 +59,7 @@ fn next_plain(bytes: &[u8], most: u32) -> Found<(&[u8], &[u8])>
 pub(crate) fn next_line<'a>(alloc: Global, bytes: &'a [u8], limits: Limits) -> Result<Found<(Vec<&'a [u8]>, &'a [u8])>, Memory>
     requires some { 0 < length bytes.now }
     requires other { slice_index bytes.now 0 ≢ 42 }
-    ensures { IfOk result (λ found. Reads (IsCommand limits) (λ x. map (λ word. word.now) x.0.items) (λ x. x.1.now) bytes.now found) }
+    ensures { IfOk result (λ found. Reads (IsCommand limits) (λ x. map (λ word. word.now) x.0.items) (λ x. x.1.now) (HasCause limits bytes.now) bytes.now found) }
 {
     match next_plain(bytes, limits.line) {
         Found::Whole((line, rest)) => Ok(Found::Whole((words_in_line(alloc, line)?, rest))),

@@ -11,7 +11,7 @@ use crate::run::split_run;
 
 /// What follows the end of a line, which these bytes begin with.
 pub(crate) fn line_end(bytes: &[u8], error: ProtocolError) -> Found<&[u8]>
-    ensures { Reads IsLineEnd (λ _. tt) (λ rest. rest.now) bytes.now result }
+    ensures { Reads IsLineEnd (λ _. tt) (λ rest. rest.now) (λ e. e ≡ error) bytes.now result }
 {
     if bytes.is_empty() {
         return Found::More;
@@ -53,7 +53,7 @@ fn read_number(digits: &[u8], most: u32) -> Option<u32>
 
 /// A number in digits and the end of its line, which these bytes begin with, and what follows.
 pub(crate) fn next_number(bytes: &[u8], most: u32, error: ProtocolError) -> Found<(u32, &[u8])>
-    ensures { Reads (IsNumberLine most) (λ x. x.0) (λ x. x.1.now) bytes.now result }
+    ensures { Reads (IsNumberLine most) (λ x. x.0) (λ x. x.1.now) (λ e. e ≡ error) bytes.now result }
 {
     if bytes.is_empty() {
         return Found::More;

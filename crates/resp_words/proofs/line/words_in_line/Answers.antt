@@ -1,4 +1,4 @@
-use Rattle.std.proofs.Common.{◌≡◌, ◌++◌, Bor, List, [], ℕ, map, subst}
+use Rattle.std.proofs.Common.{List, [], ℕ, map, subst}
 use Rattle.std.proofs.lemmas.List.{append-nil}
 use Rattle.resp_words.specs.Lines.{AreWords}
 use Rattle.resp_words.proofs.line.words_in_line.Goals as goal

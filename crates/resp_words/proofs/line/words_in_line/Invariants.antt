@@ -1,4 +1,4 @@
-use Rattle.std.proofs.Common.{◌≡◌, ◌++◌, List, ℕ, length, map}
+use Rattle.std.proofs.Common.{◌++◌, List, ℕ, length, map}
 use Rattle.resp_words.specs.Lines.{AreWords}
 use Rattle.resp_words.proofs.line.words_in_line.Given as goal
 

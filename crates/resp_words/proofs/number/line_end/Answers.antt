@@ -1,4 +1,4 @@
-use Rattle.std.proofs.Common.{rules, ◌≡◌, arith, length}
+use Rattle.std.proofs.Common.{rules, arith}
 use Rattle.std.proofs.lemmas.Grind.{common_steps}
 use Rattle.resp_words.proofs.Ends.{end_front_none, end_front_one}
 use Rattle.resp_words.proofs.number.line_end.Goals as goal
