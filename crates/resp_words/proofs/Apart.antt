@@ -30,13 +30,13 @@ arrays_cancel : (limits : Limits) (t u x y : List ℕ) (vs ws : List (List ℕ))
 arrays_cancel limits t u x y vs ws p q same =
     let whole : command_bytes vs ++ x ≡ command_bytes ws ++ y = sym (ap (λ (l : List ℕ). l ++ x) p.is) ∙ same ∙ ap (λ (l : List ℕ). l ++ y) q.is in
     let count = number_cancel (length vs) (length ws) (flat_map bulk vs ++ x) (flat_map bulk ws ++ y) (omega (arith, p.within.count, limits.small_words)) (omega (arith, q.within.count, limits.small_words))
-        (sym (append_assoc (ended (decimal (length vs))) (flat_map bulk vs) x) ∙ ap (λ (l : List ℕ). drop 1 l) whole ∙ append_assoc (ended (decimal (length ws))) (flat_map bulk ws) y) in
+    (sym (append_assoc (ended (decimal (length vs))) (flat_map bulk vs) x) ∙ ap (λ (l : List ℕ). drop 1 l) whole ∙ append_assoc (ended (decimal (length ws))) (flat_map bulk ws) y) in
     bulks_cancel limits.bytes vs ws x y limits.small_bytes p.within.short q.within.short count.0 count.1
 
 lines_cancel : (limits : Limits) (t u x y : List ℕ) (vs ws : List (List ℕ)) → IsLine limits t vs → IsLine limits u ws → t ++ x ≡ u ++ y → (vs ≡ ws) × (x ≡ y)
 lines_cancel limits t u x y vs ws p q same =
     let whole : p.line ++ 10 ∷ x ≡ q.line ++ 10 ∷ y =
-        sym (ap (λ (l : List ℕ). l ++ x) p.is.is ∙ append_assoc p.line (10 ∷ []) x) ∙ same ∙ ap (λ (l : List ℕ). l ++ y) q.is.is ∙ append_assoc q.line (10 ∷ []) y in
+    sym (ap (λ (l : List ℕ). l ++ x) p.is.is ∙ append_assoc p.line (10 ∷ []) x) ∙ same ∙ ap (λ (l : List ℕ). l ++ y) q.is.is ∙ append_assoc q.line (10 ∷ []) y in
     let both = runs_same is_plain p.line q.line (10 ∷ x) (10 ∷ y) p.is.plain q.is.plain refl refl whole in
     (words_same p.line q.line vs ws both.0 p.parts q.parts, ap (λ (l : List ℕ). drop 1 l) both.1)
 

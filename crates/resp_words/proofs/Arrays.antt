@@ -53,8 +53,7 @@ star_leads limits = record {
       };
   ends = λ text n means.
       let nothing : List ℕ = [] in
-      let words : List (List ℕ) = replicate n nothing in
-      (
+      let words : List (List ℕ) = replicate n nothing in (
         flat_map bulk words,
         words,
         inl (record {

@@ -22,7 +22,7 @@ ended_cancel v w x y long same =
 pub bulk_cancel : (most : ℕ) (v w x y : List ℕ) → most < 2 ^ 32 → IsShort most v → IsShort most w → bulk v ++ x ≡ bulk w ++ y → (v ≡ w) × (x ≡ y)
 bulk_cancel most v w x y low short_v short_w same =
     let behind : ended (decimal (length v)) ++ (ended v ++ x) ≡ ended (decimal (length w)) ++ (ended w ++ y) =
-        sym (append_assoc (ended (decimal (length v))) (ended v) x) ∙ ap (λ (l : List ℕ). drop 1 l) same ∙ append_assoc (ended (decimal (length w))) (ended w) y in
+    sym (append_assoc (ended (decimal (length v))) (ended v) x) ∙ ap (λ (l : List ℕ). drop 1 l) same ∙ append_assoc (ended (decimal (length w))) (ended w) y in
     let both = number_cancel (length v) (length w) (ended v ++ x) (ended w ++ y) (omega (arith, short_v, low)) (omega (arith, short_w, low)) behind in
     ended_cancel v w x y both.0 both.1
 
@@ -86,8 +86,7 @@ dollar_leads most = record {
   };
   ends = λ text n means.
       let zero_byte : ℕ = 0 in
-      let word : List ℕ = replicate n zero_byte in
-      (
+      let word : List ℕ = replicate n zero_byte in (
         ended word,
         word,
         record {
@@ -102,7 +101,7 @@ pub length_carries : (most n : ℕ) → most < 2 ^ 32 → n ≤ most → Carries
 length_carries most n low small = record {
   on = λ bytes it.
       let behind : ended (decimal n) ++ bytes ≡ ended (decimal (length it.meaning)) ++ (ended it.meaning ++ it.later) =
-          sym (ap (λ (l : List ℕ). drop 1 l) (bulk_stands most (36 ∷ (ended (decimal n) ++ bytes)) it)) ∙ append_assoc (ended (decimal (length it.meaning))) (ended it.meaning) it.later in
+      sym (ap (λ (l : List ℕ). drop 1 l) (bulk_stands most (36 ∷ (ended (decimal n) ++ bytes)) it)) ∙ append_assoc (ended (decimal (length it.meaning))) (ended it.meaning) it.later in
       let both = number_cancel n (length it.meaning) bytes (ended it.meaning ++ it.later) (omega (arith, small, low)) (omega (arith, it.means.short, low)) behind in
       record { text = ended it.meaning; meaning = it.meaning; later = it.later; means = record { is = refl; long = sym both.0 }; is = both.1 };
   same = λ text word means. record {
@@ -136,7 +135,7 @@ next_stands most [] (c ∷ cs) bytes later low p q fewer same = record {
 }
 next_stands most (w ∷ ws) (c ∷ cs) bytes later low p q fewer same =
     let both = bulk_cancel most w c (flat_map bulk ws ++ bytes) (flat_map bulk cs ++ later) low p.0 q.0
-        (sym (append_assoc (bulk w) (flat_map bulk ws) bytes) ∙ same ∙ append_assoc (bulk c) (flat_map bulk cs) later) in
+    (sym (append_assoc (bulk w) (flat_map bulk ws) bytes) ∙ same ∙ append_assoc (bulk c) (flat_map bulk cs) later) in
     next_stands most ws cs bytes later low p.1 q.1 (omega (arith, fewer)) both.1
 
 pub bulks_lead : (count most : ℕ) (ws : List (List ℕ)) → most < 2 ^ 32 → AllByRecursion (IsShort most) ws → length ws < count → Leads (flat_map bulk ws) (AreBulks count most) (IsBulk most)

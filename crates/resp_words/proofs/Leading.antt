@@ -20,8 +20,8 @@ pub front_leads : {A B : Type 0} (L : List ℕ → A → Type 0) (M : List ℕ �
 front_leads L M front rest bytes leads is it =
     let end = leads.ends (rest ++ it.later) it.meaning it.means in
     let whole : front ++ ((rest ++ it.later) ++ end.0) ≡ bytes ++ (it.later ++ end.0) =
-        ap (λ (l : List ℕ). front ++ l) (append_assoc rest it.later end.0) ∙ sym (append_assoc front rest (it.later ++ end.0))
-        ∙ ap (λ (l : List ℕ). l ++ (it.later ++ end.0)) (sym is) in
+    ap (λ (l : List ℕ). front ++ l) (append_assoc rest it.later end.0) ∙ sym (append_assoc front rest (it.later ++ end.0))
+    ∙ ap (λ (l : List ℕ). l ++ (it.later ++ end.0)) (sym is) in
     record {
       none = λ begins. it.none (leads.on rest (subst (λ (l : List ℕ). Begins L l) is begins));
       later = it.later ++ end.0;

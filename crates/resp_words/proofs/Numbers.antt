@@ -13,7 +13,7 @@ use Rattle.resp_words.proofs.Runs.{run_goes_on, runs_same, stops_append}
 pub number_cancel : (m n : ℕ) (x y : List ℕ) → m < 2 ^ 32 → n < 2 ^ 32 → ended (decimal m) ++ x ≡ ended (decimal n) ++ y → (m ≡ n) × (x ≡ y)
 number_cancel m n x y small_m small_n same =
     let both = runs_same is_digit (decimal m) (decimal n) (13 ∷ 10 ∷ x) (13 ∷ 10 ∷ y) (digits_pass m small_m) (digits_pass n small_n) refl refl
-        (sym (append_assoc (decimal m) (13 ∷ 10 ∷ []) x) ∙ same ∙ append_assoc (decimal n) (13 ∷ 10 ∷ []) y) in
+    (sym (append_assoc (decimal m) (13 ∷ 10 ∷ []) x) ∙ same ∙ append_assoc (decimal n) (13 ∷ 10 ∷ []) y) in
     (decimal_injective m n (omega (arith, small_m)) (omega (arith, small_n)) both.0, ap (λ (l : List ℕ). drop 2 l) both.1)
 
 -- what bytes that begin with such a line are
@@ -50,7 +50,7 @@ pub number_front : (most n : ℕ) (bytes digits rest : List ℕ) → most < 2 ^ 
 number_front most n bytes digits rest low cut is small front = record {
   none = λ it.
       let both = runs_same is_digit (decimal it.meaning) digits (13 ∷ 10 ∷ it.later) rest (digits_pass it.meaning (omega (arith, it.means.small, low))) cut.passes refl cut.stops
-          (number_stands most bytes it ∙ cut.is) in
+      (number_stands most bytes it ∙ cut.is) in
       front.none (ends_so rest it.later (sym both.1));
   later = front.later;
   meaning = n;
@@ -64,8 +64,8 @@ number_front most n bytes digits rest low cut is small front = record {
 pub number_bad : (most : ℕ) (bytes digits rest : List ℕ) → most < 2 ^ 32 → IsCut is_digit bytes digits rest → IsBad IsLineEnd rest → IsBad (IsNumberLine most) bytes
 number_bad most bytes digits rest low cut bad later it =
     let both = runs_same is_digit (decimal it.meaning) digits (13 ∷ 10 ∷ it.later) (rest ++ later) (digits_pass it.meaning (omega (arith, it.means.small, low))) cut.passes refl
-        (stops_append is_digit rest later (some_behind rest bad) cut.stops)
-        (number_stands most (bytes ++ later) it ∙ ap (λ (l : List ℕ). l ++ later) cut.is ∙ append_assoc digits rest later) in
+    (stops_append is_digit rest later (some_behind rest bad) cut.stops)
+    (number_stands most (bytes ++ later) it ∙ ap (λ (l : List ℕ). l ++ later) cut.is ∙ append_assoc digits rest later) in
     bad later (ends_so (rest ++ later) it.later (sym both.1))
 
 pub number_read : (most n : ℕ) (bytes digits rest behind : List ℕ) → IsCut is_digit bytes digits rest → digits ≡ decimal n → n ≤ most → IsRead IsLineEnd rest tt behind → IsRead (IsNumberLine most) bytes n behind

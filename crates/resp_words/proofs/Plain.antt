@@ -66,7 +66,7 @@ words_same x y [] (w ∷ ws) same p q = absurd (no_word x q.1.gap w q.0 p (same 
 words_same x y (v ∷ vs) [] same p q = absurd (no_word y p.1.gap v p.0 q (sym same ∙ p.1.is) p.1.blank p.1.some p.1.solid)
 words_same x y (v ∷ vs) (w ∷ ws) same p q =
     let gaps = runs_same is_blank p.1.gap q.1.gap (v ++ p.0) (w ++ q.0) p.1.blank q.1.blank (word_stops v p.0 p.1.some p.1.solid) (word_stops w q.0 q.1.some q.1.solid)
-        (sym p.1.is ∙ same ∙ q.1.is) in
+    (sym p.1.is ∙ same ∙ q.1.is) in
     let words = runs_same is_solid v w p.0 q.0 p.1.solid q.1.solid p.1.stops q.1.stops gaps.1 in
     let rest = words_same p.0 q.0 vs ws words.1 p.2 q.2 in
     (λ i. words.0 i ∷ rest i)
@@ -99,7 +99,7 @@ pub plain_bad : (most end : ℕ) (bytes line rest behind : List ℕ) → IsCut i
 plain_bad most end bytes line rest behind cut stands other later it =
     let some : 0 < length rest = omega (arith, ap length stands) in
     let both = runs_same is_plain it.meaning line (10 ∷ it.later) (rest ++ later) it.means.plain cut.passes refl (stops_append is_plain rest later some cut.stops)
-        (plain_stands most (bytes ++ later) it ∙ with_later bytes line rest later cut.is) in
+    (plain_stands most (bytes ++ later) it ∙ with_later bytes line rest later cut.is) in
     other (sym (ap (λ (l : List ℕ). get_or l 0 0) (both.1 ∙ ap (λ (l : List ℕ). l ++ later) stands)))
 
 pub plain_read : (most : ℕ) (bytes line rest behind : List ℕ) → IsCut is_plain bytes line rest → length line < most → rest ≡ 10 ∷ behind → IsRead (IsPlainLine most) bytes line behind

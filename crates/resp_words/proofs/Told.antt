@@ -84,7 +84,7 @@ told (array s) (value t) x y small_s small_t marks lines rest = absurd (omega (a
 pub reply_cancel : (a b : Said) (x y : List ℕ) → IsSmall a → IsSmall b → reply_bytes a ++ x ≡ reply_bytes b ++ y → (heard a ≡ heard b) × (x ≡ y)
 reply_cancel a b x y small_a small_b same =
     let behind : (s : Said) (z : List ℕ) → (ended (line_of s) ++ body_of s) ++ z ≡ line_of s ++ 13 ∷ 10 ∷ (body_of s ++ z) =
-        λ s z. append_assoc (ended (line_of s)) (body_of s) z ∙ append_assoc (line_of s) (13 ∷ 10 ∷ []) (body_of s ++ z) in
+    λ s z. append_assoc (ended (line_of s)) (body_of s) z ∙ append_assoc (line_of s) (13 ∷ 10 ∷ []) (body_of s ++ z) in
     let lines = runs_same in_the_line (line_of a) (line_of b) (13 ∷ 10 ∷ (body_of a ++ x)) (13 ∷ 10 ∷ (body_of b ++ y)) (line_stays a small_a) (line_stays b small_b) refl refl
-        (sym (behind a x) ∙ ap (λ (l : List ℕ). drop 1 l) same ∙ behind b y) in
+    (sym (behind a x) ∙ ap (λ (l : List ℕ). drop 1 l) same ∙ behind b y) in
     told a b x y small_a small_b (ap (λ (l : List ℕ). get_or l 0 0) same) lines.0 (ap (λ (l : List ℕ). drop 2 l) lines.1)

@@ -12,7 +12,12 @@ use oper_core::Memory;
 use std::alloc::Global;
 
 // So many words, and what follows them.
-fn next_bulks<'a>(alloc: Global, bytes: &'a [u8], count: u32, most: u32) -> Result<Found<(Vec<&'a [u8]>, &'a [u8])>, Memory>
+fn next_bulks<'a>(
+    alloc: Global,
+    bytes: &'a [u8],
+    count: u32,
+    most: u32,
+) -> Result<Found<(Vec<&'a [u8]>, &'a [u8])>, Memory>
     ensures { IfOk result (λ found. Reads (AreBulks count most) (λ x. map (λ word. word.now) x.0.items) (λ x. x.1.now) (IsBulksFault count most bytes.now) bytes.now found) }
 {
     let mut words = Vec::new(alloc);
@@ -31,7 +36,11 @@ fn next_bulks<'a>(alloc: Global, bytes: &'a [u8], count: u32, most: u32) -> Resu
 }
 
 /// The words of a command in the array form, of which these are the bytes behind the star, and what follows.
-pub(crate) fn next_array<'a>(alloc: Global, bytes: &'a [u8], limits: Limits) -> Result<Found<(Vec<&'a [u8]>, &'a [u8])>, Memory>
+pub(crate) fn next_array<'a>(
+    alloc: Global,
+    bytes: &'a [u8],
+    limits: Limits,
+) -> Result<Found<(Vec<&'a [u8]>, &'a [u8])>, Memory>
     ensures { IfOk result (λ found. Reads (IsCommand limits) (λ x. map (λ word. word.now) x.0.items) (λ x. x.1.now) (HasCause limits (42 ∷ bytes.now)) (42 ∷ bytes.now) found) }
 {
     match next_number(bytes, limits.words, ProtocolError::BadCount) {

@@ -56,7 +56,11 @@ fn next_plain(bytes: &[u8], most: u32) -> Found<(&[u8], &[u8])>
 }
 
 /// The words of a command in one line, which these bytes begin with, and what follows.
-pub(crate) fn next_line<'a>(alloc: Global, bytes: &'a [u8], limits: Limits) -> Result<Found<(Vec<&'a [u8]>, &'a [u8])>, Memory>
+pub(crate) fn next_line<'a>(
+    alloc: Global,
+    bytes: &'a [u8],
+    limits: Limits,
+) -> Result<Found<(Vec<&'a [u8]>, &'a [u8])>, Memory>
     requires some { 0 < length bytes.now }
     requires other { slice_index bytes.now 0 ≢ 42 }
     ensures { IfOk result (λ found. Reads (IsCommand limits) (λ x. map (λ word. word.now) x.0.items) (λ x. x.1.now) (HasCause limits bytes.now) bytes.now found) }

@@ -20,6 +20,6 @@ returns-in-Whole c =
     let n = c.in-Whole.count in
     IfOk-weaker c.next_bulks.result _ _
     (λ found read. carries_reads (IsCommand limits) (AreBulks n limits.bytes) (λ x. map (λ word. word.now) x.0.items) (λ x. x.1.now) (HasCause limits (42 ∷ c.args.bytes.now)) (IsBulksFault n limits.bytes c.in-Whole.rest.now) (42 ∷ ended (decimal n)) c.in-Whole.rest.now (42 ∷ c.args.bytes.now) found
-        (count_carries limits n c.in-Whole.ensures.means.small) (count_behind limits.words n c.args.bytes.now c.in-Whole.rest.now c.in-Whole.ensures)
-        (λ error bad fault. words_fault limits n (42 ∷ c.args.bytes.now) c.in-Whole.rest.now error c.in-Whole.ensures.means.small (count_behind limits.words n c.args.bytes.now c.in-Whole.rest.now c.in-Whole.ensures) fault) read)
+    (count_carries limits n c.in-Whole.ensures.means.small) (count_behind limits.words n c.args.bytes.now c.in-Whole.rest.now c.in-Whole.ensures)
+    (λ error bad fault. words_fault limits n (42 ∷ c.args.bytes.now) c.in-Whole.rest.now error c.in-Whole.ensures.means.small (count_behind limits.words n c.args.bytes.now c.in-Whole.rest.now c.in-Whole.ensures) fault) read)
     c.next_bulks.ensures

@@ -13,9 +13,8 @@ returns-in-More c =
 
 pub returns-in-Bad : goal.returns-in-Bad
 returns-in-Bad c =
-    let words : List (List ℕ) = map (λ word. word.now) c.loop.words.items in
-    (
+    let words : List (List ℕ) = map (λ word. word.now) c.loop.words.items in (
       bad_leads (AreBulks c.args.count c.args.most) (IsBulk c.args.most) (flat_map bulk words) c.loop.rest.now c.args.bytes.now
-    (bulks_lead c.args.count c.args.most words (omega (arith, c.ranges.most.fits)) c.loop.invariant.short (omega (arith, c.loop.invariant.all, c.loop-test.true))) c.loop.invariant.is c.in-Bad.ensures.0,
+          (bulks_lead c.args.count c.args.most words (omega (arith, c.ranges.most.fits)) c.loop.invariant.short (omega (arith, c.loop.invariant.all, c.loop-test.true))) c.loop.invariant.is c.in-Bad.ensures.0,
       record { words = words; rest = c.loop.rest.now; is = c.loop.invariant.is; fewer = omega (arith, c.loop.invariant.all, c.loop-test.true); short = c.loop.invariant.short; bad = c.in-Bad.ensures.0; fault = c.in-Bad.ensures.1 },
     )

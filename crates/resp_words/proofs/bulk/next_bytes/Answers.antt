@@ -18,9 +18,11 @@ returns-in-More c =
 pub returns-in-Bad : goal.returns-in-Bad
 returns-in-Bad c =
     let word = c.split_at.result.0.now in
-    let behind = c.split_at.result.1.now in
-    (bad_leads (IsEnded c.args.length) IsLineEnd word behind c.args.bytes.now (text_leads c.args.length word c.split_at.ensures.front_len)
-    (split_stands c.args.bytes.now word behind c.args.length c.split_at.ensures.front c.split_at.ensures.back) c.in-Bad.ensures.0, c.in-Bad.ensures.1)
+    let behind = c.split_at.result.1.now in (
+      bad_leads (IsEnded c.args.length) IsLineEnd word behind c.args.bytes.now (text_leads c.args.length word c.split_at.ensures.front_len)
+          (split_stands c.args.bytes.now word behind c.args.length c.split_at.ensures.front c.split_at.ensures.back) c.in-Bad.ensures.0,
+      c.in-Bad.ensures.1,
+    )
 
 pub returns-in-Whole : goal.returns-in-Whole
 returns-in-Whole c =
