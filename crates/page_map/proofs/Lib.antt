@@ -18,3 +18,4 @@ pub mod ReadLemmas
 pub mod GoneLemmas
 pub mod TidyLemmas
 pub mod DeleteLemmas
+pub mod SeekBound

@@ -1,5 +1,5 @@
 -- The way to a key leads to the leaf that has it, where any has.
-use Rattle.std.proofs.Common.{◌≡◌, ◌≢◌, ℕ, zero, suc, ◌+◌, ◌^◌, ◌<◌, ◌≤◌, ◌==◌, Bool, true, false, cond, not, ◌&&◌, if◌then◌else◌, Option, None, Some, Ok, Err, List, [], ◌∷◌, ◌++◌, T, map, flat_map, length, Ordering, Less, Equal, Greater, is_lt, is_eq, refl, sym, ap, ◌∙◌, subst, arith, append_assoc, true≢false}
+use Rattle.std.proofs.Common.{◌≡◌, ◌≢◌, ℕ, zero, suc, ◌+◌, ◌^◌, ◌<◌, ◌≤◌, ◌==◌, Bool, true, false, cond, not, ◌&&◌, if◌then◌else◌, Option, None, Some, Ok, Err, List, [], ◌∷◌, ◌++◌, T, map, flat_map, length, Ordering, Less, Equal, Greater, is_lt, is_eq, refl, sym, ap, ◌∙◌, subst, arith, append_assoc, length-append, true≢false}
 use Rattle.std.specs.Prelude.{IsTrue, nat_lt, nat_le}
 use Rattle.std.specs.List.{list_all}
 use Rattle.std.specs.Ordering.{ordering_reverse}
@@ -7,21 +7,21 @@ use Rattle.std.specs.Cmp.Lexicographic.{nat_list_cmp_total}
 use Rattle.std.specs.FinMap.{get, get-from_entries}
 use Rattle.std.specs.FinMap.Entries.{find, is_sorted}
 use Rattle.std.proofs.lemmas.List.{append-nil}
-use Rattle.std.proofs.lemmas.Bool.{leb-true, eq-eqb}
+use Rattle.std.proofs.lemmas.Bool.{leb-true, le-leb, eq-eqb}
 use Rattle.byteorder.specs.Endian.{little_bytes, little_number}
-use Rattle.oper_core.specs.LittleEndian.{little_number-little_bytes}
+use Rattle.oper_core.specs.LittleEndian.{length-little_bytes, little_number-little_bytes}
 use Rattle.oper_core.specs.State.{State}
 use Rattle.key_entries.specs.Entries.{byte_order}
 use Rattle.key_entries.specs.EntryLaws.{both_true, true_both}
 use Rattle.key_entries.specs.KeyLaws.{same_key}
 use Rattle.page_ops.specs.Page.{Cell, Page, page_code, page_of, AreShort}
-use Rattle.page_ops.specs.Reading.{opens, level_in, under, beside_of, child_of, found_in}
+use Rattle.page_ops.specs.Reading.{has_cell, opens, level_in, under, beside_of, child_of, found_in}
 use Rattle.page_ops.specs.Seen.{child_cell}
 use Rattle.page_ops.specs.OnCells.{beside_at}
 use Rattle.page_ops.specs.Search.{last_under, next_under}
 use Rattle.page_map.specs.Map.{Span, is_below, is_within, Leaf, Tree, root_of, pairs_in, cells_in, IsHeld, Each, bytes_at, is_child, Holds, all_within, all_past, Share, StandIn, all_keys, IsMap, content_of, objects_in, one_if, times}
 use Rattle.page_map.specs.Sets.{AreShortPairs, is_short_key, is_short_pair}
-use Rattle.page_map.specs.Walk.{is_on, child_for, on_from, walk_from, walk, get_in, get_at, get_answer}
+use Rattle.page_map.specs.Walk.{is_on, names_child, child_for, on_from, walk_from, walk, get_in, get_at, get_answer}
 
 -- ---- the order of keys
 
@@ -406,6 +406,7 @@ module _ (lo hi : ℕ) (s : State) where
 pub record Searches : Type 0 where
   pub opens : (page : Page) → AreShort page.cells → opens (page_code page) ≡ true
   pub under : (page : Page) (key : List ℕ) → AreShort page.cells → T (is_sorted byte_order page.cells) → under (page_code page) key ≡ last_under key page.cells
+  pub cell : (page : Page) (i : ℕ) → AreShort page.cells → i < length page.cells → has_cell (page_code page) i ≡ true
   pub beside : (page : Page) (i : ℕ) → AreShort page.cells → i < length page.cells → beside_of (page_code page) i ≡ beside_at page.cells i
   pub got : (page : Page) (key : List ℕ) → AreShort page.cells → T (is_sorted byte_order page.cells) → found_in (page_code page) key ≡ Some (find byte_order key page.cells)
 
@@ -457,8 +458,11 @@ module _ (searches : Searches) (lo hi : ℕ) (small : hi < 2 ^ 32) (s : State) (
       let value : beside_of bytes i ≡ little_bytes 4 child ++ [] =
       ap (λ (b : List ℕ). beside_of b i) held.code ∙ searches.beside page i held.short inside ∙ beside ∙ sym (append-nil (little_bytes 4 child)) in
       let named : child_of bytes i ≡ child = ap (little_number 4) value ∙ little_number-little_bytes 4 child [] below in
-      ap (child_for lo hi bytes) place
-      ∙ ap (λ (x : ℕ). if is_child lo hi x then Some x else None) named ∙ ap (λ (t : Bool). if t then Some child else None) there
+      let four : 4 ≤ length (beside_of bytes i) = omega (arith, ap (λ (l : List ℕ). length l) value, length-append (little_bytes 4 child) [], length-little_bytes 4 child) in
+      let names : names_child bytes i ≡ true =
+      ap (λ (b : List ℕ). has_cell b i && nat_le 4 (length (beside_of bytes i))) held.code
+      ∙ ap (λ (t : Bool). t && nat_le 4 (length (beside_of bytes i))) (searches.cell page i held.short inside) ∙ le-leb 4 (length (beside_of bytes i)) four in
+      ap (child_for lo hi bytes) place ∙ (λ k. if names k && is_child lo hi (named k) then Some (named k) else None) ∙ ap (λ (t : Bool). if t then Some child else None) there
 
   joined : (front first cells last back pairs mid : List Cell) → pairs ≡ front ++ (mid ++ back) → mid ≡ first ++ (cells ++ last) → pairs ≡ (front ++ first) ++ (cells ++ (last ++ back))
   joined front first cells last back pairs mid one two =

@@ -10,6 +10,11 @@ use Rattle.page_ops.specs.Page.{Cell, page_of, AreShort}
 use Rattle.page_ops.specs.Seen.{child_cell}
 use Rattle.page_ops.specs.Effects.{to_fill}
 
+-- the objects from one to another, both among them
+pub record Range : Type 0 where
+  pub lo : ℕ
+  pub hi : ℕ
+
 -- keys from one on, and below another where there is one
 pub record Span : Type 0 where
   pub from : List ℕ

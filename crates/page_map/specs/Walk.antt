@@ -1,16 +1,20 @@
 -- The way from the root of a map to a leaf, over the bytes of the objects, and what is found there.
-use Rattle.std.specs.Prelude.{ℕ, zero, suc, ◌==◌, Bool, ◌&&◌, Option, None, Some, Result, Ok, Err, List, if◌then◌else◌}
+use Rattle.std.specs.Prelude.{ℕ, zero, suc, ◌==◌, Bool, ◌&&◌, Option, None, Some, Result, Ok, Err, List, length, nat_le, if◌then◌else◌}
 use Rattle.oper_core.specs.State.{State}
-use Rattle.page_ops.specs.Reading.{level_in, opens, under, found_in, child_of}
+use Rattle.page_ops.specs.Reading.{beside_of, child_of, found_in, has_cell, level_in, opens, under}
 use Rattle.page_map.specs.Map.{bytes_at, is_child}
 
 -- a page of this level
 abbrev pub is_on : ℕ → List ℕ → Bool
 is_on level bytes = opens bytes && (level_in bytes == level)
 
+-- a cell is there, with the four bytes of a child beside its key
+abbrev pub names_child : List ℕ → ℕ → Bool
+names_child bytes i = has_cell bytes i && nat_le 4 (length (beside_of bytes i))
+
 -- the child of a cell, where it stands in the range and is not the root
 abbrev pub child_in : ℕ → ℕ → List ℕ → ℕ → Option ℕ
-child_in lo hi bytes i = if is_child lo hi (child_of bytes i) then Some (child_of bytes i) else None
+child_in lo hi bytes i = if names_child bytes i && is_child lo hi (child_of bytes i) then Some (child_of bytes i) else None
 
 -- the child under which a key stands: that of the last cell whose key is not above it
 abbrev pub child_for : ℕ → ℕ → List ℕ → Option ℕ → Option ℕ

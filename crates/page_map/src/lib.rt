@@ -1,17 +1,23 @@
 //! An ordered map in a range of objects: wide pages under wide pages, of which the first object is the root. No store has it yet.
 //!
-//! As code the library has one type, why a call is refused (`MapRefusal`). The definitions are which ranges are maps and what they
-//! hold (`Map`), the way to the leaf of a key and what a get answers (`Walk`), the command that a set or a delete is (`Plan`), where
-//! a page is cut (`Splits`), the turns of a set (`Sets`), the commands of a delete (`Deletes`), what is read of a map (`Reads`), and
-//! how ranges are read leaf by leaf (`Ranges`). The laws: on a map a get finds what the map has; the command of a set or a delete
-//! leaves a map with the change, and is refused only where the leaf would be too large; a set cuts pages until the pair has room, in
-//! commands each of which leaves a map with the old content, and the last with the pair; a delete takes the key out first, and then
-//! the leaf, where it has no cells left and its page another child; ranges, both ways, are those of the map, and so are the pairs
-//! beside a key, at either end and with a prefix. Pages that are not empty are not joined yet. The crate depends on page_ops for
-//! pages and operations, on key_entries for the order of keys, on call_plans for plans and free objects, and on oper_core.
+//! As code the crate has the range (`Map`) and the single steps of which a client over an engine makes calls: a page of a level
+//! (`page_on`), the child under which a key stands, what a leaf has at a key (`value_in`), the command of a set or a delete there
+//! (`set_in`, `delete_in`), and why a call is refused (`MapRefusal`). Nothing takes memory.
+//!
+//! The definitions are which ranges are maps and what they hold (`Map`), the way to the leaf of a key and what a get answers
+//! (`Walk`), the command that a set or a delete is (`Plan`), where a page is cut (`Splits`), the turns of a set (`Sets`), the
+//! commands of a delete (`Deletes`), what is read of a map (`Reads`), and how ranges are read leaf by leaf (`Ranges`). The laws: on a
+//! map a get finds what the map has; the command of a set or a delete leaves a map with the change, and is refused only where the
+//! leaf would be too large; a set cuts pages until the pair has room, in commands each of which leaves a map with the old content,
+//! and the last with the pair; a delete takes the key out first, and then the leaf, where it has no cells left and its page another
+//! child; ranges, both ways, are those of the map, and so are the pairs beside a key, at either end and with a prefix. Pages that
+//! are not empty are not joined yet. The crate depends on page_ops for pages and operations, on key_entries for the order of keys,
+//! on call_plans for plans and free objects, on oper_core, and on byteorder for the numbers of children.
 #![tactic(auto)]
 
 mod laws;
+mod leaf;
+mod map;
 mod refusal;
 
 pub use laws::{
@@ -20,4 +26,6 @@ pub use laws::{
     changes_are_those_of_the_map, ranges_are_read_from_leaves, reads_are_ranges,
     what_is_not_reached_may_be_written,
 };
+pub use leaf::{delete_in, set_in, value_in};
+pub use map::{Map, page_on};
 pub use refusal::MapRefusal;

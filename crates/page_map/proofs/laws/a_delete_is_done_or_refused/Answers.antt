@@ -9,7 +9,7 @@ pub returns : goal.returns
 returns c =
     let search = c.a_search_finds_the_place.ensures in
     let acts = c.operations_are_on_cells.ensures in
-    let searches : Searches = record { opens = search.opens; under = search.under; beside = λ page i short inside. (search.cell page i short inside).2; got = search.got } in
+    let searches : Searches = record { opens = search.opens; under = search.under; cell = λ page i short inside. (search.cell page i short inside).0; beside = λ page i short inside. (search.cell page i short inside).2; got = search.got } in
     let changes : Changes = record {
       place = search.place;
       there = search.there;

@@ -6,7 +6,7 @@ use Rattle.page_map.proofs.laws.ranges_are_read_from_leaves.Goals as goal
 pub returns : goal.returns
 returns c =
     let search = c.a_search_finds_the_place.ensures in
-    let searches : Searches = record { opens = search.opens; under = search.under; beside = λ page i short inside. (search.cell page i short inside).2; got = search.got } in
+    let searches : Searches = record { opens = search.opens; under = search.under; cell = λ page i short inside. (search.cell page i short inside).0; beside = λ page i short inside. (search.cell page i short inside).2; got = search.got } in
     let reads : ReadsCells = λ page i short inside. ((search.cell page i short inside).1, (search.cell page i short inside).2) in
     record {
       range = λ lo hi s span most small is. range_read searches reads lo hi small s is span most;
