@@ -55,7 +55,7 @@ static void redo_sync(void) { redo_do(redo_force(&db, 0)); }
 #ifdef WITH_TRANSACTIONS
 static void redo_start_commands(void) { redo_do(redo_txn_begin(&db)); }
 static void redo_commit(int durable) {
-    redo_do(redo_txn_commit(&db));
+    redo_do(durable ? redo_txn_commit(&db) : redo_txn_commit_lazily(&db));
     if (durable) redo_sync();
 }
 static int redo_turn(void) {

@@ -157,6 +157,9 @@ int32_t redo_group_abort(redo_t *db);
  * it is there. Runs of an application, maps, hash files, groups and another redo_txn_begin are REDO_IN_TXN meanwhile. */
 int32_t redo_txn_begin(redo_t *db);             /* not within a group */
 int32_t redo_txn_commit(redo_t *db);            /* forces what was accepted before it */
+/* The same, but it forces nothing, so that many transactions go with one redo_force: a crash leaves what the last force left. Where
+ * memory runs out within (REDO_MEMORY), all that is not forced is given up: then the store has what the last force left. */
+int32_t redo_txn_commit_lazily(redo_t *db);
 int32_t redo_txn_abort(redo_t *db);             /* drops what is staged, and so does redo_close */
 
 /* A backup: the store as it is at the finish, in another folder, which is there and has no store. Commands, installs and checks go

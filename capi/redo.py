@@ -122,6 +122,7 @@ _checkpoint, _trim, _begin, _end = _c("checkpoint"), _c("trim"), _c("begin"), _c
 _begin_room, _group_abort = _c("begin_room", _u64), _c("group_abort")
 _upkeep = _c("upkeep", ctypes.c_int32)
 _txn_begin, _txn_commit, _txn_abort = _c("txn_begin"), _c("txn_commit"), _c("txn_abort")
+_txn_commit_lazily = _c("txn_commit_lazily")
 _backup_start, _backup_copy = _c("backup_start", _bytes), _c("backup_copy", _u32, _u64p)
 _backup_finish, _backup_give_up = _c("backup_finish", _u64p), _c("backup_give_up")
 _stat, _params = _c("stat", ctypes.POINTER(_Stat)), _c("params", ctypes.POINTER(_Params))
@@ -480,13 +481,13 @@ class Store:
         if not (code := end(self._handle)):
             return None
         failure = self._failure(code)
-        if end is _txn_commit and isinstance(failure, LogFull) and _drain(self._handle) == _trim(self._handle) == 0:
+        if isinstance(failure, LogFull) and _drain(self._handle) == _trim(self._handle) == 0:
             code = end(self._handle)
             return self._failure(code) if code else None
         return failure
 
     def _refuse_group(self) -> NoReturn:
-        raise _error(InTransaction.code if self._undo and self._undo.end is _txn_commit else InGroup.code)
+        raise _error(InTransaction.code if self._undo and self._undo.begin is _txn_begin else InGroup.code)
 
     def put(self, x: int, value: Bytes) -> None:
         """Object x holds these bytes: as many as `params().cap` at most, or TooLarge is raised."""
@@ -546,14 +547,17 @@ class Store:
         group: AbstractContextManager[Store] = self._turn
         return group
 
-    def transaction(self) -> AbstractContextManager[Store]:
+    def transaction(self, lazy: bool = False) -> AbstractContextManager[Store]:
         """For a `with`: commands that are all done at its end, or none of them. Until then `get` alone sees them. An exception drops
         them. Where the log has no room for all of them at the end, it is drained and trimmed, once; LogFull is raised where that is
         not enough, or a backup is being made. A crash leaves all or none; the next `force` makes them durable.
 
+        The end forces what was done before; with `lazy` it forces nothing, so that many transactions go with one `force`, and where
+        memory runs out within it (OutOfMemory) all that is not forced is given up.
+
         Maps, hash files, runs of an application, groups and other transactions are InTransaction within. Other threads wait for its
         end, and other tasks of asyncio are Busy until then."""
-        return _Undoing(self, _txn_begin, (), _txn_commit, _txn_abort)
+        return _Undoing(self, _txn_begin, (), _txn_commit_lazily if lazy else _txn_commit, _txn_abort)
 
     def end_group(self) -> bool:
         """Ends a group before its `with` does: the commands that follow there are in none. False where no group is open."""

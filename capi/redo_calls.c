@@ -85,14 +85,14 @@ static int32_t abort_group(redo_t *db) {
 }
 int32_t redo_group_abort(redo_t *db) { return REDO_CALL(abort_group(db)); }
 
-/* A commit that is cut off within has given up its group. */
-static int32_t commit_txn(redo_t *db) {
-    uint32_t answer = redo_core_txn_commit(&db->core_);
+/* A commit that is cut off within has given up its group, or all that was not forced. */
+static int32_t committed(redo_t *db, uint32_t answer) {
     bool is_cut = answer != REDO_OK && answer != REDO_LOG_FULL && answer != REDO_NO_TXN && answer != REDO_IN_GROUP;
     return is_cut ? again(db, answer) : kept_up(db, redo_report(db, answer));
 }
 int32_t redo_txn_begin(redo_t *db) { return REPORT_OF(txn_begin); }
-int32_t redo_txn_commit(redo_t *db) { return REDO_CALL(commit_txn(db)); }
+int32_t redo_txn_commit(redo_t *db) { return REDO_CALL(committed(db, redo_core_txn_commit(&db->core_))); }
+int32_t redo_txn_commit_lazily(redo_t *db) { return REDO_CALL(committed(db, redo_core_txn_commit_lazily(&db->core_))); }
 int32_t redo_txn_abort(redo_t *db) { return REPORT_OF(txn_abort); }
 
 int32_t redo_stat(redo_t *db, redo_stat_t *stat) { return REPORT(stat, stat ? stat : &(redo_stat_t){0}); }

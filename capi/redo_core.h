@@ -37,6 +37,7 @@ uint32_t redo_core_abort(redo_core_t *);
 /* Between the two a command is staged. The same of a commit that was cut off within. */
 uint32_t redo_core_txn_begin(redo_core_t *);
 uint32_t redo_core_txn_commit(redo_core_t *);
+uint32_t redo_core_txn_commit_lazily(redo_core_t *);
 uint32_t redo_core_txn_abort(redo_core_t *);
 uint32_t redo_core_force(redo_core_t *, uint64_t *);
 uint32_t redo_core_install(redo_core_t *, uint64_t *);

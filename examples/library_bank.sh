@@ -17,8 +17,8 @@ def balance(s, x):
     return int(s.get(x) or 0)
 
 
-def transfer(s, payer, payee, amount):
-    with s.transaction():
+def transfer(s, payer, payee, amount, lazy):
+    with s.transaction(lazy):
         s.put(payee, b"%d" % (balance(s, payee) + amount))      # the gain first: to lose half of it would make money
         if balance(s, payer) < amount:
             raise Poor
@@ -29,12 +29,12 @@ def total(s):
     return sum(balance(s, x) for x in range(ACCOUNTS))
 
 
-def work(s, times):
+def work(s, times, lazy=True):
     given_up = 0
     for _ in range(times):
         payer, payee = random.sample(range(ACCOUNTS), 2)
         try:
-            transfer(s, payer, payee, random.randrange(1, 80))
+            transfer(s, payer, payee, random.randrange(1, 80), lazy)
         except Poor:
             given_up += 1
     return given_up
@@ -43,7 +43,7 @@ def work(s, times):
 if __name__ == "__main__":
     with redo.open(".") as s:
         while True:
-            work(s, 5)
+            work(s, 5, random.random() < 0.8)
             s.force()
             sys.stdout.write(".")
             sys.stdout.flush()
@@ -51,12 +51,13 @@ END_OF_PYTHON
 python3 - <<'END_OF_PYTHON'
 import bank, os, random, signal, subprocess, sys, time, redo
 
-with redo.create(".", objects=bank.ACCOUNTS, cap=64, limit=8192) as s:
+with redo.create(".", objects=bank.ACCOUNTS, cap=64, limit=32768) as s:
     with s.transaction():
         for x in range(bank.ACCOUNTS):
             s.put(x, b"%d" % bank.EACH)
     s.force()
-    print("given up:", bank.work(s, 1000) > 50, "total:", bank.total(s))
+    print("given up:", bank.work(s, 1000, lazy=False) > 50, "total:", bank.total(s))
+    print("of 100,000 more:", bank.work(s, 100000) > 5000, "total:", bank.total(s))
     try:
         with s.transaction():
             for x in range(1000):
@@ -72,7 +73,7 @@ with redo.create(".", objects=bank.ACCOUNTS, cap=64, limit=8192) as s:
     except KeyboardInterrupt:
         print("a group that is undone; total:", bank.total(s))
 totals = set()
-for _ in range(12):
+for _ in range(50):
     child = subprocess.Popen([sys.executable, "bank.py"], stdout=subprocess.PIPE)
     child.stdout.read(1)
     time.sleep(random.uniform(0, 0.02))
@@ -80,5 +81,5 @@ for _ in range(12):
     child.wait()
     with redo.open(".") as s:
         totals.add(bank.total(s))
-print("after each of 12 kills:", *totals)
+print("after each of 50 kills:", *totals)
 END_OF_PYTHON

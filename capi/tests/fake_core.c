@@ -327,16 +327,19 @@ uint32_t redo_core_txn_abort(redo_core_t *c) {
     if (!s->in_txn) return refuse(s, REDO_NO_TXN);
     return s->in_txn = false, map_again(s), REDO_OK;
 }
-uint32_t redo_core_txn_commit(redo_core_t *c) {
+static uint32_t commit(redo_core_t *c, bool forces) {
     STORE;
     if (!s->in_txn) return refuse(s, REDO_NO_TXN);
     if (fake_aborts_fail) return redo_core_close(c), REDO_DISK_FAULT;
-    force(s);
-    if (s->end + s->staging.n + HEAD > s->numbers.limit)
-        return s->detail = (redo_detail_t){s->end, HEAD + s->staging.n, s->numbers.limit}, REDO_LOG_FULL;
+    if (forces) force(s);
+    uint64_t used = s->end + s->block.n;
+    if (used + s->staging.n + HEAD > s->numbers.limit)
+        return s->detail = (redo_detail_t){used, HEAD + s->staging.n, s->numbers.limit}, REDO_LOG_FULL;
     add(&s->block, s->staging.at, s->staging.n), s->accepted += s->staged, s->in_txn = false;
     return REDO_OK;
 }
+uint32_t redo_core_txn_commit(redo_core_t *c) { return commit(c, true); }
+uint32_t redo_core_txn_commit_lazily(redo_core_t *c) { return commit(c, false); }
 uint32_t redo_core_end(redo_core_t *c) {
     STORE; if (!s->in_group) return refuse(s, REDO_NO_GROUP); s->in_group = false; return REDO_OK;
 }

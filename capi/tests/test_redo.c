@@ -391,6 +391,13 @@ static void transactions(const char *folder) {
     put(0, "staged"), put(1, "staged");
     WANT(REDO_OK, redo_txn_commit(&db)), is(0, "staged");
     WANT(REDO_NO_TXN, redo_txn_commit(&db));
+    WANT(REDO_OK, redo_stat(&db, &before));
+    WANT(REDO_OK, redo_txn_begin(&db));
+    put(0, "lazy");
+    WANT(REDO_OK, redo_txn_commit_lazily(&db)), is(0, "lazy");
+    WANT(REDO_NO_TXN, redo_txn_commit_lazily(&db));
+    WANT(REDO_OK, redo_stat(&db, &after));
+    if (after.accepted != before.accepted + 1 || after.forced != before.forced) fail("a lazy commit forces nothing");
     put(0, "kept"), put(1, "too");
     while (redo_put(&db, 4, long_value, sizeof long_value) == REDO_OK) {}
     WANT(REDO_OK, redo_txn_begin(&db));

@@ -155,6 +155,12 @@ def transactions(folder):
             s.append(0, 1)
         with s.group():
             refused(redo.InGroup, s.transaction().__enter__)
+        forced = s.force()
+        for i in range(100):
+            with s.transaction(lazy=True):
+                refused(redo.InTransaction, s.group().__enter__)
+                s.put(1, b"%d" % i), s.put(2, b"%d" % i)
+        assert s.stat().forced == forced and s.force() == forced + 200
         for i in range(2 * limit // cap):               # the log is made empty now and then
             with s.transaction():
                 s.put(1, bytes(cap))

@@ -17,9 +17,9 @@ pub on_none : {T P : Type 0} (made : Option T) → P → IfNone made P
 on_none None is = is
 on_none (Some x) is = tt
 
-pub boxed_as : {s t : Session} (made : Option (Box Session Global)) → IfSome made (λ it. it.value ≡ t) → IsGivenUp s t → IfSome made (λ it. IsGivenUp s it.value)
-boxed_as None is given = tt
-boxed_as {s = s} (Some it) is given = subst (λ (x : Session). IsGivenUp s x) (sym is) given
+pub boxed_as : (P : Session → Type 0) {t : Session} (made : Option (Box Session Global)) → IfSome made (λ it. it.value ≡ t) → P t → IfSome made (λ it. P it.value)
+boxed_as P None is given = tt
+boxed_as P (Some it) is given = subst P (sym is) given
 
 pub none_back : (made : Option (Box Session Global)) (says : ℕ) (new : Option Session) → made ≡ None → new ≡ None → PutsBack made says new 5
 none_back made says new is none = subst (λ (o : Option (Box Session Global)). PutsBack o says new 5) (sym is) (none, refl)

@@ -1,15 +1,16 @@
 -- A session within a transaction, and outside.
-use Rattle.std.proofs.Common.{◌≡◌, ◌∙◌, ℕ, true, false, List, Option, None, Some, IfSome, is_some, ap, subst, sym, refl, inr}
+use Rattle.std.proofs.Common.{◌≡◌, ◌∙◌, ℕ, Bool, true, false, List, Option, None, Some, IfSome, is_some, ap, subst, sym, refl, inl, inr}
 use lib.Dec.{T}
 use Rattle.std.specs.Global.{Global}
 use Rattle.std.specs.Prelude.{Box, IfNone, IsSome}
 use Rattle.op_codec.specs.AllOps.{AllOps}
+use Rattle.store_engine.specs.Engine.{group_size}
 use Rattle.transactions.specs.declared.transaction.Transaction.{Transaction}
-use Rattle.embed_c.specs.Answers.{alone, of_exec, told, told_value}
+use Rattle.embed_c.specs.Answers.{alone, of_exec, telling, told, told_value}
 use Rattle.embed_c.specs.Calls.{DoesExec, DoesGet, DoesNothing, IsCalled, TellsLength}
-use Rattle.embed_c.specs.GivenUp.{IsGivenUp, IsLost, PutsBack}
+use Rattle.embed_c.specs.GivenUp.{IsGivenUp, IsLost, IsReopened, LosesUnforced, PutsBack}
 use Rattle.embed_c.specs.Handles.{OnSession, not_open}
-use Rattle.embed_c.specs.Staging.{Apart, ApartFrom, Commits, CommitsFor, CommitsOn, DoesSee, DoesStage, IsCalledIn, IsCommitted, IsWithin, ReadsOrSees, RunsOrStages, told_seen}
+use Rattle.embed_c.specs.Staging.{Apart, ApartFrom, Commits, CommitsFor, CommitsLazily, CommitsLazilyFor, CommitsLazilyOn, CommitsOn, DoesSee, DoesStage, IsCalledIn, IsCommitted, IsCommittedLazily, IsWithin, ReadsOrSees, RunsOrStages, told_seen}
 use Rattle.embed_c.specs.declared.session.Session.{Session}
 use Rattle.embed_c.proofs.OnHandles.{was_open}
 
@@ -75,3 +76,32 @@ module _ {old : Option Session} {s seen : Session} (before : old ≡ Some s) (sa
   pub cut_off : (made : Option (Box Session Global)) (new : Option Session) (cut : Session) (says answer : ℕ) → Commits seen cut says → IsSome cut.store.engine.group
       → IfSome made (λ it. IsGivenUp cut it.value) → IfNone made (IsLost cut.store) → PutsBack made says new answer → CommitsOn old new answer
   cut_off made new cut says answer done grouped gives lost put = of_seen new answer (given made new cut says answer done grouped gives lost put)
+
+-- the same of a commit that forces nothing
+pub commits_lazily : (o : Option (Transaction AllOps)) {t : Transaction AllOps} (old new : Session) (answer : ℕ) (cut : Bool) → o ≡ Some t → IsCommittedLazily t old new answer cut → CommitsLazilyFor o old new answer cut
+commits_lazily o old new answer cut some done = subst (λ (o : Option (Transaction AllOps)). CommitsLazilyFor o old new answer cut) (sym some) done
+
+pub was_closed_lazily : (old new : Option Session) → old ≡ None → new ≡ None → CommitsLazilyOn old new not_open
+was_closed_lazily old new before after = subst (λ (o : Option Session). CommitsLazilyOn o new not_open) (sym before) (after, refl)
+
+module _ {old : Option Session} {s seen : Session} (before : old ≡ Some s) (same : seen ≡ s) where
+  of_seen_lazily : (new : Option Session) (answer : ℕ) → CommitsLazilyOn (Some seen) new answer → CommitsLazilyOn old new answer
+  of_seen_lazily new answer done = subst (λ (o : Option Session). CommitsLazilyOn o new answer) (sym (before ∙ ap (λ (x : Session). Some x) (sym same))) done
+
+  pub in_group_lazily : {t : Session} (new : Option Session) (size answer : ℕ) → new ≡ Some t → group_size seen.store.engine ≡ Some size → DoesNothing (telling 18 size 0 0) seen t answer → CommitsLazilyOn old new answer
+  in_group_lazily new size answer after grouped done = of_seen_lazily new answer (subst (λ (o : Option Session). CommitsLazilyOn (Some seen) o answer) (sym after) (inl (size, grouped, done)))
+
+  pub done_lazily : {t : Session} (new : Option Session) (answer : ℕ) (cut : Bool) → new ≡ Some t → cut ≡ false → CommitsLazily seen t answer cut → CommitsLazilyOn old new answer
+  done_lazily {t = t} new answer cut after none done =
+      of_seen_lazily new answer (subst (λ (o : Option Session). CommitsLazilyOn (Some seen) o answer) (sym after) (inr (inl (subst (λ (b : Bool). CommitsLazily seen t answer b) none done))))
+
+  -- it is cut off, and all that is not forced is given up
+  reopened : (made : Option (Box Session Global)) (new : Option Session) (cut : Session) (says answer : ℕ) → CommitsLazily seen cut says true
+      → IfSome made (λ it. IsReopened cut it.value) → IfNone made (LosesUnforced cut.store) → PutsBack made says new answer → CommitsLazilyOn (Some seen) new answer
+  reopened None new cut says answer done again lost put = subst (λ (o : Option Session). CommitsLazilyOn (Some seen) o answer) (sym put.0) (cut, says, done, lost, put.1)
+  reopened (Some it) new cut says answer done again lost put = subst (λ (o : Option Session). CommitsLazilyOn (Some seen) o answer) (sym put.0)
+      (inr (inr (cut, subst (λ (n : ℕ). CommitsLazily seen cut n true) (sym put.1) done, again)))
+
+  pub cut_lazily : (made : Option (Box Session Global)) (new : Option Session) (cut : Session) (says answer : ℕ) (off : Bool) → off ≡ true → CommitsLazily seen cut says off
+      → IfSome made (λ it. IsReopened cut it.value) → IfNone made (LosesUnforced cut.store) → PutsBack made says new answer → CommitsLazilyOn old new answer
+  cut_lazily made new cut says answer off is done again lost put = of_seen_lazily new answer (reopened made new cut says answer (subst (λ (b : Bool). CommitsLazily seen cut says b) is done) again lost put)

@@ -1,12 +1,14 @@
 -- Groups that are given up, and groups for which the log has room.
-use Rattle.std.specs.Prelude.{◌≡◌, ◌⊎◌, ◌++◌, if◌then◌else◌, true, false, ℕ, List, Option, None, Some, Result, Box, IfSome, IsSome, OnOk, length}
+use Rattle.std.specs.Prelude.{◌≡◌, ◌⊎◌, ◌++◌, if◌then◌else◌, true, false, ℕ, List, Option, None, Some, Result, Box, IfSome, IsSome, OnOk, length, take}
 use Rattle.std.specs.Global.{Global}
 use Rattle.disk_model.specs.Disk.{LeavesOnly}
+use Rattle.disk_model.specs.Silent.{IsSilent}
 use Rattle.disk_model.specs.declared.machine.Failed.{Failed}
 use Rattle.formats.specs.declared.params.Params.{Params}
 use Rattle.op_codec.specs.AllOps.{AllOps, all_meaning}
 use Rattle.store_engine.specs.Calls.{IsBeginning, IsRefused, work_of_force}
 use Rattle.store_engine.specs.Engine.{Between, Holds, IsAttached, Opens, forced_in, group_size}
+use Rattle.store_engine.specs.Store.{Stands}
 use Rattle.store_engine.specs.declared.work_err.WorkErr.{WorkErr}
 use Rattle.store_engine.specs.declared.work_err.WorkErr.TheVariants as work
 use Rattle.transactions.specs.Room.{HasRoomOf}
@@ -40,14 +42,33 @@ pub record DoesAbort (old new : Store QueueMem) : Type 0 where
   pub images : (p : Params) (commands ops : List AllOps) → Holds all_meaning p (disk_of old.machine) old.engine (commands ++ ops) → group_size old.engine ≡ Some (length ops) →
       LeavesOnly (disk_of old.machine) (disk_of new.machine) (Between all_meaning p (disk_of old.machine) None (length commands) (length commands) commands)
 
--- that of a session was; no call is taken from its machine, and the pairs that were found for C are as they were
-pub record IsGivenUp (old new : Session) : Type 0 where
-  pub store : DoesAbort old.store new.store
+-- All that was not forced was given up: the store stands for the forced commands, and so does whatever a crash leaves of its files
+-- since. It is in use, with no group and no backup under way, and has logged no identity write.
+pub record DoesReopen (old new : Store QueueMem) : Type 0 where
+  pub unbroken : new.engine.broken ≡ false
+  pub group : new.engine.group ≡ None
+  pub copied : new.engine.copied ≡ None
+  pub identities : new.engine.identities ≡ 0
+  pub attached : IsAttached all_meaning (disk_of new.machine) new.engine
+  pub back : (p : Params) (commands : List AllOps) → Holds all_meaning p (disk_of old.machine) old.engine commands →
+      Holds all_meaning p (disk_of new.machine) new.engine (take (forced_in old.engine) commands) × (forced_in new.engine ≡ forced_in old.engine)
+  pub images : (p : Params) (commands : List AllOps) → Holds all_meaning p (disk_of old.machine) old.engine commands →
+      LeavesOnly (disk_of old.machine) (disk_of new.machine) (IsSilent (λ files. Stands all_meaning p files (take (forced_in old.engine) commands)) (disk_of old.machine).said)
+
+-- a session whose store was given up so; no call is taken from its machine, and what else is kept for C is as it was
+pub record IsAgain (does : Store QueueMem → Store QueueMem → Type 0) (old new : Session) : Type 0 where
+  pub store : does old.store new.store
   pub detail : new.detail ≡ done_answer.detail
   pub untaken : IsUntaken old.store.machine new.store.machine
   pub taken : new.taken ≡ old.taken
   pub pairs : new.pairs ≡ old.pairs
   pub staging : new.staging ≡ old.staging
+
+abbrev pub IsGivenUp : Session → Session → Type 0
+IsGivenUp = IsAgain DoesAbort
+
+abbrev pub IsReopened : Session → Session → Type 0
+IsReopened = IsAgain DoesReopen
 
 -- It was given up, but is not there again: the store was dropped with this machine, from which no call was taken. Whatever a crash
 -- leaves of its files since stands for the commands before the group, and so do the files themselves.
@@ -57,6 +78,14 @@ pub record IsLost (old : Store QueueMem) : Type 0 where
   pub images : (p : Params) (commands ops : List AllOps) → Holds all_meaning p (disk_of old.machine) old.engine (commands ++ ops) → group_size old.engine ≡ Some (length ops) →
       LeavesOnly (disk_of old.machine) (disk_of machine) (Between all_meaning p (disk_of old.machine) None (length commands) (length commands) commands)
   pub again : (p : Params) (commands ops : List AllOps) → Holds all_meaning p (disk_of old.machine) old.engine (commands ++ ops) → group_size old.engine ≡ Some (length ops) → Opens all_meaning p (disk_of machine) commands
+
+-- The same where all that was not forced was given up: the forced commands are left.
+pub record LosesUnforced (old : Store QueueMem) : Type 0 where
+  pub machine : QueueMem
+  pub untaken : IsUntaken old.machine machine
+  pub images : (p : Params) (commands : List AllOps) → Holds all_meaning p (disk_of old.machine) old.engine commands →
+      LeavesOnly (disk_of old.machine) (disk_of machine) (IsSilent (λ files. Stands all_meaning p files (take (forced_in old.engine) commands)) (disk_of old.machine).said)
+  pub again : (p : Params) (commands : List AllOps) → Holds all_meaning p (disk_of old.machine) old.engine commands → Opens all_meaning p (disk_of machine) (take (forced_in old.engine) commands)
 
 -- what C is told where no group is open: that, or that the disk has failed
 abbrev pub no_group_in : Session → ℕ

@@ -1,7 +1,8 @@
 -- What a session does within a transaction, and how one begins and ends.
-use Rattle.std.specs.Prelude.{◌≡◌, ◌⊎◌, ◌+◌, ◌-◌, ◌≤◌, ◌^◌, ◌++◌, true, false, ℕ, List, [], Option, None, Some, Result, Ok, Err, IfOk, IsErrOf, IsSome, length, min}
+use Rattle.std.specs.Prelude.{◌≡◌, ◌⊎◌, ◌+◌, ◌-◌, ◌≤◌, ◌^◌, ◌++◌, true, false, ℕ, Bool, List, [], Option, None, Some, Result, Ok, Err, IfOk, IsErrOf, IsSome, length, min, take}
 use Rattle.std.specs.Option.{is_some}
 use Rattle.disk_model.specs.Disk.{LeavesOnly}
+use Rattle.disk_model.specs.Silent.{IsSilent}
 use Rattle.formats.specs.declared.params.Params.{Params}
 use Rattle.execution.specs.Answers.{ending_of_exec}
 use Rattle.execution.specs.declared.exec_err.ExecErr.{ExecErr}
@@ -9,9 +10,9 @@ use Rattle.execution.specs.declared.exec_err.ExecErr.TheVariants as commands
 use Rattle.op_codec.specs.AllOps.{AllOps, all_meaning}
 use Rattle.running_store.specs.Calls.{IsFailed}
 use Rattle.store_engine.specs.Engine.{Between, Holds, forced_in, group_size, params_of, used_in}
-use Rattle.store_engine.specs.Store.{state_of}
+use Rattle.store_engine.specs.Store.{Stands, state_of}
 use Rattle.transactions.specs.Admitted.{HasStaged}
-use Rattle.transactions.specs.Committing.{IsLeft}
+use Rattle.transactions.specs.Committing.{IsLeft, IsLeftLazily}
 use Rattle.transactions.specs.Staged.{IsStaged, OnlyReads}
 use Rattle.transactions.specs.declared.commit_err.CommitErr.{CommitErr}
 use Rattle.transactions.specs.declared.commit_err.CommitErr.TheVariants as committing
@@ -22,7 +23,7 @@ use Rattle.embed.specs.Embedded.{GivesValue, IsStillBroken}
 use Rattle.embed.specs.declared.store.Store.{Store}
 use Rattle.embed_c.specs.Answers.{alone, done_answer, of_exec, telling, told, told_value}
 use Rattle.embed_c.specs.Calls.{DoesExec, DoesGet, DoesNothing, IsCalled, IsUntaken, TellsLength}
-use Rattle.embed_c.specs.GivenUp.{IsGivenUp, IsLost}
+use Rattle.embed_c.specs.GivenUp.{IsGivenUp, IsLost, IsReopened, LosesUnforced}
 use Rattle.embed_c.specs.Handles.{not_open}
 use Rattle.embed_c.specs.declared.answer.Answer.{Answer}
 use Rattle.embed_c.specs.declared.session.Session.{Session}
@@ -148,16 +149,20 @@ kept_after (Err committing.LogFull) t = Some t
 kept_after (Err committing.DiskFault) t = None
 kept_after (Err (committing.Cut cause)) t = None
 
-pub record IsCommitted (t : Transaction AllOps) (old new : Session) (answer : ℕ) : Type 0 where
+-- A commit on the store of a session and its open transaction came to something, and that is what C is told.
+pub record IsCommittedBy (does : Store QueueMem → Store QueueMem → Transaction AllOps → Transaction AllOps → Result (Unit {0}) CommitErr → Type 0) (t : Transaction AllOps) (old new : Session) (answer : ℕ) : Type 0 where
   pub made : Result (Unit {0}) CommitErr
   pub after : Transaction AllOps
-  pub store : DoesCommit old.store new.store t after made
+  pub store : does old.store new.store t after made
   pub staging : new.staging ≡ kept_after made after
   pub number : answer ≡ (told_commit (used_in new.store.engine) after.bytes (params_of new.store.engine).limit made).number
   pub detail : new.detail ≡ (told_commit (used_in new.store.engine) after.bytes (params_of new.store.engine).limit made).detail
   pub untaken : IsUntaken old.store.machine new.store.machine
   pub taken : new.taken ≡ old.taken
   pub pairs : new.pairs ≡ old.pairs
+
+abbrev pub IsCommitted : Transaction AllOps → Session → Session → ℕ → Type 0
+IsCommitted = IsCommittedBy DoesCommit
 
 abbrev pub CommitsFor : Option (Transaction AllOps) → Session → Session → ℕ → Type 0
 CommitsFor None old new answer = DoesNothing (alone 24) old new answer
@@ -177,3 +182,40 @@ CommitsOn None new answer = (new ≡ None) × (answer ≡ not_open)
 CommitsOn (Some old) None answer = (cut : Session) × (says : ℕ) × Commits old cut says × IsSome cut.store.engine.group × IsLost cut.store × (answer ≡ 5)
 CommitsOn (Some old) (Some new) answer = ((size : ℕ) × (group_size old.store.engine ≡ Some size) × DoesNothing (telling 18 size 0 0) old new answer)
     ⊎ (Commits old new answer ⊎ CommitsAndGivesUp old new answer)
+
+-- The staged commands were added, or none of them, and nothing was forced; at each moment a crash leaves just what was forced before.
+pub record DoesCommitLazily (old new : Store QueueMem) (t u : Transaction AllOps) (made : Result (Unit {0}) CommitErr) : Type 0 where
+  pub left : (p : Params) (commands : List AllOps) → Holds all_meaning p (disk_of old.machine) old.engine commands → IsStagedOn p commands t →
+      old.engine.parts.log.next + length t.ops.items ≤ 2 ^ 62 → IsLeftLazily all_meaning p (disk_of new.machine) old.engine new.engine commands t.ops.items made
+  pub images : (p : Params) (commands : List AllOps) → Holds all_meaning p (disk_of old.machine) old.engine commands → IsStagedOn p commands t →
+      old.engine.parts.log.next + length t.ops.items ≤ 2 ^ 62 →
+      LeavesOnly (disk_of old.machine) (disk_of new.machine) (IsSilent (λ files. Stands all_meaning p files (take (forced_in old.engine) commands)) (disk_of old.machine).said)
+  pub kept : IsErrOf made committing.LogFull → (u.ops ≡ t.ops) × (u.bytes ≡ t.bytes) × (u.made ≡ t.made)
+  pub broken : old.engine.broken ≡ true → IsStillBroken committing.DiskFault old new made × (u ≡ t)
+
+abbrev pub is_cut_off : Result (Unit {0}) CommitErr → Bool
+is_cut_off (Ok value) = false
+is_cut_off (Err committing.LogFull) = false
+is_cut_off (Err committing.DiskFault) = false
+is_cut_off (Err (committing.Cut cause)) = true
+
+-- that was done, and was cut off or not
+pub record IsCommittedLazily (t : Transaction AllOps) (old new : Session) (answer : ℕ) (cut : Bool) : Type 0 where
+  pub done : IsCommittedBy DoesCommitLazily t old new answer
+  pub cut_off : cut ≡ is_cut_off done.made
+
+abbrev pub CommitsLazilyFor : Option (Transaction AllOps) → Session → Session → ℕ → Bool → Type 0
+CommitsLazilyFor None old new answer cut = DoesNothing (alone 24) old new answer × (cut ≡ false)
+CommitsLazilyFor (Some t) old new answer cut = IsCommittedLazily t old new answer cut
+
+abbrev pub CommitsLazily : Session → Session → ℕ → Bool → Type 0
+CommitsLazily old new answer cut = CommitsLazilyFor old.staging old new answer cut
+
+-- The open transaction of the session behind a handle was to be committed, and nothing forced. Where it was cut off, all that is not
+-- forced was given up; where the store is not there again then, for want of memory or with its machine, the session was dropped, and
+-- 5 is answered. Nothing is done within a group.
+abbrev pub CommitsLazilyOn : Option Session → Option Session → ℕ → Type 0
+CommitsLazilyOn None new answer = (new ≡ None) × (answer ≡ not_open)
+CommitsLazilyOn (Some old) None answer = (cut : Session) × (says : ℕ) × CommitsLazily old cut says true × LosesUnforced cut.store × (answer ≡ 5)
+CommitsLazilyOn (Some old) (Some new) answer = ((size : ℕ) × (group_size old.store.engine ≡ Some size) × DoesNothing (telling 18 size 0 0) old new answer)
+    ⊎ (CommitsLazily old new answer false ⊎ ((cut : Session) × CommitsLazily old cut answer true × IsReopened cut new))

@@ -72,7 +72,7 @@ impl Session {
 }
 
 // A session on the heap; none where no memory is left.
-fn boxed(session: Session) -> Option<Box<Session>>
+pub(crate) fn boxed(session: Session) -> Option<Box<Session>>
     ensures { IfSome result (λ it. it.value ≡ session) }
 {
     let alloc = session.alloc;

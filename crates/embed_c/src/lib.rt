@@ -30,6 +30,7 @@ mod backing_up;
 mod giving_up;
 mod handle;
 mod maps;
+mod reopening;
 mod session;
 mod staging;
 mod taken;

@@ -4,7 +4,7 @@ ghost use Rattle.std.specs.Option.{is_some};
 ghost use Rattle.embed_c.specs.Answers.{of_exec, telling, told};
 ghost use Rattle.embed_c.specs.Calls.{DoesNothing, TellsLength};
 ghost use Rattle.embed_c.specs.Handles.{OnSession, session_of};
-ghost use Rattle.embed_c.specs.Staging.{Begins, Commits, CommitsOn, Drops, DoesSee, DoesStage, IsCalledIn, IsWithin, kept_after, told_commit, told_seen};
+ghost use Rattle.embed_c.specs.Staging.{Begins, Commits, CommitsLazily, CommitsLazilyOn, CommitsOn, Drops, DoesSee, DoesStage, IsCalledIn, IsWithin, is_cut_off, kept_after, told_commit, told_seen};
 
 use crate::answer::{Answer, exec_answer};
 use crate::giving_up::put_again;
@@ -63,6 +63,16 @@ fn kept(
     match made {
         Err(CommitErr::LogFull) => Some(transaction),
         _ => None,
+    }
+}
+
+// Whether it was cut off within.
+fn is_cut(made: &Result<(), CommitErr>) -> bool
+    ensures { result ≡ is_cut_off made.now }
+{
+    match made {
+        Err(CommitErr::Cut(_)) => true,
+        _ => false,
     }
 }
 
@@ -161,6 +171,28 @@ impl Session {
         answer.number
     }
 
+    // Adds the staged commands, where no group is open, and forces nothing. It answers what C is told, and whether it was cut off.
+    fn commit_lazily(&mut self) -> (u32, bool)
+        requires alone { self.old.store.engine.broken ≡ false → self.old.store.engine.group ≡ None }
+        ensures { CommitsLazily self.old self.new result.0 result.1 }
+    {
+        let Some(mut transaction) = mem::replace(&mut self.staging, None) else {
+            return (self.refuse(NO_TXN), false);
+        };
+        let made = self.store.commit_lazily(&mut transaction);
+        let bytes = transaction.bytes();
+        let cut = is_cut(&made);
+        self.staging = kept(&made, transaction);
+        let answer = commit_answer(
+            made,
+            self.store.stat().used,
+            bytes,
+            self.store.params().limit,
+        );
+        self.detail = answer.detail;
+        (answer.number, cut)
+    }
+
     // Tells that a group is open.
     fn refuse_in_group(&mut self, commands: u64) -> u32
         ensures { DoesNothing (telling 18 commands 0 0) self.old self.new result }
@@ -238,4 +270,26 @@ pub extern "C" fn redo_core_txn_commit(alloc: Global, redo: &mut Redo) -> u32
         }
         Some(_) => put_again(redo, Box::into_inner(session).abort(), answer),
     }
+}
+
+/// Adds the staged commands, or none of them, and forces nothing. Where memory runs out within, all that is not forced is given up;
+/// where that fails too, the session is dropped, the handle is closed and the answer is 5.
+#[unsafe(no_mangle)]
+pub extern "C" fn redo_core_txn_commit_lazily(alloc: Global, redo: &mut Redo) -> u32
+    ensures { CommitsLazilyOn (session_of redo.old) (session_of redo.new) result }
+{
+    let Some(mut session) = redo.take(alloc) else {
+        return NOT_OPEN;
+    };
+    if let Some(commands) = session.store.group() {
+        let answer = session.refuse_in_group(commands);
+        redo.put_back(session);
+        return answer;
+    }
+    let (answer, cut) = session.commit_lazily();
+    if !cut {
+        redo.put_back(session);
+        return answer;
+    }
+    put_again(redo, Box::into_inner(session).reopen(), answer)
 }

@@ -1,4 +1,5 @@
 use Rattle.std.proofs.Common.{ap, refl}
+use Rattle.embed_c.specs.GivenUp.{IsGivenUp}
 use Rattle.embed_c.specs.declared.answer.Answer.{Answer}
 use Rattle.embed_c.proofs.GivingUp.{boxed_as, on_none}
 use Rattle.embed_c.proofs.Untaken.{untaken}
@@ -7,7 +8,7 @@ use Rattle.embed_c.proofs.session.Session.abort.Goals as goal
 pub returns-in-Ok-clause-some : goal.returns-in-Ok-clause-some
 returns-in-Ok-clause-some c =
     let e = c.in-Ok.ensures in
-    boxed_as c.boxed.result c.boxed.ensures (record {
+    boxed_as (IsGivenUp c.args.self) c.boxed.result c.boxed.ensures (record {
       store = record {
         unbroken = e.ready.0;
         group = e.ready.1;
