@@ -27,7 +27,7 @@ smaller objects cap = with_newline (codes "smaller " ++ decimal objects ++ 32 �
 
 -- the words ask nothing
 abbrev pub usage : List ℕ
-usage = with_newline (codes "usage: redo init N CAP LIMIT [--pages] | run [--tend] | dump | demo --seed S --steps T | upgrade N CAP LIMIT [--pages] | ship FROM | follow")
+usage = with_newline (codes "usage: redo init N CAP LIMIT [--pages] | run [--tend] | dump | demo --seed S --steps T | upgrade N CAP LIMIT [--pages] | ship FROM | follow [--same]")
 
 -- the name of a file
 abbrev pub name_of_file : FileNo → List ℕ
@@ -62,9 +62,13 @@ bad_frame place = with_lsn (codes "stream BadFrame") (place ∷ [])
 abbrev pub gap : ℕ → ℕ → List ℕ
 gap expected got = with_lsn (codes "stream Gap") (expected ∷ got ∷ [])
 
--- the record of this number is not what may come next
+-- the record of this number is not what may come next, or another one is there
 abbrev pub differs : ℕ → List ℕ
 differs number = with_lsn (codes "stream Differs") (number ∷ [])
+
+-- the record of this number is no longer in the log
+abbrev pub unknown : ℕ → List ℕ
+unknown number = with_lsn (codes "stream Unknown") (number ∷ [])
 
 -- the stream ends within the frame at this place
 abbrev pub short : ℕ → List ℕ
