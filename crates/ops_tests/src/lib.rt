@@ -1,4 +1,5 @@
-//! A test crate: the tests of oper_core, op_meaning, app_program, btree_ops, hash_ops, page_ops and op_codec. The library is empty.
+//! A test crate: the tests of oper_core, op_meaning, app_program, btree_ops, hash_ops, page_ops, op_codec and resp_words. The
+//! library is empty.
 //!
 //! They stand apart so that the proofs of those crates are made once, and not a second time with their tests.
 #![tactic(auto)]
@@ -13,6 +14,8 @@ mod hashes;
 mod nodes;
 #[cfg(test)]
 mod pages;
+#[cfg(test)]
+mod resp;
 #[cfg(test)]
 mod rows;
 #[cfg(test)]

@@ -4,3 +4,4 @@ pub mod Lines
 pub mod Commands
 pub mod Replies
 pub mod Faults
+pub mod Worked

@@ -24,6 +24,7 @@ mod protocol_error;
 mod reply;
 mod reply_laws;
 mod run;
+mod worked;
 
 pub use command::next_command;
 pub use command_laws::{a_command_is_found, commands_are_told_apart};
@@ -32,3 +33,4 @@ pub use limits::Limits;
 pub use protocol_error::ProtocolError;
 pub use reply::Reply;
 pub use reply_laws::replies_are_told_apart;
+pub use worked::bytes_are_as_worked;
