@@ -239,6 +239,7 @@ module _ (searches : Searches) (changes : Changes) (lo hi : ℕ) (small : hi < 2
   IsDone v op =
       (kept : IsMap lo hi (after (page_meaning b) s op)) × ((q : List ℕ) → get (content_of kept) q ≡ (if eq_by_cmp byte_order q key then v else get (content_of is) q))
       × ((room : ℕ) → IsTrue (new_short room v) → AreShortPairs room is.level is.tree → AreShortPairs room kept.level kept.tree)
+      × (kept.level ≡ is.level)
 
   abbrev pub set_op : Bool → List ℕ → PageOp
   set_op there value = if there then Set object place value else Put object place key value
@@ -274,6 +275,7 @@ module _ (searches : Searches) (changes : Changes) (lo hi : ℕ) (small : hi < 2
             ∙ changed_inside key v here.before here.after here.leaf.cells cells here.none_before here.none_after update q
             ∙ ap (λ (o : Option (List ℕ)). if eq_by_cmp byte_order q key then v else o) (sym (get-from_entries nat_list_cmp_total (pairs_in is.level is.tree) q ∙ ap (find byte_order q) here.split)),
         λ room new all. again.short room (shorts room new (here.short_there room all)) all,
+        refl,
       )
 
   -- an operation that makes a leaf of other cells, where it is accepted

@@ -1,5 +1,5 @@
 -- The commands of a delete take the key out, and keep the map.
-use Rattle.std.proofs.Common.{◌≡◌, ℕ, zero, suc, ◌^◌, ◌<◌, ◌≤◌, true, false, cond, not, if◌then◌else◌, Option, None, Some, Result, Ok, List, [], ◌∷◌, length, take, is_some, refl, sym, ◌∙◌, subst, arith}
+use Rattle.std.proofs.Common.{◌≡◌, ℕ, zero, suc, ◌+◌, ◌^◌, ◌<◌, ◌≤◌, true, false, cond, not, if◌then◌else◌, Option, None, Some, Result, Ok, List, [], ◌∷◌, length, take, is_some, refl, sym, ap, ◌∙◌, subst, arith}
 use Rattle.std.specs.Ordering.{eq_by_cmp}
 use Rattle.std.specs.FinMap.{get, remove}
 use Rattle.oper_core.specs.State.{State}
@@ -11,10 +11,11 @@ use Rattle.key_entries.specs.Pairs.{has, without}
 use Rattle.call_plans.specs.Laws.{after_all}
 use Rattle.call_plans.specs.Plan.{refused_by}
 use Rattle.page_ops.specs.Page.{Cell, page_of}
+use Rattle.page_ops.specs.Reading.{level_in}
 use Rattle.page_ops.specs.Operation.{page_meaning}
 use Rattle.page_ops.specs.declared.page_op.PageOp.{PageOp}
 use Rattle.page_ops.specs.declared.page_op.PageOp.TheVariants.{Delete}
-use Rattle.page_map.specs.Map.{content_of}
+use Rattle.page_map.specs.Map.{bytes_at, content_of}
 use Rattle.page_map.specs.Plan.{Admits, delete_command}
 use Rattle.page_map.specs.Splits.{size_of}
 use Rattle.page_map.specs.Sets.{IsKept, Keeps, room_of}
@@ -23,10 +24,11 @@ use Rattle.page_map.specs.declared.refusal.MapRefusal.TheVariants.{NoKey}
 use Rattle.page_map.proofs.MapLemmas.{Searches}
 use Rattle.page_map.proofs.CutLemmas.{ReadsCells, page_size}
 use Rattle.page_map.proofs.ChangeLemmas.{Changes, IsDone, delete_command_is, delete_content, delete_done, delete_fits, has_too, here, object, place, read_there, whole}
+use Rattle.page_map.proofs.TreeLemmas.{root_held}
 use Rattle.page_map.proofs.OpLemmas.{fits_room}
 use Rattle.page_map.proofs.TurnLemmas.{page_fits}
 use Rattle.page_map.proofs.SetLemmas.{fits_too}
-use Rattle.page_map.proofs.TidyLemmas.{tidy_is_kept}
+use Rattle.page_map.proofs.TidyLemmas.{few_tidied, tidy_is_kept}
 
 size_out : (key : List ℕ) (cells : List Cell) → size_of (without key cells) ≤ size_of cells
 size_out key [] = omega arith
@@ -70,12 +72,15 @@ module _ (searches : Searches) (changes : Changes) (reads : ReadsCells) (b : Bou
     deletes_there : Deletes b lo hi s is key (record { commands = out ∷ tidy_commands b lo hi key next; refusal = None })
     deletes_there =
         let keeps = tidy_is_kept changes reads b lo hi small admits key next kept in
+        let top : level_in (bytes_at lo next lo) ≡ is.map.level =
+        ap (λ (y : ℕ). level_in (bytes_at lo next y)) (sym kept.map.root) ∙ ap level_in (root_held lo hi next kept.map.level kept.map.tree kept.map.holds).code ∙ done.3 in
         record {
           accepted = (accepted, keeps.accepted);
           kept = both_kept keeps;
           same = refl;
           done = λ e. (omega arith, λ k. keeps.content k ∙ content);
           refused = λ r e. cc;
+          few = omega (arith, top, few_tidied b lo hi key (level_in (bytes_at lo next lo) + 2) next);
         }
       where
         both_kept : Keeps b lo hi next kept (tidy_commands b lo hi key next) → (k : ℕ) → IsKept b lo hi (after_all (page_meaning b) s (take k (out ∷ tidy_commands b lo hi key next)))
@@ -93,6 +98,7 @@ module _ (searches : Searches) (changes : Changes) (reads : ReadsCells) (b : Bou
     same = refl;
     done = λ e. cc;
     refused = λ r e. (sym (same_some NoKey r e), none, refl);
+    few = omega arith;
   }
 
   not_found : (o : Option (List ℕ)) → is_some o ≡ false → o ≡ None

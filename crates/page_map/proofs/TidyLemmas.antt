@@ -1,5 +1,5 @@
 -- The commands that tidy the way to a key keep the map.
-use Rattle.std.proofs.Common.{◌≡◌, ◌≢◌, ℕ, zero, suc, ◌+◌, ◌-◌, ◌^◌, ◌<◌, ◌≤◌, ◌==◌, Bool, true, false, if◌then◌else◌, Option, None, Some, List, [], ◌∷◌, ◌++◌, T, map, flat_map, length, drop, is_lt, refl, sym, ap, ◌∙◌, subst, arith, take_all}
+use Rattle.std.proofs.Common.{◌≡◌, length-append, ◌*◌, ◌≢◌, ℕ, zero, suc, ◌+◌, ◌-◌, ◌^◌, ◌<◌, ◌≤◌, ◌==◌, Bool, true, false, if◌then◌else◌, Option, None, Some, List, [], ◌∷◌, ◌++◌, T, map, flat_map, length, drop, is_lt, refl, sym, ap, ◌∙◌, subst, arith, take_all}
 use Rattle.std.specs.Prelude.{IsTrue, nat_lt, nat_le}
 use Rattle.std.specs.FinMap.{from_entries}
 use Rattle.std.proofs.lemmas.Bool.{eqb-true, leb-true, ltb-true}
@@ -531,3 +531,57 @@ module _ (changes : Changes) (reads : ReadsCells) (b : Bounds) (lo hi : ℕ) (sm
 
   pub tidy_is_kept : (s : State) (is : IsKept b lo hi s) → Keeps b lo hi s is (tidy_commands b lo hi key s)
   tidy_is_kept s is = tidied_keeps (level_in (bytes_at lo s lo) + 2) s is
+
+-- ---- how many commands they are
+
+module _ (lo : ℕ) (s : State) where
+  few_before : (q : ℕ) (cells : List Cell) (j : ℕ) (front : List Cell) → length (before_takes lo s q cells j front) ≤ 2
+  few_before q cells j front =
+      elim (nat_lt (length front) (length (cells_read (bytes_at lo s (child_at cells j))))) as (λ t. length (if t then Keep (child_at cells j) (length front) ∷ []
+      else takes_both lo s q j (child_at cells j) (child_at cells (suc j))) ≤ 2) [ true ↦ omega arith | false ↦ omega arith ]
+
+  few_way : (q : ℕ) (to : Option (List ℕ)) (cells : List Cell) (i : ℕ) → length (gives_way lo s q to cells i) ≤ 2
+  few_way q to cells zero =
+      elim (nat_lt 1 (length (front_of to cells))) as (λ t. length (if t then takes_both lo s q 0 (child_at cells 1) (child_at cells 0) else []) ≤ 2) [ true ↦ omega arith | false ↦ omega arith ]
+  few_way q to cells (suc j) =
+      let front : List Cell = front_at lo s (end_of (front_of to cells) j to) (child_at cells j) in
+      elim (nat_lt (suc (suc j)) (length (front_of to cells))) as (λ t. length (if t then takes_both lo s q (suc j) (child_at cells (suc (suc j))) (child_at cells (suc j))
+      else before_takes lo s q cells j front) ≤ 2) [ true ↦ omega arith | false ↦ few_before q cells j front ]
+
+  few_leaf : (q : ℕ) (to : Option (List ℕ)) (cells : List Cell) (o : Option ℕ) → length (leaf_goes lo s q to cells o) ≤ 2
+  few_leaf q to cells None = omega arith
+  few_leaf q to cells (Some i) =
+      elim (length (front_at lo s (end_of (front_of to cells) i to) (child_at cells i)) == 0) as (λ t. length (if t then gives_way lo s q to cells i else []) ≤ 2) [
+        | true ↦ few_way q to cells i
+        | false ↦ omega arith
+      ]
+
+  few_on : (on : ℕ → Option (List ℕ) → List PageOp) → ((x : ℕ) (to : Option (List ℕ)) → length (on x to) ≤ 2) → (to : Option (List ℕ)) (cells : List Cell) (o : Option ℕ) → length (on_way lo s on to cells o) ≤ 2
+  few_on on few to cells None = omega arith
+  few_on on few to cells (Some i) = few (child_at cells i) (end_of (front_of to cells) i to)
+
+  few_from : (key : List ℕ) (level x : ℕ) (to : Option (List ℕ)) → length (tidy_from lo s key level x to) ≤ 2
+  few_from key zero x to = omega arith
+  few_from key (suc zero) x to = let cells : List Cell = cells_read (bytes_at lo s x) in few_leaf x to cells (last_under key cells)
+  few_from key (suc (suc level)) x to =
+      let cells : List Cell = cells_read (bytes_at lo s x) in few_on (tidy_from lo s key (suc level)) (few_from key (suc level)) to cells (last_under key cells)
+
+  few_root : (level : ℕ) (cells : List Cell) → length (root_goes lo s level cells) ≤ 2
+  few_root zero cells = omega arith
+  few_root (suc level) [] = omega arith
+  few_root (suc level) (c ∷ []) = omega arith
+  few_root (suc level) (c ∷ d ∷ cells) = omega arith
+
+  few_else : (level : ℕ) (ops : List PageOp) → length ops ≤ 2 → length (else_root lo s level ops) ≤ 2
+  few_else level [] few = few_root level (cells_read (bytes_at lo s lo))
+  few_else level (op ∷ ops) few = few
+
+  few_turn : (key : List ℕ) → length (tidy_turn lo s key) ≤ 2
+  few_turn key = let level : ℕ = level_in (bytes_at lo s lo) in few_else level (tidy_from lo s key level lo None) (few_from key level lo None)
+
+pub few_tidied : (b : Bounds) (lo hi : ℕ) (key : List ℕ) (n : ℕ) (s : State) → length (tidied b lo hi key n s) ≤ 2 * n
+few_tidied b lo hi key zero s = omega arith
+few_tidied b lo hi key (suc n) s =
+    let first : List PageOp = tidy_turn lo s key in
+    let next : State = after_all (page_meaning b) s first in
+    omega (arith, few_turn lo s key, few_tidied b lo hi key n next, length-append first (tidied b lo hi key n next))

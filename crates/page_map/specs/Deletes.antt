@@ -1,6 +1,6 @@
 -- What a delete does: the command that takes the key out, and then those that tidy the way to it: a leaf that has no cells left gives
 -- way to the one beside it in its page, and a root with one child becomes it.
-use Rattle.std.specs.Prelude.{◌≡◌, ℕ, zero, suc, ◌+◌, ◌<◌, ◌==◌, Option, None, Some, Result, Ok, Err, List, [], ◌∷◌, ◌++◌, length, take, nat_lt, if◌then◌else◌}
+use Rattle.std.specs.Prelude.{◌≡◌, ℕ, zero, suc, ◌+◌, ◌*◌, ◌<◌, ◌≤◌, ◌==◌, Option, None, Some, Result, Ok, Err, List, [], ◌∷◌, ◌++◌, length, take, nat_lt, if◌then◌else◌}
 use Rattle.std.specs.FinMap.{get, remove}
 use Rattle.oper_core.specs.State.{State}
 use Rattle.oper_core.specs.Meaning.{after}
@@ -92,10 +92,11 @@ module _ (b : Bounds) (lo hi : ℕ) where
 
 module _ (b : Bounds) (lo hi : ℕ) (s : State) (is : IsKept b lo hi s) where
   -- The commands of a delete are accepted one after the other, and behind each the range is a map: from the first one on, without
-  -- the key. It is refused exactly where the map lacks the key, and then there are none.
+  -- the key. It is refused exactly where the map lacks the key, and then there are none. They are so few.
   pub record Deletes (key : List ℕ) (plan : Plan PageOp MapRefusal) : Type 0 where
     pub accepted : AllAccepted (page_meaning b) s plan.commands
     pub kept : (k : ℕ) → IsKept b lo hi (after_all (page_meaning b) s (take k plan.commands))
     pub same : content_of (kept 0).map ≡ content_of is.map
     pub done : plan.refusal ≡ None → (0 < length plan.commands) × ((k : ℕ) → content_of (kept (suc k)).map ≡ remove (content_of is.map) key)
     pub refused : (r : MapRefusal) → plan.refusal ≡ Some r → (r ≡ NoKey) × (get (content_of is.map) key ≡ None) × (plan.commands ≡ [])
+    pub few : length plan.commands ≤ 2 * is.map.level + 5
