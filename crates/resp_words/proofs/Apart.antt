@@ -12,6 +12,7 @@ use Rattle.resp_words.specs.declared.found.Found.TheVariants.{Whole, More, Bad}
 use Rattle.resp_words.specs.declared.limits.Limits.{Limits}
 use Rattle.resp_words.proofs.Arrays.{no_star}
 use Rattle.resp_words.proofs.Bulks.{bulk_cancel}
+use Rattle.resp_words.proofs.Causes.{one_cause}
 use Rattle.resp_words.proofs.Numbers.{number_cancel}
 use Rattle.resp_words.proofs.Plain.{words_same}
 use Rattle.resp_words.proofs.Runs.{runs_same}
@@ -76,7 +77,7 @@ one_answer limits bytes More More p q = refl
 one_answer limits bytes More (Bad f) p q = absurd (front_not_bad limits bytes p q.0)
 one_answer limits bytes (Bad e) (Whole d) p q = not_bad limits bytes (found_begins limits bytes (words_of d) d.used q) p.0
 one_answer limits bytes (Bad e) More p q = front_not_bad limits bytes q p.0
-one_answer limits bytes (Bad e) (Bad f) p q = tt
+one_answer limits bytes (Bad e) (Bad f) p q = one_cause limits bytes e f p.1 q.1
 
 array_found : (limits : Limits) (words : List (List ℕ)) (later : List ℕ) → IsWithin limits words → IsFound limits (command_bytes words ++ later) words (length (command_bytes words))
 array_found limits words later within = record { text = command_bytes words; later = later; means = inl (record { is = refl; within = within }); is = refl; long = refl }

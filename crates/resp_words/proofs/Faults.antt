@@ -1,5 +1,5 @@
 -- Why bytes are bad.
-use Rattle.std.proofs.Common.{◌≡◌, ◌≢◌, ◌∙◌, refl, sym, ap, subst, ◌≤◌, ℕ, List, [], ◌∷◌, ◌++◌, get_or}
+use Rattle.std.proofs.Common.{length, ◌<◌, ◌≡◌, ◌≢◌, ◌∙◌, refl, sym, ap, subst, ◌≤◌, ℕ, List, [], ◌∷◌, ◌++◌, get_or}
 use Rattle.std.specs.Fmt.{decimal}
 use Rattle.std.specs.List.{flat_map}
 use Rattle.resp_words.specs.Commands.{BeginsOtherwise, HasCause, IsBulk, IsInArray, IsNumberLine, bulk, ended}
@@ -38,9 +38,9 @@ words_fault limits n bytes rest BadCount small is it = absurd it.fault
 words_fault limits n bytes rest LongLine small is it = absurd it.fault
 words_fault limits n bytes rest BadByte small is it = absurd it.fault
 
-pub byte_fault : (most end : ℕ) (bytes line rest behind : List ℕ) → IsCut is_plain bytes line rest → rest ≡ end ∷ behind → end ≢ 10 → IsLineFault most bytes BadByte
-byte_fault most end bytes line rest behind cut stands other =
-    (line, end, behind, cut.is ∙ ap (λ (l : List ℕ). line ++ l) stands, cut.passes, other, subst (λ (l : List ℕ). StopsAt is_plain l) stands cut.stops)
+pub byte_fault : (most end : ℕ) (bytes line rest behind : List ℕ) → IsCut is_plain bytes line rest → rest ≡ end ∷ behind → end ≢ 10 → length line < most → IsLineFault most bytes BadByte
+byte_fault most end bytes line rest behind cut stands other short =
+    (line, end, behind, cut.is ∙ ap (λ (l : List ℕ). line ++ l) stands, cut.passes, other, subst (λ (l : List ℕ). StopsAt is_plain l) stands cut.stops, short)
 
 otherwise : (bytes : List ℕ) → (get_or bytes 0 0 ≡ 42 → ⊥) → BeginsOtherwise bytes
 otherwise [] other = tt
@@ -48,7 +48,7 @@ otherwise (b ∷ bytes) other = other
 
 pub line_fault : (limits : Limits) (bytes : List ℕ) (error : ProtocolError) → (get_or bytes 0 0 ≡ 42 → ⊥) → IsLineFault limits.line bytes error → HasCause limits bytes error
 line_fault limits bytes LongLine other it = (it.0, it.1, record { is = it.2; other = otherwise bytes other; plain = it.3 }, it.4)
-line_fault limits bytes BadByte other it = (it.0, it.1, it.2, record { is = it.3; other = otherwise bytes other; plain = it.4 }, it.5, it.6)
+line_fault limits bytes BadByte other it = (it.0, it.1, it.2, record { is = it.3; other = otherwise bytes other; plain = it.4 }, it.5, it.6, it.7)
 line_fault limits bytes BadCount other it = absurd it
 line_fault limits bytes (NoDollar got) other it = absurd it
 line_fault limits bytes BadLength other it = absurd it

@@ -9,3 +9,4 @@ mod Arrays
 mod Apart
 mod Told
 mod Faults
+mod Causes

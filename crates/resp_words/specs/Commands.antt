@@ -103,13 +103,13 @@ pub record IsInLine (bytes line rest : List ℕ) : Type 0 where
   pub other : BeginsOtherwise bytes
   pub plain : AllPass is_plain line
 
--- why no command begins with the bytes
+-- why no command begins with the bytes; no two of these hold at once
 abbrev pub HasCause : Limits → List ℕ → ProtocolError → Type 0
 HasCause limits bytes BadCount = (rest : List ℕ) × (bytes ≡ 42 ∷ rest) × IsBad (IsNumberLine limits.words) rest
 HasCause limits bytes (NoDollar got) = (rest : List ℕ) × IsInArray limits bytes (got ∷ rest) × (got ≢ 36)
 HasCause limits bytes BadLength = (rest : List ℕ) × IsInArray limits bytes (36 ∷ rest) × IsBad (IsBulk limits.bytes) (36 ∷ rest)
 HasCause limits bytes LongLine = (line rest : List ℕ) × IsInLine bytes line rest × (limits.line ≤ length line)
-HasCause limits bytes BadByte = (line : List ℕ) × (byte : ℕ) × (rest : List ℕ) × IsInLine bytes line (byte ∷ rest) × (byte ≢ 10) × (is_plain byte ≡ false)
+HasCause limits bytes BadByte = (line : List ℕ) × (byte : ℕ) × (rest : List ℕ) × IsInLine bytes line (byte ∷ rest) × (byte ≢ 10) × (is_plain byte ≡ false) × (length line < limits.line)
 
 -- They begin with a command; they are the front of one; or no command begins with them, whatever comes, for this cause. No two
 -- of these hold at once.
@@ -124,11 +124,11 @@ IsThis words used (Whole command) = (words_of command ≡ words) × (command.use
 IsThis words used More = ⊥
 IsThis words used (Bad error) = ⊥
 
--- two answers are one, but for the text of what is bad
+-- two answers are one
 abbrev pub Agree : Found Command → Found Command → Type 0
 Agree (Whole command) other = IsThis (words_of command) command.used other
 Agree More other = other ≡ More
-Agree (Bad error) (Bad other) = ⊤
+Agree (Bad error) (Bad other) = error ≡ other
 Agree (Bad error) (Whole command) = ⊥
 Agree (Bad error) More = ⊥
 

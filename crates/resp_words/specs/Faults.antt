@@ -26,5 +26,5 @@ pub record IsBulksFault (count most : ℕ) (bytes : List ℕ) (error : ProtocolE
 -- no line begins the bytes: it is too long, or another byte stands in it
 abbrev pub IsLineFault : ℕ → List ℕ → ProtocolError → Type 0
 IsLineFault most bytes LongLine = (line rest : List ℕ) × (bytes ≡ line ++ rest) × AllPass is_plain line × (most ≤ length line)
-IsLineFault most bytes BadByte = (line : List ℕ) × (byte : ℕ) × (rest : List ℕ) × (bytes ≡ line ++ byte ∷ rest) × AllPass is_plain line × (byte ≢ 10) × (is_plain byte ≡ false)
+IsLineFault most bytes BadByte = (line : List ℕ) × (byte : ℕ) × (rest : List ℕ) × (bytes ≡ line ++ byte ∷ rest) × AllPass is_plain line × (byte ≢ 10) × (is_plain byte ≡ false) × (length line < most)
 IsLineFault most bytes other = ⊥

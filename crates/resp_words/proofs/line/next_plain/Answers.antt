@@ -10,7 +10,7 @@ pub returns-in_default : goal.returns-in_default
 returns-in_default c = plain_front c.args.most c.args.bytes.now c.split_run.result.0.now c.split_run.result.1.now c.split_run.ensures (omega (arith, c.if-line-most.false)) (search rules)
 
 pub returns-then-end-ne10 : goal.returns-then-end-ne10
-returns-then-end-ne10 c = (plain_bad c.args.most c.in-Some.end.now c.args.bytes.now c.split_run.result.0.now c.split_run.result.1.now c.in-Some.behind.now c.split_run.ensures c.in-Some.ensures.cases.0 c.if-end-ne10.true, byte_fault c.args.most c.in-Some.end.now c.args.bytes.now c.split_run.result.0.now c.split_run.result.1.now c.in-Some.behind.now c.split_run.ensures c.in-Some.ensures.cases.0 c.if-end-ne10.true)
+returns-then-end-ne10 c = (plain_bad c.args.most c.in-Some.end.now c.args.bytes.now c.split_run.result.0.now c.split_run.result.1.now c.in-Some.behind.now c.split_run.ensures c.in-Some.ensures.cases.0 c.if-end-ne10.true, byte_fault c.args.most c.in-Some.end.now c.args.bytes.now c.split_run.result.0.now c.split_run.result.1.now c.in-Some.behind.now c.split_run.ensures c.in-Some.ensures.cases.0 c.if-end-ne10.true (omega (arith, c.if-line-most.false)))
 
 pub returns : goal.returns
 returns c =
