@@ -8,6 +8,8 @@ _redo() {
     mapfile -t COMPREPLY < <(compgen -W "init run dump demo upgrade ship follow backup shell help --version --help -C" -- "$word")
   elif [ "${COMP_WORDS[at]}" = run ]; then
     mapfile -t COMPREPLY < <(compgen -W "--tend --help" -- "$word")
+  elif [ "${COMP_WORDS[at]}" = follow ]; then
+    mapfile -t COMPREPLY < <(compgen -W "--same --help" -- "$word")
   elif [[ ${COMP_WORDS[at]} = @(init|upgrade) ]]; then
     mapfile -t COMPREPLY < <(compgen -W "--pages --help" -- "$word")
   elif [ "${COMP_WORDS[at]}" = demo ]; then

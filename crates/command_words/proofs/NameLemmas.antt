@@ -13,7 +13,7 @@ name_for (Init p) = codes "init"
 name_for (Upgrade p) = codes "upgrade"
 name_for (Demo seed steps) = codes "demo"
 name_for (Ship from) = codes "ship"
-name_for Follow = codes "follow"
+name_for (Follow same) = codes "follow"
 
 pub named_for : (asked : Asked) (name : Text) (rows : List Row) → IsFor asked name rows → name ≡ name_for asked
 named_for (Run tend) name rows is = is.0
@@ -22,7 +22,7 @@ named_for (Init p) name rows is = is.0
 named_for (Upgrade p) name rows is = is.0
 named_for (Demo seed steps) name rows is = is.0
 named_for (Ship from) name rows is = is.0
-named_for Follow name rows is = is
+named_for (Follow same) name rows is = is.0
 
 -- two letters tell the names apart
 abbrev pub mark : Text → ℕ

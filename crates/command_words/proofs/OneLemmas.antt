@@ -45,7 +45,7 @@ for_one name rows (Demo m n) (Demo k l) x y =
     let b = one_number rows (codes "steps") n l x.1.1 y.1.1 in
     cc (a, b)
 for_one name rows (Ship m) (Ship n) x y = ap Ship (one_number rows (codes "FROM") m n x.1 y.1)
-for_one name rows Follow Follow x y = refl
+for_one name rows (Follow a) (Follow b) x y = ap Follow (one_flag rows (codes "same") a b x.1 y.1)
 for_one name rows a b x y = absurd (omega (arith, same_mark a b name rows x y))
 
 pub words_one : (words : List Text) (a b : Asked) → Asks words a → Asks words b → a ≡ b

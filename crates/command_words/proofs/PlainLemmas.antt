@@ -80,9 +80,13 @@ pub dump_asks : (program : Text) → Asks (program ∷ codes "dump" ∷ []) Dump
 unfolding clap_on_literals
 dump_asks program = record { faultless = refl; named = record { name = codes "dump"; rows = []; is = refl; for = refl; allowed = tt } }
 
-pub follow_asks : (program : Text) → Asks (program ∷ codes "follow" ∷ []) Follow
+pub follow_asks : (program : Text) → Asks (program ∷ codes "follow" ∷ []) (Follow false)
 unfolding clap_on_literals
-follow_asks program = record { faultless = refl; named = record { name = codes "follow"; rows = []; is = refl; for = refl; allowed = tt } }
+follow_asks program = record { faultless = refl; named = record { name = codes "follow"; rows = _; is = refl; for = (refl, λ given. cc given); allowed = tt } }
+
+pub same_asks : (program : Text) → Asks (program ∷ codes "follow" ∷ codes "--same" ∷ []) (Follow true)
+unfolding clap_on_literals
+same_asks program = record { faultless = refl; named = record { name = codes "follow"; rows = _; is = refl; for = (refl, refl); allowed = tt } }
 
 -- ---- init and upgrade
 

@@ -46,9 +46,12 @@ numbers_from_one = Unsigned 1 4611686018427387903
 abbrev pub ship : Shape
 ship = record (new_shape (codes "ship")) { rules = number (codes "FROM") numbers_from_one ∷ [] }
 
+abbrev pub follow : Shape
+follow = record (new_shape (codes "follow")) { rules = flag (codes "same") ∷ [] }
+
 -- seven subcommands, of which one has to be named; where nothing is said at all, help is the answer
 abbrev pub redo : App
 redo = record {
   top = record (new_shape (codes "redo")) { is_leaf = false; subcommand_required = true; arg_required_else_help = true };
-  subs = sized (codes "init") ∷ run ∷ new_shape (codes "dump") ∷ demo ∷ sized (codes "upgrade") ∷ ship ∷ new_shape (codes "follow") ∷ [];
+  subs = sized (codes "init") ∷ run ∷ new_shape (codes "dump") ∷ demo ∷ sized (codes "upgrade") ∷ ship ∷ follow ∷ [];
 }

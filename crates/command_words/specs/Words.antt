@@ -40,7 +40,7 @@ IsFor (Init params) name rows = (name ≡ codes "init") × GivesParams rows para
 IsFor (Upgrade params) name rows = (name ≡ codes "upgrade") × GivesParams rows params
 IsFor (Demo seed steps) name rows = (name ≡ codes "demo") × GivesDemo rows seed steps
 IsFor (Ship from) name rows = (name ≡ codes "ship") × Gives rows (codes "FROM") from
-IsFor Follow name rows = name ≡ codes "follow"
+IsFor (Follow same) name rows = (name ≡ codes "follow") × IsGiven rows (codes "same") same
 
 -- the numbers are in their ranges
 abbrev pub IsAllowed : Asked → Type 0
@@ -50,7 +50,7 @@ IsAllowed (Init params) = IsInRange params
 IsAllowed (Upgrade params) = IsInRange params
 IsAllowed (Demo seed steps) = (seed < 2 ^ 64) × (steps ≤ 1000000)
 IsAllowed (Ship from) = (1 ≤ from) × (from < 2 ^ 62)
-IsAllowed Follow = ⊤
+IsAllowed (Follow same) = ⊤
 
 -- the subcommand that was named asks this
 pub record NamesForm (named : Option (Text × List Row)) (asked : Asked) : Type 0 where

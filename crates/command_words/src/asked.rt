@@ -15,6 +15,6 @@ pub enum Asked {
     Upgrade(Params),
     /// `ship FROM`: the records of the log from this number on are said, as frames for a standby.
     Ship { from: u64 },
-    /// `follow`: the frames of the input are taken in, as a standby.
-    Follow,
+    /// `follow`, or `follow --same`: the frames of the input are taken in, as a standby, and are compared before, or are not.
+    Follow { same: bool },
 }

@@ -2,7 +2,7 @@
 ghost use Rattle.std.specs.Prelude.{◌≡◌, IfOk, false};
 ghost use Rattle.clap.specs.Words.{app_of, rule_of, shape_of};
 ghost use Rattle.clap.specs.declared.builder.command.Command.TheViews.{out-Command};
-ghost use Rattle.command_words.specs.Commands.{number, option, flag, sized, demo, ship, run, redo};
+ghost use Rattle.command_words.specs.Commands.{number, option, flag, sized, demo, follow, ship, run, redo};
 
 use clap::builder::ValueParser;
 use clap::{Arg, ArgAction, Command, value_parser};
@@ -142,12 +142,23 @@ fn run<'a>(alloc: Global) -> Result<Command<'a>, AllocError>
         .arg(tend)
 }
 
+/// `follow`, with `--same` or without.
+fn follow<'a>(alloc: Global) -> Result<Command<'a>, AllocError>
+    ensures { IfOk result (λ c. (shape_of c ≡ follow) × ((out-Command c).has_globals ≡ false)) }
+{
+    let same = flag(alloc, "same").help(
+        "Refuses a record that is not this store's own with its number",
+    );
+    Command::new(alloc, "follow")
+        .about("Takes in the records that `ship` wrote")
+        .arg(same)
+}
+
 /// The command set.
 pub fn redo<'a>(alloc: Global) -> Result<Command<'a>, AllocError>
     ensures { IfOk result (λ c. app_of c ≡ redo) }
 {
     let dump = Command::new(alloc, "dump").about("Reports the objects that are not empty");
-    let follow = Command::new(alloc, "follow").about("Takes in the records that `ship` wrote");
     let init = sized(alloc, "init", "Makes a new store in this folder")?;
     let upgrade = sized(
         alloc,
@@ -166,5 +177,5 @@ pub fn redo<'a>(alloc: Global) -> Result<Command<'a>, AllocError>
         .subcommand(demo(alloc)?)?
         .subcommand(upgrade)?
         .subcommand(ship(alloc)?)?
-        .subcommand(follow)
+        .subcommand(follow(alloc)?)
 }

@@ -21,5 +21,6 @@ pub fn plain_words_are_taken()
     ensures demo { (program : List ℕ) (seed steps : ℕ) → seed < 2 ^ 64 → steps ≤ 1000000 → Asks (program ∷ codes "demo" ∷ codes "--seed" ∷ decimal seed ∷ codes "--steps" ∷ decimal steps ∷ []) (Demo seed steps) }
     ensures steps_first { (program : List ℕ) (seed steps : ℕ) → seed < 2 ^ 64 → steps ≤ 1000000 → Asks (program ∷ codes "demo" ∷ codes "--steps" ∷ decimal steps ∷ codes "--seed" ∷ decimal seed ∷ []) (Demo seed steps) }
     ensures ship { (program : List ℕ) (from : ℕ) → 1 ≤ from → from < 2 ^ 62 → Asks (program ∷ codes "ship" ∷ decimal from ∷ []) (Ship from) }
-    ensures follow { (program : List ℕ) → Asks (program ∷ codes "follow" ∷ []) Follow }
+    ensures follow { (program : List ℕ) → Asks (program ∷ codes "follow" ∷ []) (Follow false) }
+    ensures same { (program : List ℕ) → Asks (program ∷ codes "follow" ∷ codes "--same" ∷ []) (Follow true) }
 {}

@@ -113,7 +113,9 @@ fn asked(matches: &ArgMatches<'_>) -> Option<Asked>
         "ship" => Some(Asked::Ship {
             from: first(values)?,
         }),
-        "follow" => Some(Asked::Follow),
+        "follow" => Some(Asked::Follow {
+            same: flag(values, "same"),
+        }),
         _ => None,
     }
 }

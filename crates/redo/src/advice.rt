@@ -35,8 +35,9 @@ fn of_a_stream(status: Status) -> Option<&'static str> {
         ),
         Status::BadStream => Some(
             "the input cannot be followed from the place or the record printed on. What came before stays: `redo dump` says how \
-             many commands there are. After `Short` or `Gap` ship again, from an earlier number. After `BadFrame` or `Differs` \
-             the stream is damaged, or of another store, or this one took commands of its own: make it anew from a backup.",
+             many commands there are. After `Short` or `Gap` ship again, from an earlier number, and after `Unknown` from the \
+             base of this store's log on. After `BadFrame` or `Differs` the stream is damaged, or of another store, or this one \
+             took commands of its own: make it anew from a backup.",
         ),
         Status::StandbyFull => Some(
             "the log has no room for what comes next, as printed. Make the standby anew from a backup of the store that it \

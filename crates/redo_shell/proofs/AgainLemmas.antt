@@ -41,7 +41,7 @@ refused_still budget (Init q) told left rest p commands old mid tells opens call
 refused_still budget (Demo seed steps) told left rest p commands old mid tells opens call = absurd call.ends
 refused_still budget (Upgrade q) told left rest p commands old mid tells opens call = ((call.stands p commands opens).unopened tells refl).still
 refused_still budget (Ship from) told left rest p commands old mid tells opens call = ((call.log p commands opens).unopened tells refl).still
-refused_still budget Follow told left rest p commands old mid tells opens call = ((call.stream p commands opens).unopened tells refl).still
+refused_still budget (Follow same) told left rest p commands old mid tells opens call = ((call.stream p commands opens).unopened tells refl).still
 
 module _ {p : Params} {commands : List Command} {old mid : Disk} (lawful : IsDisk old) (lawful_mid : IsDisk mid) (tells : old.tells_moments) (opens : Opens p old commands) (time : Passes old mid) (still : StandsStill p commands old mid) (new : Disk) where
   -- what a crash leaves of the second call may be what the first one left
@@ -136,7 +136,7 @@ module _ {p : Params} {commands : List Command} {old mid : Disk} (lawful : IsDis
             (subst (λ (l : List ℕ). LeavesOnly mid new (OrAtStart mid (ShipMoment p commands from l))) still.quiet (on.images (time.moments_told.0 tells))),
         steps_twice (λ again here. TableMoment Least p commands mid again here) ((first.log p commands opens).unopened tells refl) (on.steps (time.moments_told.0 tells)),
       )
-  call_twice few Follow told left rest status first second = (
+  call_twice few (Follow same) told left rest status first second = (
     second.bytes,
     rest,
     second.taken,

@@ -21,7 +21,7 @@ module _ (told : Type 0) (script : List (List ℕ)) (noted : Noted) (status : St
   unless_run (Demo seed steps) asks here other = here
   unless_run (Upgrade q) asks here other = here
   unless_run (Ship from) asks here other = here
-  unless_run Follow asks here other = here
+  unless_run (Follow same) asks here other = here
 
   pub noted_called : {words : List (List ℕ)} (asked : Asked) → Asks words asked → ((other : Asked) → Asks words other → asked ≡ other) → IsNotedFor asked told script noted status → IsNotedCall words told script noted status
   noted_called asked asks one here = record { run = λ tend is. noted_for (one (Run tend) is) here; other = unless_run asked asks here }

@@ -50,7 +50,7 @@ module _ (budget : Budget) (told : Type 0) (left rest : List ℕ) (old new : Dis
   not_usage (Demo seed steps) call is = subst IsOfDemo is call.ends
   not_usage (Upgrade q) call is = subst IsOfUpgrade is call.ends
   not_usage (Ship from) call is = subst IsOfShip is call.ends
-  not_usage Follow call is = subst IsOfFollow is call.ends
+  not_usage (Follow same) call is = subst IsOfFollow is call.ends
 
   -- of a store that was opened, and not called damaged but where it is cut, nothing is said as of none
   no_store_judged : JudgesUpgrade old new status → status ≡ NotAStore → SaysNoStore old new
@@ -63,7 +63,7 @@ module _ (budget : Budget) (told : Type 0) (left rest : List ℕ) (old new : Dis
   no_store_said (Demo seed steps) call files is = absurd (subst IsOfDemo is call.ends)
   no_store_said (Upgrade q) call files is = no_store_judged (call.judged files) is
   no_store_said (Ship from) call files is = (call.judged files).no_store is
-  no_store_said Follow call files is = (call.judged files).no_store is
+  no_store_said (Follow same) call files is = (call.judged files).no_store is
 
   damage_said : (words : List (List ℕ)) (asked : Asked) → Asks words asked → IsCallFor budget asked told left rest old new status → old.tells_files → status ≡ Damaged → SaysDamage old new ⊎ IsCutUpgrade words old new
   damage_said words (Run tend) asks call files is = inl ((call.judged files).damaged is)
@@ -72,7 +72,7 @@ module _ (budget : Budget) (told : Type 0) (left rest : List ℕ) (old new : Dis
   damage_said words (Demo seed steps) asks call files is = absurd (subst IsOfDemo is call.ends)
   damage_said words (Upgrade q) asks call files is = ⊎_elim (λ (judged : JudgesFiles old new status). inl (judged.damaged is)) (λ (cut : (status ≡ Damaged) × SaysCut old new). inr (q, asks, cut.1)) (call.judged files)
   damage_said words (Ship from) asks call files is = inl ((call.judged files).damaged is)
-  damage_said words Follow asks call files is = inl ((call.judged files).damaged is)
+  damage_said words (Follow same) asks call files is = inl ((call.judged files).damaged is)
 
   store_said : (asked : Asked) → IsCallFor budget asked told left rest old new status → old.tells_files → status ≡ AlreadyStore → SaysStore old new
   store_said (Run tend) call files is = absurd (subst IsOfRun is call.ends)
@@ -81,7 +81,7 @@ module _ (budget : Budget) (told : Type 0) (left rest : List ℕ) (old new : Dis
   store_said (Demo seed steps) call files is = absurd (subst IsOfDemo is call.ends)
   store_said (Upgrade q) call files is = absurd (subst IsOfUpgrade is call.ends)
   store_said (Ship from) call files is = absurd (subst IsOfShip is call.ends)
-  store_said Follow call files is = absurd (subst IsOfFollow is call.ends)
+  store_said (Follow same) call files is = absurd (subst IsOfFollow is call.ends)
 
   -- the statuses of a shipment and of the following of a stream come of these alone
   gone_asked : (words : List (List ℕ)) (asked : Asked) → Asks words asked → IsCallFor budget asked told left rest old new status → status ≡ Gone → (from : ℕ) × Asks words (Ship from)
@@ -91,7 +91,7 @@ module _ (budget : Budget) (told : Type 0) (left rest : List ℕ) (old new : Dis
   gone_asked words (Demo seed steps) asks call is = absurd (subst IsOfDemo is call.ends)
   gone_asked words (Upgrade q) asks call is = absurd (subst IsOfUpgrade is call.ends)
   gone_asked words (Ship from) asks call is = (from, asks)
-  gone_asked words Follow asks call is = absurd (subst IsOfFollow is call.ends)
+  gone_asked words (Follow same) asks call is = absurd (subst IsOfFollow is call.ends)
 
   -- the two of a stream
   abbrev IsOfFrames : Status → Type 0
@@ -99,7 +99,7 @@ module _ (budget : Budget) (told : Type 0) (left rest : List ℕ) (old new : Dis
   IsOfFrames StandbyFull = ⊤
   IsOfFrames status = ⊥
 
-  stream_asked : (words : List (List ℕ)) (asked : Asked) (is_of : Status) → IsOfFrames is_of → Asks words asked → IsCallFor budget asked told left rest old new status → status ≡ is_of → Asks words Follow
+  stream_asked : (words : List (List ℕ)) (asked : Asked) (is_of : Status) → IsOfFrames is_of → Asks words asked → IsCallFor budget asked told left rest old new status → status ≡ is_of → (same : Bool) × Asks words (Follow same)
   stream_asked words (Run tend) BadStream of asks call is = absurd (subst IsOfRun is call.ends)
   stream_asked words (Run tend) StandbyFull of asks call is = absurd (subst IsOfRun is call.ends)
   stream_asked words Dump BadStream of asks call is = absurd (subst IsOfDump is call.ends)
@@ -112,7 +112,7 @@ module _ (budget : Budget) (told : Type 0) (left rest : List ℕ) (old new : Dis
   stream_asked words (Upgrade q) StandbyFull of asks call is = absurd (subst IsOfUpgrade is call.ends)
   stream_asked words (Ship from) BadStream of asks call is = absurd (subst IsOfShip is call.ends)
   stream_asked words (Ship from) StandbyFull of asks call is = absurd (subst IsOfShip is call.ends)
-  stream_asked words Follow is_of of asks call is = asks
+  stream_asked words (Follow same) is_of of asks call is = (same, asks)
   stream_asked words asked is_of of asks call is = absurd of
 
 -- a demo that finds memory, in which no count of faults rises
@@ -182,11 +182,11 @@ module _ (budget : Budget) {words : List (List ℕ)} {told : Type 0} {left rest 
     ships = λ from is memory p commands opens.
         let it = call_for budget told left rest old new status (one (Ship from) is) call in
         whole_ship status (calm_shipped status faultless it.ends faults) it.ends memory ((it.judged opens.told).store (format p commands opens));
-    follow = λ is files.
-        let it = call_for budget told left rest old new status (one Follow is) call in
+    follow = λ same is files.
+        let it = call_for budget told left rest old new status (one (Follow same) is) call in
         inl (opens_exactly status (calm_followed status faultless it.ends faults read_fault) damage (it.judged files));
-    follows = λ is memory p commands opens.
-        let it = call_for budget told left rest old new status (one Follow is) call in
+    follows = λ same is memory p commands opens.
+        let it = call_for budget told left rest old new status (one (Follow same) is) call in
         whole_follow status (calm_followed status faultless it.ends faults read_fault) it.ends memory ((it.judged opens.told).store (format p commands opens));
     demos = λ seed steps is memory. calm_demo status faultless memory (call_for budget told left rest old new status (one (Demo seed steps) is) call).ends faults;
   }
@@ -214,15 +214,15 @@ call_goes_on disk {words} {told} {left} old new lawful time call = record {
   ship = λ from first next sizes runs said asks before follows.
       reads old new next said before (λ none telling. ((call (Ship from) asks).judged (lawful.telling telling)).keeps (λ image. none (image_begins image)))
       (λ p commands opens telling. or_weaker (disk old) (disk new) (ShipMoment p commands from (disk old).said) (λ files bytes. Stands p files commands) (((call (Ship from) asks).log p commands opens).images telling) (λ files bytes moment. moment.0)) follows;
-  follow = λ asks. (
-    (call Follow asks).bytes,
-    (call Follow asks).taken,
+  follow = λ same asks. (
+    (call (Follow same) asks).bytes,
+    (call (Follow same) asks).taken,
     λ first next sizes runs said before follows.
-        follow old new next (call Follow asks).bytes said before (λ none telling. ((call Follow asks).judged (lawful.telling telling)).keeps (λ image. none (image_begins image)))
+        follow old new next (call (Follow same) asks).bytes said before (λ none telling. ((call (Follow same) asks).judged (lawful.telling telling)).keeps (λ image. none (image_begins image)))
         (λ p commands opens telling.
-        let on = (call Follow asks).stream p commands opens in
+        let on = (call (Follow same) asks).stream p commands opens in
         let history = on.first.0.world.history in
-        let bytes = (call Follow asks).bytes in (
+        let bytes = (call (Follow same) asks).bytes in (
           history,
           on.first.2,
           or_weaker (disk old) (disk new) (StandbyMoment p commands history bytes (disk old) (disk new)) (λ files taken. StreamMoment p history bytes files) (on.images telling on.first.0 on.first.1) (λ files taken moment. standby_moment (disk old) (disk new) on.first.2 moment),
@@ -254,7 +254,7 @@ call_adds_nothing disk budget told left rest old new (Upgrade q) lawful call is 
 call_adds_nothing disk budget told left rest old new (Ship from) lawful call is = λ first next sizes runs said before follows.
     reads old new next said before (λ none telling. (call.judged (lawful.telling telling)).keeps (λ image. none (image_begins image)))
     (λ p commands opens telling. or_weaker (disk old) (disk new) (ShipMoment p commands from (disk old).said) (λ files bytes. Stands p files commands) ((call.log p commands opens).images telling) (λ files bytes moment. moment.0)) follows
-call_adds_nothing disk budget told left rest old new Follow lawful call is = λ first next sizes runs said before follows.
+call_adds_nothing disk budget told left rest old new (Follow same) lawful call is = λ first next sizes runs said before follows.
     reads old new next said before (λ none telling. (call.judged (lawful.telling telling)).keeps (λ image. none (image_begins image)))
     (λ p commands opens telling. alone p commands ((call.stream p commands opens).unopened telling is).still) follows
 
@@ -274,7 +274,7 @@ unread_goes_on disk {words} {left = left} old new unread = record {
       reads old new next said before (λ none telling. keeps_once (disk old) (disk new) unread.stays) (λ p commands opens telling. at_start (disk old) (disk new) _ unread.stays telling) follows;
   ship = λ from first next sizes runs said asks before follows.
       reads old new next said before (λ none telling. keeps_once (disk old) (disk new) unread.stays) (λ p commands opens telling. at_start (disk old) (disk new) _ unread.stays telling) follows;
-  follow = λ asks. (
+  follow = λ same asks. (
     [],
     λ reports. refl,
     λ first next sizes runs said before follows.
@@ -297,7 +297,7 @@ module _ {T : Type 0} (budget : Budget) (disk : T → Disk) (told : Type 0) (scr
   unless_run (Demo seed steps) asks here other = here
   unless_run (Upgrade q) asks here other = here
   unless_run (Ship from) asks here other = here
-  unless_run Follow asks here other = here
+  unless_run (Follow same) asks here other = here
 
   pub backup_called : {words : List (List ℕ)} {status : Status} (asked : Asked) → Asks words asked → ((other : Asked) → Asks words other → asked ≡ other) → IsBesideRun (disk before) (disk after) status → IsBackupFor budget disk asked told script old new before after
       → IsBackupCall budget disk words told script old new before after

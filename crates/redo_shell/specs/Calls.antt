@@ -32,7 +32,7 @@ IsCallFor budget (Init p) told left rest old new status = IsMaking p old new sta
 IsCallFor budget (Upgrade q) told left rest old new status = IsUpgradeCall budget q old new status
 IsCallFor budget (Demo seed steps) told left rest old new status = IsDemo seed steps old new status
 IsCallFor budget (Ship from) told left rest old new status = IsShipCall budget from old new status
-IsCallFor budget Follow told left rest old new status = IsFollowCall budget told left rest old new status
+IsCallFor budget (Follow same) told left rest old new status = IsFollowCall budget same told left rest old new status
 
 -- What a call with these words does, by what they ask: what its room promises, unless there is no memory to read them.
 abbrev pub IsCall : Budget → List (List ℕ) → Type 0 → List ℕ → List ℕ → Disk → Disk → Status → Type 0
@@ -64,5 +64,5 @@ pub record GoesOn {T : Type 0} (disk : T → Disk) (words : List (List ℕ)) (to
   pub ship : (from : ℕ) (first next : T) (sizes : List Sizing) (runs : List Ran) (said : List ℕ) → Asks words (Ship from) → Sessions disk first sizes runs old → Follows (disk old) (disk new) (disk next) said
       → Sessions disk first sizes runs next
   -- of some bytes, which the input had in front where its source reports them
-  pub follow : Asks words Follow → (bytes : List ℕ) × (told → left ≡ bytes ++ rest) × ((first next : T) (sizes : List Sizing) (runs : List Ran) (said : List ℕ) → Sessions disk first sizes runs old → Follows (disk old) (disk new) (disk next) said
+  pub follow : (same : Bool) → Asks words (Follow same) → (bytes : List ℕ) × (told → left ≡ bytes ++ rest) × ((first next : T) (sizes : List Sizing) (runs : List Ran) (said : List ℕ) → Sessions disk first sizes runs old → Follows (disk old) (disk new) (disk next) said
       → Sessions disk first (by_follow bytes ∷ sizes) runs next)

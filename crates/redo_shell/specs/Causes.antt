@@ -1,5 +1,5 @@
 -- Why a call of the program ends with its status, and what it leaves and says then.
-use Rattle.std.specs.Prelude.{◌≡◌, ◌⊎◌, ◌++◌, ◌^◌, ℕ, List}
+use Rattle.std.specs.Prelude.{◌≡◌, ◌⊎◌, ◌++◌, ◌^◌, ℕ, Bool, List}
 use Rattle.disk_model.specs.Disk.{Disk, Rises, Stays}
 use Rattle.formats.specs.declared.params.Params.{Params}
 use Rattle.script_lines.specs.Reading.{ReadsOn}
@@ -54,5 +54,5 @@ pub record ComesByCause (words : List (List ℕ)) (told : Type 0) (left rest : L
   pub too_long : told → status ≡ TooLong → ReadsOn left rest 0 (2 ^ 40)
   -- the words ask for a shipment, or for the following of a stream; `IsCallFor` tells what was said
   pub gone : status ≡ Gone → (from : ℕ) × Asks words (Ship from)
-  pub stream : status ≡ BadStream → Asks words Follow
-  pub full : status ≡ StandbyFull → Asks words Follow
+  pub stream : status ≡ BadStream → (same : Bool) × Asks words (Follow same)
+  pub full : status ≡ StandbyFull → (same : Bool) × Asks words (Follow same)

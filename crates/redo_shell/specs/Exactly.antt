@@ -62,5 +62,5 @@ pub record ComesExactly (words : List (List ℕ)) (told : Type 0) (left : List �
   pub upgrades : (q : Params) → Asks words (Upgrade q) → (LacksMemory status → ⊥) → (p : Params) (commands : List Command) → Opens p old commands → IsUpgradeEnd status
   pub ship : (from : ℕ) → Asks words (Ship from) → old.tells_files → OrUnread (OpensExactly old new status) old new status
   pub ships : (from : ℕ) → Asks words (Ship from) → (LacksMemory status → ⊥) → (p : Params) (commands : List Command) → Opens p old commands → IsShipEnd status
-  pub follow : Asks words Follow → old.tells_files → OrUnread (OpensExactly old new status) old new status
-  pub follows : Asks words Follow → (LacksMemory status → ⊥) → (p : Params) (commands : List Command) → Opens p old commands → IsFollowEnd status
+  pub follow : (same : Bool) → Asks words (Follow same) → old.tells_files → OrUnread (OpensExactly old new status) old new status
+  pub follows : (same : Bool) → Asks words (Follow same) → (LacksMemory status → ⊥) → (p : Params) (commands : List Command) → Opens p old commands → IsFollowEnd status

@@ -63,7 +63,7 @@ IsCallTwice (Upgrade q) p commands told left old mid new status = LeavesOnly old
     × StepsTwice p commands old mid new (λ again here. GrowthMoment Least p q commands mid again here)
 IsCallTwice (Ship from) p commands told left old mid new status = LeavesOnly old new (OrAtStart old (ShipMoment p commands from old.said))
     × StepsTwice p commands old mid new (λ again here. TableMoment Least p commands mid again here)
-IsCallTwice Follow p commands told left old mid new status = (bytes : List ℕ) × (rest : List ℕ) × (told → left ≡ bytes ++ rest)
+IsCallTwice (Follow same) p commands told left old mid new status = (bytes : List ℕ) × (rest : List ℕ) × (told → left ≡ bytes ++ rest)
     × ((first : Stage) → IsFirst Least p commands mid first → LeavesOnly old new (OrAtStart old (StandbyMoment p commands first.world.history bytes old new)))
     × StepsTwice p commands old mid new (λ again here. FollowingMoment Least p commands mid again here bytes new)
 -- these open no store that is there

@@ -26,7 +26,7 @@ use store_words::{dump, init, upgrade};
 
 /// What is printed where the words ask nothing.
 const USAGE: &[u8] =
-    b"usage: redo init N CAP LIMIT [--pages] | run [--tend] | dump | demo --seed S --steps T | upgrade N CAP LIMIT [--pages] | ship FROM | follow\n";
+    b"usage: redo init N CAP LIMIT [--pages] | run [--tend] | dump | demo --seed S --steps T | upgrade N CAP LIMIT [--pages] | ship FROM | follow [--same]\n";
 
 /// Does what was asked, with the files of the machine, its output, and the script that the source gives, of which a run takes
 /// notes.
@@ -66,7 +66,7 @@ fn serve<M: Machine, T: Machine, S: Source>(
         Asked::Demo { seed, steps } => demo(alloc, machine, seed, steps),
         Asked::Upgrade(params) => upgrade(alloc, budget, machine, params),
         Asked::Ship { from } => ship(alloc, budget, machine, from),
-        Asked::Follow => follow(alloc, budget, machine, input),
+        Asked::Follow { same } => follow(alloc, budget, same, machine, input),
     }
 }
 

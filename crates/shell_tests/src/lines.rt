@@ -488,7 +488,7 @@ const LEAST: Params = Params {
 };
 
 // Words, and what they ask.
-const WORDS: [(&[&str], Option<Asked>); 47] = [
+const WORDS: [(&[&str], Option<Asked>); 49] = [
     (&["redo", "run"], Some(Asked::Run { tend: false })),
     (&["redo", "run", "--tend"], Some(Asked::Run { tend: true })),
     (&["redo", "run", "--tend", "--tend"], None),
@@ -569,7 +569,12 @@ const WORDS: [(&[&str], Option<Asked>); 47] = [
     (&["redo", "ship", "4611686018427387904"], None),
     (&["redo", "ship"], None),
     (&["redo", "ship", "1", "2"], None),
-    (&["redo", "follow"], Some(Asked::Follow)),
+    (&["redo", "follow"], Some(Asked::Follow { same: false })),
+    (
+        &["redo", "follow", "--same"],
+        Some(Asked::Follow { same: true }),
+    ),
+    (&["redo", "follow", "--same", "--same"], None),
     (&["redo", "follow", "1"], None),
 ];
 

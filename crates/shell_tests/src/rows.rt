@@ -15,7 +15,7 @@ const NODES: Run = ("redo init 8 1024 65536", b"", Status::Done, b"");
 const NO_STORE: Run = ("redo run", b"get 0\n", Status::NotAStore, b"not a store\n");
 
 const USAGE: &[u8] =
-    b"usage: redo init N CAP LIMIT [--pages] | run [--tend] | dump | demo --seed S --steps T | upgrade N CAP LIMIT [--pages] | ship FROM | follow\n";
+    b"usage: redo init N CAP LIMIT [--pages] | run [--tend] | dump | demo --seed S --steps T | upgrade N CAP LIMIT [--pages] | ship FROM | follow [--same]\n";
 
 // The frame of a put of `b` with `2` into the page of object 2.
 const PAGE: &[u8] = b"\x16\0\0\0\x01\x01\0\0\0\0\0\0\0\x15\x02\0\0\0\0\0\x01\0b\x01\02";

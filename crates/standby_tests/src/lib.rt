@@ -7,6 +7,8 @@
 #[cfg(test)]
 mod frames;
 #[cfg(test)]
+mod mirrors;
+#[cfg(test)]
 mod random;
 #[cfg(test)]
 mod standbys;

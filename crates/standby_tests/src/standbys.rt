@@ -45,8 +45,8 @@ fn told(answer: &Result<u64, FollowErr>) -> Told {
 
 const LONGEST: u64 = 1 << 20;
 
-// Feeds one piece.
-fn feed(standby: &mut Standby<PlainOp>, machine: &mut GrowMem, piece: &[u8]) -> Told {
+/// Feeds one piece.
+pub fn feed(standby: &mut Standby<PlainOp>, machine: &mut GrowMem, piece: &[u8]) -> Told {
     if standby.is_broken() {
         return NO_ANSWER;
     }

@@ -1,10 +1,10 @@
 -- A stream is followed, piece by piece.
-use Rattle.std.proofs.Common.{◌≡◌, ◌≢◌, ◌⊎◌, ⊎_elim, ◌∙◌, ◌+◌, ◌<◌, ◌≤◌, ◌^◌, ◌++◌, List, ℕ, [], ◌∷◌, append_assoc, false, refl, ap, sym, subst, inl, inr, arith, length, take, Option, None, Some, Result, Ok, Err}
+use Rattle.std.proofs.Common.{◌≡◌, ◌≢◌, ◌⊎◌, ⊎_elim, ◌∙◌, ◌+◌, ◌<◌, ◌≤◌, ◌^◌, ◌++◌, List, ℕ, [], ◌∷◌, append_assoc, Bool, true, false, refl, ap, sym, subst, inl, inr, arith, length, take, Option, None, Some, Result, Ok, Err}
 use Rattle.std.specs.Result.{IsErrAnd}
 use Rattle.std.proofs.Math.Path.{fun_ext}
 use Rattle.std.proofs.lemmas.Grind.{common_steps}
 use Rattle.std.proofs.lemmas.List.{append-nil, length-append, take_all}
-use Rattle.disk_model.specs.Disk.{Files, Disk, IsDisk, IsSettled, Passes, LeavesOnly}
+use Rattle.disk_model.specs.Disk.{Files, Disk, IsDisk, IsSettled, Passes, LeavesOnly, Stays}
 use Rattle.disk_model.specs.Silent.{IsSilent}
 use Rattle.disk_model.specs.Moments.{first_call, passes_none, passes_twice, runs_on, started, weaker}
 use Rattle.oper_core.specs.Meaning.{Meaning}
@@ -22,13 +22,19 @@ use Rattle.op_codec.specs.AllOps.{all_meaning}
 use Rattle.restart.specs.Starts.{OrAtStart, from_settled, or_weaker}
 use Rattle.standby_node.specs.Attaching.{BeginsOn}
 use Rattle.standby_node.specs.Feeding.{FeedsTo, FollowsPiece, HasRefused, IsAtFrameEnd, IsFed, IsLedTo, feeds_on}
+use Rattle.standby_node.specs.Same.{MirrorView, Unlike}
 use Rattle.standby_node.specs.Standby.{AreFramesOf, IsFollowing, StandbyView}
+use Rattle.standby_node.specs.declared.compare_err.CompareErr.{CompareErr}
+use Rattle.standby_node.specs.declared.compare_err.CompareErr.TheVariants as of_compare
 use Rattle.standby_node.specs.declared.follow_err.FollowErr.{FollowErr}
 use Rattle.standby_node.specs.declared.follow_err.FollowErr.TheVariants as errors
-use Rattle.store_engine.specs.Engine.{EngineView, InEachImage, forced_in}
+use Rattle.store_engine.specs.Engine.{EngineView, InEachImage, IsEngineRead, forced_in}
 use Rattle.store_engine.specs.Engine as of_engine
 use Rattle.store_engine.specs.Grouping.{ungrouped}
+use Rattle.running_store.specs.Kept.Laws.{shown_attached}
 use Rattle.running_store.specs.Steps.Forced.{files_shown}
+use Rattle.standby_words.specs.Comparing.{ComparesNext, HasMirror, cut_of_compare}
+use Rattle.standby_words.proofs.ComparingLemmas.{mirror_more, unlike_input}
 use Rattle.standing.specs.Standing.{FilesShow}
 use Rattle.disk_model.specs.declared.machine.FileNo.{FileNo}
 use Rattle.script_lines.specs.declared.read_error.ReadError.{ReadError}
@@ -46,7 +52,7 @@ use Rattle.shell_base.specs.FetchLaws.{not_a_fault}
 use Rattle.shell_base.specs.HoldLaws.{each_stays, shows_stays, still_settled}
 use Rattle.shell_base.specs.OpeningLaws.{opening_failed, start_refused}
 use Rattle.shell_base.specs.RestartLaws.{restarted}
-use Rattle.standby_words.specs.Following.{Begins, FollowMoment, FollowingMoment, FollowsFrames, HasEnded, IsFollowedThrough, IsOfMachine, IsFollowOn, IsFollowOpen, IsInputFollowed, IsOfStream, IsSilentEnd, IsUnsaid, SaysRefusal, SaysShort, ShowLed, ShowsFollowed, StandbyMoment, StreamMoment, at_end, notice_of, status_of_refusal}
+use Rattle.standby_words.specs.Following.{AreItsOwn, Begins, ComparesInput, FollowMoment, FollowingMoment, FollowsFrames, FollowsFront, FollowsInput, HasEnded, IsFollowedThrough, IsNotItsOwn, IsOfMachine, IsFollowOn, IsFollowOpen, IsInputFollowed, IsOfStream, IsSilentEnd, IsUnsaid, SaysRefusal, SaysShort, SaysUnlike, ShowLed, ShowsFollowed, StandbyMoment, StreamMoment, WhereFollowed, at_end, notice_of, notice_of_unlike, status_of_refusal}
 use Rattle.standby_words.specs.declared.cut.Cut.{Cut}
 use Rattle.standby_words.specs.declared.cut.Cut.TheVariants as cuts
 use Rattle.standby_words.specs.FollowingLaws.{no_frames}
@@ -189,25 +195,77 @@ pub record IsTakingIn (told : Type 0) (left_first left : List ℕ) (start now : 
   pub images : start.tells_moments → (p : Params) (first : List (Member Command)) → Begins p first start before → LeavesOnly start now (IsSilent (StreamMoment p first bytes) start.said)
   pub leads : (p : Params) (w : World Command) → ShowsIn p start before.engine w → IsLedTo all_meaning p now here.engine w
 
-pub starts_taking : {told : Type 0} (left : List ℕ) (d : Disk) (s : StandbyView) → IsDisk d → s.engine.broken ≡ false → s.stopped ≡ None → taken_by s.frames ≡ 0
-    → ((p : Params) (commands : List Command) → of_engine.Holds all_meaning p d s.engine commands → Says p d s.engine commands) → IsTakingIn told left left d d s s
-starts_taking left d s lawful unbroken fine fresh says = record {
-  time = passes_none d;
-  quiet = λ told. refl;
-  unbroken = unbroken;
-  fine = fine;
-  attached = λ attached. attached;
+-- the error of a step is that of the whole
+error_is : {T : Type 0} (result : Result T Cut) (cut : Cut) → IsErrAnd result (λ e. e ≡ cut) → result ≡ Err cut
+error_is (Ok value) cut is = absurd is
+error_is (Err e) cut is = ap (λ (x : Cut). Err x) is
+
+-- what a reading leaves of a standby to which nothing came yet
+following_read : {p : Params} {first : List (Member Command)} {d mid : Disk} {s here : StandbyView} {failed : Type 0} → IsEngineRead all_meaning d mid s.engine here.engine failed → (failed → ⊥) → here ≡ record s { engine = here.engine } → IsFollowing all_meaning p first [] d s → IsFollowing all_meaning p first [] mid here
+following_read {p} {first} {d} {mid} {s} {here} read fine rest f = subst (λ (v : StandbyView). IsFollowing all_meaning p first [] mid v) (sym rest) (record {
+  payloads = f.payloads;
+  groups = f.groups;
+  begun = f.begun;
+  passed = f.passed;
+  frames_are = f.frames_are;
+  in_hand = f.in_hand;
+  world = f.world;
+  shows = ⊎_elim (λ failed. absurd (fine failed)) (λ there. there) (read.shows p f.world f.shows);
+  fine = f.fine;
+  members = f.members;
+  no_checkpoint = f.no_checkpoint;
+  forced = f.forced;
+})
+
+-- meanwhile the files stand for the commands
+reading_images : {d mid : Disk} {s : StandbyView} → IsDisk d → Stays d mid → ((p : Params) (commands : List Command) → of_engine.Holds all_meaning p d s.engine commands → Says p d s.engine commands)
+    → d.tells_moments → (p : Params) (first : List (Member Command)) → Begins p first d s → LeavesOnly d mid (IsSilent (StreamMoment p first []) d.said)
+reading_images {d} {mid} {s} lawful stays says telling p first begins = first_call d mid (IsSilent (StreamMoment p first []) d.said) telling stays.time (λ files said left.
+    let from = stays.crash telling files said left in
+    let before = from.0.1 in
+    record {
+      silent = from.1;
+      holds = record { rest = []; commands = commands_of first; follows_to = no_frames p first []; stands = subst (λ (f : Files). Stands p f (commands_of first)) (sym from.0.2) ((begins_standing begins (says p)).1 telling from.0.0 d.said before) };
+    })
+
+-- the standby stands at the beginning of the input, once what the store has is read, where that is asked
+pub starts_taking : {told failed : Type 0} (left : List ℕ) (d mid : Disk) (s here : StandbyView) → IsDisk d → s.stopped ≡ None → taken_by s.frames ≡ 0
+    → ((p : Params) (commands : List Command) → of_engine.Holds all_meaning p d s.engine commands → Says p d s.engine commands) → IsEngineRead all_meaning d mid s.engine here.engine failed → (failed → ⊥) → here ≡ record s { engine = here.engine }
+    → (IsAttached d s.engine → IsAttached mid here.engine) → IsTakingIn told left left d mid s here
+starts_taking left d mid s here lawful fine fresh says read done rest attached = record {
+  time = read.kept.time;
+  quiet = λ told. read.kept.said told;
+  unbroken = not_a_fault here.engine.broken (λ broken. done (read.broken.0 broken));
+  fine = ap (λ (v : StandbyView). v.stopped) rest ∙ fine;
+  attached = attached;
   bytes = [];
   taken = λ told. refl;
-  count = fresh;
+  count = ap (λ (v : StandbyView). taken_by v.frames) rest ∙ fresh;
   few = omega arith;
-  following = λ p first begins. begins.following;
-  images = λ telling p first begins. started d (IsSilent (StreamMoment p first []) d.said) (λ files said left. record {
-    silent = lawful.said_now telling files said left;
-    holds = record { rest = []; commands = commands_of first; follows_to = no_frames p first []; stands = (begins_standing begins (says p)).1 telling files said left };
-  });
-  leads = λ p w shows. (w, shows, FeedsTo.Nothing);
+  following = λ p first begins. following_read read done rest begins.following;
+  images = reading_images lawful read.kept says;
+  leads = λ p w shows. (w, ⊎_elim (λ failed. absurd (done failed)) (λ there. there) (read.shows p w shows), FeedsTo.Nothing);
 }
+
+-- and nothing was compared yet
+pub starts_comparing : {told failed : Type 0} (same : Bool) (left : List ℕ) (d mid : Disk) (s here : StandbyView) (mirror : Option MirrorView) → IsDisk d → s.stopped ≡ None → taken_by s.frames ≡ 0
+    → ((p : Params) (commands : List Command) → of_engine.Holds all_meaning p d s.engine commands → Says p d s.engine commands) → IsEngineRead all_meaning d mid s.engine here.engine failed → (failed → ⊥) → here ≡ record s { engine = here.engine }
+    → (IsAttached d s.engine → IsAttached mid here.engine) → HasMirror same d s.engine [] mirror → (it : IsTakingIn told left left d mid s here) × HasMirror same d s.engine it.bytes mirror
+unfolding starts_taking
+starts_comparing same left d mid s here mirror lawful fine fresh says read done rest attached has = (starts_taking left d mid s here lawful fine fresh says read done rest attached, has)
+
+-- it could not be read
+pub not_mirrored : {told : Type 0} (same : Bool) (left : List ℕ) (d mid : Disk) (s here : StandbyView) (cause : FollowErr) (result : Result ℕ Cut) → IsErrAnd result (λ cut. cut ≡ cuts.Refused cause) → IsDisk d
+    → ((p : Params) (commands : List Command) → of_engine.Holds all_meaning p d s.engine commands → Says p d s.engine commands) → Stays d mid → (d.tells_files → IsAttached d s.engine → IsOfMachine cause) → IsInputFollowed same told left left d mid s here result
+not_mirrored {told} same left d mid s here cause result is lawful says stays machine = subst (λ (r : Result ℕ Cut). IsInputFollowed same told left left d mid s here r) (sym (error_is result (cuts.Refused cause) is)) (record {
+  bytes = [];
+  taken = λ told. refl;
+  few = omega arith;
+  follows_it = λ p first begins. inr (machine begins.following.shows.shows.told (shown_attached all_meaning p d s.engine.parts (ungrouped begins.following.world) begins.following.shows.shows));
+  images = reading_images lawful stays says;
+  leads = λ p w shows. tt;
+  compares = λ p w shows. tt;
+})
 
 -- no byte is kept where there is no place of one, and some where there is
 none_kept : (passed : ℕ) (kept : List ℕ) → first_kept passed kept ≡ None → kept ≡ []
@@ -218,21 +276,17 @@ some_kept : (passed : ℕ) (kept : List ℕ) (place : ℕ) → first_kept passed
 some_kept passed [] place some = cc some
 some_kept passed (byte ∷ kept) place some = (λ none. cc none, cc some)
 
--- the error of a step is that of the whole
-error_is : {T : Type 0} (result : Result T Cut) (cut : Cut) → IsErrAnd result (λ e. e ≡ cut) → result ≡ Err cut
-error_is (Ok value) cut is = absurd is
-error_is (Err e) cut is = ap (λ (x : Cut). Err x) is
-
-module _ {told : Type 0} {left_first left : List ℕ} {start now : Disk} {before here : StandbyView} (so_far : IsTakingIn told left_first left start now before here) where
+module _ {told : Type 0} (same : Bool) {left_first left : List ℕ} {start now : Disk} {before here : StandbyView} (so_far : IsTakingIn told left_first left start now before here) where
   -- the input failed, or memory did
-  pub stops_so : (error : ReadError) (result : Result ℕ Cut) → IsErrAnd result (λ cut. cut ≡ cuts.Unread error) → IsInputFollowed told left_first left start now before here result
-  stops_so error result is = subst (λ (r : Result ℕ Cut). IsInputFollowed told left_first left start now before here r) (sym (error_is result (cuts.Unread error) is)) (record {
+  pub stops_so : (error : ReadError) (result : Result ℕ Cut) → IsErrAnd result (λ cut. cut ≡ cuts.Unread error) → IsInputFollowed same told left_first left start now before here result
+  stops_so error result is = subst (λ (r : Result ℕ Cut). IsInputFollowed same told left_first left start now before here r) (sym (error_is result (cuts.Unread error) is)) (record {
     bytes = so_far.bytes;
     taken = so_far.taken;
     few = so_far.few;
     follows_it = λ p first begins. tt;
     images = so_far.images;
     leads = so_far.leads;
+    compares = λ p w shows. tt;
   })
 
   -- a piece more was taken
@@ -258,14 +312,39 @@ module _ {told : Type 0} {left_first left : List ℕ} {start now : Disk} {before
   refusal_of p first bytes piece new after cause is = inl (is.following, is.refused)
 
   pub refused_so : {new : Disk} {after : StandbyView} {piece : List ℕ} (later : List ℕ) (cause : FollowErr) (result : Result ℕ Cut) → IsErrAnd result (λ cut. cut ≡ cuts.Refused cause) → IsFed all_meaning now new here after piece (Err cause) → (told → left ≡ piece ++ later)
-      → taken_by here.frames + length piece ≤ 2 ^ 40 → IsInputFollowed told left_first later start new before after result
-  refused_so {new} {after} {piece} later cause result is fed taken few = subst (λ (r : Result ℕ Cut). IsInputFollowed told left_first later start new before after r) (sym (error_is result (cuts.Refused cause) is)) (record {
+      → taken_by here.frames + length piece ≤ 2 ^ 40 → IsInputFollowed same told left_first later start new before after result
+  refused_so {new} {after} {piece} later cause result is fed taken few = subst (λ (r : Result ℕ Cut). IsInputFollowed same told left_first later start new before after r) (sym (error_is result (cuts.Refused cause) is)) (record {
     bytes = so_far.bytes ++ piece;
     taken = bytes_taken piece later taken;
     few = few_more piece few;
     follows_it = λ p first begins. refusal_of p first so_far.bytes piece new after cause (fed.follows_it p first so_far.bytes (so_far.following p first begins));
     images = images_more fed;
     leads = λ p w shows. tt;
+    compares = λ p w shows. tt;
+  })
+
+  -- a record of the piece is not the store's own, or memory ran out
+  unlike_front : (p : Params) (first : List (Member Command)) (piece : List ℕ) → IsFollowing all_meaning p first so_far.bytes now here → (ended : Type 0) (e : CompareErr) → FollowsInput p first (so_far.bytes ++ piece) ended now here (Err (cut_of_compare e))
+  unlike_front p first piece following ended (of_compare.Differs n) = (so_far.bytes, piece, refl, following)
+  unlike_front p first piece following ended (of_compare.Unknown n) = (so_far.bytes, piece, refl, following)
+  unlike_front p first piece following ended of_compare.Memory = tt
+
+  still_leads : {P : Type 0} (e : CompareErr) → P → WhereFollowed (Err (cut_of_compare e)) P
+  still_leads (of_compare.Differs n) it = it
+  still_leads (of_compare.Unknown n) it = it
+  still_leads of_compare.Memory it = it
+
+  pub unlike_so : (piece later : List ℕ) (mirror after : Option MirrorView) (e : CompareErr) (result : Result ℕ Cut) → IsErrAnd result (λ cut. cut ≡ cut_of_compare e) → HasMirror same start before.engine so_far.bytes mirror → ComparesNext mirror after piece (Err e)
+      → (told → left ≡ piece ++ later) → taken_by here.frames + length piece ≤ 2 ^ 40 → IsInputFollowed same told left_first later start now before here result
+  unlike_so piece later mirror after e result is has next taken few = subst (λ (r : Result ℕ Cut). IsInputFollowed same told left_first later start now before here r) (sym (error_is result (cut_of_compare e) is)) (record {
+    bytes = so_far.bytes ++ piece;
+    taken = bytes_taken piece later taken;
+    few = few_more piece few;
+    follows_it = λ p first begins. unlike_front p first piece (so_far.following p first begins) (HasEnded told left_first later) e;
+    images = λ telling p first begins.
+        weaker start now (IsSilent (StreamMoment p first so_far.bytes) start.said) (IsSilent (StreamMoment p first (so_far.bytes ++ piece)) start.said) (so_far.images telling p first begins) (λ files said is. record { silent = is.silent; holds = moment_longer piece is.holds });
+    leads = λ p w shows. still_leads e (so_far.leads p w shows);
+    compares = unlike_input same start before.engine so_far.bytes piece mirror after e has next;
   })
 
   -- it was followed
@@ -293,7 +372,12 @@ module _ {told : Type 0} {left_first left : List ℕ} {start now : Disk} {before
           (on.0, on.1, feeds_on (meaning_in p) w was.0 on.0 was.2 on.2);
     }
 
-    module _ (ended : told → later ≡ []) (short : taken_by here.frames + length piece < 2 ^ 40) (says : (p : Params) (commands : List Command) → of_engine.Holds all_meaning p new after.engine commands → Says p new after.engine commands) where
+    -- and it was the same
+    pub compares_more : (mirror after_it : Option MirrorView) → HasMirror same start before.engine so_far.bytes mirror → ComparesNext mirror after_it piece (Ok tt) → (it : IsTakingIn told left_first later start new before after) × HasMirror same start before.engine it.bytes after_it
+    unfolding takes_more
+    compares_more mirror after_it has next = (takes_more, mirror_more same start before.engine so_far.bytes piece mirror after_it has next)
+
+    module _ (own : (p : Params) (w : World Command) → ShowsIn p start before.engine w → same ≡ true → AreItsOwn p w (so_far.bytes ++ piece)) (ended : told → later ≡ []) (short : taken_by here.frames + length piece < 2 ^ 40) (says : (p : Params) (commands : List Command) → of_engine.Holds all_meaning p new after.engine commands → Says p new after.engine commands) where
       has_ended : HasEnded told left_first later
       has_ended tells = (
         ended tells,
@@ -306,7 +390,7 @@ module _ {told : Type 0} {left_first left : List ℕ} {start now : Disk} {before
       )
 
       -- to its end, between two frames
-      ends_whole : first_kept after.frames.passed after.frames.kept ≡ None → IsInputFollowed told left_first later start new before after (Ok n)
+      ends_whole : first_kept after.frames.passed after.frames.kept ≡ None → IsInputFollowed same told left_first later start new before after (Ok n)
       ends_whole none = record {
         bytes = so_far.bytes ++ piece;
         taken = bytes_taken piece later taken;
@@ -318,10 +402,11 @@ module _ {told : Type 0} {left_first left : List ℕ} {start now : Disk} {before
             (has_ended, whole.0, whole.1);
         images = images_more fed;
         leads = takes_more.leads;
+        compares = own;
       }
 
       -- or within one
-      ends_short : (place : ℕ) → first_kept after.frames.passed after.frames.kept ≡ Some place → IsInputFollowed told left_first later start new before after (Err (cuts.Short place))
+      ends_short : (place : ℕ) → first_kept after.frames.passed after.frames.kept ≡ Some place → IsInputFollowed same told left_first later start new before after (Err (cuts.Short place))
       ends_short place some = record {
         bytes = so_far.bytes ++ piece;
         taken = bytes_taken piece later taken;
@@ -341,12 +426,13 @@ module _ {told : Type 0} {left_first left : List ℕ} {start now : Disk} {before
             );
         images = images_more fed;
         leads = takes_more.leads;
+        compares = λ p w shows. tt;
       }
 
-      pub ends_so : (result : Result ℕ Cut) → result ≡ at_end (first_kept after.frames.passed after.frames.kept) n → IsInputFollowed told left_first later start new before after result
-      ends_so result is = subst (λ (r : Result ℕ Cut). IsInputFollowed told left_first later start new before after r) (sym is) (by_place (first_kept after.frames.passed after.frames.kept) refl)
+      pub ends_so : (result : Result ℕ Cut) → result ≡ at_end (first_kept after.frames.passed after.frames.kept) n → IsInputFollowed same told left_first later start new before after result
+      ends_so result is = subst (λ (r : Result ℕ Cut). IsInputFollowed same told left_first later start new before after r) (sym is) (by_place (first_kept after.frames.passed after.frames.kept) refl)
         where
-          by_place : (place : Option ℕ) → first_kept after.frames.passed after.frames.kept ≡ place → IsInputFollowed told left_first later start new before after (at_end place n)
+          by_place : (place : Option ℕ) → first_kept after.frames.passed after.frames.kept ≡ place → IsInputFollowed same told left_first later start new before after (at_end place n)
           by_place None none = ends_whole none
           by_place (Some place) some = ends_short place some
 
@@ -487,14 +573,14 @@ refused_images {old} {mid} {new} {after} lawful time says p first bytes cause im
     its
 
 -- A call on an open standby, by how the following of the input ended.
-module _ {told : Type 0} {left rest : List ℕ} {old mid new : Disk} {before after : StandbyView} {status : Status} (lawful : IsDisk mid) (time : Passes old mid) (quiet : old.tells_files → mid.said ≡ old.said) (says : SaysOnly mid new) where
-  pub open_done : (n : ℕ) → IsInputFollowed told left rest old mid before after (Ok n) → (status ≡ Done) ⊎ ((status ≡ OutOfMemory) ⊎ (status ≡ SayFault))
-      → (mid.tells_files → (status ≡ OutOfMemory) ⊎ ((status ≡ SayFault) ⊎ (new.said ≡ mid.said ++ notices.followed n))) → (status ≡ OutOfMemory → new.said ≡ mid.said) → IsFollowOpen told left rest old new before status
+module _ {told : Type 0} {same : Bool} {left rest : List ℕ} {old mid new : Disk} {before after : StandbyView} {status : Status} (lawful : IsDisk mid) (time : Passes old mid) (quiet : old.tells_files → mid.said ≡ old.said) (says : SaysOnly mid new) where
+  pub open_done : (n : ℕ) → IsInputFollowed same told left rest old mid before after (Ok n) → (status ≡ Done) ⊎ ((status ≡ OutOfMemory) ⊎ (status ≡ SayFault))
+      → (mid.tells_files → (status ≡ OutOfMemory) ⊎ ((status ≡ SayFault) ⊎ (new.said ≡ mid.said ++ notices.followed n))) → (status ≡ OutOfMemory → new.said ≡ mid.said) → IsFollowOpen same told left rest old new before status
   open_done n input ends said silent = record {
     bytes = input.bytes;
     taken = input.taken;
     few = input.few;
-    follows_it = λ p first begins.
+    follows_it = λ p first w begins shows.
         let its = input.follows_it p first begins in
         let tells = begins.following.shows.shows.told in
         let told_mid = time.files_told.0 tells in
@@ -511,18 +597,19 @@ module _ {told : Type 0} {left rest : List ℕ} {old mid new : Disk} {before aft
           stream = λ is. absurd (is_not (λ e. cc e) (λ e. cc e) (λ e. cc e) ends is);
           full = λ is. absurd (is_not (λ e. cc e) (λ e. cc e) (λ e. cc e) ends is);
           quiet = λ is. silent (said_end ends (λ none. none) is) ∙ quiet tells;
+          its_own = λ compared is. input.compares p w shows compared;
         };
     images = λ telling p first begins. said_images lawful time says p first input.bytes (input.images telling p first begins) (input.follows_it p first begins).1.settled telling;
     leads = λ p w shows. record { through = λ is. still_led says (input.leads p w shows); stream = λ is. absurd (is_not (λ e. cc e) (λ e. cc e) (λ e. cc e) ends is) };
   }
 
-  pub open_short : (place : ℕ) → IsInputFollowed told left rest old mid before after (Err (cuts.Short place)) → (status ≡ BadStream) ⊎ ((status ≡ OutOfMemory) ⊎ (status ≡ SayFault))
-      → (mid.tells_files → (status ≡ OutOfMemory) ⊎ ((status ≡ SayFault) ⊎ (new.said ≡ mid.said ++ notices.short place))) → (status ≡ OutOfMemory → new.said ≡ mid.said) → IsFollowOpen told left rest old new before status
+  pub open_short : (place : ℕ) → IsInputFollowed same told left rest old mid before after (Err (cuts.Short place)) → (status ≡ BadStream) ⊎ ((status ≡ OutOfMemory) ⊎ (status ≡ SayFault))
+      → (mid.tells_files → (status ≡ OutOfMemory) ⊎ ((status ≡ SayFault) ⊎ (new.said ≡ mid.said ++ notices.short place))) → (status ≡ OutOfMemory → new.said ≡ mid.said) → IsFollowOpen same told left rest old new before status
   open_short place input ends said silent = record {
     bytes = input.bytes;
     taken = input.taken;
     few = input.few;
-    follows_it = λ p first begins.
+    follows_it = λ p first w begins shows.
         let its = input.follows_it p first begins in
         let tells = begins.following.shows.shows.told in
         let told_mid = time.files_told.0 tells in
@@ -543,25 +630,26 @@ module _ {told : Type 0} {left rest : List ℕ} {old mid new : Disk} {before aft
           );
           full = λ is. absurd (is_not (λ e. cc e) (λ e. cc e) (λ e. cc e) ends is);
           quiet = λ is. silent (said_end ends (λ none. none) is) ∙ quiet tells;
+          its_own = λ compared is. absurd (is_not (λ e. cc e) (λ e. cc e) (λ e. cc e) ends is);
         };
     images = λ telling p first begins. said_images lawful time says p first input.bytes (input.images telling p first begins) (input.follows_it p first begins).2.settled telling;
     leads = λ p w shows. record { through = λ is. still_led says (input.leads p w shows); stream = λ is. inl (still_led says (input.leads p w shows)) };
   }
 
-  pub open_refused : (cause : FollowErr) → IsInputFollowed told left rest old mid before after (Err (cuts.Refused cause)) → IsUnsaid status ⊎ (status ≡ status_of_refusal cause)
-      → (mid.tells_files → (status ≡ BadStream) ⊎ (status ≡ StandbyFull) → new.said ≡ mid.said ++ notice_of cause) → (IsSilentEnd status → new.said ≡ mid.said) → (IsOfMachine cause → new ≡ mid) → IsFollowOpen told left rest old new before status
+  pub open_refused : (cause : FollowErr) → IsInputFollowed same told left rest old mid before after (Err (cuts.Refused cause)) → IsUnsaid status ⊎ (status ≡ status_of_refusal cause)
+      → (mid.tells_files → (status ≡ BadStream) ⊎ (status ≡ StandbyFull) → new.said ≡ mid.said ++ notice_of cause) → (IsSilentEnd status → new.said ≡ mid.said) → (IsOfMachine cause → new ≡ mid) → IsFollowOpen same told left rest old new before status
   open_refused cause input ends said silent failed = record {
     bytes = input.bytes;
     taken = input.taken;
     few = input.few;
-    follows_it = λ p first begins.
+    follows_it = λ p first w begins shows.
         let tells = begins.following.shows.shows.told in
         record {
           done = λ is. absurd (not_done cause (refusal_is cause (λ e. cc e) (λ e. cc e) ends is));
           stream = λ is.
               let of = stream_cause cause (refusal_is cause (λ e. cc e) (λ e. cc e) ends is) in
               let its = stream_refused cause of (input.follows_it p first begins) in
-              inr (
+              inr (inl (
                 cause,
                 of,
                 record {
@@ -570,7 +658,7 @@ module _ {told : Type 0} {left rest : List ℕ} {old mid new : Disk} {before aft
                   refused = its.1;
                   said = said (time.files_told.0 tells) (inl is) ∙ ap (λ (l : List ℕ). l ++ notice_of cause) (quiet tells);
                 },
-              );
+              ));
           full = λ is.
               let (used, need, limit, same) = full_cause cause (refusal_is cause (λ e. cc e) (λ e. cc e) ends is) in
               let its = ⊎_elim (λ refused. refused) (λ failure. absurd (subst IsOfMachine same failure)) (input.follows_it p first begins) in (
@@ -585,6 +673,7 @@ module _ {told : Type 0} {left rest : List ℕ} {old mid new : Disk} {before aft
                 }),
               );
           quiet = λ is. silent is ∙ quiet tells;
+          its_own = λ compared is. absurd (not_done cause (refusal_is cause (λ e. cc e) (λ e. cc e) ends is));
         };
     images = λ telling p first begins. refused_images lawful time says p first input.bytes cause (input.images telling p first begins) (input.follows_it p first begins) failed telling;
     leads = λ p w shows. record {
@@ -597,23 +686,56 @@ module _ {told : Type 0} {left rest : List ℕ} {old mid new : Disk} {before aft
     };
   }
 
+  -- a record is not the store's own
+  pub open_unlike : (cut : Cut) (why : Unlike) → ((p : Params) (first : List (Member Command)) (ended : Type 0) (bytes : List ℕ) → FollowsInput p first bytes ended mid after (Err cut) → FollowsFront p first bytes mid after)
+      → ((p : Params) (w : World Command) (bytes : List ℕ) → ComparesInput same p w bytes (Err cut) → (same ≡ true) × IsNotItsOwn p w bytes why) → ((P : Type 0) → WhereFollowed (Err cut) P → P) → IsInputFollowed same told left rest old mid before after (Err cut)
+      → (status ≡ BadStream) ⊎ ((status ≡ OutOfMemory) ⊎ (status ≡ SayFault)) → (mid.tells_files → (status ≡ OutOfMemory) ⊎ ((status ≡ SayFault) ⊎ (new.said ≡ mid.said ++ notice_of_unlike why))) → (status ≡ OutOfMemory → new.said ≡ mid.said) → IsFollowOpen same told left rest old new before status
+  open_unlike cut why front unlike led input ends said silent = record {
+    bytes = input.bytes;
+    taken = input.taken;
+    few = input.few;
+    follows_it = λ p first w begins shows.
+        let its = front p first (HasEnded told left rest) input.bytes (input.follows_it p first begins) in
+        let tells = begins.following.shows.shows.told in
+        let is_not_own = unlike p w input.bytes (input.compares p w shows) in
+        record {
+          done = λ is. absurd (is_not (λ e. cc e) (λ e. cc e) (λ e. cc e) ends is);
+          stream = λ is. inr (inr (
+            is_not_own.0,
+            why,
+            record {
+              standby = after;
+              follows = (its.0, its.1, its.2, following_said says its.3);
+              unlike = is_not_own.1;
+              said = line_said (λ e. cc e) (λ e. cc e) (said (time.files_told.0 tells)) is ∙ ap (λ (l : List ℕ). l ++ notice_of_unlike why) (quiet tells);
+            },
+          ));
+          full = λ is. absurd (is_not (λ e. cc e) (λ e. cc e) (λ e. cc e) ends is);
+          quiet = λ is. silent (said_end ends (λ none. none) is) ∙ quiet tells;
+          its_own = λ compared is. absurd (is_not (λ e. cc e) (λ e. cc e) (λ e. cc e) ends is);
+        };
+    images = λ telling p first begins. said_images lawful time says p first input.bytes (input.images telling p first begins) (front p first (HasEnded told left rest) input.bytes (input.follows_it p first begins)).3.shows.shows.log.keeps.settled telling;
+    leads = λ p w shows. record { through = λ is. still_led says (led _ (input.leads p w shows)); stream = λ is. inl (still_led says (led _ (input.leads p w shows))) };
+  }
+
 -- the input was not read to its end
 unread_loud : (error : ReadError) (A : Status) → status_of (stop_of_input error) ≡ A → (IsSilentEnd A → ⊥) → ⊥
 unread_loud of_input.ReadFault A is loud = loud (subst IsSilentEnd is tt)
 unread_loud of_input.TooLong A is loud = loud (subst IsSilentEnd is tt)
 unread_loud of_input.Memory A is loud = loud (subst IsSilentEnd is tt)
 
-pub open_unread : {told : Type 0} {left rest : List ℕ} {old mid : Disk} {before after : StandbyView} {status : Status} (quiet : old.tells_files → mid.said ≡ old.said) (error : ReadError) → IsInputFollowed told left rest old mid before after (Err (cuts.Unread error))
-    → status ≡ status_of (stop_of_input error) → IsFollowOpen told left rest old mid before status
+pub open_unread : {told : Type 0} {same : Bool} {left rest : List ℕ} {old mid : Disk} {before after : StandbyView} {status : Status} (quiet : old.tells_files → mid.said ≡ old.said) (error : ReadError) → IsInputFollowed same told left rest old mid before after (Err (cuts.Unread error))
+    → status ≡ status_of (stop_of_input error) → IsFollowOpen same told left rest old mid before status
 open_unread {old = old} {mid = mid} quiet error input is = record {
   bytes = input.bytes;
   taken = input.taken;
   few = input.few;
-  follows_it = λ p first begins. record {
+  follows_it = λ p first w begins shows. record {
     done = λ e. absurd (unread_loud error Done (sym is ∙ e) (λ none. none));
     stream = λ e. absurd (unread_loud error BadStream (sym is ∙ e) (λ none. none));
     full = λ e. absurd (unread_loud error StandbyFull (sym is ∙ e) (λ none. none));
     quiet = λ silent. quiet begins.following.shows.shows.told;
+    its_own = λ compared e. absurd (unread_loud error Done (sym is ∙ e) (λ none. none));
   };
   images = λ telling p first begins. weaker old mid (IsSilent (StreamMoment p first input.bytes) old.said) (FollowMoment p first input.bytes old mid) (input.images telling p first begins) (λ files said it. (it.holds, inl it.silent));
   leads = λ p w shows.
@@ -637,8 +759,8 @@ module _ {budget : Budget} {p : Params} {commands : List Command} {old mid : Dis
       or_weaker old mid (Between p old None (length commands) (length commands) commands) (StandbyMoment p commands first bytes old new) (files.images told)
       (λ image said b. let enough = b.enough in inl (subst (λ (l : List Command). Stands p image l) (take_all b.kept commands enough) b.stands, b.quiet))
 
-  pub follow_unopened : {ended : Type 0} {status : Status} → (first : Stage) × IsFirst budget p commands old first × (commands_of first.world.history ≡ commands) → IsOfUnopened status → (status ≢ NotAStore) × (status ≢ FilesDamaged) → (status ≢ SayFault) × (status ≢ OutOfMemory)
-      → IsFollowOn budget ended [] p commands old mid status
+  pub follow_unopened : {same : Bool} {ended : Type 0} {status : Status} → (first : Stage) × IsFirst budget p commands old first × (commands_of first.world.history ≡ commands) → IsOfUnopened status → (status ≢ NotAStore) × (status ≢ FilesDamaged) → (status ≢ SayFault) × (status ≢ OutOfMemory)
+      → IsFollowOn budget same ended [] p commands old mid status
   follow_unopened {status = status} first of store output = record {
     first = first;
     follows_it = λ stage is. record {
@@ -646,6 +768,7 @@ module _ {budget : Budget} {p : Params} {commands : List Command} {old mid : Dis
       stream = λ e. absurd (subst IsOfUnopened e of);
       full = λ e. absurd (subst IsOfUnopened e of);
       quiet = λ silent. files.quiet;
+      its_own = λ compared e. absurd (subst IsOfUnopened e of);
     };
     images = λ told stage is. opening_moments stage.world.history [] mid told;
     from_settled = λ told settled stage is. from_settled old mid (StandbyMoment p commands stage.world.history [] old mid) lawful told settled (inl (opens.stands, refl)) (opening_moments stage.world.history [] mid told);
@@ -656,25 +779,29 @@ module _ {budget : Budget} {p : Params} {commands : List Command} {old mid : Dis
     leads = λ stage is. record { through = λ through. absurd (not_followed status of through); stream = λ e. absurd (subst IsOfUnopened e of) };
   }
 
-  pub follow_on : {told : Type 0} {left rest : List ℕ} {new : Disk} {standby : StandbyView} {status : Status} → IsDisk new → Passes old mid → Passes mid new
+  pub follow_on : {told : Type 0} {same : Bool} {left rest : List ℕ} {new : Disk} {standby : StandbyView} {status : Status} → IsDisk new → Passes old mid → Passes mid new
       → (first : Stage) × IsFirst budget p commands old first × (commands_of first.world.history ≡ commands) → ((first : Stage) → IsFirst budget p commands old first → Begins p first.world.history mid standby × ShowsIn p mid standby.engine first.world)
-      → (it : IsFollowOpen told left rest mid new standby status) → (status ≢ NotAStore) × (status ≢ FilesDamaged) → IsOfOpened status → IsFollowOn budget (HasEnded told left rest) it.bytes p commands old new status
-  follow_on {told} {left} {rest} {new} {standby} {status} lawful_new before time first begins it store fine =
+      → (it : IsFollowOpen same told left rest mid new standby status) → (status ≢ NotAStore) × (status ≢ FilesDamaged) → IsOfOpened status → IsFollowOn budget same (HasEnded told left rest) it.bytes p commands old new status
+  follow_on {told} {same} {left} {rest} {new} {standby} {status} lawful_new before time first begins it store fine =
       let images : old.tells_moments → (stage : Stage) → IsFirst budget p commands old stage → LeavesOnly old new (OrAtStart old (StandbyMoment p commands stage.world.history it.bytes old new))
       = λ tells stage is. runs_on old mid new (OrAtStart old (StandbyMoment p commands stage.world.history it.bytes old new)) (opening_moments stage.world.history it.bytes new tells)
       (weaker mid new (FollowMoment p stage.world.history it.bytes old new) (OrAtStart old (StandbyMoment p commands stage.world.history it.bytes old new)) (goes_on tells stage is) (λ image said m. inr (inr m))) in
       record {
         first = first;
         follows_it = λ stage is.
-            let from = it.follows_it p stage.world.history (begins stage is).0 in
+            let from = it.follows_it p stage.world.history stage.world (begins stage is).0 (begins stage is).1 in
             record {
               done = λ e. let done = from.done e in (done.0, record { all = done.1.all; said = done.1.said ∙ ap (λ (l : List ℕ). l ++ notices.followed (length done.1.all.commands)) files.quiet });
               stream = λ e. ⊎_elim
                   (λ (ends : HasEnded told left rest × SaysShort p stage.world.history it.bytes mid new). inl (ends.0, short_from ends.1))
-                  (λ (refused : (cause : FollowErr) × IsOfStream cause × SaysRefusal p stage.world.history it.bytes mid new cause). inr (refused.0, refused.1, refusal_from refused.2))
+                  (λ rest. inr (⊎_elim
+                  (λ (refused : (cause : FollowErr) × IsOfStream cause × SaysRefusal p stage.world.history it.bytes mid new cause). inl (refused.0, refused.1, refusal_from refused.2))
+                  (λ (unlike : (same ≡ true) × (why : Unlike) × SaysUnlike p stage.world.history stage.world it.bytes mid new why). inr (unlike.0, unlike.1, unlike_from unlike.2))
+                  rest))
                   (from.stream e);
               full = λ e. let full = from.full e in (full.0, full.1, full.2, refusal_from full.3);
               quiet = λ silent. from.quiet silent ∙ files.quiet;
+              its_own = from.its_own;
             };
         images = images;
         from_settled = λ tells settled stage is. from_settled old new (StandbyMoment p commands stage.world.history it.bytes old new) lawful tells settled (inl (opens.stands, refl)) (images tells stage is);
@@ -707,6 +834,9 @@ module _ {budget : Budget} {p : Params} {commands : List Command} {old mid : Dis
 
       refusal_from : {h : List (Member Command)} {cause : FollowErr} → SaysRefusal p h it.bytes mid new cause → SaysRefusal p h it.bytes old new cause
       refusal_from {cause = cause} is = record { standby = is.standby; following = is.following; refused = is.refused; said = is.said ∙ ap (λ (l : List ℕ). l ++ notice_of cause) files.quiet }
+
+      unlike_from : {h : List (Member Command)} {w : World Command} {why : Unlike} → SaysUnlike p h w it.bytes mid new why → SaysUnlike p h w it.bytes old new why
+      unlike_from {why = why} is = record { standby = is.standby; follows = is.follows; unlike = is.unlike; said = is.said ∙ ap (λ (l : List ℕ). l ++ notice_of_unlike why) files.quiet }
 
 -- the following of a stream may end as one of no store
 pub unopened_follow : (status : Status) → IsOfUnopened status → IsOfFollow status

@@ -1,2 +1,3 @@
 pub mod ShippingLemmas
+pub mod ComparingLemmas
 pub mod FollowingLemmas

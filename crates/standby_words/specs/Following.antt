@@ -1,5 +1,5 @@
 -- A stream of frames is followed.
-use Rattle.std.specs.Prelude.{◌≡◌, ◌≢◌, ◌⊎◌, ◌+◌, ◌<◌, ◌≤◌, ◌^◌, ◌++◌, ⊤, ℕ, List, [], length, Option, None, Some, Result, Ok, Err}
+use Rattle.std.specs.Prelude.{◌≡◌, ◌≢◌, ◌⊎◌, ◌+◌, ◌<◌, ◌≤◌, ◌^◌, ◌++◌, ⊤, ℕ, Bool, true, List, [], length, Option, None, Some, Result, Ok, Err}
 use Rattle.std.specs.List.{AllByRecursion}
 use Rattle.disk_model.specs.Disk.{Files, Disk, LeavesOnly, Rises, IsSettled}
 use Rattle.formats.specs.Log.{IsPayload}
@@ -15,6 +15,8 @@ use Rattle.op_codec.specs.AllOps.{all_meaning}
 use Rattle.restart.specs.Starts.{OrAtStart}
 use Rattle.standing.specs.Standing.{FilesShow}
 use Rattle.standby_node.specs.Feeding.{FeedsTo, HasRefused, IsLedTo}
+use Rattle.standby_node.specs.Same.{AreAllSame, AreCodesIn, IsUnlikeIn, Unlike}
+use Rattle.standby_node.specs.Same.Unlike.{other, gone}
 use Rattle.standby_node.specs.Standby.{AreFramesOf, IsFollowing, StandbyView}
 use Rattle.standby_node.specs.declared.follow_err.FollowErr.{FollowErr}
 use Rattle.standby_node.specs.declared.follow_err.FollowErr.TheVariants as errors
@@ -91,6 +93,11 @@ notice_of (errors.Differs number) = notices.differs number
 notice_of (errors.LogFull used need limit) = notices.full used need limit
 notice_of cause = []
 
+-- what is said where a record of a stream is not the store's own, or its place is no longer in the log
+abbrev pub notice_of_unlike : Unlike → List ℕ
+notice_of_unlike (other number) = notices.differs number
+notice_of_unlike (gone number) = notices.unknown number
+
 -- the stream is at fault
 abbrev pub IsOfStream : FollowErr → Type 0
 IsOfStream (errors.BadFrame place) = ⊤
@@ -142,19 +149,44 @@ WhereFollowed (Ok n) P = P
 WhereFollowed (Err (cuts.Short place)) P = P
 WhereFollowed (Err (cuts.Refused cause)) P = ⊤
 WhereFollowed (Err (cuts.Unread error)) P = P
+WhereFollowed (Err (cuts.Unlike number)) P = P
+WhereFollowed (Err (cuts.Unknown number)) P = P
 
 -- what is answered at the end of the input, by the place of a frame that is not whole
 abbrev pub at_end : Option ℕ → ℕ → Result ℕ Cut
 at_end None commands = Ok commands
 at_end (Some place) commands = Err (cuts.Short place)
 
+-- of a store in this world that has a record of its own with an LSN of these whole frames, it is the same as theirs
+abbrev pub AreItsOwn : Params → World Command → List ℕ → Type 0
+AreItsOwn p w bytes = (codes : List (List ℕ)) × AreCodesIn (meaning_in p) w codes × AreAllSame w.base (meaning_in p) codes bytes
+
+-- a record of these bytes is not the same, or its place is no longer in the log
+abbrev pub IsNotItsOwn : Params → World Command → List ℕ → Unlike → Type 0
+IsNotItsOwn p w bytes why = (codes : List (List ℕ)) × AreCodesIn (meaning_in p) w codes × IsUnlikeIn w.base (meaning_in p) codes bytes why
+
+-- what was found of an input that is compared, by how the following ended
+abbrev pub ComparesInput : Bool → Params → World Command → List ℕ → Result ℕ Cut → Type 0
+ComparesInput same p w bytes (Ok n) = same ≡ true → AreItsOwn p w bytes
+ComparesInput same p w bytes (Err (cuts.Short place)) = ⊤
+ComparesInput same p w bytes (Err (cuts.Refused cause)) = ⊤
+ComparesInput same p w bytes (Err (cuts.Unread error)) = ⊤
+ComparesInput same p w bytes (Err (cuts.Unlike number)) = (same ≡ true) × IsNotItsOwn p w bytes (other number)
+ComparesInput same p w bytes (Err (cuts.Unknown number)) = (same ≡ true) × IsNotItsOwn p w bytes (gone number)
+
+-- the pieces before the last one were followed
+abbrev pub FollowsFront : Params → List (Member Command) → List ℕ → Disk → StandbyView → Type 0
+FollowsFront p first bytes d standby = (front : List ℕ) × (piece : List ℕ) × (bytes ≡ front ++ piece) × IsFollowing all_meaning p first front d standby
+
 -- What an open standby made of its input, of which these bytes were taken, by how that ended: all of it was followed, and there are
--- so many commands, or it ends within a frame, or it was refused.
+-- so many commands, or it ends within a frame, or it was refused, or a record in its last piece is not the same.
 abbrev pub FollowsInput : Params → List (Member Command) → List ℕ → Type 0 → Disk → StandbyView → Result ℕ Cut → Type 0
 FollowsInput p first bytes ended d standby (Ok n) = ended × (all : ShowsFollowed p first bytes [] d) × (n ≡ length all.commands)
 FollowsInput p first bytes ended d standby (Err (cuts.Short place)) = ended × (rest : List ℕ) × ShowsFollowed p first bytes rest d × (rest ≢ []) × IsUnfinished rest × (HasBadLength rest → ⊥) × (place + length rest ≡ length bytes)
 FollowsInput p first bytes ended d standby (Err (cuts.Refused cause)) = ((following : IsFollowing all_meaning p first bytes d standby) × HasRefused (meaning_in p) following.world.history standby cause) ⊎ IsOfMachine cause
 FollowsInput p first bytes ended d standby (Err (cuts.Unread error)) = ⊤
+FollowsInput p first bytes ended d standby (Err (cuts.Unlike number)) = FollowsFront p first bytes d standby
+FollowsInput p first bytes ended d standby (Err (cuts.Unknown number)) = FollowsFront p first bytes d standby
 
 -- the input was read to its end, and has fewer bytes than it may have
 abbrev pub HasEnded : Type 0 → List ℕ → List ℕ → Type 0
@@ -162,13 +194,15 @@ HasEnded told left rest = told → (rest ≡ []) × (length left < 2 ^ 40)
 
 -- An open standby, to which nothing came yet, takes an input. It had `left` at its start and has `rest` at its end, where the source
 -- reports that (`told`). At each moment nothing is said, and the files stand for what some first whole frames make of its history.
-pub record IsInputFollowed (told : Type 0) (left rest : List ℕ) (old new : Disk) (before after : StandbyView) (result : Result ℕ Cut) : Type 0 where
+-- Where that is asked (`same`), it is compared.
+pub record IsInputFollowed (same : Bool) (told : Type 0) (left rest : List ℕ) (old new : Disk) (before after : StandbyView) (result : Result ℕ Cut) : Type 0 where
   pub bytes : List ℕ
   pub taken : told → left ≡ bytes ++ rest
   pub few : length bytes ≤ 2 ^ 40
   pub follows_it : (p : Params) (first : List (Member Command)) → Begins p first old before → FollowsInput p first bytes (HasEnded told left rest) new after result
   pub images : old.tells_moments → (p : Params) (first : List (Member Command)) → Begins p first old before → LeavesOnly old new (IsSilent (StreamMoment p first bytes) old.said)
   pub leads : (p : Params) (w : World Command) → ShowsIn p old before.engine w → WhereFollowed result (IsLedTo all_meaning p new after.engine w)
+  pub compares : (p : Params) (w : World Command) → ShowsIn p old before.engine w → ComparesInput same p w bytes result
 
 -- a moment of it and of what is said behind it: once something is said, the files are those that are there at the end
 abbrev pub FollowMoment : Params → List (Member Command) → List ℕ → Disk → Disk → Files → List ℕ → Type 0
@@ -196,22 +230,32 @@ pub record LeadsOn (p : Params) (w : World Command) (old new : Disk) (status : S
   pub through : IsFollowedThrough status → ShowLed p w new.reads
   pub stream : status ≡ BadStream → ShowLed p w new.reads ⊎ ((cause : FollowErr) × IsOfStream cause × (new.said ≡ old.said ++ notice_of cause))
 
+-- A record of these bytes is not that of a store in this world, and that is said. The pieces before the one that it came with were
+-- followed.
+pub record SaysUnlike (p : Params) (first : List (Member Command)) (w : World Command) (bytes : List ℕ) (old new : Disk) (why : Unlike) : Type 0 where
+  pub standby : StandbyView
+  pub follows : FollowsFront p first bytes new standby
+  pub unlike : IsNotItsOwn p w bytes why
+  pub said : new.said ≡ old.said ++ notice_of_unlike why
+
 -- What the following of a stream, of which these bytes were taken, to the end of the input or not (`ended`), makes of a store with this
--- history, by its status.
-pub record FollowsFrom (ended : Type 0) (bytes : List ℕ) (p : Params) (first : List (Member Command)) (old new : Disk) (status : Status) : Type 0 where
+-- history, by its status; the store shows this world.
+pub record FollowsFrom (same : Bool) (ended : Type 0) (bytes : List ℕ) (p : Params) (first : List (Member Command)) (w : World Command) (old new : Disk) (status : Status) : Type 0 where
   -- with status 0 all of the input was followed; with status 13 it ends within a frame, or was refused; with status 14 the log
   -- has no room for it
   pub done : status ≡ Done → ended × HasFollowed p first bytes old new
-  pub stream : status ≡ BadStream → (ended × SaysShort p first bytes old new) ⊎ ((cause : FollowErr) × IsOfStream cause × SaysRefusal p first bytes old new cause)
+  pub stream : status ≡ BadStream → (ended × SaysShort p first bytes old new) ⊎ (((cause : FollowErr) × IsOfStream cause × SaysRefusal p first bytes old new cause) ⊎ ((same ≡ true) × (why : Unlike) × SaysUnlike p first w bytes old new why))
+  -- with status 0, where it is compared, what was passed over is the store's own
+  pub its_own : same ≡ true → status ≡ Done → AreItsOwn p w bytes
   pub full : status ≡ StandbyFull → (used : ℕ) × (need : ℕ) × (limit : ℕ) × SaysRefusal p first bytes old new (errors.LogFull used need limit)
   pub quiet : IsSilentEnd status → new.said ≡ old.said
 
 -- an open standby follows it, and ends with this status, by what is said
-pub record IsFollowOpen (told : Type 0) (left rest : List ℕ) (old new : Disk) (before : StandbyView) (status : Status) : Type 0 where
+pub record IsFollowOpen (same : Bool) (told : Type 0) (left rest : List ℕ) (old new : Disk) (before : StandbyView) (status : Status) : Type 0 where
   pub bytes : List ℕ
   pub taken : told → left ≡ bytes ++ rest
   pub few : length bytes ≤ 2 ^ 40
-  pub follows_it : (p : Params) (first : List (Member Command)) → Begins p first old before → FollowsFrom (HasEnded told left rest) bytes p first old new status
+  pub follows_it : (p : Params) (first : List (Member Command)) (w : World Command) → Begins p first old before → ShowsIn p old before.engine w → FollowsFrom same (HasEnded told left rest) bytes p first w old new status
   pub images : old.tells_moments → (p : Params) (first : List (Member Command)) → Begins p first old before → LeavesOnly old new (FollowMoment p first bytes old new)
   pub leads : (p : Params) (w : World Command) → ShowsIn p old before.engine w → LeadsOn p w old new status
 
@@ -225,10 +269,10 @@ module _ (budget : Budget) (p : Params) (commands : List Command) (old : Disk) (
   FollowingMoment bytes new files said = OpeningMoment budget p commands old first is files said ⊎ FollowMoment p first.world.history bytes old new files said
 
 -- Files that stand for commands follow a stream.
-pub record IsFollowOn (budget : Budget) (ended : Type 0) (bytes : List ℕ) (p : Params) (commands : List Command) (old new : Disk) (status : Status) : Type 0 where
+pub record IsFollowOn (budget : Budget) (same : Bool) (ended : Type 0) (bytes : List ℕ) (p : Params) (commands : List Command) (old new : Disk) (status : Status) : Type 0 where
   -- from each stage that a restart may make of the files, of which there is at least one, by its history, it is followed so
   pub first : (first : Stage) × IsFirst budget p commands old first × (commands_of first.world.history ≡ commands)
-  pub follows_it : (first : Stage) → IsFirst budget p commands old first → FollowsFrom ended bytes p first.world.history old new status
+  pub follows_it : (first : Stage) → IsFirst budget p commands old first → FollowsFrom same ended bytes p first.world.history first.world old new status
   -- what a crash at any moment leaves is what one at the start could leave, or it stands for these commands, and then for what
   -- some first whole frames make of them; once something is said, it is what is there at the end
   pub images : old.tells_moments → (first : Stage) → IsFirst budget p commands old first → LeavesOnly old new (OrAtStart old (StandbyMoment p commands first.world.history bytes old new))
@@ -242,14 +286,14 @@ pub record IsFollowOn (budget : Budget) (ended : Type 0) (bytes : List ℕ) (p :
   pub steps : old.tells_moments → (first : Stage) → (is : IsFirst budget p commands old first) → LeavesOnly old new (OrAtStart old (FollowingMoment budget p commands old first is bytes new))
   pub leads : (first : Stage) → IsFirst budget p commands old first → LeadsOn p first.world old new status
 
--- A stream is followed by any files. The input had `left` at its start and has `rest` at its end, where the source reports that
--- (`told`).
-pub record IsFollowCall (budget : Budget) (told : Type 0) (left rest : List ℕ) (old new : Disk) (status : Status) : Type 0 where
+-- A stream is followed by any files, and compared, where that is asked (`same`). The input had `left` at its start and has `rest` at
+-- its end, where the source reports that (`told`).
+pub record IsFollowCall (budget : Budget) (same : Bool) (told : Type 0) (left rest : List ℕ) (old new : Disk) (status : Status) : Type 0 where
   -- these bytes were taken
   pub bytes : List ℕ
   pub taken : told → left ≡ bytes ++ rest
   pub few : length bytes ≤ 2 ^ 40
-  pub stream : (p : Params) (commands : List Command) → Opens p old commands → IsFollowOn budget (HasEnded told left rest) bytes p commands old new status
+  pub stream : (p : Params) (commands : List Command) → Opens p old commands → IsFollowOn budget same (HasEnded told left rest) bytes p commands old new status
   pub ends : IsOfFollow status
   pub judged : old.tells_files → JudgesFiles old new status
   pub read : status ≡ NotAStore → ReadsNoStore new

@@ -1,3 +1,4 @@
 pub mod Shipping
 pub mod Following
 pub mod FollowingLaws
+pub mod Comparing

@@ -17,6 +17,7 @@ ghost use Rattle.shell_base.specs.Store.{Command, IsAttached, IsWellFormed, Open
 ghost use Rattle.standby_words.specs.Following.{Begins, IsOfMachine, IsFollowCall, IsFollowOpen, IsInputFollowed, IsUnsaid, StopsReading, at_end, notice_of, status_of_refusal};
 ghost use Rattle.standby_words.specs.declared.cut.Cut.TheVariants.{Refused as IsRefused, Unread as IsUnread};
 
+use crate::comparing::{compare_piece, mirror_for};
 use crate::cut::Cut;
 use disk_model::{Machine, Source};
 use op_codec::AllOps;
@@ -24,7 +25,7 @@ use oper_core::Memory;
 use restart::a_restart_may_be_made;
 use script_lines::ReadError;
 use shell_base::{Budget, Status, Stop, end_damaged, end_numbered, end_unopened};
-use standby_node::{FollowErr, Standby, standby_stands};
+use standby_node::{FollowErr, Standby, a_stream_is_compared, standby_stands};
 use std::alloc::Global;
 use store_engine::{opens_on_a_world, standing_files_meet_their_format};
 
@@ -72,9 +73,11 @@ fn ended(standby: &Standby<AllOps>, commands: u64) -> Result<u64, Cut>
     }
 }
 
-/// Follows the input to its end, piece by piece. It answers how many commands were accepted since the store was made.
+/// Follows the input to its end, piece by piece, each of which is compared before, where that is asked. It answers how many
+/// commands were accepted since the store was made.
 fn follow_input<M: Machine, S: Source>(
     alloc: Global,
+    same: bool,
     standby: &mut Standby<AllOps>,
     machine: &mut M,
     input: &mut S,
@@ -84,17 +87,21 @@ fn follow_input<M: Machine, S: Source>(
     requires fresh { taken_by standby.old.frames ≡ 0 }
     ensures time { Passes (M.disk machine.old) (M.disk machine.new) }
     ensures quiet { (M.disk machine.old).tells_files → (M.disk machine.new).said ≡ (M.disk machine.old).said }
-    ensures followed { IsInputFollowed (S.tells input.old) (S.left input.old) (S.left input.new) (M.disk machine.old) (M.disk machine.new) standby.old standby.new result }
+    ensures followed { IsInputFollowed same (S.tells input.old) (S.left input.old) (S.left input.new) (M.disk machine.old) (M.disk machine.new) standby.old standby.new result }
     ensures fault { IsErrOf result (IsRefused DiskFailed) → Rises (M.disk machine.old).disk_faults (M.disk machine.new).disk_faults }
     ensures undamaged { (M.disk machine.old).tells_files → IsAttached (M.disk machine.old) standby.old.engine → (file : FileNo) (place : ℕ) → IsErrOf result (IsRefused (SlotDamaged file place)) → ⊥ }
     ensures read_fault { IsErrOf result (IsUnread InputFailed) → Rises (S.faults input.old) (S.faults input.new) }
     ensures too_long { S.tells input.old → IsErrOf result (IsUnread InputTooLong) → ReadsOn (S.left input.old) (S.left input.new) 0 (2 ^ 40) }
 {
     standby_stands(machine, standby);
+    a_stream_is_compared::<AllOps>();
+    let mut mirror = mirror_for(same, standby, machine)?;
     let mut piece = empty_piece(alloc)?;
     loop {
         let count = read_piece(input, piece.as_mut_slice(), standby.taken())?;
-        let commands = standby.feed(machine, &piece[..count])?;
+        let came = &piece[..count];
+        compare_piece(&mut mirror, came)?;
+        let commands = standby.feed(machine, came)?;
         if count == 0 {
             standby_stands(machine, standby);
             return ended(standby, commands);
@@ -149,10 +156,11 @@ fn end_refused<M: Machine>(alloc: Global, machine: &mut M, cause: FollowErr) -> 
     }
 }
 
-/// Follows the input with an open standby, to which nothing came yet, and says how many commands there are, or why the stream
-/// was not followed to its end.
+/// Follows the input with an open standby, to which nothing came yet, compares it before, where that is asked, and says how many
+/// commands there are, or why the stream was not followed to its end.
 fn follow_open<M: Machine, S: Source>(
     alloc: Global,
+    same: bool,
     standby: &mut Standby<AllOps>,
     machine: &mut M,
     input: &mut S,
@@ -161,7 +169,7 @@ fn follow_open<M: Machine, S: Source>(
     requires fine { standby.old.stopped ≡ None }
     requires fresh { taken_by standby.old.frames ≡ 0 }
     ensures time { Passes (M.disk machine.old) (M.disk machine.new) }
-    ensures followed { IsFollowOpen (S.tells input.old) (S.left input.old) (S.left input.new) (M.disk machine.old) (M.disk machine.new) standby.old result }
+    ensures followed { IsFollowOpen same (S.tells input.old) (S.left input.old) (S.left input.new) (M.disk machine.old) (M.disk machine.new) standby.old result }
     // No slot of the files that were opened is damaged.
     ensures store { (M.disk machine.old).tells_files → IsAttached (M.disk machine.old) standby.old.engine → (result ≢ Status.NotAStore) × (result ≢ Status.Damaged) }
     ensures status { IsOfFollow result }
@@ -170,10 +178,16 @@ fn follow_open<M: Machine, S: Source>(
     ensures read_fault { result ≡ Status.ReadFault → Rises (S.faults input.old) (S.faults input.new) }
     ensures too_long { S.tells input.old → result ≡ Status.TooLong → ReadsOn (S.left input.old) (S.left input.new) 0 (2 ^ 40) }
 {
-    match follow_input(alloc, standby, machine, input) {
+    match follow_input(alloc, same, standby, machine, input) {
         Ok(commands) => end_numbered(alloc, machine, b"followed", &[commands], Status::Done),
         Err(Cut::Short { place }) => {
             end_numbered(alloc, machine, b"stream Short", &[place], Status::BadStream)
+        }
+        Err(Cut::Unlike { lsn }) => {
+            end_numbered(alloc, machine, b"stream Differs", &[lsn], Status::BadStream)
+        }
+        Err(Cut::Unknown { lsn }) => {
+            end_numbered(alloc, machine, b"stream Unknown", &[lsn], Status::BadStream)
         }
         Err(Cut::Refused(cause)) => end_refused(alloc, machine, cause),
         Err(Cut::Unread(error)) => Stop::from(error).status(),
@@ -210,16 +224,18 @@ fn attach_store<M: Machine>(
     }
 }
 
-/// Opens the store with this budget, and follows the stream of frames that the input is. It says a line at its end, also where
+/// Opens the store with this budget, and follows the stream of frames that the input is. Where that is asked (`same`), each piece
+/// is compared before, and the first record that is not the store's own with its number ends it. It says a line at its end, also where
 /// there is no store to open.
 pub fn follow<M: Machine, S: Source>(
     alloc: Global,
     budget: Budget,
+    same: bool,
     machine: &mut M,
     input: &mut S,
 ) -> Status
     ensures time { Passes (M.disk machine.old) (M.disk machine.new) }
-    ensures call { IsFollowCall budget (S.tells input.old) (S.left input.old) (S.left input.new) (M.disk machine.old) (M.disk machine.new) result }
+    ensures call { IsFollowCall budget same (S.tells input.old) (S.left input.old) (S.left input.new) (M.disk machine.old) (M.disk machine.new) result }
     ensures unopened { result ≡ Status.RestartMemory → input.new ≡ input.old }
     ensures faults { CountsFaults (M.disk machine.old) (M.disk machine.new) result }
     ensures read_fault { result ≡ Status.ReadFault → Rises (S.faults input.old) (S.faults input.new) }
@@ -228,7 +244,7 @@ pub fn follow<M: Machine, S: Source>(
     standing_files_meet_their_format::<AllOps>();
     match attach_store(alloc, budget, machine) {
         Ok(mut standby) => {
-            let status = follow_open(alloc, &mut standby, machine, input);
+            let status = follow_open(alloc, same, &mut standby, machine, input);
             drop(standby);
             status
         }

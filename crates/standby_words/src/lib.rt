@@ -7,6 +7,7 @@
 //! It depends on shell_base, which opens the store, on standby_node, which takes a stream, and on store_engine and what is below it.
 #![tactic(auto)]
 
+mod comparing;
 mod cut;
 mod following;
 mod shipping;

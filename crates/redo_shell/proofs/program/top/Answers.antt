@@ -78,8 +78,8 @@ returns-in-Err-Refused-clause-exactly g c = λ faultless. record {
   upgrades = λ q asks. absurd (c.in-Err-Refused.ensures.refused (subst IsRefusal (sym c.in-Err-Refused.field-0-is) tt) _ asks);
   ship = λ from asks. absurd (c.in-Err-Refused.ensures.refused (subst IsRefusal (sym c.in-Err-Refused.field-0-is) tt) _ asks);
   ships = λ from asks. absurd (c.in-Err-Refused.ensures.refused (subst IsRefusal (sym c.in-Err-Refused.field-0-is) tt) _ asks);
-  follow = λ asks. absurd (c.in-Err-Refused.ensures.refused (subst IsRefusal (sym c.in-Err-Refused.field-0-is) tt) _ asks);
-  follows = λ asks. absurd (c.in-Err-Refused.ensures.refused (subst IsRefusal (sym c.in-Err-Refused.field-0-is) tt) _ asks);
+  follow = λ same asks. absurd (c.in-Err-Refused.ensures.refused (subst IsRefusal (sym c.in-Err-Refused.field-0-is) tt) _ asks);
+  follows = λ same asks. absurd (c.in-Err-Refused.ensures.refused (subst IsRefusal (sym c.in-Err-Refused.field-0-is) tt) _ asks);
 }
 
 pub returns-in-Err-Refused-clause-session : goal.returns-in-Err-Refused-clause-session
@@ -91,7 +91,7 @@ returns-in-Err-Refused-clause-session g c = record {
   dump = λ first next sizes runs said asks. absurd (c.in-Err-Refused.ensures.refused (subst IsRefusal (sym c.in-Err-Refused.field-0-is) tt) _ asks);
   upgrade = λ q first next sizes runs said asks. absurd (c.in-Err-Refused.ensures.refused (subst IsRefusal (sym c.in-Err-Refused.field-0-is) tt) _ asks);
   ship = λ from first next sizes runs said asks. absurd (c.in-Err-Refused.ensures.refused (subst IsRefusal (sym c.in-Err-Refused.field-0-is) tt) _ asks);
-  follow = λ asks. absurd (c.in-Err-Refused.ensures.refused (subst IsRefusal (sym c.in-Err-Refused.field-0-is) tt) _ asks);
+  follow = λ same asks. absurd (c.in-Err-Refused.ensures.refused (subst IsRefusal (sym c.in-Err-Refused.field-0-is) tt) _ asks);
 }
 
 pub returns-clause-call : goal.returns-clause-call
@@ -111,8 +111,8 @@ returns-clause-exactly g c = λ faultless.
       upgrades = λ q asks memory. absurd (memory tt);
       ship = λ from asks told. inr unread;
       ships = λ from asks memory. absurd (memory tt);
-      follow = λ asks told. inr unread;
-      follows = λ asks memory. absurd (memory tt);
+      follow = λ same asks told. inr unread;
+      follows = λ same asks memory. absurd (memory tt);
     }
 
 pub returns-clause-session : goal.returns-clause-session
