@@ -16,7 +16,7 @@ use script_lines::{
 use std::alloc::Global;
 
 // A line of each form, and which one it is, counted from 1. That it asks what it says is a clause.
-const FORMS: [(&[u8], u32); 33] = [
+const FORMS: [(&[u8], u32); 34] = [
     (b"put 4294967295 00FfA9", 1),
     (b"copy 0 1", 2),
     (b"append 7 12", 3),
