@@ -152,7 +152,7 @@ int32_t redo_group_abort(redo_t *db);
 
 /* A transaction: between the two, commands on values and steps of applications are staged, and redo_get sees them; nothing is logged.
  * A command is refused as it would be after the staged ones. redo_txn_commit adds all of them, in one group, or none; the next
- * redo_force makes them durable. It is REDO_LOG_FULL exactly where their records do not fit, and the transaction stays open then: after
+ * redo_force makes them durable. It is REDO_LOG_FULL only where their records do not fit, and the transaction stays open then: after
  * a redo_drain and a redo_trim it may be committed once more. Every other answer ends it; with one that is not REDO_OK nothing of
  * it is there. Runs of an application, maps, hash files, groups and another redo_txn_begin are REDO_IN_TXN meanwhile. */
 int32_t redo_txn_begin(redo_t *db);             /* not within a group */
