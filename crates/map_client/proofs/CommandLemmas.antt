@@ -1,0 +1,93 @@
+-- The command of a call, from what it has found on its way.
+use Rattle.std.proofs.Common.{◌≡◌, ◌≤◌, ◌<◌, ◌^◌, refl, sym, ap, ◌∙◌, subst, ℕ, true, false, if◌then◌else◌, Option, None, Some, Result, Ok, Err, List, length}
+use Rattle.std.specs.Prelude.{IfOk}
+use Rattle.formats.specs.declared.params.Params.{Params}
+use Rattle.oper_core.specs.State.{State}
+use Rattle.key_entries.specs.EntryLaws.{if_some, same_some}
+use Rattle.running_store.specs.Taking.Ending.{Done}
+use Rattle.store_engine.specs.Lists.{ending_of}
+use Rattle.page_ops.specs.Reading.{seek, stands_at}
+use Rattle.page_ops.specs.declared.page_op.PageOp.{PageOp}
+use Rattle.page_ops.specs.declared.page_op.PageOp.TheVariants.{Delete}
+use Rattle.op_codec.specs.AllOps.{page}
+use Rattle.page_map.specs.Map.{bytes_at}
+use Rattle.page_map.specs.Plan.{at_leaf, at_place, delete_at, delete_command, delete_in, set_command, set_in}
+use Rattle.page_map.specs.Walk.{is_on, walk, walk_from}
+use Rattle.range_calls.specs.Due.{IsDue}
+use Rattle.range_calls.specs.Store.{Command}
+use Rattle.map_client.specs.Answers.{MapErr, bad_map, cause_in, told}
+use Rattle.map_client.specs.Changing.{Due, delete_of, found, set_of}
+use Rattle.map_client.specs.Reading.{delete_on, set_on}
+use Rattle.map_client.proofs.DueLemmas.{delete_due}
+use Rattle.map_client.proofs.OpenLemmas.{found_is}
+
+module _ (lo hi : ℕ) (s : State) (key : List ℕ) where
+  abbrev at : ℕ → List ℕ
+  at x = bytes_at lo s x
+
+  -- what is done in the leaf at the end of the way
+  at_end : {A : Type 0} (act : ℕ → Result A ℕ) (x : ℕ) → walk lo hi s key ≡ walk_from lo hi s key 0 x → at_leaf act (walk lo hi s key) ≡ (if is_on 0 (at x) then act x else Err x)
+  at_end {A} act x way =
+      ap (at_leaf act) way ∙ elim (is_on 0 (at x)) as (λ t. at_leaf act (if t then Ok x else Err x) ≡ (if t then act x else Err x)) [ true ↦ refl | false ↦ refl ]
+
+  pub delete_is : (x : ℕ) → walk lo hi s key ≡ walk_from lo hi s key 0 x → delete_command lo hi s key ≡ delete_on x (at x) key
+  delete_is x way = at_end (λ y. delete_in y (at y) key) x way
+
+  pub set_is : (value : List ℕ) (x : ℕ) → walk lo hi s key ≡ walk_from lo hi s key 0 x → set_command lo hi s key value ≡ set_on x (at x) key value
+  set_is value x way = at_end (λ y. set_in y (at y) key value) x way
+
+  -- the way meets a bad object
+  pub delete_bad : (e : MapErr) → told (walk lo hi s key) ≡ Err e → Err e ≡ found (delete_of (delete_command lo hi s key))
+  delete_bad e is = by_way (walk lo hi s key) is
+    where
+      by_way : (w : Result ℕ ℕ) → told w ≡ Err e → Err e ≡ found (delete_of (at_leaf (λ y. delete_in y (at y) key) w))
+      by_way (Ok x) same = cc
+      by_way (Err bad) same = let error : e ≡ bad_map bad = cc same in ap (λ (o : MapErr). (let r : Result Command MapErr = Err o in r)) error
+
+  pub set_bad : (value : List ℕ) (e : MapErr) → told (walk lo hi s key) ≡ Err e → Err e ≡ found (set_of (set_command lo hi s key value))
+  set_bad value e is = by_way (walk lo hi s key) is
+    where
+      by_way : (w : Result ℕ ℕ) → told w ≡ Err e → Err e ≡ found (set_of (at_leaf (λ y. set_in y (at y) key value) w))
+      by_way (Ok x) same = cc
+      by_way (Err bad) same = let error : e ≡ bad_map bad = cc same in ap (λ (o : MapErr). (let r : Result Command MapErr = Err o in r)) error
+
+module _ (bytes key : List ℕ) (x : ℕ) (op : PageOp) where
+  -- the delete of a cell of the key
+  pub record IsCell : Type 0 where
+    pub place : ℕ
+    pub is : Delete x place ≡ op
+    pub stands : stands_at bytes place key ≡ true
+
+  pub cell_is : delete_in x bytes key ≡ Ok (Some op) → IsCell
+  cell_is is = by_place (seek bytes key) is
+    where
+      by_place : (o : Option ℕ) → at_place (delete_at x bytes key) x o ≡ Ok (Some op) → IsCell
+      by_place None e = cc
+      by_place (Some i) e =
+          let made : (if stands_at bytes i key then Some (Delete x i) else None) ≡ Some op = cc e in
+          let stands = if_some (stands_at bytes i key) (Some (Delete x i)) op made in
+          record { place = i; is = same_some (Delete x i) op stands.1; stands = stands.0 }
+
+  -- it stands in a leaf
+  pub on_leaf : delete_on x bytes key ≡ Ok (Some op) → (is_on 0 bytes ≡ true) × IsCell
+  on_leaf is =
+      elim (is_on 0 bytes) as (λ t. (if t then delete_in x bytes key else Err x) ≡ Ok (Some op) → (t ≡ true) × IsCell) [
+        | true ↦ λ e. (refl, cell_is e)
+        | false ↦ λ e. cc
+      ] is
+
+due_delete : (d : Result (Option PageOp) ℕ) (op : PageOp) → delete_of d ≡ Ok op → d ≡ Ok (Some op)
+due_delete (Err bad) op is = cc
+due_delete (Ok None) op is = cc
+due_delete (Ok (Some other)) op is = cc is
+
+-- so a delete that is found is due
+pub delete_is_due : (p : Params) (lo : ℕ) (s : State) (key : List ℕ) (x : ℕ) → p.more ≡ true → 1024 ≤ p.cap → x < p.objects → x < 2 ^ 32 → (r : Result Command MapErr)
+    → (ending_of (cause_in r) ≡ Done → r ≡ found (delete_of (delete_on x (bytes_at lo s x) key))) → IfOk r (λ op. length (s x) ≤ p.cap) → IfOk r (λ op. IsDue p s op)
+delete_is_due p lo s key x more wide below small (Err e) is fits = tt
+delete_is_due p lo s key x more wide below small (Ok command) is fits =
+    let due : Due = delete_of (delete_on x (bytes_at lo s x) key) in
+    let it = found_is due command (is refl) in
+    let found_in_leaf = on_leaf (bytes_at lo s x) key x it.op (due_delete (delete_on x (bytes_at lo s x) key) it.op it.is) in
+    let cell = found_in_leaf.1 in
+    subst (λ (o : Command). IsDue p s o) (ap page cell.is ∙ it.command_is) (delete_due p lo s x cell.place key more wide below small fits found_in_leaf.0 cell.stands)

@@ -1,0 +1,126 @@
+-- What the calls do to a map, from what its commands make.
+use Rattle.std.proofs.Common.{◌≡◌, ◌≤◌, ◌<◌, ◌^◌, refl, ap, ◌∙◌, subst, ℕ, zero, suc, ◌*◌, Bool, true, false, if◌then◌else◌, Option, None, Some, Result, Ok, Err, List, length, arith}
+use Rattle.std.specs.Prelude.{nat_le, nat_lt, is_some}
+use Rattle.std.specs.FinMap.{get}
+use Rattle.std.proofs.lemmas.Bool.{cond-true, leb-true, lt-ltb}
+use Rattle.oper_core.specs.State.{State}
+use Rattle.oper_core.specs.Meaning.{Accepts}
+use Rattle.oper_core.specs.declared.bounds.Bounds.{Bounds}
+use Rattle.key_entries.specs.EntryLaws.{both_true}
+use Rattle.page_ops.specs.Operation.{page_meaning}
+use Rattle.page_ops.specs.Reading.{level_in, under}
+use Rattle.page_ops.specs.declared.page_op.PageOp.{PageOp}
+use Rattle.page_map.specs.Map.{bytes_at, content_of, IsMap}
+use Rattle.page_map.specs.Plan.{Admits, DeleteMakes, SetMakes, at_leaf, delete_command, delete_in, set_command}
+use Rattle.page_map.specs.Sets.{is_pair, is_short_key, is_short_pair, room_of}
+use Rattle.page_map.specs.Walk.{child_for, get_answer, is_on, on_from, walk, walk_from}
+use Rattle.range_calls.specs.declared.call_err.CallErr.TheVariants.{Refused}
+use Rattle.map_client.specs.Answers.{get_told, told}
+use Rattle.map_client.specs.Changing.{Due, delete_of, set_of}
+use Rattle.map_client.specs.Laws.{DeleteActs, SetActs}
+use Rattle.map_client.specs.declared.call_refusal.CallRefusal.TheVariants.{NoKey, NoObject, TooLong}
+use Rattle.map_client.proofs.OpenLemmas.{due_in, is_open}
+use Rattle.map_client.proofs.CommandLemmas.{IsCell, cell_is}
+use Rattle.map_client.proofs.DueLemmas.{delete_accepted}
+use Rattle.map_client.proofs.WalkLemmas.{child_within}
+
+pub get_is : (b : Bounds) (lo hi : ℕ) (s : State) (key : List ℕ) → hi < b.objects → {found : Option (List ℕ)} → get_answer lo hi s key ≡ Ok found → get_told b lo hi s key ≡ Ok found
+get_is b lo hi s key within is = cond-true (nat_lt hi b.objects) (told (get_answer lo hi s key)) (Err (Refused NoObject)) (lt-ltb hi b.objects within) ∙ ap told is
+
+-- a way that goes on to an end goes on from a child
+record GoesOn (on : ℕ → Result ℕ ℕ) (o : Option ℕ) (x : ℕ) : Type 0 where
+  pub child : ℕ
+  pub is : o ≡ Some child
+  pub end : on child ≡ Ok x
+
+goes_on : (on : ℕ → Result ℕ ℕ) (y x : ℕ) (o : Option ℕ) → on_from on y o ≡ Ok x → GoesOn on o x
+goes_on on y x None e = cc
+goes_on on y x (Some child) e = record { child = child; is = refl; end = e }
+
+module _ (lo hi : ℕ) (s : State) (key : List ℕ) where
+  abbrev at : ℕ → List ℕ
+  at x = bytes_at lo s x
+
+  -- a way that ends, ends at a leaf of the range
+  record IsLeaf (x : ℕ) : Type 0 where
+    pub leaf : is_on 0 (at x) ≡ true
+    pub within : x ≤ hi
+
+  ends_at : (level y x : ℕ) → y ≤ hi → walk_from lo hi s key level y ≡ Ok x → IsLeaf x
+  ends_at zero y x within is =
+      elim (is_on 0 (at y)) as (λ t. is_on 0 (at y) ≡ t → (if t then Ok y else Err y) ≡ Ok x → IsLeaf x) [
+        | true ↦ λ on e. let same : y ≡ x = cc e in subst IsLeaf same (record { leaf = on; within = within })
+        | false ↦ λ on e. cc
+      ] refl is
+  ends_at (suc level) y x within is =
+      elim (is_on (suc level) (at y)) as (λ t. (if t then on_from (walk_from lo hi s key level) y (child_for lo hi (at y) (under (at y) key)) else Err y) ≡ Ok x → IsLeaf x) [
+        | true ↦ λ e.
+            let next = goes_on (walk_from lo hi s key level) y x (child_for lo hi (at y) (under (at y) key)) e in
+            ends_at level next.child x (child_within lo hi (at y) (under (at y) key) next.child next.is) next.end
+        | false ↦ λ e. cc
+      ] is
+
+  -- the command of a delete is that of a key which stands in a leaf
+  record IsDelete (op : PageOp) : Type 0 where
+    pub object : ℕ
+    pub leaf : IsLeaf object
+    pub cell : IsCell (at object) key object op
+
+  command_is : (op : PageOp) → lo ≤ hi → delete_command lo hi s key ≡ Ok (Some op) → IsDelete op
+  command_is op order is = by_way (walk lo hi s key) refl is
+    where
+      by_way : (w : Result ℕ ℕ) → walk lo hi s key ≡ w → at_leaf (λ x. delete_in x (at x) key) w ≡ Ok (Some op) → IsDelete op
+      by_way (Err bad) way e = cc
+      by_way (Ok x) way e = record { object = x; leaf = ends_at (level_in (at lo)) lo x order way; cell = cell_is (at x) key x op e }
+
+module _ (b : Bounds) (lo hi : ℕ) (s : State) (is : IsMap lo hi s) (key : List ℕ) where
+  abbrev has : Bool
+  has = is_some (get (content_of is) key)
+
+  module _ (small : hi < 2 ^ 32) (admits : Admits b hi) (wide : 1024 ≤ b.cap) (fit : (x : ℕ) → length (s x) ≤ b.cap) (makes : DeleteMakes b lo hi s is key) where
+    by_has : (t : Bool) → delete_of (Ok (if t then Some makes.op else None)) ≡ (if t then Ok makes.op else Err NoKey)
+    by_has true = refl
+    by_has false = refl
+
+    accepted : has ≡ true → Accepts (page_meaning b) s makes.op
+    accepted there =
+        let command : delete_command lo hi s key ≡ Ok (Some makes.op) = makes.command ∙ ap (λ (t : Bool). (let r : Result (Option PageOp) ℕ = Ok (if t then Some makes.op else None) in r)) there in
+        let found = command_is lo hi s key makes.op is.order command in
+        let within = found.leaf.within in
+        let objects = admits.objects in
+        subst (λ (o : PageOp). Accepts (page_meaning b) s o) found.cell.is
+        (delete_accepted b lo s found.object found.cell.place key admits.more (omega (arith, within, objects)) (omega (arith, within, small)) (fit found.object) found.leaf.leaf found.cell.stands)
+
+    pub delete_acts : DeleteActs b lo hi s is key
+    delete_acts = record {
+      op = makes.op;
+      due = due_in b hi (delete_of (delete_command lo hi s key)) (is_open b hi admits.objects admits.more wide) ∙ ap delete_of makes.command ∙ by_has has;
+      accepted = accepted;
+      made = λ there. makes.makes there (accepted there);
+    }
+
+-- a pair that a map takes has a key and a value whose lengths fit two bytes
+pair_fits : (cap : ℕ) (key value : List ℕ) → is_pair (room_of cap) (key, value) ≡ true → (length key < 65536) × (length value < 65536)
+pair_fits cap key value is =
+    let both = both_true (is_short_pair (room_of cap) (key, value)) _ is in
+    let short = both_true (is_short_key (room_of cap) key) (nat_le (4 * length value) (room_of cap)) both.0 in
+    let long = both_true (nat_lt 0 (length key)) (nat_le (length key) 1023) both.1 in
+    let few = leb-true (length key) 1023 long.1 in
+    let values = leb-true (4 * length value) (room_of cap) short.1 in
+    let room = room_few (nat_le cap 65535) refl in
+    (omega (arith, few), omega (arith, values, room))
+  where
+    room_few : (t : Bool) → nat_le cap 65535 ≡ t → (if t then cap else 65535) ≤ 65535
+    room_few true e = leb-true cap 65535 e
+    room_few false e = omega arith
+
+module _ (b : Bounds) (lo hi : ℕ) (s : State) (is : IsMap lo hi s) (key value : List ℕ) where
+  pub set_acts : Admits b hi → 1024 ≤ b.cap → SetMakes b lo hi s is key value → SetActs b lo hi s is key value
+  set_acts admits wide makes = record {
+    op = makes.op;
+    due =
+        due_in b hi (if is_pair (room_of b.cap) (key, value) then set_of (set_command lo hi s key value) else Err TooLong) (is_open b hi admits.objects admits.more wide)
+        ∙ ap (λ (r : Result PageOp ℕ). (let due : Due = if is_pair (room_of b.cap) (key, value) then set_of r else Err TooLong in due)) makes.command;
+    made = makes.makes;
+    cause = λ pair. let fits = pair_fits b.cap key value pair in makes.causes fits.0 fits.1 admits;
+  }

@@ -1,0 +1,11 @@
+use Rattle.map_client.proofs.LawLemmas.{delete_acts, get_is, set_acts}
+use Rattle.map_client.proofs.laws.calls_act_as_on_an_ordered_map.Goals as goal
+
+pub returns : goal.returns
+returns c =
+    let changes = c.changes_are_those_of_the_map.ensures in
+    record {
+      get = λ b lo hi s key small within is. get_is b lo hi s key within (c.a_get_finds_what_the_map_has.ensures lo hi s key small is);
+      delete = λ b lo hi s key small admits wide fit is. delete_acts b lo hi s is key small admits wide fit (changes.delete b lo hi s key small is);
+      set = λ b lo hi s key value small admits wide is. set_acts b lo hi s is key value admits wide (changes.set b lo hi s key value small is);
+    }

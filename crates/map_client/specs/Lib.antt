@@ -1,0 +1,5 @@
+pub mod Answers
+pub mod Reading
+pub mod Running
+pub mod Changing
+pub mod Laws
