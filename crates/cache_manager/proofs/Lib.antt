@@ -13,5 +13,6 @@ pub mod ToLog
 pub mod NextWorkless
 pub mod FullDrain
 pub mod OneRound
+pub mod MadeReady
 pub mod ThinRounds
 pub mod ThinTurns

@@ -40,6 +40,15 @@ but_longest copied lengths objects = but_kept (longest_of lengths (not_copied co
 abbrev pub round_limit : {O : Type 0} → Meaning O → ℕ
 round_limit m = max 64 (2 ^ 20 / m.cap)
 
+-- so many nodes are removed
+abbrev pub removed_by : {O : Type 0} → Step O → ℕ
+removed_by (Removal node) = 1
+removed_by s = 0
+
+abbrev pub removals : {O : Type 0} → List (Step O) → ℕ
+removals [] = 0
+removals (s ∷ steps) = removed_by s + removals steps
+
 module _ {O : Type 0} (m : Meaning O) where
   -- an identity write of x: room is made for it, and it is placed
   abbrev pub identity_course : ℕ → World O → ℕ → Course O
@@ -59,9 +68,12 @@ module _ {O : Type 0} (m : Meaning O) where
   abbrev pub next_node : World O → ℕ → Bool
   next_node w = node_named m w (next_name w)
 
-  -- what it has to flush, rising
+  -- what a node has to flush, rising, and what the next one has
+  abbrev pub work_in : World O → (ℕ → Bool) → List ℕ
+  work_in w node = filter (has_work m w node) (counted 0 m.objects)
+
   abbrev pub work : World O → List ℕ
-  work w = filter (has_work m w (next_node w)) (counted 0 m.objects)
+  work w = work_in w (next_node w)
 
   -- all that waits is forced, and the node finished
   abbrev pub finish_steps : World O → List (Step O)
@@ -90,14 +102,20 @@ module _ {O : Type 0} (m : Meaning O) where
     abbrev pub is_stale : World O → ℕ → Bool
     is_stale w x = nat_lt x copied && not (is_identity_at w.history (w.cache x).lsn)
 
-    -- the next node may not be finished yet: it has two or more objects to flush, or one that is copied, whose version is of
-    -- a command
-    abbrev pub must_log : World O → Bool
-    must_log w = nat_lt 1 (length (work w)) || list_any (is_stale w) (work w)
+    -- a node may not be finished yet: it has two or more objects to flush, or one that is copied, whose version is of a command
+    abbrev pub must_log_in : World O → (ℕ → Bool) → Bool
+    must_log_in w node = nat_lt 1 (length (work_in w node)) || list_any (is_stale w) (work_in w node)
 
     -- what is logged then: of the work all but the longest of those that are not copied
+    abbrev pub others_in : World O → (ℕ → Bool) → List ℕ
+    others_in w node = but_longest copied (cached_length m w) (work_in w node)
+
+    -- so it is with the next node
+    abbrev pub must_log : World O → Bool
+    must_log w = must_log_in w (next_node w)
+
     abbrev pub others : World O → List ℕ
-    others w = but_longest copied (cached_length m w) (work w)
+    others w = others_in w (next_node w)
 
     -- while the node may not be finished, these are logged; so many rounds at most
     abbrev pub rounds : ℕ → World O → ℕ → Course O
@@ -124,24 +142,48 @@ module _ {O : Type 0} (m : Meaning O) where
     abbrev pub is_next_due : World O → Bool
     is_next_due w = not (must_log w) && nat_lt 0 (length (work w))
 
+    -- n names a minimal node that may not be finished yet
+    abbrev pub is_unready : World O → ℕ → Bool
+    is_unready w n =
+        let node = node_named m w n in
+        w.graph n && ((least_below (end_of w) node == n) && (not (is_entered m w node) && must_log_in w node))
+
+    -- of `fuel` LSNs from k on those that are such names, so many at most
+    abbrev pub unready_from : (most fuel k : ℕ) → World O → List ℕ
+    unready_from most zero k w = []
+    unready_from zero (suc fuel) k w = []
+    unready_from (suc most) (suc fuel) k w = if is_unready w k then k ∷ unready_from most fuel (suc k) w else unready_from (suc most) fuel (suc k) w
+
+    -- the names of these nodes from the least on, so many at most
+    abbrev pub unready_nodes : ℕ → World O → List ℕ
+    unready_nodes most w = unready_from most (end_of w) 0 w
+
+    -- what is logged of them
+    abbrev pub others_of : World O → List ℕ → List ℕ
+    others_of w [] = []
+    others_of w (n ∷ names) = others_in w (node_named m w n) ++ others_of w names
+
     -- In a turn of at most so many nodes
     module _ (most : ℕ) where
-      -- the next node is installed, and behind it those that have no object to flush while they are next,
-      abbrev pub installs : World O → ℕ → Course O
-      installs w used = and_then m w (rounds m.objects w used) (λ v used. workless_nodes (most - 1) v used)
+      -- this is logged first, where the next node is one of them;
+      abbrev pub readied : World O → List ℕ
+      readied w = if must_log w then others_of w (unready_nodes most w) else []
 
-      -- or a round is taken, where the next node is due,
-      abbrev pub next_turn : World O → ℕ → Course O
-      next_turn w used = if is_next_due w then round_course most w used else installs w used
+      -- then a round is taken, where the next node is due, or it is installed,
+      abbrev pub first_course : World O → ℕ → Course O
+      first_course w used = if is_next_due w then round_course most w used else install_course w used
 
-      -- if something is left.
+      -- and behind it go nodes that have no object to flush, while they are next, if something is left.
+      abbrev pub ready_turn : World O → ℕ → Course O
+      ready_turn w used = let first = first_course w used in if has_members w then and_then m w first (λ v used. workless_nodes (most - removals first.steps) v used) else course [] used Through
+
       abbrev pub turn_course : World O → ℕ → Course O
-      turn_course w used = if has_members w then next_turn w used else course [] used Through
+      turn_course w used = and_then m w (identities (readied w) w used) (λ v used. ready_turn v used)
 
       -- turns until nothing is left: so many at most
       abbrev pub turns : ℕ → World O → ℕ → Course O
       turns zero w used = course [] used Through
-      turns (suc n) w used = if has_members w then and_then m w (next_turn w used) (λ v used. turns n v used) else course [] used Through
+      turns (suc n) w used = if has_members w then and_then m w (turn_course w used) (λ v used. turns n v used) else course [] used Through
 
       -- each turn takes a member out, and the identity writes are of different dirty objects
       abbrev pub all_turns : World O → ℕ → Course O
@@ -168,15 +210,6 @@ flushed_by s = []
 abbrev pub flushed_in : {O : Type 0} → List (Step O) → List ℕ
 flushed_in [] = []
 flushed_in (s ∷ steps) = flushed_by s ++ flushed_in steps
-
--- so many nodes are removed
-abbrev pub removed_by : {O : Type 0} → Step O → ℕ
-removed_by (Removal node) = 1
-removed_by s = 0
-
-abbrev pub removals : {O : Type 0} → List (Step O) → ℕ
-removals [] = 0
-removals (s ∷ steps) = removed_by s + removals steps
 
 -- so many members does a step remove from the graph, and so many do the steps of a list
 abbrev pub members_removed_by : {O : Type 0} → World O → Step O → ℕ

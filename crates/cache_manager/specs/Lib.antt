@@ -9,6 +9,7 @@ pub mod Upkeep
 pub mod FewLogged
 pub mod Thin
 pub mod DueNodes
+pub mod ReadyNodes
 pub mod RoundNodes
 pub mod LogsDirty
 pub mod Worked

@@ -9,7 +9,7 @@ use Rattle.explain_core.specs.Turns.{count_below, dirty_in, round_gates}
 use Rattle.explain_core.specs.World.{World, Step, run, end_of}
 use Rattle.explain_core.specs.World.Step.{Block_gate}
 use Rattle.running_store.specs.Courses.{Course, course, and_then, waits, buffered, force_steps, room_steps, removal_steps}
-use Rattle.cache_manager.specs.InstallCourses.{identities, next_node, work, must_log, others, finish_steps, rounds, has_members, is_next_workless, workless_nodes, install_course, may_flush, round_steps, round_course, is_next_due, installs, next_turn, turn_course, turns, all_turns, round_limit, drain_course}
+use Rattle.cache_manager.specs.InstallCourses.{identities, next_node, work, must_log, others, finish_steps, first_course, rounds, has_members, is_next_workless, workless_nodes, install_course, may_flush, readied, ready_turn, removals, round_steps, round_course, is_next_due, turn_course, turns, all_turns, round_limit, drain_course}
 use Rattle.running_store.specs.Courses.Stop.{Through}
 use Rattle.running_store.specs.Courses.Laws.{behind_both}
 use Rattle.running_store.specs.Running.{AreUpkeep, IsUpkeep}
@@ -80,20 +80,24 @@ module _ {O : Type 0} (m : Meaning O) where
       let one = course (finish_steps m w) used Through in
       upkeep_either (is_next_workless m w) (and_then m w one (λ v used. workless_nodes m n v used)) (course [] used Through) (upkeep_then w one (λ v used. workless_nodes m n v used) (upkeep_finish w) (λ v used. upkeep_nodes n v used)) tt
 
-  upkeep_installs : (copied most : ℕ) (w : World O) (used : ℕ) → AreUpkeep (installs m copied most w used).steps
-  upkeep_installs copied most w used = upkeep_then w (rounds m copied m.objects w used) (λ v used. workless_nodes m (most - 1) v used) (upkeep_rounds copied m.objects w used) (λ v used. upkeep_nodes (most - 1) v used)
+  upkeep_first : (copied most : ℕ) (w : World O) (used : ℕ) → AreUpkeep (first_course m copied most w used).steps
+  upkeep_first copied most w used = upkeep_either (is_next_due m copied w) (round_course m copied most w used) (install_course m copied w used) (upkeep_round copied most w) (upkeep_install copied w used)
 
-  upkeep_next : (copied most : ℕ) (w : World O) (used : ℕ) → AreUpkeep (next_turn m copied most w used).steps
-  upkeep_next copied most w used = upkeep_either (is_next_due m copied w) (round_course m copied most w used) (installs m copied most w used) (upkeep_round copied most w) (upkeep_installs copied most w used)
+  upkeep_ready : (copied most : ℕ) (w : World O) (used : ℕ) → AreUpkeep (ready_turn m copied most w used).steps
+  upkeep_ready copied most w used =
+      let first = first_course m copied most w used in
+      let n = most - removals first.steps in
+      upkeep_either (has_members m w) (and_then m w first (λ v used. workless_nodes m n v used)) (course [] used Through) (upkeep_then w first (λ v used. workless_nodes m n v used) (upkeep_first copied most w used) (λ v used. upkeep_nodes n v used)) tt
 
   pub upkeep_turn : (copied most : ℕ) (w : World O) (used : ℕ) → AreUpkeep (turn_course m copied most w used).steps
-  upkeep_turn copied most w used = upkeep_either (has_members m w) (next_turn m copied most w used) (course [] used Through) (upkeep_next copied most w used) tt
+  upkeep_turn copied most w used =
+      upkeep_then w (identities m (readied m copied most w) w used) (λ v used. ready_turn m copied most v used) (upkeep_identities (readied m copied most w) w used) (λ v used. upkeep_ready copied most v used)
 
   upkeep_turns : (copied most n : ℕ) (w : World O) (used : ℕ) → AreUpkeep (turns m copied most n w used).steps
   upkeep_turns copied most zero w used = tt
   upkeep_turns copied most (suc n) w used =
-      upkeep_either (has_members m w) (and_then m w (next_turn m copied most w used) (λ v used. turns m copied most n v used)) (course [] used Through)
-      (upkeep_then w (next_turn m copied most w used) (λ v used. turns m copied most n v used) (upkeep_next copied most w used) (λ v used. upkeep_turns copied most n v used)) tt
+      upkeep_either (has_members m w) (and_then m w (turn_course m copied most w used) (λ v used. turns m copied most n v used)) (course [] used Through)
+      (upkeep_then w (turn_course m copied most w used) (λ v used. turns m copied most n v used) (upkeep_turn copied most w used) (λ v used. upkeep_turns copied most n v used)) tt
 
   pub upkeep_all_turns : (copied most : ℕ) (w : World O) (used : ℕ) → AreUpkeep (all_turns m copied most w used).steps
   upkeep_all_turns copied most w used = upkeep_turns copied most (count_below (end_of w) w.graph + dirty_in m w) w used

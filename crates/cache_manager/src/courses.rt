@@ -2,13 +2,14 @@
 ghost use Rattle.std.specs.Prelude.{◌≡◌, ◌⊎◌, ◌+◌, ◌<◌, ◌≤◌, ℕ, IsTrue, IsFalse, All, List, length};
 ghost use Rattle.formats.specs.declared.params.Params.{Params as Numbers};
 ghost use Rattle.oper_core.specs.Meaning.{IsSmall};
+ghost use Rattle.oper_core.specs.State.{is_among};
 ghost use Rattle.oper_core.specs.declared.bounds.Bounds.{Bounds};
 ghost use Rattle.explain_core.specs.RoundGates.{IsGateAmong};
 ghost use Rattle.explain_core.specs.Sound.{IsSound};
 ghost use Rattle.explain_core.specs.Turns.{count_below, dirty_in, gate_at, is_due, round_gates};
-ghost use Rattle.explain_core.specs.World.{World, run, end_of};
+ghost use Rattle.explain_core.specs.World.{World, run, end_of, node_named};
 ghost use Rattle.running_store.specs.Courses.{force_course};
-ghost use Rattle.cache_manager.specs.InstallCourses.{all_turns, identities, has_members, install_course, drain_course, logged_in, flushed_in, is_next_due, is_next_workless, may_flush, removals, round_course, turn_course};
+ghost use Rattle.cache_manager.specs.InstallCourses.{all_turns, identities, has_members, install_course, drain_course, logged_in, flushed_in, is_next_due, is_next_workless, is_unready, may_flush, must_log, others_in, readied, removals, round_course, turn_course, unready_nodes, work_in};
 ghost use Rattle.cache_manager.specs.DueNodes.{IsRoundFrom, gates_at};
 ghost use Rattle.running_store.specs.Courses.Stop.{Through};
 ghost use Rattle.explain_core.specs.Backup.{AreBeside};
@@ -89,8 +90,8 @@ pub fn drain_is_bounded<O: Oper>()
     install_order::last_blind_write_is_alone();
 }
 
-/// A turn may be made, of so many nodes at most, also where it is stopped: a round, or an install and the removals of nodes that have
-/// no object to flush.
+/// A turn may be made, of so many nodes at most, also where it is stopped: identity writes that make nodes ready, a round or an install,
+/// and the removals of nodes that have no object to flush.
 pub fn turn_may_be_taken<O: Oper>()
     ensures { (b : Bounds) (copied most : ℕ) (w : World O) (used : ℕ) → IsSmall b → IsRunning (O.meaning b) w →
         MayBeTaken (O.meaning b) w (turn_course (O.meaning b) copied most w used).steps }
@@ -100,14 +101,25 @@ pub fn turn_may_be_taken<O: Oper>()
     install_order::last_blind_write_is_alone();
 }
 
-/// Where the next node is not due for a round, a turn that nothing stops has as many nodes as it may have, or the next one behind it has
-/// an object to flush, or none is left. Where the next node has no object to flush, it is not due, and nothing stops the turn.
+/// A turn that nothing stops has as many nodes as it may have, or the next one behind it has an object to flush, or none is left. Where
+/// the next node has no object to flush, it is not due, and nothing stops the turn.
 pub fn a_turn_goes_on<O: Oper>()
     ensures far { (b : Bounds) (copied most : ℕ) (w : World O) (used : ℕ) → let m = O.meaning b in let turn = turn_course m copied most w used in
-        0 < most → IsFalse (is_next_due m copied w) → turn.stop ≡ Through →
+        0 < most → turn.stop ≡ Through →
         (removals turn.steps ≡ most) ⊎ IsFalse (is_next_workless m (run m w turn.steps)) }
     ensures through { (b : Bounds) (copied most : ℕ) (w : World O) (used : ℕ) → let m = O.meaning b in
         IsTrue (is_next_workless m w) → IsFalse (is_next_due m copied w) × ((turn_course m copied most w used).stop ≡ Through) }
+{}
+
+/// Before a turn as many nodes are made ready as it may have, or all minimal ones that may not be finished yet: identity writes are
+/// logged of each of them, of all that it has to flush but one object at most.
+pub fn a_turn_readies_all<O: Oper>()
+    ensures all { (b : Bounds) (copied most : ℕ) (w : World O) (n : ℕ) → let m = O.meaning b in let names = unready_nodes m copied most w in
+        n < end_of w → IsTrue (is_unready m copied w n) → (length names ≡ most) ⊎ IsTrue (is_among n names) }
+    ensures logged { (b : Bounds) (copied most : ℕ) (w : World O) (n : ℕ) → let m = O.meaning b in let node = node_named m w n in
+        IsTrue (must_log m copied w) → IsTrue (is_among n (unready_nodes m copied most w)) →
+        ((x : ℕ) → IsTrue (is_among x (others_in m copied w node)) → IsTrue (is_among x (readied m copied most w)))
+        × (length (work_in m w node) ≤ length (others_in m copied w node) + 1) }
 {}
 
 /// Turns of one node or more come to an end: so many as the graph has members and there are dirty objects together leave nothing in

@@ -44,9 +44,9 @@ pub(crate) fn take_full_turn<O: Oper, M: Machine>(
     take_turn(store, machine, copied, most)
 }
 
-/// Installs nodes until none is left, beside a copy of the slots as [`install_one`](crate::install_one) does. Where the minimal node
-/// of the least name has one object to flush, that and others like it are installed together, with four syncs at most for all
-/// of them; else it is installed alone, and behind it those that have none to flush. It answers how many nodes were installed.
+/// Installs nodes until none is left, beside a copy of the slots as [`install_one`](crate::install_one) does: in turns as of
+/// [`tend`](crate::tend), each of as many nodes as a full round has, with four syncs at most for all nodes that are installed together.
+/// It answers how many nodes were installed.
 pub fn drain<O: Oper, M: Machine>(
     store: &mut Store<O>,
     machine: &mut M,

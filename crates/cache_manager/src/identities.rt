@@ -41,7 +41,7 @@ pub(crate) fn log_all<O: Oper, M: Machine>(
 }
 
 /// The lengths of the values of dirty objects.
-fn lengths_of(alloc: Global, objects: &Objects, xs: &[u32]) -> Result<Vec<u32>, Memory>
+pub(crate) fn lengths_of(alloc: Global, objects: &Objects, xs: &[u32]) -> Result<Vec<u32>, Memory>
     requires dirty { All (λ x. is_dirty objects.now.cache x ≡ true) xs.now }
     ensures { (file : List ℕ) → IfOk result (λ lengths. lengths.items ≡ map (λ x. length (values_in objects.now file x)) xs.now) }
 {

@@ -9,7 +9,7 @@ use Rattle.explain_core.specs.Turns.{count_below, dirty_in}
 use Rattle.explain_core.specs.World.{World, Step, run, end_of}
 use Rattle.explain_core.specs.World.Step.{Append, Begin, Block_gate, Header_gate}
 use Rattle.running_store.specs.Courses.{Course, course, is_through, and_then, waits, buffered, grown, force_steps, force_course, room_steps, placed, cached_length, identity_length, identity_steps}
-use Rattle.cache_manager.specs.InstallCourses.{identity_course, identities, must_log, others, finish_steps, rounds, has_members, install_course, round_limit, round_course, is_next_due, installs, next_turn, turns, is_next_workless, workless_nodes, logged_by, logged_in}
+use Rattle.cache_manager.specs.InstallCourses.{identity_course, identities, must_log, others, finish_steps, first_course, rounds, has_members, install_course, round_limit, round_course, is_next_due, readied, ready_turn, removals, turn_course, turns, is_next_workless, workless_nodes, logged_by, logged_in}
 use Rattle.running_store.specs.Courses.Stop.{Through, Full, At_end}
 use Rattle.running_store.specs.Courses.Laws.{behind_both}
 use Rattle.running_store.specs.Running.{AreUpkeep}
@@ -75,16 +75,24 @@ module _ (m : Meaning Command) where
         let one = course (finish_steps m w) used Through in
         stop_either r (is_next_workless m w) (and_then m w one (λ v used. workless_nodes m n v used)) (course [] used Through) (stop_then r w one (λ v used. workless_nodes m n v used) tt (λ v used. stop_nodes n v used)) tt
 
-    stop_turn : (most copies : ℕ) (w : World Command) (used : ℕ) → MayStop r (next_turn m copies most w used).stop
+    stop_first : (most copies : ℕ) (w : World Command) (used : ℕ) → MayStop r (first_course m copies most w used).stop
+    stop_first most copies w used = stop_either r (is_next_due m copies w) (round_course m copies most w used) (install_course m copies w used) tt (stop_install copies w used)
+
+    stop_ready : (most copies : ℕ) (w : World Command) (used : ℕ) → MayStop r (ready_turn m copies most w used).stop
+    stop_ready most copies w used =
+        let first = first_course m copies most w used in
+        let n = most - removals first.steps in
+        stop_either r (has_members m w) (and_then m w first (λ v used. workless_nodes m n v used)) (course [] used Through) (stop_then r w first (λ v used. workless_nodes m n v used) (stop_first most copies w used) (λ v used. stop_nodes n v used)) tt
+
+    stop_turn : (most copies : ℕ) (w : World Command) (used : ℕ) → MayStop r (turn_course m copies most w used).stop
     stop_turn most copies w used =
-        stop_either r (is_next_due m copies w) (round_course m copies most w used) (installs m copies most w used) tt
-        (stop_then r w (rounds m copies m.objects w used) (λ v used. workless_nodes m (most - 1) v used) (stop_rounds copies m.objects w used) (λ v used. stop_nodes (most - 1) v used))
+        stop_then r w (identities m (readied m copies most w) w used) (λ v used. ready_turn m copies most v used) (stop_identities (readied m copies most w) w used) (λ v used. stop_ready most copies v used)
 
     stop_turns : (most copies n : ℕ) (w : World Command) (used : ℕ) → MayStop r (turns m copies most n w used).stop
     stop_turns most copies zero w used = tt
     stop_turns most copies (suc n) w used =
-        stop_either r (has_members m w) (and_then m w (next_turn m copies most w used) (λ v used. turns m copies most n v used)) (course [] used Through)
-        (stop_then r w (next_turn m copies most w used) (λ v used. turns m copies most n v used) (stop_turn most copies w used) (λ v used. stop_turns most copies n v used)) tt
+        stop_either r (has_members m w) (and_then m w (turn_course m copies most w used) (λ v used. turns m copies most n v used)) (course [] used Through)
+        (stop_then r w (turn_course m copies most w used) (λ v used. turns m copies most n v used) (stop_turn most copies w used) (λ v used. stop_turns most copies n v used)) tt
 
   stop_taking : (w : World Command) (used : ℕ) → MayStop (Keep checkpoint) (taking_course m w used).stop
   stop_taking w used =

@@ -19,14 +19,14 @@ use Rattle.explain_core.specs.Sound.{IsSound}
 use Rattle.explain_core.specs.Turns.{has_work}
 use Rattle.explain_core.specs.World.{World, work_of}
 use Rattle.running_store.specs.Courses.{cached_length}
-use Rattle.cache_manager.specs.InstallCourses.{counted, longest, longest_of, not_copied, but_longest, next_node, work}
+use Rattle.cache_manager.specs.InstallCourses.{counted, longest, longest_of, not_copied, but_longest, next_node, work, work_in}
 use Rattle.running_store.specs.Parts.Joins.{cached_shown}
 use Rattle.running_store.specs.Laid.{cell_or, values_in}
 use Rattle.running_store.specs.Parts.{Parts, Shows}
 use Rattle.running_store.specs.Parts.InUse.{dirty_held}
 use Rattle.cache_manager.proofs.OneInstall.Goes.{many_logged}
 use Rattle.cache_manager.proofs.Lists.{AreApart, among_filter, filter_among, among_counted, longest_among, copied_some}
-use Rattle.cache_manager.proofs.NextNode.WorkOf.{listed_is, is_listed}
+use Rattle.cache_manager.proofs.NextNode.WorkOf.{in_work, work_in_it}
 
 -- each object is above those before it
 abbrev pub Rises : List ℕ → Type 0
@@ -225,15 +225,17 @@ module _ (lengths : ℕ → ℕ) where
       → logged ≡ but_kept keep objects → logged ≡ but_longest copied lengths objects
   planned_others copied objects logged keep up kept all is = is ∙ ap (λ (o : Option ℕ). but_kept o objects) (planned_keep copied objects keep (rises_from_increasing objects up) kept all)
 
--- of the next node's work in a world
+-- of a node's work in a world
 module _ {O : Type 0} (m : Meaning O) (lawful : IsLawful m) (w : World O) (sound : IsSound m w) where
-  work_rises : Rises (work m w)
-  work_rises = rises_filter (has_work m w (next_node m w)) (counted 0 m.objects) (rises_counted 0 m.objects)
-
   -- rising objects that are its work are those of the list
+  pub listed_in : (node : ℕ → Bool) (objects : List ℕ) → IsStrictlyIncreasing objects → ((x : ℕ) → IsTrue (is_among x objects) → work_of m w node x) → ((x : ℕ) → work_of m w node x → IsTrue (is_among x objects)) → objects ≡ work_in m w node
+  listed_in node objects up due listed =
+      rises_same objects (work_in m w node) (rises_from_increasing objects up) (rises_filter (has_work m w node) (counted 0 m.objects) (rises_counted 0 m.objects))
+      (λ x there. work_in_it m lawful w sound node x (due x there)) (λ x there. listed x (in_work m lawful w sound node x there))
+
+  -- and so are those of the next node
   pub work_listed : (objects : List ℕ) → IsStrictlyIncreasing objects → ((x : ℕ) → IsTrue (is_among x objects) → work_of m w (next_node m w) x) → ((x : ℕ) → work_of m w (next_node m w) x → IsTrue (is_among x objects)) → objects ≡ work m w
-  work_listed objects up due listed =
-      rises_same objects (work m w) (rises_from_increasing objects up) work_rises (λ x there. is_listed m lawful w sound x (due x there)) (λ x there. listed x (listed_is m lawful w sound x there))
+  work_listed objects up due listed = listed_in (next_node m w) objects up due listed
 
 pub rises_apart : (xs : List ℕ) → Rises xs → AreApart xs
 rises_apart [] rises = tt

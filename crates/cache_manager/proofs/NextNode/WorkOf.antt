@@ -15,7 +15,7 @@ use Rattle.explain_core.specs.Sound.{IsSound}
 use Rattle.explain_core.specs.Turns.{is_dirty_in, has_work}
 use Rattle.explain_core.specs.World.{World, graph_access, end_of, work_of}
 use Rattle.running_store.specs.Courses.{is_identity_some}
-use Rattle.cache_manager.specs.InstallCourses.{counted, is_stale, next_node, work}
+use Rattle.cache_manager.specs.InstallCourses.{counted, is_stale, next_node, work, work_in}
 use Rattle.cache_manager.proofs.Lists.{AreApart, among_filter, filter_among, counted_among, apart_counted, apart_filter}
 use Rattle.cache_manager.proofs.Plain.{is_plain}
 
@@ -55,15 +55,26 @@ module _ {O : Type 0} (m : Meaning O) (lawful : IsLawful m) (w : World O) (sound
   pub work_there : (node : ℕ → Bool) (x : ℕ) → work_of m w node x → x < m.objects
   work_there node x due = is_within.writes_object due.0.0 x due.0.2.0
 
-  -- the listed work is the work of the next node
+  -- the listed work is the work of the node
+  module _ (node : ℕ → Bool) where
+    pub in_work : (x : ℕ) → IsTrue (is_among x (work_in m w node)) → work_of m w node x
+    in_work x there = work_from node x (among_filter (has_work m w node) (counted 0 m.objects) x there).1
+
+    pub work_in_it : (x : ℕ) → work_of m w node x → IsTrue (is_among x (work_in m w node))
+    work_in_it x due = filter_among (has_work m w node) (counted 0 m.objects) x (counted_among 0 m.objects x (omega arith) (omega (arith, work_there node x due))) (work_gives node x due)
+
+    pub work_apart : AreApart (work_in m w node)
+    work_apart = apart_filter (has_work m w node) (counted 0 m.objects) (apart_counted 0 m.objects)
+
+  -- and so that of the next node
   pub listed_is : (x : ℕ) → IsTrue (is_among x (work m w)) → work_of m w (next_node m w) x
-  listed_is x there = work_from (next_node m w) x (among_filter (has_work m w (next_node m w)) (counted 0 m.objects) x there).1
+  listed_is x there = in_work (next_node m w) x there
 
   pub is_listed : (x : ℕ) → work_of m w (next_node m w) x → IsTrue (is_among x (work m w))
-  is_listed x due = filter_among (has_work m w (next_node m w)) (counted 0 m.objects) x (counted_among 0 m.objects x (omega arith) (omega (arith, work_there (next_node m w) x due))) (work_gives (next_node m w) x due)
+  is_listed x due = work_in_it (next_node m w) x due
 
   pub listed_apart : AreApart (work m w)
-  listed_apart = apart_filter (has_work m w (next_node m w)) (counted 0 m.objects) (apart_counted 0 m.objects)
+  listed_apart = work_apart (next_node m w)
 
   -- the version in the cache of a dirty object is the last that the graph's members write
   module _ (x : ℕ) (dirty : (w.slots x).lsn ≡ (w.cache x).lsn → ⊥) where

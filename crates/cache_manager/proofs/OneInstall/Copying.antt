@@ -18,7 +18,7 @@ use Rattle.running_store.specs.Courses.Laws.{behind_both, through_is}
 use Rattle.running_store.specs.Courses.{Course, and_then, waits, force_steps, is_identity_at, is_identity_some, removal_steps}
 use Rattle.cache_manager.specs.EachStep.{each_force, each_identities}
 use Rattle.cache_manager.specs.FreeSteps.{IsFree, free_beside}
-use Rattle.cache_manager.specs.InstallCourses.{identities, is_stale, may_flush, must_log, others, next_node, round_limit, round_steps, work, finish_steps, install_course, drain_course, turn_course}
+use Rattle.cache_manager.specs.InstallCourses.{identities, is_stale, may_flush, must_log, others, next_node, readied, round_limit, round_steps, work, finish_steps, install_course, drain_course, turn_course}
 use Rattle.running_store.specs.Running.{IsRunning, KeepsSound}
 use Rattle.cache_manager.proofs.Goes.{Goes}
 use Rattle.cache_manager.proofs.OneRound.DueWorlds.{passes_due}
@@ -112,16 +112,23 @@ module _ {O : Type 0} (m : Meaning O) (copied : ℕ) where
     finishing : (w : World O) (used c : ℕ) → IsRunning m w → IsTrue (w.graph c) → IsFalse (must_log m copied w) → AreBeside m copied w (finish_steps m w)
     finishing w used c is there may = finish_beside w c is there may
 
+    -- identity writes
+    logged_beside : (objects : List ℕ) (w : World O) (used : ℕ) → AreBeside m copied w (identities m objects w used).steps
+    logged_beside objects w used = free_beside m copied w (identities m objects w used).steps (each_identities m (IsFree copied) (λ v. tt) objects (λ x there value v. tt) w used)
+
     logging : (w : World O) (used c : ℕ) → IsRunning m w → IsTrue (w.graph c) → IsTrue (must_log m copied w) → AreBeside m copied w (identities m (others m copied w) w used).steps
-    logging w used c is there must = free_beside m copied w (identities m (others m copied w) w used).steps (each_identities m (IsFree copied) (λ v. tt) (others m copied w) (λ x there value v. tt) w used)
+    logging w used c is there must = logged_beside (others m copied w) w used
+
+    readied_beside : (most : ℕ) (w : World O) (used : ℕ) → AreBeside m copied w (identities m (readied m copied most w) w used).steps
+    readied_beside most w used = logged_beside (readied m copied most w) w used
 
     pub install_beside : (w : World O) (used : ℕ) → IsRunning m w → AreBeside m copied w (install_course m copied w used).steps
     install_beside w used is = by_install m copied lawful keeps alone (λ w c. AreBeside m copied w c.steps) (λ w used. tt) finishing logging beside_then w used is
 
     pub drain_beside : MayRound m → (w : World O) (used : ℕ) → IsRunning m w → AreBeside m copied w (drain_course m copied w used).steps
     drain_beside rounds_may w used is =
-        by_all_turns m copied lawful keeps alone rounds_may (round_limit m) (λ w c. AreBeside m copied w c.steps) (λ w used. tt) finishing logging beside_then (λ w used is. round_beside (round_limit m) w is) (omega arith) w used is
+        by_all_turns m copied lawful keeps alone rounds_may (round_limit m) (λ w c. AreBeside m copied w c.steps) (λ w used. tt) finishing logging beside_then (λ w used is. round_beside (round_limit m) w is) (λ w used is. readied_beside (round_limit m) w used) (omega arith) w used is
 
     pub turn_beside : MayRound m → (most : ℕ) (w : World O) (used : ℕ) → IsRunning m w → AreBeside m copied w (turn_course m copied most w used).steps
     turn_beside rounds_may most w used is =
-        by_turn m copied lawful keeps alone rounds_may most (λ w c. AreBeside m copied w c.steps) (λ w used. tt) finishing logging beside_then (λ w used is. round_beside most w is) w used is
+        by_turn m copied lawful keeps alone rounds_may most (λ w c. AreBeside m copied w c.steps) (λ w used. tt) finishing logging beside_then (λ w used is. round_beside most w is) (λ w used is. readied_beside most w used) w used is

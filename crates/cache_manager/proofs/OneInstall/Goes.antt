@@ -6,9 +6,11 @@ use Rattle.std.proofs.lemmas.Bool.{cases_eq, cases_Bool, both_ways, false_from_n
 use Rattle.oper_core.specs.State.{is_among}
 use Rattle.oper_core.specs.Meaning.{Meaning, IsLawful}
 use Rattle.install_order.specs.NodeLaws.{some-from, some-gives}
-use Rattle.explain_core.specs.World.{World, end_of, AreAllowed}
+use Rattle.install_order.specs.Order.{IsNode}
+use Rattle.explain_core.specs.Sound.{IsSound}
+use Rattle.explain_core.specs.World.{World, end_of, graph_access, AreAllowed}
 use Rattle.running_store.specs.Courses.{Course, course, and_then, cached_length}
-use Rattle.cache_manager.specs.InstallCourses.{identities, next_node, work, is_stale, must_log, others, but_longest, finish_steps, rounds, has_members, install_course}
+use Rattle.cache_manager.specs.InstallCourses.{identities, next_node, work, work_in, is_stale, must_log, must_log_in, others, but_longest, finish_steps, rounds, has_members, install_course}
 use Rattle.running_store.specs.Courses.Stop.{Through}
 use Rattle.running_store.specs.Running.{IsRunning, IsDrained, KeepsSound}
 use Rattle.cache_manager.proofs.Counts.{count_one, count_at_most}
@@ -18,7 +20,7 @@ use Rattle.cache_manager.proofs.Lists.{AreApart, other_among, but_longest_among,
 use Rattle.cache_manager.proofs.IdentityWrite.Logging.{AreLogged, identities_goes}
 use Rattle.cache_manager.proofs.NextNode.Least.{next_is, below}
 use Rattle.cache_manager.proofs.Plain.{is_plain, plain_in}
-use Rattle.cache_manager.proofs.NextNode.WorkOf.{AreAlone, listed_is, listed_apart, work_there, work_is_plain, stale_is_plain}
+use Rattle.cache_manager.proofs.NextNode.WorkOf.{AreAlone, in_work, listed_apart, work_apart, work_there, work_is_plain, stale_is_plain}
 
 -- of two objects or more each has another one beside it
 each_beside : (P : ℕ → Type 0) (objects : List ℕ) → AreApart objects → IsTrue (nat_lt 1 (length objects)) → ((x y : ℕ) → IsTrue (is_among x objects) → IsTrue (is_among y objects) → (y ≡ x → ⊥) → P x)
@@ -53,19 +55,21 @@ one_passes p (a ∷ []) few some x there = elim (or_cases (x == a) false there) 
 one_passes p (a ∷ b ∷ objects) few some x there = absurd (omega (arith, ltb-false 1 (length (a ∷ b ∷ objects)) few))
 
 module _ {O : Type 0} (m : Meaning O) (copied : ℕ) (lawful : IsLawful m) (keeps : KeepsSound m) (alone : AreAlone) where
-  -- where the next node may not be finished, each object that it has to flush may be logged
-  pub work_may_be_logged : (w : World O) (c : ℕ) → IsRunning m w → IsTrue (w.graph c) → IsTrue (must_log m copied w) → (x : ℕ) → IsTrue (is_among x (work m w)) → (x < m.objects) × IsTrue (is_plain w x)
-  work_may_be_logged w c is there must =
-      let next = next_is m lawful w is.sound c there in
-      let due = listed_is m lawful w is.sound in
-      elim (cases_Bool (nat_lt 1 (length (work m w)))) [
-        | inl many ↦ each_beside (λ x. (x < m.objects) × IsTrue (is_plain w x)) (work m w) (listed_apart m lawful w is.sound) many
-            (λ x y one other apart. (work_there m lawful w is.sound (next_node m w) x (due x one), work_is_plain m lawful w is.sound (next_node m w) alone next.minimal.0 x y (due x one) (due y other) apart))
-        | inr few ↦ elim (or_cases (nat_lt 1 (length (work m w))) (list_any (is_stale m copied w) (work m w)) must) [
+  -- where a node may not be finished, each object that it has to flush may be logged
+  pub node_may_be_logged : (w : World O) → IsSound m w → (node : ℕ → Bool) → IsNode (graph_access m w) node → IsTrue (must_log_in m copied w node) → (x : ℕ) → IsTrue (is_among x (work_in m w node)) → (x < m.objects) × IsTrue (is_plain w x)
+  node_may_be_logged w sound node is_node must =
+      let due = in_work m lawful w sound node in
+      elim (cases_Bool (nat_lt 1 (length (work_in m w node)))) [
+        | inl many ↦ each_beside (λ x. (x < m.objects) × IsTrue (is_plain w x)) (work_in m w node) (work_apart m lawful w sound node) many
+            (λ x y one other apart. (work_there m lawful w sound node x (due x one), work_is_plain m lawful w sound node alone is_node x y (due x one) (due y other) apart))
+        | inr few ↦ elim (or_cases (nat_lt 1 (length (work_in m w node))) (list_any (is_stale m copied w) (work_in m w node)) must) [
           | inl many ↦ absurd (both_ways _ few many)
-          | inr stale ↦ λ x one. (work_there m lawful w is.sound (next_node m w) x (due x one), stale_is_plain m lawful w is.sound copied (next_node m w) x (due x one) (one_passes (is_stale m copied w) (work m w) few stale x one))
+          | inr stale ↦ λ x one. (work_there m lawful w sound node x (due x one), stale_is_plain m lawful w sound copied node x (due x one) (one_passes (is_stale m copied w) (work_in m w node) few stale x one))
         ]
       ]
+
+  pub work_may_be_logged : (w : World O) (c : ℕ) → IsRunning m w → IsTrue (w.graph c) → IsTrue (must_log m copied w) → (x : ℕ) → IsTrue (is_among x (work m w)) → (x < m.objects) × IsTrue (is_plain w x)
+  work_may_be_logged w c is there must = node_may_be_logged w is.sound (next_node m w) (next_is m lawful w is.sound c there).minimal.0 must
 
   -- and one at least is logged
   pub some_logged : (w : World O) → IsRunning m w → IsTrue (must_log m copied w) → 1 ≤ length (others m copied w)
@@ -76,15 +80,18 @@ module _ {O : Type 0} (m : Meaning O) (copied : ℕ) (lawful : IsLawful m) (keep
         copied_some copied (cached_length m w) (work m w) one.0 one.1 (ltb-true one.0 copied (and_parts (nat_lt one.0 copied) _ one.2).0)
   ]
 
-  pub some_work : (w : World O) → IsTrue (must_log m copied w) → (x : ℕ) × IsTrue (is_among x (work m w))
-  some_work w must = elim (or_cases (nat_lt 1 (length (work m w))) (list_any (is_stale m copied w) (work m w)) must) [
-    | inl many ↦ first (work m w) many
-    | inr stale ↦ let one = some_passes (is_stale m copied w) (work m w) stale in (one.0, one.1)
+  pub some_work_in : (w : World O) (node : ℕ → Bool) → IsTrue (must_log_in m copied w node) → (x : ℕ) × IsTrue (is_among x (work_in m w node))
+  some_work_in w node must = elim (or_cases (nat_lt 1 (length (work_in m w node))) (list_any (is_stale m copied w) (work_in m w node)) must) [
+    | inl many ↦ first (work_in m w node) many
+    | inr stale ↦ let one = some_passes (is_stale m copied w) (work_in m w node) stale in (one.0, one.1)
   ]
     where
       first : (objects : List ℕ) → IsTrue (nat_lt 1 (length objects)) → (x : ℕ) × IsTrue (is_among x objects)
       first [] many = absurd (both_ways _ refl many)
       first (x ∷ objects) many = (x, or_left (x == x) (is_among x objects) (eq-eqb x x refl))
+
+  pub some_work : (w : World O) → IsTrue (must_log m copied w) → (x : ℕ) × IsTrue (is_among x (work m w))
+  some_work w must = some_work_in w (next_node m w) must
 
   -- a node that may be finished has one object to flush at most
   pub finished_few : (w : World O) → IsFalse (must_log m copied w) → IsFalse (nat_lt 1 (length (work m w)))

@@ -9,7 +9,7 @@ use Rattle.oper_core.specs.Meaning.{Meaning, IsLawful}
 use Rattle.explain_core.specs.Turns.{is_dirty_in}
 use Rattle.explain_core.specs.World.{World, Step}
 use Rattle.running_store.specs.Courses.{Course, and_then, cached_length}
-use Rattle.cache_manager.specs.InstallCourses.{identities, work, others, finish_steps, must_log, install_course, all_turns, logged_in, round_steps}
+use Rattle.cache_manager.specs.InstallCourses.{identities, work, others, finish_steps, must_log, install_course, all_turns, logged_in, readied, round_steps}
 use Rattle.cache_manager.specs.FewLogged.{AreFewLogged}
 use Rattle.running_store.specs.Running.{IsRunning, KeepsSound}
 use Rattle.cache_manager.proofs.ToLog.FewLogged.{tally_finish, none_finish, none_round, tally_none_here, tally_round, tally_identities, fewer_others}
@@ -18,6 +18,7 @@ use Rattle.cache_manager.proofs.OneInstall.Goes.{by_install, some_work, work_may
 use Rattle.cache_manager.proofs.Lists.{AreApart, some_among as listed_some, but_longest_among, but_longest_apart}
 use Rattle.cache_manager.proofs.Plain.{is_plain, plain_below}
 use Rattle.cache_manager.proofs.OneRound.Goes.{MayRound}
+use Rattle.cache_manager.proofs.MadeReady.Goes.{readied_fewer, readied_tally}
 use Rattle.cache_manager.proofs.ToLog.Tally.{Tally, IsFewer, tally_then, tally_count, fewer_then}
 use Rattle.cache_manager.proofs.FullDrain.Turns.{by_all_turns}
 use Rattle.cache_manager.proofs.NextNode.WorkOf.{AreAlone, listed_apart}
@@ -53,6 +54,9 @@ module _ {O : Type 0} (m : Meaning O) (copied : ℕ) where
           fewer = λ none. fewer_others m keeps copied w used (work m w) none is apart (let one = some_work m copied lawful keeps alone w must in listed_some one.0 (work m w) one.1) each;
         }
 
+    few_readied : (most : ℕ) (w : World O) (used : ℕ) → IsRunning m w → LogsFew m copied w (identities m (readied m copied most w) w used).steps
+    few_readied most w used is = record { tally = readied_tally m copied lawful keeps alone most w used is; fewer = readied_fewer m copied lawful keeps alone most w used is }
+
     -- in the terms of the contracts
     distinct : (objects : List ℕ) → AreApart objects → IsDistinct nat_eq objects
     unfolding IsDistinct
@@ -83,4 +87,4 @@ module _ {O : Type 0} (m : Meaning O) (copied : ℕ) where
     pub turns_logging : MayRound m → (most : ℕ) → 0 < most → (w : World O) (used : ℕ) → IsRunning m w → AreFewLogged m copied w (logged_in (all_turns m copied most w used).steps)
     turns_logging rounds_may most some_in w used is =
         are_few w (all_turns m copied most w used).steps
-        (by_all_turns m copied lawful keeps alone rounds_may most (λ w c. LogsFew m copied w c.steps) (λ w used. few_none w) (λ w used c is there may. few_finish w) few_others few_then (λ w used is. few_round most w) some_in w used is)
+        (by_all_turns m copied lawful keeps alone rounds_may most (λ w c. LogsFew m copied w c.steps) (λ w used. few_none w) (λ w used c is there may. few_finish w) few_others few_then (λ w used is. few_round most w) (few_readied most) some_in w used is)

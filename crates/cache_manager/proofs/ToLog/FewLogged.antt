@@ -154,20 +154,26 @@ module _ {O : Type 0} (m : Meaning O) where
         let old = each y (or_right (y == x) (is_among y objects) there) in
         (old.0, logged.others y (λ same. both_ways _ apart.0 (subst (λ (z : ℕ). IsTrue (is_among z objects)) same there)) ∙ old.1)))
 
+    -- objects that are not all that may be logged are fewer
+    pub fewer_kept : (w : World O) (used : ℕ) (objects : List ℕ) (kept : ℕ) → IsRunning m w → AreApart objects → ((y : ℕ) → IsTrue (is_among y objects) → (y < m.objects) × IsTrue (is_plain w y))
+        → (kept < m.objects) × IsTrue (is_plain w kept) → IsFalse (is_among kept objects) → IsFewer m w (identities m objects w used).steps
+    fewer_kept w used objects kept is apart each may out =
+        let logging = identities m objects w used in
+        let within : (y : ℕ) → IsTrue (is_among y (logged_in logging.steps)) → IsTrue (is_among y objects) = of_identities (λ y. IsTrue (is_among y objects)) objects w used (λ y there. there) in
+        let tally = tally_identities objects w used is apart each in
+        let count = counted_apart m.objects (kept ∷ logged_in logging.steps) (λ z. false) (is_plain w)
+        (false_from_ne_true _ (λ there. both_ways _ out (within kept there)), tally.apart)
+        (λ z no. absurd (both_ways _ refl no))
+        (λ y there. elim (or_cases (y == kept) (is_among y (logged_in logging.steps)) there) [
+          | inl here ↦ subst (λ (z : ℕ). (z < m.objects) × IsFalse false × IsTrue (is_plain w z)) (sym (eqb-true y kept here)) (may.0, refl, may.1)
+          | inr later ↦ let old = tally.logged y later in (old.0, refl, old.2)
+        ]) in
+        inr (omega (arith, count))
+
     -- where nothing is copied, all but the longest are fewer than may be logged
     pub fewer_others : (copied : ℕ) (w : World O) (used : ℕ) (due : List ℕ) → copied ≡ 0 → IsRunning m w → AreApart due → 1 ≤ length due → ((y : ℕ) → IsTrue (is_among y due) → (y < m.objects) × IsTrue (is_plain w y))
         → IsFewer m w (identities m (but_longest copied (cached_length m w) due) w used).steps
     fewer_others copied w used due none is apart some each =
         let kept = one_kept copied (cached_length m w) due none some in
-        let logging = identities m (but_longest copied (cached_length m w) due) w used in
-        let within : (y : ℕ) → IsTrue (is_among y (logged_in logging.steps)) → IsTrue (is_among y (but_longest copied (cached_length m w) due)) =
-        of_identities (λ y. IsTrue (is_among y (but_longest copied (cached_length m w) due))) (but_longest copied (cached_length m w) due) w used (λ y there. there) in
-        let tally = tally_identities (but_longest copied (cached_length m w) due) w used is (but_longest_apart copied (cached_length m w) due apart) (λ y there. each y (but_longest_among copied (cached_length m w) due y there)) in
-        let count = counted_apart m.objects (kept.0 ∷ logged_in logging.steps) (λ z. false) (is_plain w)
-        (false_from_ne_true _ (λ there. both_ways _ kept.2 (within kept.0 there)), tally.apart)
-        (λ z no. absurd (both_ways _ refl no))
-        (λ y there. elim (or_cases (y == kept.0) (is_among y (logged_in logging.steps)) there) [
-          | inl here ↦ let k = each kept.0 kept.1 in subst (λ (z : ℕ). (z < m.objects) × IsFalse false × IsTrue (is_plain w z)) (sym (eqb-true y kept.0 here)) (k.0, refl, k.1)
-          | inr later ↦ let old = tally.logged y later in (old.0, refl, old.2)
-        ]) in
-        inr (omega (arith, count))
+        fewer_kept w used (but_longest copied (cached_length m w) due) kept.0 is (but_longest_apart copied (cached_length m w) due apart)
+        (λ y there. each y (but_longest_among copied (cached_length m w) due y there)) (each kept.0 kept.1) kept.2

@@ -26,7 +26,7 @@ pub among_append : (x : ℕ) (xs ys : List ℕ) → IsTrue (is_among x (xs ++ ys
 among_append x xs ys there = or_cases (is_among x xs) (is_among x ys) (sym (list_any-append (λ y. x == y) xs ys) ∙ there)
 
 -- two lists of different objects that share none
-apart_append : (xs ys : List ℕ) → AreApart xs → AreApart ys → ((x : ℕ) → IsTrue (is_among x xs) → IsTrue (is_among x ys) → ⊥) → AreApart (xs ++ ys)
+pub apart_append : (xs ys : List ℕ) → AreApart xs → AreApart ys → ((x : ℕ) → IsTrue (is_among x xs) → IsTrue (is_among x ys) → ⊥) → AreApart (xs ++ ys)
 apart_append [] ys first second none = second
 apart_append (x ∷ xs) ys first second none = (
   false_from_ne_true _ (λ there. elim (among_append x xs ys there) [
