@@ -19,9 +19,9 @@ usual_marks cap =
     λ i. record { dirty = dirty i; waiting = 2 ^ 28; most = most i }
 
 pub least_marks : (cap : ℕ)
-    → ◌≡◌ {A = Marks} (record { dirty = min (max 1 (2 ^ 20 / cap)) 64; waiting = 1024; most = max (min (max 1 (2 ^ 20 / cap)) 64) 64 })
-    (record { dirty = max 1 (min 64 (2 ^ 20 / cap)); waiting = 1024; most = max 64 (max 1 (min 64 (2 ^ 20 / cap))) })
+    → ◌≡◌ {A = Marks} (record { dirty = min (max 1 (2 ^ 20 / cap)) 1024; waiting = 1024; most = max (min (max 1 (2 ^ 20 / cap)) 1024) 64 })
+    (record { dirty = max 1 (min 1024 (2 ^ 20 / cap)); waiting = 1024; most = max 64 (max 1 (min 1024 (2 ^ 20 / cap))) })
 least_marks cap =
-    let dirty : min (max 1 (2 ^ 20 / cap)) 64 ≡ max 1 (min 64 (2 ^ 20 / cap)) = omega arith in
-    let most : max (min (max 1 (2 ^ 20 / cap)) 64) 64 ≡ max 64 (max 1 (min 64 (2 ^ 20 / cap))) = omega arith in
+    let dirty : min (max 1 (2 ^ 20 / cap)) 1024 ≡ max 1 (min 1024 (2 ^ 20 / cap)) = omega arith in
+    let most : max (min (max 1 (2 ^ 20 / cap)) 1024) 64 ≡ max 64 (max 1 (min 1024 (2 ^ 20 / cap))) = omega arith in
     λ i. record { dirty = dirty i; waiting = 1024; most = most i }

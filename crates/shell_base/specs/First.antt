@@ -28,11 +28,11 @@ abbrev pub stage_of : EngineView → World Command → Stage
 stage_of engine w = record { world = w; used = used_in engine; identities = engine.identities; copied = engine.copied }
 
 -- How many objects may be dirty in a redo before it installs: as many as have at most 64 MiB together, and at least 64; or as many as
--- have at most 1 MiB together, at least 1, and at most 64. A store of version 1 has no more than the first, so its usual redo installs
+-- have at most 1 MiB together, at least 1, and at most 1,024. A store of version 1 has no more than the first, so its usual redo installs
 -- nothing.
 abbrev pub redo_dirty : Budget → Params → ℕ
 redo_dirty Usual p = max 64 (2 ^ 26 / p.cap)
-redo_dirty Least p = max 1 (min 64 (2 ^ 20 / p.cap))
+redo_dirty Least p = max 1 (min 1024 (2 ^ 20 / p.cap))
 
 -- how many records may wait in the graph before that: as many as a graph has room for, or 1,024
 abbrev pub redo_waiting : Budget → ℕ

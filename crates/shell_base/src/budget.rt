@@ -13,7 +13,7 @@ pub enum Budget {
     /// 16 MiB of clean values, and in a redo 64 MiB of dirty ones, but 64 values of each, however long they are. A store of
     /// version 1 has at most 4,096 objects of at most 16,384 bytes, 64 MiB in all: so its redo installs nothing.
     Usual,
-    /// One clean value, and in a redo 1 MiB of dirty ones, at least one of them and at most 64, and 1,024 records that wait.
+    /// One clean value, and in a redo 1 MiB of dirty ones, at least one of them and at most 1,024, and as many records that wait.
     Least,
 }
 
@@ -38,7 +38,7 @@ impl Budget {
                 clean_bytes: 0,
                 redo_dirty: 1,
                 redo_bytes: 1 << 20,
-                redo_most: 64,
+                redo_most: 1024,
                 redo_waiting: 1024,
                 redo_round: 64,
             },

@@ -8,7 +8,8 @@ use std::test::Fail;
 // A call, its input, and what it says.
 type Said<'a> = (&'static str, &'static [u8], &'a [u8]);
 
-// What `stat` says after a restart with a budget. Of 66 dirty objects the least installs 64 together as 65 are dirty.
+// What `stat` says after a restart with a budget. Of values of 16,384 bytes the least keeps 64 dirty ones: it installs 64 together
+// as 65 are dirty.
 const STATS: [(Budget, &[u8]); 2] = [
     (Budget::Usual, b"stat 66 66 66 66 66 2120 0\n"),
     (Budget::Least, b"stat 2 2 2 66 66 1352 0\n"),
@@ -46,7 +47,7 @@ fn dump(alloc: Global) -> Result<Vec<u8>, AllocError> {
 fn says(alloc: Global, budget: Budget, puts: &[u8], call: Said<'_>) -> Result<bool, AllocError> {
     let (line, input, said) = call;
     let mut machine = empty_folder(alloc)?;
-    run(alloc, &mut machine, "redo init 80 16 65536", b"");
+    run(alloc, &mut machine, "redo init 80 16384 65536", b"");
     run(alloc, &mut machine, "redo run", puts);
     let mut machine = machine.crash(Crash::Old);
     let mut backup = GrowMem::new(alloc)?;
