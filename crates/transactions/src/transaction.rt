@@ -86,7 +86,7 @@ impl<O: Oper> Transaction<O> {
     /// Adds the staged commands to those of the engine, all in one group, or none of them. What waits is forced first. They are
     /// stable after the next force, all at once, and a crash meanwhile leaves none of them, whatever is answered.
     ///
-    /// It answers `LogFull` exactly where the log has no room for all their records; none is added then, and they are still staged:
+    /// It answers `LogFull` only where the log has no room for all their records; none is added then, and they are still staged:
     /// the engine may be drained and trimmed, and this be called again. It answers `Cut` only where memory runs out or the disk
     /// fails; what is in the group then is undone by `roll_back`.
     pub fn commit<M: Machine>(
