@@ -23,6 +23,11 @@ use Rattle.standby_node.proofs.AllOf.{all_append}
 use Rattle.standby_node.proofs.InHand.{no_code}
 use Rattle.standby_node.proofs.Recorded.{some_bytes}
 
+-- a record is not both the same and another one
+pub no_both : (base : ℕ) (codes : List (List ℕ)) (lsn : ℕ) (code : List ℕ) (why : Unlike) → IsSame base codes lsn code → IsUnlike base codes lsn code why → ⊥
+no_both base codes lsn code (other n) same unlike = unlike.3 (same.there unlike.2)
+no_both base codes lsn code (gone n) same unlike = omega (arith, same.reached, unlike.1)
+
 module _ {O : Type 0} (base : ℕ) (m : Meaning O) where
   pub all_joined : (codes : List (List ℕ)) (xs ys : List (Record O)) → with_all base m codes (xs ++ ys) ≡ with_all base m (with_all base m codes xs) ys
   all_joined codes [] ys = refl
@@ -31,6 +36,10 @@ module _ {O : Type 0} (base : ℕ) (m : Meaning O) where
   pub same_joined : (codes : List (List ℕ)) (xs ys : List (Record O)) → AreSame base m codes xs → AreSame base m (with_all base m codes xs) ys → AreSame base m codes (xs ++ ys)
   same_joined codes [] ys first then = then
   same_joined codes (r ∷ xs) ys first then = (first.0, same_joined (with_code base codes (lsn_in r) (record_code m r)) xs ys first.1 then)
+
+  pub same_apart : (codes : List (List ℕ)) (xs ys : List (Record O)) → AreSame base m codes (xs ++ ys) → AreSame base m codes xs × AreSame base m (with_all base m codes xs) ys
+  same_apart codes [] ys same = (tt, same)
+  same_apart codes (r ∷ xs) ys same = let rest = same_apart (with_code base codes (lsn_in r) (record_code m r)) xs ys same.1 in ((same.0, rest.0), rest.1)
 
   -- codes are only added
   pub all_longer : (codes : List (List ℕ)) (records : List (Record O)) → (more : List (List ℕ)) × (with_all base m codes records ≡ codes ++ more)

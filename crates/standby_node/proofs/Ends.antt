@@ -51,7 +51,7 @@ pub records_more : {O : Type 0} (groups : List (List (Record O))) (begun : List 
 records_more [] begun = append-nil begun
 records_more {O} (group ∷ groups) begun = ap (λ (l : List (Record O)). group ++ l) (records_more groups begun) ∙ sym (append_assoc group (records_of groups) begun)
 
-bytes_more : (payloads : List (List ℕ)) (payload : List ℕ) → frames (payloads ++ payload ∷ []) ≡ frames payloads ++ frame payload
+pub bytes_more : (payloads : List (List ℕ)) (payload : List ℕ) → frames (payloads ++ payload ∷ []) ≡ frames payloads ++ frame payload
 bytes_more [] payload = append-nil (frame payload)
 bytes_more (first ∷ payloads) payload = ap (λ (l : List ℕ). frame first ++ l) (bytes_more payloads payload) ∙ sym (append_assoc (frame first) (frames payloads) (frame payload))
 

@@ -5,7 +5,6 @@ use Rattle.std.specs.List.{AllByRecursion}
 use Rattle.std.proofs.Math.Seq.{take-append_seam, take-length}
 use Rattle.std.proofs.lemmas.Bool.{both_ways, cases_lt}
 use Rattle.std.proofs.lemmas.List.{append-nil, drop-drop}
-use Rattle.std.proofs.lemmas.List.Concat.{flat_map-append}
 use Rattle.std.proofs.lemmas.List.Elements.{recursion_from_All}
 use Rattle.disk_model.specs.Disk.{Disk, Files}
 use Rattle.oper_core.specs.Meaning.{AreWithin, IsSmall, Meaning, Widens}
@@ -36,7 +35,7 @@ use Rattle.standby_node.proofs.Decoded.{AreOf, whole_from}
 use Rattle.standby_node.proofs.Fed.{all_past, begun_none}
 use Rattle.standby_node.proofs.OneWay.{one_grouping}
 use Rattle.standby_node.proofs.Primary.{IsJudgedOf, IsRecordOf, all_lead, lead_within, record_judged}
-use Rattle.standby_node.proofs.Refusals.{ComesNext, HasReason, IsBehind, IsJudgedAt, IsRefusedAt, answer_to, behind, front_of, joined, left_in, next_group, next_in, not_answered, reason, regroup, right_here, same_front, same_payload}
+use Rattle.standby_node.proofs.Refusals.{ComesNext, HasReason, IsBehind, IsJudgedAt, IsRefusedAt, answer_to, behind, joined, left_in, next_group, next_in, not_answered, reason, records_in_front, regroup, right_here, same_front, same_payload}
 use Rattle.standby_node.proofs.Shipped.{blocks_are_from, shipped}
 use Rattle.standby_node.proofs.Stays.{take_front}
 
@@ -91,11 +90,8 @@ module _ {O : Type 0} (meaning : Bounds → Meaning O) (q : Params) (h : List (M
   pub front_records : (payloads : List (List ℕ)) (groups : List (List (Record O))) (rest : List ℕ) → AllByRecursion IsPayload payloads → AreFramesOf m payloads groups → bytes ≡ frames payloads ++ rest → AllByRecursion (IsRecordOf h) (records_of groups)
   front_records payloads groups rest whole frames_are split =
       let it = front_frames payloads rest whole split in
-      let at = front_of m one_record payloads it.more all.groups (subst (λ (l : List (List ℕ)). AreFramesOf m l all.groups) it.are all.frames_are) in
-      let same : at.front ≡ groups = one_grouping m one_record payloads at.front groups at.of_front frames_are in
-      let records : records_of all.groups ≡ records_of groups ++ records_of at.later =
-      ap (λ (gs : List (List (Record O))). records_of gs) at.are ∙ flat_map-append (λ g. g) at.front at.later ∙ ap (λ (gs : List (List (Record O))). records_of gs ++ records_of at.later) same in
-      all_front (IsRecordOf h) (records_of groups) (records_of at.later) (subst (λ (l : List (Record O)). AllByRecursion (IsRecordOf h) l) records all.records)
+      let at = records_in_front m one_record payloads it.more all.groups groups (subst (λ (l : List (List ℕ)). AreFramesOf m l all.groups) it.are all.frames_are) frames_are in
+      all_front (IsRecordOf h) (records_of groups) at.0 (subst (λ (l : List (Record O)). AllByRecursion (IsRecordOf h) l) at.1 all.records)
 
   module _ (may : MayFollow m h) (first : List (Member O)) (front : IsFront first h) where
     -- so they lead to a front of it

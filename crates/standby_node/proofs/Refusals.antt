@@ -3,6 +3,7 @@ use Rattle.std.proofs.Common.{◌≡◌, ◌∙◌, sym, subst, ap, ℕ, ◌<◌
 use Rattle.std.specs.List.{AllByRecursion}
 use Rattle.std.proofs.lemmas.Bool.{cond-true}
 use Rattle.std.proofs.lemmas.List.{append_cancel_left}
+use Rattle.std.proofs.lemmas.List.Concat.{flat_map-append}
 use Rattle.byteorder.specs.Endian.{little_number}
 use Rattle.disk_model.specs.Disk.{Disk}
 use Rattle.oper_core.specs.Meaning.{Meaning}
@@ -66,6 +67,13 @@ module _ {O : Type 0} (m : Meaning O) (one_record : (bytes : List ℕ) (first se
       let rest = front_of qs ps gs are.1 in
       record { front = g ∷ rest.front; later = rest.later; are = ap (λ (l : List (List (Record O))). g ∷ l) rest.are; of_front = (are.0, rest.of_front); of_later = rest.of_later }
 
+  -- the records of first frames stand in front of those of all
+  pub records_in_front : (qs ps : List (List ℕ)) (gs hs : List (List (Record O))) → AreFramesOf m (qs ++ ps) gs → AreFramesOf m qs hs → (later : List (Record O)) × (records_of gs ≡ records_of hs ++ later)
+  records_in_front qs ps gs hs are of_front =
+      let at = front_of qs ps gs are in
+      let same : at.front ≡ hs = one_grouping m one_record qs at.front hs at.of_front of_front in
+      (records_of at.later, ap (λ (l : List (List (Record O))). records_of l) at.are ∙ flat_map-append (λ g. g) at.front at.later ∙ ap (λ (l : List (List (Record O))). records_of l ++ records_of at.later) same)
+
   -- that of the next one
   pub record HasGroup (qs : List (List ℕ)) (p : List ℕ) (gs : List (List (Record O))) : Type 0 where
     pub front : List (List (Record O))
@@ -75,7 +83,7 @@ module _ {O : Type 0} (m : Meaning O) (one_record : (bytes : List ℕ) (first se
     pub of_front : AreFramesOf m qs front
     pub of_group : IsFrameOf m p group
 
-  group_of : (qs : List (List ℕ)) (p : List ℕ) (ps : List (List ℕ)) (gs : List (List (Record O))) → AreFramesOf m (qs ++ p ∷ ps) gs → HasGroup qs p gs
+  pub group_of : (qs : List (List ℕ)) (p : List ℕ) (ps : List (List ℕ)) (gs : List (List (Record O))) → AreFramesOf m (qs ++ p ∷ ps) gs → HasGroup qs p gs
   group_of qs p ps gs are = let it = front_of qs (p ∷ ps) gs are in by_later it.front it.later it.are it.of_front it.of_later
     where
       by_later : (front later : List (List (Record O))) → gs ≡ front ++ later → AreFramesOf m qs front → AreFramesOf m (p ∷ ps) later → HasGroup qs p gs
@@ -104,14 +112,14 @@ module _ {O : Type 0} (m : Meaning O) (one_record : (bytes : List ℕ) (first se
       record { later = it.later; are = λ i. head i ∷ it.are i; shipped = it.shipped; codes = it.codes }
 
   -- the next one, where there are some
-  record HasNext (begun group : List (Record O)) (rest : List ℕ) : Type 0 where
+  pub record HasNext (begun group : List (Record O)) (rest : List ℕ) : Type 0 where
     pub next : Record O
     pub later : List (Record O)
     pub are : group ≡ begun ++ next ∷ later
     pub shipped : MayBeShipped m next
     pub starts : StartsWithRecord m rest next
 
-  next_of : (begun group : List (Record O)) (rest : List ℕ) → 0 < length rest → IsLeft begun group rest → HasNext begun group rest
+  pub next_of : (begun group : List (Record O)) (rest : List ℕ) → 0 < length rest → IsLeft begun group rest → HasNext begun group rest
   next_of begun group rest some it = by_later it.later it.are it.shipped it.codes
     where
       by_later : (later : List (Record O)) → group ≡ begun ++ later → AllByRecursion (MayBeShipped m) later → payload_of m later ≡ rest → HasNext begun group rest

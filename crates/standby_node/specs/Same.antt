@@ -12,6 +12,7 @@ use Rattle.formats.specs.declared.record.Record.TheVariants.{Command, Identity, 
 use Rattle.frame_stream.specs.Frames.{frame, frames}
 use Rattle.frame_stream.specs.FrameBuffer.{FrameBufferView, HasPassed}
 use Rattle.explain_core.specs.World.{World}
+use Rattle.execution.specs.Following.{HasLsn}
 use Rattle.standing.specs.Members.{members_of}
 use Rattle.standby_node.specs.OnePrimary.{stable_in}
 use Rattle.standby_node.specs.Standby.{AreFramesOf, IsFrameOf, MayBeShipped}
@@ -63,9 +64,9 @@ module _ (base : ℕ) where
     AreSame codes [] = ⊤
     AreSame codes (r ∷ records) = IsSame codes (lsn_in r) (record_code m r) × AreSame (with_code codes (lsn_in r) (record_code m r)) records
 
-    -- so are the records of all whole frames of which these bytes are made, where they are made of such
+    -- so are those of all whole frames of records with which these bytes begin
     abbrev pub AreAllSame : List (List ℕ) → List ℕ → Type 0
-    AreAllSame codes bytes = (payloads : List (List ℕ)) (groups : List (List (Record O))) → AllByRecursion IsPayload payloads → AreFramesOf m payloads groups → bytes ≡ frames payloads → AreSame codes (records_of groups)
+    AreAllSame codes bytes = (payloads : List (List ℕ)) (groups : List (List (Record O))) (rest : List ℕ) → AllByRecursion IsPayload payloads → AreFramesOf m payloads groups → bytes ≡ frames payloads ++ rest → AreSame codes (records_of groups)
 
     -- some first records of a payload are the same, and the next one is not
     pub record IsUnlikeWithin (codes : List (List ℕ)) (payload : List ℕ) (why : Unlike) : Type 0 where
@@ -98,6 +99,10 @@ module _ (base : ℕ) where
       pub split : bytes ≡ frames payloads ++ (frame payload ++ more)
       pub same : AreSame codes (records_of groups)
       pub unlike : IsUnlikeWithin (with_all codes (records_of groups)) payload why
+
+    -- so many bytes come up to the end of the frame with that record
+    abbrev pub ends_at : {codes : List (List ℕ)} {bytes : List ℕ} {why : Unlike} → IsUnlikeIn codes bytes why → ℕ
+    ends_at it = length (frames it.payloads ++ frame it.payload)
 
 -- what a stream is compared with, as contracts see it
 pub record MirrorView : Type 0 where
@@ -137,10 +142,12 @@ module _ {O : Type 0} (m : Meaning O) where
   ComparesPiece first bytes it (Err (Unknown n)) = IsUnlikeIn it.base m first bytes (gone n)
   ComparesPiece first bytes it (Err Memory) = ⊤
 
-  -- these are the codes of the stable records that a store's log has in this world, from its base on
+  -- These are the codes of the stable records that a store's log has in this world, from its base on: each has an LSN, so none of
+  -- them is a checkpoint.
   pub record AreCodesIn (w : World O) (codes : List (List ℕ)) : Type 0 where
     pub records : List (Record O)
     pub placed : AreRecords m w.base w.base records
+    pub with_lsns : AllByRecursion HasLsn records
     pub members : members_of records ≡ drop (w.base - 1) (stable_in w)
     pub codes_are : codes ≡ map (record_code m) records
 

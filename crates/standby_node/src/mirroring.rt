@@ -1,5 +1,5 @@
 // The log of a standby's store is read into memory, to compare a stream with it.
-ghost use Rattle.std.specs.Prelude.{◌≡◌, [], List, ℕ, false, IfOk, IsErrOf};
+ghost use Rattle.std.specs.Prelude.{◌≡◌, ◌<◌, ◌++◌, [], List, ℕ, false, length, IfOk, IsErrOf};
 ghost use Rattle.std.specs.List.{AllByRecursion};
 ghost use Rattle.disk_model.specs.Disk.{Rises};
 ghost use Rattle.disk_model.specs.declared.machine.FileNo.{FileNo};
@@ -11,11 +11,11 @@ ghost use Rattle.formats.specs.Objects.{bounds_of};
 ghost use Rattle.formats.specs.Records.{records_of};
 ghost use Rattle.formats.specs.declared.params.Params.{Params};
 ghost use Rattle.formats.specs.declared.record.Record.{Record};
-ghost use Rattle.frame_stream.specs.Frames.{frames};
+ghost use Rattle.frame_stream.specs.Frames.{Splits, frames};
 ghost use Rattle.store_engine.specs.Engine.{IsAttached, IsEngineRead, ShowsIn, params_of};
 ghost use Rattle.store_engine.specs.Shipping.{AreFramesFrom, base_of};
 ghost use Rattle.store_engine.specs.Store.{meaning_in};
-ghost use Rattle.standby_node.specs.Same.{AreAllSame, BeginsNoFrame, HasCompared, IsMirrorOf, MirrorView, with_all};
+ghost use Rattle.standby_node.specs.Same.{AreAllSame, BeginsNoFrame, HasCompared, IsMirrorOf, IsUnlikeIn, MirrorView, Unlike, ends_at, with_all};
 ghost use Rattle.standby_node.specs.Standby.{AreFramesOf};
 
 use crate::{Mirror, Standby, what_is_shipped_is_followed};
@@ -42,9 +42,12 @@ fn load<O: Oper>(alloc: Global, bounds: Bounds, base: u64, log: &[u8]) -> Result
 }
 
 /// A stream whose whole frames were all compared, and are the same, has no other record than the store, in whatever frames it is
-/// told apart.
+/// told apart. Where all of its whole frames were followed too, and it goes on, a record that is another one comes in a frame that
+/// ends later.
 pub fn a_stream_is_compared<O: Oper>()
-    ensures { (b : Numbers) (first : List (List ℕ)) (bytes : List ℕ) (it : MirrorView) → IsSmall b → HasCompared (O.meaning b) first bytes it → BeginsNoFrame (O.meaning b) it.frames.kept → AreAllSame it.base (O.meaning b) first bytes }
+    ensures same { (b : Numbers) (first : List (List ℕ)) (bytes : List ℕ) (it : MirrorView) → IsSmall b → HasCompared (O.meaning b) first bytes it → BeginsNoFrame (O.meaning b) it.frames.kept → AreAllSame it.base (O.meaning b) first bytes }
+    ensures later { (b : Numbers) (base : ℕ) (first : List (List ℕ)) (bytes more : List ℕ) (payloads : List (List ℕ)) (groups : List (List (Record O))) (kept : List ℕ) (why : Unlike) → IsSmall b → AreAllSame base (O.meaning b) first bytes
+        → Splits bytes payloads kept → AreFramesOf (O.meaning b) payloads groups → (it : IsUnlikeIn base (O.meaning b) first (bytes ++ more) why) → length bytes < ends_at base (O.meaning b) it }
 {
     log_records::one_record::<O>();
 }
