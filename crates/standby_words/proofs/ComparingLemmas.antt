@@ -14,7 +14,7 @@ use Rattle.oper_core.specs.declared.bounds.Bounds.{Bounds}
 use Rattle.explain_core.specs.World.{World}
 use Rattle.op_codec.specs.AllOps.{all_meaning}
 use Rattle.standing.specs.OneStable.{small_store}
-use Rattle.standby_node.specs.Same.{AreAllSame, BeginsNoFrame, ComparesPiece, HasCompared, IsMirrorOf, IsUnlikeIn, MirrorView}
+use Rattle.standby_node.specs.Same.{AreAllSame, BeginsNoFrame, ComparesPiece, HasCompared, IsMirrorOf, IsUnlikeIn, MirrorView, Unlike}
 use Rattle.standby_node.specs.Same.Unlike.{other, gone}
 use Rattle.standby_node.specs.declared.compare_err.CompareErr.{CompareErr}
 use Rattle.standby_node.specs.declared.compare_err.CompareErr.TheVariants as of_compare
@@ -24,7 +24,7 @@ use Rattle.store_engine.specs.declared.ship_err.ShipErr.{ShipErr}
 use Rattle.store_engine.specs.declared.ship_err.ShipErr.TheVariants as of_ship
 use Rattle.shell_base.specs.Store.{Command, ShowsIn, meaning_in}
 use Rattle.standby_words.specs.Comparing.{ComparesNext, HasMirror, IsPieceCompared, MirrorsSo, cut_of_compare, refusal_of_ship}
-use Rattle.standby_words.specs.Following.{AreItsOwn, ComparesInput, IsOfMachine}
+use Rattle.standby_words.specs.Following.{ComparesInput, HasOwn, IsNotItsOwn, IsOfMachine}
 
 -- ---- the log is mirrored
 
@@ -101,28 +101,41 @@ mirror_more true d engine bytes piece before after has next =
           record { bounds = on.2.numbers.0 ∙ is.bounds; base = on.2.numbers.1 ∙ is.base; codes = is.codes; codes_are = is.codes_are; compared = answer.0; through = answer.1 },
     )
 
+-- all of what came is the same
+abbrev pub IsCompared : Type 0
+IsCompared = (b : Bounds) (first : List (List ℕ)) (bytes : List ℕ) (it : MirrorView) → IsSmall b → HasCompared (all_meaning b) first bytes it → BeginsNoFrame (all_meaning b) it.frames.kept → AreAllSame it.base (all_meaning b) first bytes
+
+-- the store's numbers are small
+pub small_shown : (d : Disk) (engine : EngineView) (p : Params) (w : World Command) → ShowsIn p d engine w → IsSmall (bounds_of p)
+small_shown d engine p w shows = small_store p (d.reads Objects) (subst (λ (q : Params). IsObjectsFile q (d.reads Objects)) shows.shows.store.params shows.shows.store.laid.slots.whole)
+
+all_same : IsCompared → (d : Disk) (engine : EngineView) (bytes : List ℕ) (p : Params) (w : World Command) → ShowsIn p d engine w → (it : MirrorView) (so : MirrorsSo p w bytes it) → AreAllSame w.base (meaning_in p) so.codes bytes
+all_same law d engine bytes p w shows it so = subst (λ (b : ℕ). AreAllSame b (meaning_in p) so.codes bytes) so.base (law (bounds_of p) so.codes bytes it (small_shown d engine p w shows) so.compared so.through)
+
 -- a record of it is not
-pub unlike_input : (same : Bool) (d : Disk) (engine : EngineView) (bytes piece : List ℕ) (before after : Option MirrorView) (e : CompareErr) → HasMirror same d engine bytes before → ComparesNext before after piece (Err e) → (p : Params) (w : World Command) → ShowsIn p d engine w
-    → ComparesInput same p w (bytes ++ piece) (Err (cut_of_compare e))
-unlike_input false d engine bytes piece before after e has next p w shows = cc ((subst (λ (o : Option MirrorView). ComparesNext o after piece (Err e)) has next).0)
-unlike_input true d engine bytes piece before after e has next p w shows =
+pub unlike_input : IsCompared → (same : Bool) (d : Disk) (engine : EngineView) (bytes piece : List ℕ) (before after : Option MirrorView) (e : CompareErr) → HasMirror same d engine bytes before → ComparesNext before after piece (Err e) → (p : Params) (w : World Command) → ShowsIn p d engine w
+    → ComparesInput same p w bytes (bytes ++ piece) (Err (cut_of_compare e))
+unlike_input law false d engine bytes piece before after e has next p w shows = cc ((subst (λ (o : Option MirrorView). ComparesNext o after piece (Err e)) has next).0)
+unlike_input law true d engine bytes piece before after e has next p w shows =
     let it = has.0 in
     let on : ComparesNext (Some it) after piece (Err e) = subst (λ (o : Option MirrorView). ComparesNext o after piece (Err e)) has.1 next in
     let is = has.3 p w shows in
     by_cause e on.0 is (on.2.numbers.1 ∙ is.base) (piece_answer p w bytes piece it on.0 (Err e) is on.2)
   where
-    by_cause : (e : CompareErr) (then : MirrorView) (is : MirrorsSo p w bytes has.0) → then.base ≡ w.base → ComparesPiece (meaning_in p) is.codes (bytes ++ piece) then (Err e) → ComparesInput true p w (bytes ++ piece) (Err (cut_of_compare e))
-    by_cause (of_compare.Differs n) then is base answer = (refl, (is.codes, is.codes_are, subst (λ (b : ℕ). IsUnlikeIn b (meaning_in p) is.codes (bytes ++ piece) (other n)) base answer))
-    by_cause (of_compare.Unknown n) then is base answer = (refl, (is.codes, is.codes_are, subst (λ (b : ℕ). IsUnlikeIn b (meaning_in p) is.codes (bytes ++ piece) (gone n)) base answer))
-    by_cause of_compare.Memory then is base answer = tt
+    with_record : (why : Unlike) (is : MirrorsSo p w bytes has.0) (base : ℕ) → base ≡ w.base → IsUnlikeIn base (meaning_in p) is.codes (bytes ++ piece) why → IsNotItsOwn p w bytes (bytes ++ piece) why
+    with_record why is base same unlike = record {
+      codes = is.codes;
+      codes_are = is.codes_are;
+      same = all_same law d engine bytes p w shows has.0 is;
+      unlike = subst (λ (b : ℕ). IsUnlikeIn b (meaning_in p) is.codes (bytes ++ piece) why) same unlike;
+    }
 
--- all of the input was compared
-pub its_own : (same : Bool) (d : Disk) (engine : EngineView) (bytes : List ℕ) (mirror : Option MirrorView)
-    → ((b : Bounds) (first : List (List ℕ)) (bytes : List ℕ) (it : MirrorView) → IsSmall b → HasCompared (all_meaning b) first bytes it → BeginsNoFrame (all_meaning b) it.frames.kept → AreAllSame it.base (all_meaning b) first bytes)
-    → HasMirror same d engine bytes mirror → (p : Params) (w : World Command) → ShowsIn p d engine w → same ≡ true → AreItsOwn p w bytes
-its_own false d engine bytes mirror law has p w shows is = cc is
-its_own true d engine bytes mirror law has p w shows is =
-    let it = has.0 in
-    let so = has.3 p w shows in
-    let small = small_store p (d.reads Objects) (subst (λ (q : Params). IsObjectsFile q (d.reads Objects)) shows.shows.store.params shows.shows.store.laid.slots.whole) in
-    (so.codes, so.codes_are, subst (λ (b : ℕ). AreAllSame b (meaning_in p) so.codes bytes) so.base (law (bounds_of p) so.codes bytes it small so.compared so.through))
+    by_cause : (e : CompareErr) (then : MirrorView) (is : MirrorsSo p w bytes has.0) → then.base ≡ w.base → ComparesPiece (meaning_in p) is.codes (bytes ++ piece) then (Err e) → ComparesInput true p w bytes (bytes ++ piece) (Err (cut_of_compare e))
+    by_cause (of_compare.Differs n) then is base answer = (refl, with_record (other n) is then.base base answer)
+    by_cause (of_compare.Unknown n) then is base answer = (refl, with_record (gone n) is then.base base answer)
+    by_cause of_compare.Memory then is base answer = inr refl
+
+-- what came of the input was compared
+pub its_own : IsCompared → (same : Bool) (d : Disk) (engine : EngineView) (bytes : List ℕ) (mirror : Option MirrorView) → HasMirror same d engine bytes mirror → (p : Params) (w : World Command) → ShowsIn p d engine w → HasOwn same p w bytes
+its_own law false d engine bytes mirror has p w shows is = cc is
+its_own law true d engine bytes mirror has p w shows is = let so = has.3 p w shows in (so.codes, so.codes_are, all_same law d engine bytes p w shows has.0 so)

@@ -7,12 +7,14 @@ use Rattle.std.proofs.lemmas.List.{append-nil, length-append, take_all}
 use Rattle.disk_model.specs.Disk.{Files, Disk, IsDisk, IsSettled, Passes, LeavesOnly, Stays}
 use Rattle.disk_model.specs.Silent.{IsSilent}
 use Rattle.disk_model.specs.Moments.{first_call, passes_none, passes_twice, runs_on, started, weaker}
-use Rattle.oper_core.specs.Meaning.{Meaning}
+use Rattle.oper_core.specs.Meaning.{IsSmall, Meaning}
+use Rattle.oper_core.specs.declared.bounds.Bounds.{Bounds}
+use Rattle.formats.specs.Objects.{bounds_of}
 use Rattle.formats.specs.Records.{payload_of, records_of}
 use Rattle.formats.specs.declared.params.Params.{Params}
 use Rattle.formats.specs.declared.record.Record.{Record}
 use Rattle.formats.specs.declared.record.Record.TheVariants.{Command as Logged_command, Identity as Logged_identity, Checkpoint as Logged_checkpoint}
-use Rattle.frame_stream.specs.Frames.{frame, frames}
+use Rattle.frame_stream.specs.Frames.{IsUnfinished, Splits, frame, frames}
 use Rattle.formats.specs.Log.{IsPayload}
 use Rattle.frame_stream.specs.FrameBuffer.{first_kept, taken_by}
 use Rattle.explain_core.specs.History.{Member, commands_of}
@@ -22,7 +24,7 @@ use Rattle.op_codec.specs.AllOps.{all_meaning}
 use Rattle.restart.specs.Starts.{OrAtStart, from_settled, or_weaker}
 use Rattle.standby_node.specs.Attaching.{BeginsOn}
 use Rattle.standby_node.specs.Feeding.{FeedsTo, FollowsPiece, HasRefused, IsAtFrameEnd, IsFed, IsLedTo, feeds_on}
-use Rattle.standby_node.specs.Same.{MirrorView, Unlike}
+use Rattle.standby_node.specs.Same.{AreAllSame, IsUnlikeIn, MirrorView, Unlike, ends_at}
 use Rattle.standby_node.specs.Standby.{AreFramesOf, IsFollowing, StandbyView}
 use Rattle.standby_node.specs.declared.compare_err.CompareErr.{CompareErr}
 use Rattle.standby_node.specs.declared.compare_err.CompareErr.TheVariants as of_compare
@@ -34,7 +36,7 @@ use Rattle.store_engine.specs.Grouping.{ungrouped}
 use Rattle.running_store.specs.Kept.Laws.{shown_attached}
 use Rattle.running_store.specs.Steps.Forced.{files_shown}
 use Rattle.standby_words.specs.Comparing.{ComparesNext, HasMirror, cut_of_compare}
-use Rattle.standby_words.proofs.ComparingLemmas.{mirror_more, unlike_input}
+use Rattle.standby_words.proofs.ComparingLemmas.{IsCompared, mirror_more, small_shown, unlike_input}
 use Rattle.standing.specs.Standing.{FilesShow}
 use Rattle.disk_model.specs.declared.machine.FileNo.{FileNo}
 use Rattle.script_lines.specs.declared.read_error.ReadError.{ReadError}
@@ -52,10 +54,10 @@ use Rattle.shell_base.specs.FetchLaws.{not_a_fault}
 use Rattle.shell_base.specs.HoldLaws.{each_stays, shows_stays, still_settled}
 use Rattle.shell_base.specs.OpeningLaws.{opening_failed, start_refused}
 use Rattle.shell_base.specs.RestartLaws.{restarted}
-use Rattle.standby_words.specs.Following.{AreItsOwn, Begins, ComparesInput, FollowMoment, FollowingMoment, FollowsFrames, FollowsFront, FollowsInput, HasEnded, IsFollowedThrough, IsNotItsOwn, IsOfMachine, IsFollowOn, IsFollowOpen, IsInputFollowed, IsOfStream, IsSilentEnd, IsUnsaid, SaysRefusal, SaysShort, SaysUnlike, ShowLed, ShowsFollowed, StandbyMoment, StreamMoment, WhereFollowed, at_end, notice_of, notice_of_unlike, status_of_refusal}
+use Rattle.standby_words.specs.Following.{Begins, ComparesInput, FollowMoment, FollowingMoment, FollowsFrames, FollowsFront, FollowsInput, HasEnded, HasOwn, IsFollowedThrough, IsNotItsOwn, IsOfMachine, IsFollowOn, IsFollowOpen, IsInputFollowed, IsOfStream, IsSilentEnd, IsUnsaid, SaysRefusal, ShowLed, ShowsFollowed, StandbyMoment, StreamMoment, WhereFollowed, at_end, notice_of, notice_of_unlike, status_of_refusal}
 use Rattle.standby_words.specs.declared.cut.Cut.{Cut}
 use Rattle.standby_words.specs.declared.cut.Cut.TheVariants as cuts
-use Rattle.standby_words.specs.FollowingLaws.{no_frames}
+use Rattle.standby_words.specs.FollowingLaws.{follows_from, no_frames}
 
 -- records without bytes are none
 no_records : {O : Type 0} (m : Meaning O) (records : List (Record O)) → 0 ≡ length (payload_of m records) → records ≡ []
@@ -191,7 +193,7 @@ pub record IsTakingIn (told : Type 0) (left_first left : List ℕ) (start now : 
   pub taken : told → left_first ≡ bytes ++ left
   pub count : taken_by here.frames ≡ length bytes
   pub few : length bytes ≤ 2 ^ 40
-  pub following : (p : Params) (first : List (Member Command)) → Begins p first start before → IsFollowing all_meaning p first bytes now here
+  pub following : (p : Params) (first : List (Member Command)) → Begins p first start before → FollowsFront p first bytes now here
   pub images : start.tells_moments → (p : Params) (first : List (Member Command)) → Begins p first start before → LeavesOnly start now (IsSilent (StreamMoment p first bytes) start.said)
   pub leads : (p : Params) (w : World Command) → ShowsIn p start before.engine w → IsLedTo all_meaning p now here.engine w
 
@@ -228,6 +230,9 @@ reading_images {d} {mid} {s} lawful stays says telling p first begins = first_ca
       holds = record { rest = []; commands = commands_of first; follows_to = no_frames p first []; stands = subst (λ (f : Files). Stands p f (commands_of first)) (sym from.0.2) ((begins_standing begins (says p)).1 telling from.0.0 d.said before) };
     })
 
+none_unfinished : (kept : List ℕ) → length kept ≡ 0 → IsUnfinished kept
+none_unfinished kept none payload later is stands = let long = ap (λ (l : List ℕ). length l) stands in omega (arith, long, none)
+
 -- the standby stands at the beginning of the input, once what the store has is read, where that is asked
 pub starts_taking : {told failed : Type 0} (left : List ℕ) (d mid : Disk) (s here : StandbyView) → IsDisk d → s.stopped ≡ None → taken_by s.frames ≡ 0
     → ((p : Params) (commands : List Command) → of_engine.Holds all_meaning p d s.engine commands → Says p d s.engine commands) → IsEngineRead all_meaning d mid s.engine here.engine failed → (failed → ⊥) → here ≡ record s { engine = here.engine }
@@ -242,7 +247,7 @@ starts_taking left d mid s here lawful fine fresh says read done rest attached =
   taken = λ told. refl;
   count = ap (λ (v : StandbyView). taken_by v.frames) rest ∙ fresh;
   few = omega arith;
-  following = λ p first begins. following_read read done rest begins.following;
+  following = λ p first begins. (following_read read done rest begins.following, none_unfinished here.frames.kept (omega (arith, ap (λ (v : StandbyView). taken_by v.frames) rest, fresh)));
   images = reading_images lawful read.kept says;
   leads = λ p w shows. (w, ⊎_elim (λ failed. absurd (done failed)) (λ there. there) (read.shows p w shows), FeedsTo.Nothing);
 }
@@ -261,10 +266,13 @@ not_mirrored {told} same left d mid s here cause result is lawful says stays mac
   bytes = [];
   taken = λ told. refl;
   few = omega arith;
+  front = [];
+  piece = [];
+  split = refl;
   follows_it = λ p first begins. inr (machine begins.following.shows.shows.told (shown_attached all_meaning p d s.engine.parts (ungrouped begins.following.world) begins.following.shows.shows));
   images = reading_images lawful stays says;
   leads = λ p w shows. tt;
-  compares = λ p w shows. tt;
+  compares = λ p w shows. inr (machine shows.shows.told (shown_attached all_meaning p d s.engine.parts (ungrouped w) shows.shows));
 })
 
 -- no byte is kept where there is no place of one, and some where there is
@@ -278,15 +286,18 @@ some_kept passed (byte ∷ kept) place some = (λ none. cc none, cc some)
 
 module _ {told : Type 0} (same : Bool) {left_first left : List ℕ} {start now : Disk} {before here : StandbyView} (so_far : IsTakingIn told left_first left start now before here) where
   -- the input failed, or memory did
-  pub stops_so : (error : ReadError) (result : Result ℕ Cut) → IsErrAnd result (λ cut. cut ≡ cuts.Unread error) → IsInputFollowed same told left_first left start now before here result
-  stops_so error result is = subst (λ (r : Result ℕ Cut). IsInputFollowed same told left_first left start now before here r) (sym (error_is result (cuts.Unread error) is)) (record {
+  pub stops_so : (error : ReadError) (result : Result ℕ Cut) → IsErrAnd result (λ cut. cut ≡ cuts.Unread error) → ((p : Params) (w : World Command) → ShowsIn p start before.engine w → HasOwn same p w so_far.bytes ⊎ (error ≡ of_input.Memory)) → IsInputFollowed same told left_first left start now before here result
+  stops_so error result is own = subst (λ (r : Result ℕ Cut). IsInputFollowed same told left_first left start now before here r) (sym (error_is result (cuts.Unread error) is)) (record {
     bytes = so_far.bytes;
     taken = so_far.taken;
     few = so_far.few;
+    front = so_far.bytes;
+    piece = [];
+    split = sym (append-nil so_far.bytes);
     follows_it = λ p first begins. tt;
     images = so_far.images;
     leads = so_far.leads;
-    compares = λ p w shows. tt;
+    compares = own;
   })
 
   -- a piece more was taken
@@ -302,7 +313,7 @@ module _ {told : Type 0} (same : Bool) {left_first left : List ℕ} {start now :
       runs_on start now new (IsSilent (StreamMoment p first (so_far.bytes ++ piece)) start.said)
       (weaker start now (IsSilent (StreamMoment p first so_far.bytes) start.said) (IsSilent (StreamMoment p first (so_far.bytes ++ piece)) start.said) (so_far.images telling p first begins) (λ files said is. record { silent = is.silent; holds = moment_longer piece is.holds }))
       (weaker now new (IsAtFrameEnd all_meaning p now (forced_in here.engine) first (so_far.bytes ++ piece)) (IsSilent (StreamMoment p first (so_far.bytes ++ piece)) start.said)
-      (fed.images (so_far.time.moments_told.0 telling) p first so_far.bytes (so_far.following p first begins)) (λ files said is. record { silent = is.quiet ∙ so_far.quiet begins.following.shows.shows.told; holds = at_frame_end is }))
+      (fed.images (so_far.time.moments_told.0 telling) p first so_far.bytes (so_far.following p first begins).0) (λ files said is. record { silent = is.quiet ∙ so_far.quiet begins.following.shows.shows.told; holds = at_frame_end is }))
 
   -- the standby refused it, or failed
   refusal_of : (p : Params) (first : List (Member Command)) (bytes piece : List ℕ) (new : Disk) (after : StandbyView) (cause : FollowErr) → FollowsPiece all_meaning p first bytes piece new here after (Err cause)
@@ -312,21 +323,24 @@ module _ {told : Type 0} (same : Bool) {left_first left : List ℕ} {start now :
   refusal_of p first bytes piece new after cause is = inl (is.following, is.refused)
 
   pub refused_so : {new : Disk} {after : StandbyView} {piece : List ℕ} (later : List ℕ) (cause : FollowErr) (result : Result ℕ Cut) → IsErrAnd result (λ cut. cut ≡ cuts.Refused cause) → IsFed all_meaning now new here after piece (Err cause) → (told → left ≡ piece ++ later)
-      → taken_by here.frames + length piece ≤ 2 ^ 40 → IsInputFollowed same told left_first later start new before after result
-  refused_so {new} {after} {piece} later cause result is fed taken few = subst (λ (r : Result ℕ Cut). IsInputFollowed same told left_first later start new before after r) (sym (error_is result (cuts.Refused cause) is)) (record {
+      → taken_by here.frames + length piece ≤ 2 ^ 40 → ((p : Params) (w : World Command) → ShowsIn p start before.engine w → HasOwn same p w (so_far.bytes ++ piece)) → IsInputFollowed same told left_first later start new before after result
+  refused_so {new} {after} {piece} later cause result is fed taken few own = subst (λ (r : Result ℕ Cut). IsInputFollowed same told left_first later start new before after r) (sym (error_is result (cuts.Refused cause) is)) (record {
     bytes = so_far.bytes ++ piece;
     taken = bytes_taken piece later taken;
     few = few_more piece few;
-    follows_it = λ p first begins. refusal_of p first so_far.bytes piece new after cause (fed.follows_it p first so_far.bytes (so_far.following p first begins));
+    front = so_far.bytes;
+    piece = piece;
+    split = refl;
+    follows_it = λ p first begins. refusal_of p first so_far.bytes piece new after cause (fed.follows_it p first so_far.bytes (so_far.following p first begins).0);
     images = images_more fed;
     leads = λ p w shows. tt;
-    compares = λ p w shows. tt;
+    compares = λ p w shows. inl (own p w shows);
   })
 
   -- a record of the piece is not the store's own, or memory ran out
-  unlike_front : (p : Params) (first : List (Member Command)) (piece : List ℕ) → IsFollowing all_meaning p first so_far.bytes now here → (ended : Type 0) (e : CompareErr) → FollowsInput p first (so_far.bytes ++ piece) ended now here (Err (cut_of_compare e))
-  unlike_front p first piece following ended (of_compare.Differs n) = (so_far.bytes, piece, refl, following)
-  unlike_front p first piece following ended (of_compare.Unknown n) = (so_far.bytes, piece, refl, following)
+  unlike_front : (p : Params) (first : List (Member Command)) (piece : List ℕ) → FollowsFront p first so_far.bytes now here → (ended : Type 0) (e : CompareErr) → FollowsInput p first so_far.bytes (so_far.bytes ++ piece) ended now here (Err (cut_of_compare e))
+  unlike_front p first piece following ended (of_compare.Differs n) = following
+  unlike_front p first piece following ended (of_compare.Unknown n) = following
   unlike_front p first piece following ended of_compare.Memory = tt
 
   still_leads : {P : Type 0} (e : CompareErr) → P → WhereFollowed (Err (cut_of_compare e)) P
@@ -334,17 +348,20 @@ module _ {told : Type 0} (same : Bool) {left_first left : List ℕ} {start now :
   still_leads (of_compare.Unknown n) it = it
   still_leads of_compare.Memory it = it
 
-  pub unlike_so : (piece later : List ℕ) (mirror after : Option MirrorView) (e : CompareErr) (result : Result ℕ Cut) → IsErrAnd result (λ cut. cut ≡ cut_of_compare e) → HasMirror same start before.engine so_far.bytes mirror → ComparesNext mirror after piece (Err e)
+  pub unlike_so : IsCompared → (piece later : List ℕ) (mirror after : Option MirrorView) (e : CompareErr) (result : Result ℕ Cut) → IsErrAnd result (λ cut. cut ≡ cut_of_compare e) → HasMirror same start before.engine so_far.bytes mirror → ComparesNext mirror after piece (Err e)
       → (told → left ≡ piece ++ later) → taken_by here.frames + length piece ≤ 2 ^ 40 → IsInputFollowed same told left_first later start now before here result
-  unlike_so piece later mirror after e result is has next taken few = subst (λ (r : Result ℕ Cut). IsInputFollowed same told left_first later start now before here r) (sym (error_is result (cut_of_compare e) is)) (record {
+  unlike_so law piece later mirror after e result is has next taken few = subst (λ (r : Result ℕ Cut). IsInputFollowed same told left_first later start now before here r) (sym (error_is result (cut_of_compare e) is)) (record {
     bytes = so_far.bytes ++ piece;
     taken = bytes_taken piece later taken;
     few = few_more piece few;
+    front = so_far.bytes;
+    piece = piece;
+    split = refl;
     follows_it = λ p first begins. unlike_front p first piece (so_far.following p first begins) (HasEnded told left_first later) e;
     images = λ telling p first begins.
         weaker start now (IsSilent (StreamMoment p first so_far.bytes) start.said) (IsSilent (StreamMoment p first (so_far.bytes ++ piece)) start.said) (so_far.images telling p first begins) (λ files said is. record { silent = is.silent; holds = moment_longer piece is.holds });
     leads = λ p w shows. still_leads e (so_far.leads p w shows);
-    compares = unlike_input same start before.engine so_far.bytes piece mirror after e has next;
+    compares = unlike_input law same start before.engine so_far.bytes piece mirror after e has next;
   })
 
   -- it was followed
@@ -364,7 +381,7 @@ module _ {told : Type 0} (same : Bool) {left_first left : List ℕ} {start now :
           let all : taken_by after.frames ≡ taken_by here.frames + length piece = ⊎_elim (λ none. cc (none.1)) (λ all. all) fed.taken in
           omega (arith, all, long, count);
       few = few_more piece few;
-      following = λ p first begins. (fed.follows_it p first so_far.bytes (so_far.following p first begins)).following;
+      following = λ p first begins. let its = fed.follows_it p first so_far.bytes (so_far.following p first begins).0 in (its.following, its.between.unfinished);
       images = images_more fed;
       leads = λ p w shows.
           let was = so_far.leads p w shows in
@@ -377,7 +394,7 @@ module _ {told : Type 0} (same : Bool) {left_first left : List ℕ} {start now :
     unfolding takes_more
     compares_more mirror after_it has next = (takes_more, mirror_more same start before.engine so_far.bytes piece mirror after_it has next)
 
-    module _ (own : (p : Params) (w : World Command) → ShowsIn p start before.engine w → same ≡ true → AreItsOwn p w (so_far.bytes ++ piece)) (ended : told → later ≡ []) (short : taken_by here.frames + length piece < 2 ^ 40) (says : (p : Params) (commands : List Command) → of_engine.Holds all_meaning p new after.engine commands → Says p new after.engine commands) where
+    module _ (own : (p : Params) (w : World Command) → ShowsIn p start before.engine w → HasOwn same p w (so_far.bytes ++ piece)) (ended : told → later ≡ []) (short : taken_by here.frames + length piece < 2 ^ 40) (says : (p : Params) (commands : List Command) → of_engine.Holds all_meaning p new after.engine commands → Says p new after.engine commands) where
       has_ended : HasEnded told left_first later
       has_ended tells = (
         ended tells,
@@ -395,8 +412,11 @@ module _ {told : Type 0} (same : Bool) {left_first left : List ℕ} {start now :
         bytes = so_far.bytes ++ piece;
         taken = bytes_taken piece later taken;
         few = few_more piece few;
+        front = so_far.bytes;
+        piece = piece;
+        split = refl;
         follows_it = λ p first begins.
-            let its = fed.follows_it p first so_far.bytes (so_far.following p first begins) in
+            let its = fed.follows_it p first so_far.bytes (so_far.following p first begins).0 in
             let kept = none_kept after.frames.passed after.frames.kept none in
             let whole = subst (λ (rest : List ℕ). (all : ShowsFollowed p first (so_far.bytes ++ piece) rest new) × (n ≡ length all.commands)) kept (shows_followed its.following its.between.none_done (says p) its.between.none_waits, its.count) in
             (has_ended, whole.0, whole.1);
@@ -411,8 +431,11 @@ module _ {told : Type 0} (same : Bool) {left_first left : List ℕ} {start now :
         bytes = so_far.bytes ++ piece;
         taken = bytes_taken piece later taken;
         few = few_more piece few;
+        front = so_far.bytes;
+        piece = piece;
+        split = refl;
         follows_it = λ p first begins.
-            let its = fed.follows_it p first so_far.bytes (so_far.following p first begins) in
+            let its = fed.follows_it p first so_far.bytes (so_far.following p first begins).0 in
             let kept = some_kept after.frames.passed after.frames.kept place some in
             let long = ap (λ (l : List ℕ). length l) its.following.passed.is ∙ length-append (frames its.following.payloads) after.frames.kept in
             let passed = its.following.passed.passed in (
@@ -426,7 +449,7 @@ module _ {told : Type 0} (same : Bool) {left_first left : List ℕ} {start now :
             );
         images = images_more fed;
         leads = takes_more.leads;
-        compares = λ p w shows. tt;
+        compares = own;
       }
 
       pub ends_so : (result : Result ℕ Cut) → result ≡ at_end (first_kept after.frames.passed after.frames.kept) n → IsInputFollowed same told left_first later start new before after result
@@ -498,6 +521,9 @@ not_through : (cause : FollowErr) → IsFollowedThrough (status_of_refusal cause
 not_through errors.DiskFault through = through
 not_through cause through = through
 
+refused_through : {status : Status} (cause : FollowErr) → IsUnsaid status ⊎ (status ≡ status_of_refusal cause) → IsFollowedThrough status → ⊥
+refused_through cause ends is = ⊎_elim (λ unsaid. ⊎_elim (λ e. subst IsFollowedThrough e is) (λ e. subst IsFollowedThrough e is) unsaid) (λ e. not_through cause (subst IsFollowedThrough e is)) ends
+
 stream_cause : (cause : FollowErr) → status_of_refusal cause ≡ BadStream → IsOfStream cause
 stream_cause (errors.BadFrame place) is = tt
 stream_cause (errors.Gap expected got) is = tt
@@ -563,6 +589,23 @@ said_images {old} {mid} {new} lawful time says p first bytes images settled tell
     let same : from.0 ≡ mid.reads = fun_ext (λ (n : FileNo). settled n told_mid from.0 mid.said from.1) in
     (subst (StreamMoment p first bytes) (sym from.2) there.holds, inr (from.2 ∙ same ∙ sym (says.reads (lawful.telling told_mid))))))
 
+-- a record that is not the store's own comes behind all that was compared and followed
+abbrev pub IsLater : Type 0
+IsLater = (b : Bounds) (base : ℕ) (codes : List (List ℕ)) (bytes more : List ℕ) (payloads : List (List ℕ)) (groups : List (List (Record Command))) (kept : List ℕ) (why : Unlike) → IsSmall b → AreAllSame base (all_meaning b) codes bytes
+    → Splits bytes payloads kept → AreFramesOf (all_meaning b) payloads groups → (it : IsUnlikeIn base (all_meaning b) codes (bytes ++ more) why) → length bytes < ends_at base (all_meaning b) it
+
+unlike_later : {d : Disk} {s : StandbyView} → IsLater → (p : Params) (first : List (Member Command)) (w : World Command) (front piece bytes : List ℕ) (why : Unlike) → bytes ≡ front ++ piece → IsSmall (bounds_of p) → FollowsFront p first front d s → (it : IsNotItsOwn p w front bytes why)
+    → length front < ends_at w.base (meaning_in p) it.unlike
+unlike_later {s = s} law p first w front piece bytes why split small follows it =
+    let f = follows.0 in
+    subst (λ (l : List ℕ). (unlike : IsUnlikeIn w.base (meaning_in p) it.codes l why) → length front < ends_at w.base (meaning_in p) unlike) (sym split)
+    (λ unlike. law (bounds_of p) w.base it.codes front piece f.payloads f.groups s.frames.kept why small it.same (record { is = f.passed.is; whole = f.passed.whole; unfinished = follows.1 }) f.frames_are unlike)
+    it.unlike
+
+-- so the stream was not followed through
+unlike_through : {status : Status} → (status ≡ BadStream) ⊎ ((status ≡ OutOfMemory) ⊎ (status ≡ SayFault)) → IsFollowedThrough status → ⊥
+unlike_through ends is = ⊎_elim (λ e. subst IsFollowedThrough e is) (λ rest. ⊎_elim (λ e. subst IsFollowedThrough e is) (λ e. subst IsFollowedThrough e is) rest) ends
+
 -- where it was refused: what failed says nothing
 refused_images : {old mid new : Disk} {after : StandbyView} → IsDisk mid → Passes old mid → SaysOnly mid new → (p : Params) (first : List (Member Command)) (bytes : List ℕ) (cause : FollowErr) → LeavesOnly old mid (IsSilent (StreamMoment p first bytes) old.said)
     → ((following : IsFollowing all_meaning p first bytes mid after) × HasRefused (meaning_in p) following.world.history after cause) ⊎ IsOfMachine cause → (IsOfMachine cause → new ≡ mid) → old.tells_moments → LeavesOnly old new (FollowMoment p first bytes old new)
@@ -597,7 +640,7 @@ module _ {told : Type 0} {same : Bool} {left rest : List ℕ} {old mid new : Dis
           stream = λ is. absurd (is_not (λ e. cc e) (λ e. cc e) (λ e. cc e) ends is);
           full = λ is. absurd (is_not (λ e. cc e) (λ e. cc e) (λ e. cc e) ends is);
           quiet = λ is. silent (said_end ends (λ none. none) is) ∙ quiet tells;
-          its_own = λ compared is. input.compares p w shows compared;
+          its_own = λ is. input.compares p w shows;
         };
     images = λ telling p first begins. said_images lawful time says p first input.bytes (input.images telling p first begins) (input.follows_it p first begins).1.settled telling;
     leads = λ p w shows. record { through = λ is. still_led says (input.leads p w shows); stream = λ is. absurd (is_not (λ e. cc e) (λ e. cc e) (λ e. cc e) ends is) };
@@ -616,21 +659,24 @@ module _ {told : Type 0} {same : Bool} {left rest : List ℕ} {old mid new : Dis
         record {
           done = λ is. absurd (is_not (λ e. cc e) (λ e. cc e) (λ e. cc e) ends is);
           stream = λ is. inl (
-            its.0,
-            record {
-              rest = its.1;
-              all = (still_followed says told_mid its.2).0;
-              some = its.3;
-              unfinished = its.4;
-              fine = its.5;
-              place = place;
-              place_is = its.6;
-              said = line_said (λ e. cc e) (λ e. cc e) (said told_mid) is ∙ ap (λ (l : List ℕ). l ++ notices.short place) (quiet tells);
-            },
+            input.compares p w shows,
+            inl (
+              its.0,
+              record {
+                rest = its.1;
+                all = (still_followed says told_mid its.2).0;
+                some = its.3;
+                unfinished = its.4;
+                fine = its.5;
+                place = place;
+                place_is = its.6;
+                said = line_said (λ e. cc e) (λ e. cc e) (said told_mid) is ∙ ap (λ (l : List ℕ). l ++ notices.short place) (quiet tells);
+              },
+            ),
           );
           full = λ is. absurd (is_not (λ e. cc e) (λ e. cc e) (λ e. cc e) ends is);
           quiet = λ is. silent (said_end ends (λ none. none) is) ∙ quiet tells;
-          its_own = λ compared is. absurd (is_not (λ e. cc e) (λ e. cc e) (λ e. cc e) ends is);
+          its_own = λ is. input.compares p w shows;
         };
     images = λ telling p first begins. said_images lawful time says p first input.bytes (input.images telling p first begins) (input.follows_it p first begins).2.settled telling;
     leads = λ p w shows. record { through = λ is. still_led says (input.leads p w shows); stream = λ is. inl (still_led says (input.leads p w shows)) };
@@ -649,16 +695,19 @@ module _ {told : Type 0} {same : Bool} {left rest : List ℕ} {old mid new : Dis
           stream = λ is.
               let of = stream_cause cause (refusal_is cause (λ e. cc e) (λ e. cc e) ends is) in
               let its = stream_refused cause of (input.follows_it p first begins) in
-              inr (inl (
-                cause,
-                of,
-                record {
-                  standby = after;
-                  following = following_said says its.0;
-                  refused = its.1;
-                  said = said (time.files_told.0 tells) (inl is) ∙ ap (λ (l : List ℕ). l ++ notice_of cause) (quiet tells);
-                },
-              ));
+              inl (
+                stream_refused cause of (input.compares p w shows),
+                inr (
+                  cause,
+                  of,
+                  record {
+                    standby = after;
+                    following = following_said says its.0;
+                    refused = its.1;
+                    said = said (time.files_told.0 tells) (inl is) ∙ ap (λ (l : List ℕ). l ++ notice_of cause) (quiet tells);
+                  },
+                ),
+              );
           full = λ is.
               let (used, need, limit, same) = full_cause cause (refusal_is cause (λ e. cc e) (λ e. cc e) ends is) in
               let its = ⊎_elim (λ refused. refused) (λ failure. absurd (subst IsOfMachine same failure)) (input.follows_it p first begins) in (
@@ -673,11 +722,16 @@ module _ {told : Type 0} {same : Bool} {left rest : List ℕ} {old mid new : Dis
                 }),
               );
           quiet = λ is. silent is ∙ quiet tells;
-          its_own = λ compared is. absurd (not_done cause (refusal_is cause (λ e. cc e) (λ e. cc e) ends is));
+          its_own = λ is. ⊎_elim
+              (λ through. absurd (refused_through cause ends through))
+              (λ full.
+              let (used, need, limit, same_cause) = full_cause cause (refusal_is cause (λ e. cc e) (λ e. cc e) ends full) in
+              ⊎_elim (λ own. own) (λ failure. absurd (subst IsOfMachine same_cause failure)) (input.compares p w shows))
+              is;
         };
     images = λ telling p first begins. refused_images lawful time says p first input.bytes cause (input.images telling p first begins) (input.follows_it p first begins) failed telling;
     leads = λ p w shows. record {
-      through = λ is. absurd (⊎_elim (λ unsaid. ⊎_elim (λ e. subst IsFollowedThrough e is) (λ e. subst IsFollowedThrough e is) unsaid) (λ e. not_through cause (subst IsFollowedThrough e is)) ends);
+      through = λ is. absurd (refused_through cause ends is);
       stream = λ is. inr (
         cause,
         stream_cause cause (refusal_is cause (λ e. cc e) (λ e. cc e) ends is),
@@ -687,34 +741,38 @@ module _ {told : Type 0} {same : Bool} {left rest : List ℕ} {old mid new : Dis
   }
 
   -- a record is not the store's own
-  pub open_unlike : (cut : Cut) (why : Unlike) → ((p : Params) (first : List (Member Command)) (ended : Type 0) (bytes : List ℕ) → FollowsInput p first bytes ended mid after (Err cut) → FollowsFront p first bytes mid after)
-      → ((p : Params) (w : World Command) (bytes : List ℕ) → ComparesInput same p w bytes (Err cut) → (same ≡ true) × IsNotItsOwn p w bytes why) → ((P : Type 0) → WhereFollowed (Err cut) P → P) → IsInputFollowed same told left rest old mid before after (Err cut)
+  pub open_unlike : IsLater → (cut : Cut) (why : Unlike) → ((p : Params) (first : List (Member Command)) (front : List ℕ) (ended : Type 0) (bytes : List ℕ) → FollowsInput p first front bytes ended mid after (Err cut) → FollowsFront p first front mid after)
+      → ((p : Params) (w : World Command) (front bytes : List ℕ) → ComparesInput same p w front bytes (Err cut) → (same ≡ true) × IsNotItsOwn p w front bytes why) → ((P : Type 0) → WhereFollowed (Err cut) P → P) → IsInputFollowed same told left rest old mid before after (Err cut)
       → (status ≡ BadStream) ⊎ ((status ≡ OutOfMemory) ⊎ (status ≡ SayFault)) → (mid.tells_files → (status ≡ OutOfMemory) ⊎ ((status ≡ SayFault) ⊎ (new.said ≡ mid.said ++ notice_of_unlike why))) → (status ≡ OutOfMemory → new.said ≡ mid.said) → IsFollowOpen same told left rest old new before status
-  open_unlike cut why front unlike led input ends said silent = record {
+  open_unlike law cut why front unlike led input ends said silent = record {
     bytes = input.bytes;
     taken = input.taken;
     few = input.few;
     follows_it = λ p first w begins shows.
-        let its = front p first (HasEnded told left rest) input.bytes (input.follows_it p first begins) in
+        let its = front p first input.front (HasEnded told left rest) input.bytes (input.follows_it p first begins) in
         let tells = begins.following.shows.shows.told in
-        let is_not_own = unlike p w input.bytes (input.compares p w shows) in
+        let is_not_own = unlike p w input.front input.bytes (input.compares p w shows) in
         record {
           done = λ is. absurd (is_not (λ e. cc e) (λ e. cc e) (λ e. cc e) ends is);
-          stream = λ is. inr (inr (
+          stream = λ is. inr (
             is_not_own.0,
             why,
             record {
               standby = after;
-              follows = (its.0, its.1, its.2, following_said says its.3);
+              front = input.front;
+              piece = input.piece;
+              split = input.split;
+              follows = (following_said says its.0, its.1);
               unlike = is_not_own.1;
+              later = unlike_later law p first w input.front input.piece input.bytes why input.split (small_shown old before.engine p w shows) its is_not_own.1;
               said = line_said (λ e. cc e) (λ e. cc e) (said (time.files_told.0 tells)) is ∙ ap (λ (l : List ℕ). l ++ notice_of_unlike why) (quiet tells);
             },
-          ));
+          );
           full = λ is. absurd (is_not (λ e. cc e) (λ e. cc e) (λ e. cc e) ends is);
           quiet = λ is. silent (said_end ends (λ none. none) is) ∙ quiet tells;
-          its_own = λ compared is. absurd (is_not (λ e. cc e) (λ e. cc e) (λ e. cc e) ends is);
+          its_own = λ is. absurd (⊎_elim (unlike_through ends) (is_not (λ e. cc e) (λ e. cc e) (λ e. cc e) ends) is);
         };
-    images = λ telling p first begins. said_images lawful time says p first input.bytes (input.images telling p first begins) (front p first (HasEnded told left rest) input.bytes (input.follows_it p first begins)).3.shows.shows.log.keeps.settled telling;
+    images = λ telling p first begins. said_images lawful time says p first input.bytes (input.images telling p first begins) (front p first input.front (HasEnded told left rest) input.bytes (input.follows_it p first begins)).0.shows.shows.log.keeps.settled telling;
     leads = λ p w shows. record { through = λ is. still_led says (led _ (input.leads p w shows)); stream = λ is. inl (still_led says (led _ (input.leads p w shows))) };
   }
 
@@ -726,7 +784,7 @@ unread_loud of_input.Memory A is loud = loud (subst IsSilentEnd is tt)
 
 pub open_unread : {told : Type 0} {same : Bool} {left rest : List ℕ} {old mid : Disk} {before after : StandbyView} {status : Status} (quiet : old.tells_files → mid.said ≡ old.said) (error : ReadError) → IsInputFollowed same told left rest old mid before after (Err (cuts.Unread error))
     → status ≡ status_of (stop_of_input error) → IsFollowOpen same told left rest old mid before status
-open_unread {old = old} {mid = mid} quiet error input is = record {
+open_unread {old = old} {mid = mid} {status = status} quiet error input is = record {
   bytes = input.bytes;
   taken = input.taken;
   few = input.few;
@@ -735,7 +793,12 @@ open_unread {old = old} {mid = mid} quiet error input is = record {
     stream = λ e. absurd (unread_loud error BadStream (sym is ∙ e) (λ none. none));
     full = λ e. absurd (unread_loud error StandbyFull (sym is ∙ e) (λ none. none));
     quiet = λ silent. quiet begins.following.shows.shows.told;
-    its_own = λ compared e. absurd (unread_loud error Done (sym is ∙ e) (λ none. none));
+    its_own = λ through. ⊎_elim
+        (λ own. own)
+        (λ memory.
+        let out : status ≡ OutOfMemory = is ∙ ap (λ (e : ReadError). status_of (stop_of_input e)) memory in
+        absurd (⊎_elim (λ t. subst IsFollowedThrough out t) (λ full. cc (sym out ∙ full)) through))
+        (input.compares p w shows);
   };
   images = λ telling p first begins. weaker old mid (IsSilent (StreamMoment p first input.bytes) old.said) (FollowMoment p first input.bytes old mid) (input.images telling p first begins) (λ files said it. (it.holds, inl it.silent));
   leads = λ p w shows.
@@ -768,7 +831,7 @@ module _ {budget : Budget} {p : Params} {commands : List Command} {old mid : Dis
       stream = λ e. absurd (subst IsOfUnopened e of);
       full = λ e. absurd (subst IsOfUnopened e of);
       quiet = λ silent. files.quiet;
-      its_own = λ compared e. absurd (subst IsOfUnopened e of);
+      its_own = λ is. absurd (⊎_elim (not_followed status of) (λ e. subst IsOfUnopened e of) is);
     };
     images = λ told stage is. opening_moments stage.world.history [] mid told;
     from_settled = λ told settled stage is. from_settled old mid (StandbyMoment p commands stage.world.history [] old mid) lawful told settled (inl (opens.stands, refl)) (opening_moments stage.world.history [] mid told);
@@ -788,21 +851,7 @@ module _ {budget : Budget} {p : Params} {commands : List Command} {old mid : Dis
       (weaker mid new (FollowMoment p stage.world.history it.bytes old new) (OrAtStart old (StandbyMoment p commands stage.world.history it.bytes old new)) (goes_on tells stage is) (λ image said m. inr (inr m))) in
       record {
         first = first;
-        follows_it = λ stage is.
-            let from = it.follows_it p stage.world.history stage.world (begins stage is).0 (begins stage is).1 in
-            record {
-              done = λ e. let done = from.done e in (done.0, record { all = done.1.all; said = done.1.said ∙ ap (λ (l : List ℕ). l ++ notices.followed (length done.1.all.commands)) files.quiet });
-              stream = λ e. ⊎_elim
-                  (λ (ends : HasEnded told left rest × SaysShort p stage.world.history it.bytes mid new). inl (ends.0, short_from ends.1))
-                  (λ rest. inr (⊎_elim
-                  (λ (refused : (cause : FollowErr) × IsOfStream cause × SaysRefusal p stage.world.history it.bytes mid new cause). inl (refused.0, refused.1, refusal_from refused.2))
-                  (λ (unlike : (same ≡ true) × (why : Unlike) × SaysUnlike p stage.world.history stage.world it.bytes mid new why). inr (unlike.0, unlike.1, unlike_from unlike.2))
-                  rest))
-                  (from.stream e);
-              full = λ e. let full = from.full e in (full.0, full.1, full.2, refusal_from full.3);
-              quiet = λ silent. from.quiet silent ∙ files.quiet;
-              its_own = from.its_own;
-            };
+        follows_it = λ stage is. follows_from old mid new files.quiet (it.follows_it p stage.world.history stage.world (begins stage is).0 (begins stage is).1);
         images = images;
         from_settled = λ tells settled stage is. from_settled old new (StandbyMoment p commands stage.world.history it.bytes old new) lawful tells settled (inl (opens.stands, refl)) (images tells stage is);
         opened = λ tells disk memory stage is.
@@ -828,15 +877,6 @@ module _ {budget : Budget} {p : Params} {commands : List Command} {old mid : Dis
       goes_on tells stage is =
           weaker mid new (FollowMoment p stage.world.history it.bytes mid new) (FollowMoment p stage.world.history it.bytes old new) (it.images (before.moments_told.0 tells) p stage.world.history (begins stage is).0)
           (λ image said m. (m.0, ⊎_elim (λ (none : said ≡ mid.said). inl (none ∙ files.quiet)) (λ there. inr there) m.1))
-
-      short_from : {h : List (Member Command)} → SaysShort p h it.bytes mid new → SaysShort p h it.bytes old new
-      short_from is = record { rest = is.rest; all = is.all; some = is.some; unfinished = is.unfinished; fine = is.fine; place = is.place; place_is = is.place_is; said = is.said ∙ ap (λ (l : List ℕ). l ++ notices.short is.place) files.quiet }
-
-      refusal_from : {h : List (Member Command)} {cause : FollowErr} → SaysRefusal p h it.bytes mid new cause → SaysRefusal p h it.bytes old new cause
-      refusal_from {cause = cause} is = record { standby = is.standby; following = is.following; refused = is.refused; said = is.said ∙ ap (λ (l : List ℕ). l ++ notice_of cause) files.quiet }
-
-      unlike_from : {h : List (Member Command)} {w : World Command} {why : Unlike} → SaysUnlike p h w it.bytes mid new why → SaysUnlike p h w it.bytes old new why
-      unlike_from {why = why} is = record { standby = is.standby; follows = is.follows; unlike = is.unlike; said = is.said ∙ ap (λ (l : List ℕ). l ++ notice_of_unlike why) files.quiet }
 
 -- the following of a stream may end as one of no store
 pub unopened_follow : (status : Status) → IsOfUnopened status → IsOfFollow status

@@ -15,7 +15,7 @@ use Rattle.op_codec.specs.AllOps.{all_meaning}
 use Rattle.restart.specs.Starts.{OrAtStart}
 use Rattle.standing.specs.Standing.{FilesShow}
 use Rattle.standby_node.specs.Feeding.{FeedsTo, HasRefused, IsLedTo}
-use Rattle.standby_node.specs.Same.{AreAllSame, AreCodesIn, IsUnlikeIn, Unlike}
+use Rattle.standby_node.specs.Same.{AreAllSame, AreCodesIn, IsUnlikeIn, Unlike, ends_at}
 use Rattle.standby_node.specs.Same.Unlike.{other, gone}
 use Rattle.standby_node.specs.Standby.{AreFramesOf, IsFollowing, StandbyView}
 use Rattle.standby_node.specs.declared.follow_err.FollowErr.{FollowErr}
@@ -157,36 +157,44 @@ abbrev pub at_end : Option ℕ → ℕ → Result ℕ Cut
 at_end None commands = Ok commands
 at_end (Some place) commands = Err (cuts.Short place)
 
--- of a store in this world that has a record of its own with an LSN of these whole frames, it is the same as theirs
+-- of a store in this world that has a record of its own with an LSN of the whole frames with which these bytes begin, it is the
+-- same as theirs
 abbrev pub AreItsOwn : Params → World Command → List ℕ → Type 0
 AreItsOwn p w bytes = (codes : List (List ℕ)) × AreCodesIn (meaning_in p) w codes × AreAllSame w.base (meaning_in p) codes bytes
 
--- a record of these bytes is not the same, or its place is no longer in the log
-abbrev pub IsNotItsOwn : Params → World Command → List ℕ → Unlike → Type 0
-IsNotItsOwn p w bytes why = (codes : List (List ℕ)) × AreCodesIn (meaning_in p) w codes × IsUnlikeIn w.base (meaning_in p) codes bytes why
+-- so it is where they are compared
+abbrev pub HasOwn : Bool → Params → World Command → List ℕ → Type 0
+HasOwn same p w bytes = same ≡ true → AreItsOwn p w bytes
+
+-- the records of the front of these bytes are its own, and behind it one of them is not the same, or its place is no longer in the log
+pub record IsNotItsOwn (p : Params) (w : World Command) (front bytes : List ℕ) (why : Unlike) : Type 0 where
+  pub codes : List (List ℕ)
+  pub codes_are : AreCodesIn (meaning_in p) w codes
+  pub same : AreAllSame w.base (meaning_in p) codes front
+  pub unlike : IsUnlikeIn w.base (meaning_in p) codes bytes why
 
 -- what was found of an input that is compared, by how the following ended
-abbrev pub ComparesInput : Bool → Params → World Command → List ℕ → Result ℕ Cut → Type 0
-ComparesInput same p w bytes (Ok n) = same ≡ true → AreItsOwn p w bytes
-ComparesInput same p w bytes (Err (cuts.Short place)) = ⊤
-ComparesInput same p w bytes (Err (cuts.Refused cause)) = ⊤
-ComparesInput same p w bytes (Err (cuts.Unread error)) = ⊤
-ComparesInput same p w bytes (Err (cuts.Unlike number)) = (same ≡ true) × IsNotItsOwn p w bytes (other number)
-ComparesInput same p w bytes (Err (cuts.Unknown number)) = (same ≡ true) × IsNotItsOwn p w bytes (gone number)
+abbrev pub ComparesInput : Bool → Params → World Command → List ℕ → List ℕ → Result ℕ Cut → Type 0
+ComparesInput same p w front bytes (Ok n) = HasOwn same p w bytes
+ComparesInput same p w front bytes (Err (cuts.Short place)) = HasOwn same p w bytes
+ComparesInput same p w front bytes (Err (cuts.Refused cause)) = HasOwn same p w bytes ⊎ IsOfMachine cause
+ComparesInput same p w front bytes (Err (cuts.Unread error)) = HasOwn same p w bytes ⊎ (error ≡ NoMemory)
+ComparesInput same p w front bytes (Err (cuts.Unlike number)) = (same ≡ true) × IsNotItsOwn p w front bytes (other number)
+ComparesInput same p w front bytes (Err (cuts.Unknown number)) = (same ≡ true) × IsNotItsOwn p w front bytes (gone number)
 
--- the pieces before the last one were followed
+-- these bytes were followed, all whole frames of them
 abbrev pub FollowsFront : Params → List (Member Command) → List ℕ → Disk → StandbyView → Type 0
-FollowsFront p first bytes d standby = (front : List ℕ) × (piece : List ℕ) × (bytes ≡ front ++ piece) × IsFollowing all_meaning p first front d standby
+FollowsFront p first front d standby = IsFollowing all_meaning p first front d standby × IsUnfinished standby.frames.kept
 
 -- What an open standby made of its input, of which these bytes were taken, by how that ended: all of it was followed, and there are
--- so many commands, or it ends within a frame, or it was refused, or a record in its last piece is not the same.
-abbrev pub FollowsInput : Params → List (Member Command) → List ℕ → Type 0 → Disk → StandbyView → Result ℕ Cut → Type 0
-FollowsInput p first bytes ended d standby (Ok n) = ended × (all : ShowsFollowed p first bytes [] d) × (n ≡ length all.commands)
-FollowsInput p first bytes ended d standby (Err (cuts.Short place)) = ended × (rest : List ℕ) × ShowsFollowed p first bytes rest d × (rest ≢ []) × IsUnfinished rest × (HasBadLength rest → ⊥) × (place + length rest ≡ length bytes)
-FollowsInput p first bytes ended d standby (Err (cuts.Refused cause)) = ((following : IsFollowing all_meaning p first bytes d standby) × HasRefused (meaning_in p) following.world.history standby cause) ⊎ IsOfMachine cause
-FollowsInput p first bytes ended d standby (Err (cuts.Unread error)) = ⊤
-FollowsInput p first bytes ended d standby (Err (cuts.Unlike number)) = FollowsFront p first bytes d standby
-FollowsInput p first bytes ended d standby (Err (cuts.Unknown number)) = FollowsFront p first bytes d standby
+-- so many commands, or it ends within a frame, or it was refused, or a record behind its front is not the same.
+abbrev pub FollowsInput : Params → List (Member Command) → List ℕ → List ℕ → Type 0 → Disk → StandbyView → Result ℕ Cut → Type 0
+FollowsInput p first front bytes ended d standby (Ok n) = ended × (all : ShowsFollowed p first bytes [] d) × (n ≡ length all.commands)
+FollowsInput p first front bytes ended d standby (Err (cuts.Short place)) = ended × (rest : List ℕ) × ShowsFollowed p first bytes rest d × (rest ≢ []) × IsUnfinished rest × (HasBadLength rest → ⊥) × (place + length rest ≡ length bytes)
+FollowsInput p first front bytes ended d standby (Err (cuts.Refused cause)) = ((following : IsFollowing all_meaning p first bytes d standby) × HasRefused (meaning_in p) following.world.history standby cause) ⊎ IsOfMachine cause
+FollowsInput p first front bytes ended d standby (Err (cuts.Unread error)) = ⊤
+FollowsInput p first front bytes ended d standby (Err (cuts.Unlike number)) = FollowsFront p first front d standby
+FollowsInput p first front bytes ended d standby (Err (cuts.Unknown number)) = FollowsFront p first front d standby
 
 -- the input was read to its end, and has fewer bytes than it may have
 abbrev pub HasEnded : Type 0 → List ℕ → List ℕ → Type 0
@@ -199,10 +207,14 @@ pub record IsInputFollowed (same : Bool) (told : Type 0) (left rest : List ℕ) 
   pub bytes : List ℕ
   pub taken : told → left ≡ bytes ++ rest
   pub few : length bytes ≤ 2 ^ 40
-  pub follows_it : (p : Params) (first : List (Member Command)) → Begins p first old before → FollowsInput p first bytes (HasEnded told left rest) new after result
+  -- those that came before the last piece
+  pub front : List ℕ
+  pub piece : List ℕ
+  pub split : bytes ≡ front ++ piece
+  pub follows_it : (p : Params) (first : List (Member Command)) → Begins p first old before → FollowsInput p first front bytes (HasEnded told left rest) new after result
   pub images : old.tells_moments → (p : Params) (first : List (Member Command)) → Begins p first old before → LeavesOnly old new (IsSilent (StreamMoment p first bytes) old.said)
   pub leads : (p : Params) (w : World Command) → ShowsIn p old before.engine w → WhereFollowed result (IsLedTo all_meaning p new after.engine w)
-  pub compares : (p : Params) (w : World Command) → ShowsIn p old before.engine w → ComparesInput same p w bytes result
+  pub compares : (p : Params) (w : World Command) → ShowsIn p old before.engine w → ComparesInput same p w front bytes result
 
 -- a moment of it and of what is said behind it: once something is said, the files are those that are there at the end
 abbrev pub FollowMoment : Params → List (Member Command) → List ℕ → Disk → Disk → Files → List ℕ → Type 0
@@ -231,11 +243,15 @@ pub record LeadsOn (p : Params) (w : World Command) (old new : Disk) (status : S
   pub stream : status ≡ BadStream → ShowLed p w new.reads ⊎ ((cause : FollowErr) × IsOfStream cause × (new.said ≡ old.said ++ notice_of cause))
 
 -- A record of these bytes is not that of a store in this world, and that is said. The pieces before the one that it came with were
--- followed.
+-- compared and followed, and all of them end before its frame does.
 pub record SaysUnlike (p : Params) (first : List (Member Command)) (w : World Command) (bytes : List ℕ) (old new : Disk) (why : Unlike) : Type 0 where
   pub standby : StandbyView
-  pub follows : FollowsFront p first bytes new standby
-  pub unlike : IsNotItsOwn p w bytes why
+  pub front : List ℕ
+  pub piece : List ℕ
+  pub split : bytes ≡ front ++ piece
+  pub follows : FollowsFront p first front new standby
+  pub unlike : IsNotItsOwn p w front bytes why
+  pub later : length front < ends_at w.base (meaning_in p) unlike.unlike
   pub said : new.said ≡ old.said ++ notice_of_unlike why
 
 -- What the following of a stream, of which these bytes were taken, to the end of the input or not (`ended`), makes of a store with this
@@ -244,9 +260,9 @@ pub record FollowsFrom (same : Bool) (ended : Type 0) (bytes : List ℕ) (p : Pa
   -- with status 0 all of the input was followed; with status 13 it ends within a frame, or was refused; with status 14 the log
   -- has no room for it
   pub done : status ≡ Done → ended × HasFollowed p first bytes old new
-  pub stream : status ≡ BadStream → (ended × SaysShort p first bytes old new) ⊎ (((cause : FollowErr) × IsOfStream cause × SaysRefusal p first bytes old new cause) ⊎ ((same ≡ true) × (why : Unlike) × SaysUnlike p first w bytes old new why))
-  -- with status 0, where it is compared, what was passed over is the store's own
-  pub its_own : same ≡ true → status ≡ Done → AreItsOwn p w bytes
+  pub stream : status ≡ BadStream → (HasOwn same p w bytes × ((ended × SaysShort p first bytes old new) ⊎ ((cause : FollowErr) × IsOfStream cause × SaysRefusal p first bytes old new cause))) ⊎ ((same ≡ true) × (why : Unlike) × SaysUnlike p first w bytes old new why)
+  -- where it is compared, what was passed over is the store's own
+  pub its_own : IsFollowedThrough status ⊎ (status ≡ StandbyFull) → HasOwn same p w bytes
   pub full : status ≡ StandbyFull → (used : ℕ) × (need : ℕ) × (limit : ℕ) × SaysRefusal p first bytes old new (errors.LogFull used need limit)
   pub quiet : IsSilentEnd status → new.said ≡ old.said
 

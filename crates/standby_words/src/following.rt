@@ -178,6 +178,7 @@ fn follow_open<M: Machine, S: Source>(
     ensures read_fault { result ≡ Status.ReadFault → Rises (S.faults input.old) (S.faults input.new) }
     ensures too_long { S.tells input.old → result ≡ Status.TooLong → ReadsOn (S.left input.old) (S.left input.new) 0 (2 ^ 40) }
 {
+    a_stream_is_compared::<AllOps>();
     match follow_input(alloc, same, standby, machine, input) {
         Ok(commands) => end_numbered(alloc, machine, b"followed", &[commands], Status::Done),
         Err(Cut::Short { place }) => {

@@ -1,4 +1,4 @@
-use Rattle.std.proofs.Common.{◌≡◌, ◌∙◌, ◌+◌, ◌^◌, ◌≤◌, ◌++◌, [], List, ℕ, ap, arith, length, drop, subst, sym, take}
+use Rattle.std.proofs.Common.{◌≡◌, ◌∙◌, ◌+◌, ◌^◌, ◌≤◌, ◌++◌, [], List, ℕ, ap, arith, inl, inr, length, drop, refl, subst, sym, take}
 use Rattle.std.proofs.lemmas.List.{length-take-le}
 use Rattle.frame_stream.specs.FrameBuffer.{taken_by}
 use Rattle.script_lines.specs.declared.read_error.ReadError.TheVariants.{Memory}
@@ -16,7 +16,7 @@ pub returns-in_err-piece-clause-followed : goal.returns-in_err-piece-clause-foll
 returns-in_err-piece-clause-followed g c =
     let begin = starts_taking (g.S.Source.left c.args.input.now) (g.M.Machine.disk c.args.machine.now) (g.M.Machine.disk c.mirror_for.new.machine) c.args.standby.now c.mirror_for.new.standby (g.met.M.Machine.lawful c.args.machine.now) c.requires.fine c.requires.fresh c.standby_stands.ensures
     c.mirror_for.ensures.read (λ failed. cc (c.in_ok-mirror.was, failed)) c.mirror_for.ensures.rest c.mirror_for.ensures.attached in
-    stops_so c.args.same begin Memory c.from_residual-in_err-piece.result c.from_residual-in_err-piece.ensures.1
+    stops_so c.args.same begin Memory c.from_residual-in_err-piece.result c.from_residual-in_err-piece.ensures.1 (λ p w shows. inr refl)
 
 pub loop-piece-init : goal.loop-piece-init
 loop-piece-init g c =
@@ -31,8 +31,10 @@ loop-piece-init g c =
 
 pub returns-in_err-count-clause-followed : goal.returns-in_err-count-clause-followed
 returns-in_err-count-clause-followed g c =
+    let taking = c.loop-piece.invariant.taking in
+    let own = its_own c.a_stream_is_compared.ensures.same c.args.same (g.M.Machine.disk c.args.machine.now) c.args.standby.now.engine taking.0.bytes c.loop-piece.mirror taking.1 in
     subst (λ (l : List ℕ). IsInputFollowed c.args.same (g.S.Source.tells c.args.input.now) (g.S.Source.left c.args.input.now) l (g.M.Machine.disk c.args.machine.now) (g.M.Machine.disk c.loop-piece.machine) c.args.standby.now c.loop-piece.standby c.from_residual-in_err-count.result) (sym c.in_err-count.ensures.kept)
-    (stops_so c.args.same c.loop-piece.invariant.taking.0 c.in_err-count.field-0.0 c.from_residual-in_err-count.result c.from_residual-in_err-count.ensures.1)
+    (stops_so c.args.same taking.0 c.in_err-count.field-0.0 c.from_residual-in_err-count.result c.from_residual-in_err-count.ensures.1 (λ p w shows. inl (own p w shows)))
 
 pub compare_piece-requires : goal.compare_piece-requires
 compare_piece-requires g c =
@@ -62,7 +64,7 @@ returns-in_err-compare_piece-clause-followed g c =
     let whole : length c.deref.result.now ≡ c.loop-piece.piece.len = ap (λ (l : List ℕ). length l) c.deref.ensures.value ∙ written_length c.loop-piece.piece.len c.read_piece.new.piece rest size in
     let long : length (take n c.deref.result.now) ≡ n = length-take-le n c.deref.result.now (omega (arith, within, whole)) in
     let few : taken_by c.loop-piece.standby.frames + length (take n c.deref.result.now) ≤ 2 ^ 40 = omega (arith, long, c.taken.ensures, c.in_ok-count.ensures.count.1) in
-    unlike_so c.args.same taking (take n c.deref.result.now) later c.loop-piece.mirror c.compare_piece.new.mirror c.in_err-compare_piece.field-0.0 c.from_residual-in_err-compare_piece.result c.from_residual-in_err-compare_piece.ensures.1 so_far.taking.1 c.in_err-compare_piece.ensures (λ told. c.in_ok-count.ensures.bytes (so_far.told told) ∙ ap (λ (l : List ℕ). l ++ later) (sym front)) few
+    unlike_so c.args.same taking c.a_stream_is_compared.ensures.same (take n c.deref.result.now) later c.loop-piece.mirror c.compare_piece.new.mirror c.in_err-compare_piece.field-0.0 c.from_residual-in_err-compare_piece.result c.from_residual-in_err-compare_piece.ensures.1 so_far.taking.1 c.in_err-compare_piece.ensures (λ told. c.in_ok-count.ensures.bytes (so_far.told told) ∙ ap (λ (l : List ℕ). l ++ later) (sym front)) few
 
 pub returns-in_err-commands-clause-followed : goal.returns-in_err-commands-clause-followed
 returns-in_err-commands-clause-followed g c =
@@ -77,7 +79,9 @@ returns-in_err-commands-clause-followed g c =
     let whole : length c.deref.result.now ≡ c.loop-piece.piece.len = ap (λ (l : List ℕ). length l) c.deref.ensures.value ∙ written_length c.loop-piece.piece.len c.read_piece.new.piece rest size in
     let long : length (take n c.deref.result.now) ≡ n = length-take-le n c.deref.result.now (omega (arith, within, whole)) in
     let few : taken_by c.loop-piece.standby.frames + length (take n c.deref.result.now) ≤ 2 ^ 40 = omega (arith, long, c.taken.ensures, c.in_ok-count.ensures.count.1) in
+    let mirror = mirror_more c.args.same (g.M.Machine.disk c.args.machine.now) c.args.standby.now.engine taking.bytes (take n c.deref.result.now) c.loop-piece.mirror c.compare_piece.new.mirror so_far.taking.1 c.in_ok-compare_piece.ensures in
     refused_so c.args.same taking later c.in_err-commands.field-0.0 c.from_residual-in_err-commands.result c.from_residual-in_err-commands.ensures.1 (c.in_err-commands.ensures.fed taking.fine) (λ told. c.in_ok-count.ensures.bytes (so_far.told told) ∙ ap (λ (l : List ℕ). l ++ later) (sym front)) few
+    (its_own c.a_stream_is_compared.ensures.same c.args.same (g.M.Machine.disk c.args.machine.now) c.args.standby.now.engine (taking.bytes ++ take n c.deref.result.now) c.compare_piece.new.mirror mirror)
 
 pub loop-piece-preserved : goal.loop-piece-preserved
 loop-piece-preserved g c =
@@ -114,6 +118,6 @@ returns-then-count-eq0-clause-followed g c =
     let few : taken_by c.loop-piece.standby.frames + length (take n c.deref.result.now) ≤ 2 ^ 40 = omega (arith, long, c.taken.ensures, c.in_ok-count.ensures.count.1) in
     let mirror = mirror_more c.args.same (g.M.Machine.disk c.args.machine.now) c.args.standby.now.engine taking.bytes (take n c.deref.result.now) c.loop-piece.mirror c.compare_piece.new.mirror so_far.taking.1 c.in_ok-compare_piece.ensures in
     ends_so c.args.same taking later c.in_ok-commands.commands (g.met.M.Machine.lawful c.feed.new.machine) (c.in_ok-commands.ensures.fed taking.fine) (λ told. c.in_ok-count.ensures.bytes (so_far.told told) ∙ ap (λ (l : List ℕ). l ++ later) (sym front)) few
-    (its_own c.args.same (g.M.Machine.disk c.args.machine.now) c.args.standby.now.engine (taking.bytes ++ take n c.deref.result.now) c.compare_piece.new.mirror c.a_stream_is_compared.ensures mirror)
+    (its_own c.a_stream_is_compared.ensures.same c.args.same (g.M.Machine.disk c.args.machine.now) c.args.standby.now.engine (taking.bytes ++ take n c.deref.result.now) c.compare_piece.new.mirror mirror)
     (λ told. c.in_ok-count.ensures.end (so_far.told told) (cc (c.if-count-eq0.true)))
     (let none : n ≡ 0 = c.if-count-eq0.true in omega (arith, long, none, c.taken.ensures, c.in_ok-count.ensures.count.2)) c.standby_stands-then-count-eq0.ensures c.ended.result c.ended.ensures

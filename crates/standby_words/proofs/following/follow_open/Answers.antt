@@ -65,7 +65,7 @@ returns-in-Err-Unlike-clause-time g c = passes_twice (g.M.Machine.disk c.args.ma
 
 pub returns-in-Err-Unlike-clause-followed : goal.returns-in-Err-Unlike-clause-followed
 returns-in-Err-Unlike-clause-followed g c =
-    open_unlike (g.met.M.Machine.lawful c.follow_input.new.machine) c.follow_input.ensures.time c.follow_input.ensures.quiet c.end_numbered-in-Err-Unlike.ensures.says (cuts.Unlike c.in-Err-Unlike.lsn) (other c.in-Err-Unlike.lsn) (λ p first ended bytes it. it) (λ p w bytes it. it) (λ P it. it)
+    open_unlike (g.met.M.Machine.lawful c.follow_input.new.machine) c.follow_input.ensures.time c.follow_input.ensures.quiet c.end_numbered-in-Err-Unlike.ensures.says c.a_stream_is_compared.ensures.later (cuts.Unlike c.in-Err-Unlike.lsn) (other c.in-Err-Unlike.lsn) (λ p first front ended bytes it. it) (λ p w front bytes it. it) (λ P it. it)
     (subst (λ (cut : Cut). IsInputFollowed c.args.same (g.S.Source.tells c.args.input.now) (g.S.Source.left c.args.input.now) (g.S.Source.left c.follow_input.new.input) (g.M.Machine.disk c.args.machine.now) (g.M.Machine.disk c.follow_input.new.machine) c.args.standby.now c.follow_input.new.standby (Err cut)) c.in-Err-Unlike.field-0-is c.in-Err-Unlike.ensures.followed)
     c.end_numbered-in-Err-Unlike.ensures.status c.end_numbered-in-Err-Unlike.ensures.all
     (λ is. ap (λ (d : Disk). d.said) (ap g.M.Machine.disk (⊎_elim (λ e. cc e) (λ same. same) (c.end_numbered-in-Err-Unlike.ensures.silent is))))
@@ -78,7 +78,7 @@ returns-in-Err-Unknown-clause-time g c = passes_twice (g.M.Machine.disk c.args.m
 
 pub returns-in-Err-Unknown-clause-followed : goal.returns-in-Err-Unknown-clause-followed
 returns-in-Err-Unknown-clause-followed g c =
-    open_unlike (g.met.M.Machine.lawful c.follow_input.new.machine) c.follow_input.ensures.time c.follow_input.ensures.quiet c.end_numbered-in-Err-Unknown.ensures.says (cuts.Unknown c.in-Err-Unknown.lsn) (gone c.in-Err-Unknown.lsn) (λ p first ended bytes it. it) (λ p w bytes it. it) (λ P it. it)
+    open_unlike (g.met.M.Machine.lawful c.follow_input.new.machine) c.follow_input.ensures.time c.follow_input.ensures.quiet c.end_numbered-in-Err-Unknown.ensures.says c.a_stream_is_compared.ensures.later (cuts.Unknown c.in-Err-Unknown.lsn) (gone c.in-Err-Unknown.lsn) (λ p first front ended bytes it. it) (λ p w front bytes it. it) (λ P it. it)
     (subst (λ (cut : Cut). IsInputFollowed c.args.same (g.S.Source.tells c.args.input.now) (g.S.Source.left c.args.input.now) (g.S.Source.left c.follow_input.new.input) (g.M.Machine.disk c.args.machine.now) (g.M.Machine.disk c.follow_input.new.machine) c.args.standby.now c.follow_input.new.standby (Err cut)) c.in-Err-Unknown.field-0-is c.in-Err-Unknown.ensures.followed)
     c.end_numbered-in-Err-Unknown.ensures.status c.end_numbered-in-Err-Unknown.ensures.all
     (λ is. ap (λ (d : Disk). d.said) (ap g.M.Machine.disk (⊎_elim (λ e. cc e) (λ same. same) (c.end_numbered-in-Err-Unknown.ensures.silent is))))
