@@ -21,6 +21,7 @@ use Rattle.shell_base.specs.declared.status.Status.TheVariants.{RestartMemory}
 use Rattle.store_words.specs.Dump.{dump_of, DumpMoment}
 use Rattle.store_words.specs.Upgrading.{GrowthMoment, UpgradeMoment}
 use Rattle.standby_words.specs.Following.{FollowMoment, FollowingMoment, StandbyMoment}
+use Rattle.standby_words.specs.FollowingLaws.{follows_from}
 use Rattle.standby_words.specs.Shipping.{ShipMoment}
 use Rattle.script_run.specs.Answers.{Moment}
 use Rattle.script_run.specs.RunCalls.{IsRunOn}
@@ -136,10 +137,16 @@ module _ {p : Params} {commands : List Command} {old mid : Disk} (lawful : IsDis
             (subst (λ (l : List ℕ). LeavesOnly mid new (OrAtStart mid (ShipMoment p commands from l))) still.quiet (on.images (time.moments_told.0 tells))),
         steps_twice (λ again here. TableMoment Least p commands mid again here) ((first.log p commands opens).unopened tells refl) (on.steps (time.moments_told.0 tells)),
       )
-  call_twice few (Follow same) told left rest status first second = (
-    second.bytes,
-    rest,
-    second.taken,
-    λ stage is. follow_twice stage.world.history second.bytes ((second.stream p commands still.opens).images (time.moments_told.0 tells) stage is),
-    steps_twice (λ again here. FollowingMoment Least p commands mid again here second.bytes new) ((first.stream p commands opens).unopened tells refl) ((second.stream p commands still.opens).steps (time.moments_told.0 tells)),
-  )
+  call_twice few (Follow same) told left rest status first second =
+      let on = second.stream p commands still.opens in
+      let tells_mid = time.moments_told.0 tells in (
+        second.bytes,
+        rest,
+        second.taken,
+        record {
+          images = λ stage is. follow_twice stage.world.history second.bytes (on.images tells_mid stage is);
+          first = (on.first.0, on.first.1);
+          follows_it = λ stage is. follows_from old mid new still.quiet (on.follows_it stage is);
+          steps = steps_twice (λ again here. FollowingMoment Least p commands mid again here second.bytes new) ((first.stream p commands opens).unopened tells refl) (on.steps tells_mid);
+        },
+      )

@@ -1,5 +1,5 @@
 -- A call whose restart was refused memory, and the same call again with the least budget, as one call.
-use Rattle.std.specs.Prelude.{◌≡◌, ◌≢◌, ◌⊎◌, ◌++◌, ℕ, List}
+use Rattle.std.specs.Prelude.{◌≡◌, ◌≢◌, ◌⊎◌, ◌++◌, ℕ, Bool, List}
 use Rattle.disk_model.specs.Disk.{Files, Disk, LeavesOnly, IsSettled}
 use Rattle.formats.specs.declared.params.Params.{Params}
 use Rattle.restart.specs.Starts.{OrAtStart}
@@ -16,7 +16,7 @@ use Rattle.shell_base.specs.declared.status.Status.{Status}
 use Rattle.shell_base.specs.declared.status.Status.TheVariants.{Done, DoneWithRefusals, NotAStore, Damaged, DiskFault, RestartMemory}
 use Rattle.store_words.specs.Dump.{dump_of, DumpMoment}
 use Rattle.store_words.specs.Upgrading.{GrowthMoment, UpgradeMoment}
-use Rattle.standby_words.specs.Following.{FollowingMoment, StandbyMoment}
+use Rattle.standby_words.specs.Following.{FollowingMoment, FollowsFrom, HasEnded, StandbyMoment}
 use Rattle.standby_words.specs.Shipping.{ShipMoment}
 use Rattle.script_run.specs.Answers.{Moment, SaysTruly}
 use Rattle.script_run.specs.Courses.{RunMoment}
@@ -52,6 +52,14 @@ module _ (p : Params) (commands : List Command) (old mid new : Disk) where
     pub unopened : status ≡ RestartMemory → StandsStill p commands old new
     pub store : (status ≢ NotAStore) × (status ≢ Damaged)
 
+  -- A stream is followed, of which the second call takes these bytes, to the end of the input or not (`ended`).
+  pub record IsFollowTwice (same : Bool) (ended : Type 0) (bytes : List ℕ) (status : Status) : Type 0 where
+    pub images : (first : Stage) → IsFirst Least p commands mid first → LeavesOnly old new (OrAtStart old (StandbyMoment p commands first.world.history bytes old new))
+    -- from each stage that the second restart may make of the files it is followed as by one call, and compared where that is asked
+    pub first : (first : Stage) × IsFirst Least p commands mid first
+    pub follows_it : (first : Stage) → IsFirst Least p commands mid first → FollowsFrom same ended bytes p first.world.history first.world old new status
+    pub steps : StepsTwice (λ again here. FollowingMoment Least p commands mid again here bytes new)
+
 -- What the two make of files that stand for commands, by what was asked: what a crash at any moment of either leaves is what a
 -- crash at the start could leave, or what one call leaves. The input had `left` at the start, where its source reports that; of one
 -- that does not the same holds of some script.
@@ -63,9 +71,7 @@ IsCallTwice (Upgrade q) p commands told left old mid new status = LeavesOnly old
     × StepsTwice p commands old mid new (λ again here. GrowthMoment Least p q commands mid again here)
 IsCallTwice (Ship from) p commands told left old mid new status = LeavesOnly old new (OrAtStart old (ShipMoment p commands from old.said))
     × StepsTwice p commands old mid new (λ again here. TableMoment Least p commands mid again here)
-IsCallTwice (Follow same) p commands told left old mid new status = (bytes : List ℕ) × (rest : List ℕ) × (told → left ≡ bytes ++ rest)
-    × ((first : Stage) → IsFirst Least p commands mid first → LeavesOnly old new (OrAtStart old (StandbyMoment p commands first.world.history bytes old new)))
-    × StepsTwice p commands old mid new (λ again here. FollowingMoment Least p commands mid again here bytes new)
+IsCallTwice (Follow same) p commands told left old mid new status = (bytes : List ℕ) × (rest : List ℕ) × (told → left ≡ bytes ++ rest) × IsFollowTwice p commands old mid new same (HasEnded told left rest) bytes status
 -- these open no store that is there
 IsCallTwice (Init q) p commands told left old mid new status = ⊥
 IsCallTwice (Demo seed steps) p commands told left old mid new status = ⊥
