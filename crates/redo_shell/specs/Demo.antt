@@ -19,7 +19,7 @@ use Rattle.script_run.specs.Replies.{is_refusing}
 use Rattle.script_run.specs.Answers.{Answers}
 use Rattle.script_run.specs.Groups.{Account, account_of}
 use Rattle.script_run.specs.Printed.{texts_of}
-use Rattle.script_run.specs.Stages.{AllGoBy}
+use Rattle.script_run.specs.Stages.{AllGoBy, PacedStage, unpaced}
 use Rattle.script_run.specs.declared.tending.Tending.TheVariants.{ByHand}
 
 -- the numbers of its store
@@ -38,8 +38,8 @@ pub record IsAnsweredAnew (script : List (List ℕ)) (replies : List Reply) (add
   pub new : IsNewStore demo_params (disk_of machine).reads
   pub first : Stage
   pub is_first : IsFirst Usual demo_params [] (disk_of machine) first
-  pub last : Stage
-  pub goes : AllGoBy ByHand demo_params first script replies last
+  pub last : PacedStage
+  pub goes : AllGoBy ByHand demo_params (unpaced first) script replies last
 
 -- A script of these lines was answered on a new store: these bytes were said, and so many commands accepted.
 pub record IsPlayed (script : List (List ℕ)) (said : List ℕ) (accepted : ℕ) : Type 0 where

@@ -9,17 +9,20 @@ use Rattle.explain_core.specs.World.{World}
 use Rattle.op_codec.specs.AllOps.{all_meaning}
 use Rattle.script_lines.specs.Replies.{Reply}
 use Rattle.store_engine.specs.Engine.{EngineView, forced_in}
+use Rattle.store_engine.specs.Paces.{first_pace}
+use Rattle.store_engine.specs.declared.pace.Pace.{Pace}
 use Rattle.backup_copy.specs.Copies.{Copies}
 use Rattle.shell_base.specs.First.{Stage, stage_of}
 use Rattle.shell_base.specs.Store.{Between, Command, Holds}
 use Rattle.shell_base.specs.declared.stop.Stop.{Stop}
 use Rattle.script_run.specs.declared.tending.Tending.{Tending}
 use Rattle.script_run.specs.Answers.{with_begun}
-use Rattle.script_run.specs.Run.{Answering, Going, IsAnswered, IsPartly}
+use Rattle.script_run.specs.Run.{Answering, GoingOn, IsAnswered, IsPartly}
+use Rattle.script_run.specs.Stages.{IsTendedTo, PacedStage}
 use Rattle.script_run.specs.Saving.{AnsweringBeside, AsksBackup, AsksFinish, BackupGoesOn, BackupIsSaid, BackupSoFar, BackupStays, IsBackedUp, PassesBy, SaysOfBackup}
 use Rattle.script_run.proofs.GroupLemmas.{AsksOnce}
 use Rattle.script_run.specs.StartLaws.{AreFew, same_passes, says_none}
-use Rattle.script_run.proofs.RunLemmas.{IsFresh, IsTold, gone_on, opened, told_begun, told_finish, told_here, told_quiet, whole_at, with_next}
+use Rattle.script_run.proofs.RunLemmas.{IsTold, gone_on, opened, told_begun, told_finish, told_here, told_quiet, whole_at, with_next}
 use Rattle.script_run.proofs.SavingLemmas.{says_longer, says_next, whole_going}
 
 -- an answer beside a backup is an answer
@@ -50,11 +53,19 @@ passes_on (l ∷ lines) line before mid after passes goes = (passes.0, passes.1,
 pub passes_as : {T : Type 0} {lines others : List (List ℕ)} (before after : T) → lines ≡ others → PassesBy lines before after → PassesBy others before after
 passes_as before after same passes = subst (λ (l : List (List ℕ)). PassesBy l before after) same passes
 
--- A run so far, and what it has made of the backup, which was in the one state as it began and is in the other now.
-pub record GoingBeside {T : Type 0} (tending : Tending) (disk : T → Disk) (before mid : T) (p : Params) (first : Stage) (start now : Disk) (engine : EngineView) (commands : List Command) (script todo : List (List ℕ)) (refusing : Bool) : Type 0 where
-  pub going : Going tending p first start now engine commands script todo refusing
+-- A run so far, and what it has made of the backup, which was in the one state as it began and is in the other now. So much was done
+-- behind its last answer.
+pub record BesideOn {T : Type 0} (does : PacedStage → PacedStage → Type 0) (tending : Tending) (disk : T → Disk) (before mid : T) (p : Params) (first : Stage) (start now : Disk) (engine : EngineView) (pace : Pace) (commands : List Command) (script todo : List (List ℕ)) (refusing : Bool) : Type 0 where
+  pub going : GoingOn does tending p first start now engine pace commands script todo refusing
   pub passes : PassesBy going.lines before mid
   pub backup : (disk before).tells_files → BackupSoFar p (disk before) going.lines going.replies going.account.commands now engine going.holds.world (disk mid)
+
+-- the store was tended, or nothing was done
+abbrev pub GoingBeside : {T : Type 0} → Tending → (T → Disk) → T → T → Params → Stage → Disk → Disk → EngineView → Pace → List Command → List (List ℕ) → List (List ℕ) → Bool → Type 0
+GoingBeside tending disk before mid p = BesideOn (IsTendedTo tending p) tending disk before mid p
+
+abbrev pub FreshBeside : {T : Type 0} → Tending → (T → Disk) → T → T → Params → Stage → Disk → Disk → EngineView → Pace → List Command → List (List ℕ) → List (List ℕ) → Bool → Type 0
+FreshBeside tending disk before mid p = BesideOn (λ old new. old ≡ new) tending disk before mid p
 
 pub none_made : {p : Params} {d : Disk} {engine : EngineView} {w : World Command} (commands : List Command) (start : Disk) → engine.copied ≡ None → BackupSoFar p start [] [] commands d engine w start
 none_made {p} {d} {engine} {w} commands start none = record {
@@ -66,10 +77,6 @@ none_made {p} {d} {engine} {w} commands start none = record {
     copying = subst (λ (o : Option ℕ). IfSome o (λ n. Copies all_meaning p d engine w start)) (sym none) tt;
   };
 }
-
--- behind whose last answer no upkeep was done yet
-abbrev pub FreshBeside : {T : Type 0} → Tending → (T → Disk) → T → T → Params → Stage → Disk → Disk → EngineView → List Command → List (List ℕ) → List (List ℕ) → Bool → Type 0
-FreshBeside tending disk before mid p first start now engine commands script todo refusing = (b : GoingBeside tending disk before mid p first start now engine commands script todo refusing) × IsFresh b.going
 
 -- the line that it came to next
 next_of : {tending : Tending} {p : Params} {first : Stage} {start new : Disk} {commands : List Command} {script lines : List (List ℕ)} {replies : List Reply} {every : List Command} {next : List (List ℕ)} (told : IsTold tending p first commands script start new lines replies every next)
@@ -106,16 +113,16 @@ backed_up disk {before} {later} {tending} {p} {lines = lines} {replies} {every} 
 }
 
 -- a store is open, of which no backup is made yet
-abbrev pub opened_beside : {T : Type 0} (disk : T → Disk) (before : T) → AreFew → {tending : Tending} {p : Params} {start : Disk} {engine : EngineView} {commands : List Command} (script : List (List ℕ)) → IsDisk start → (holds : Holds p start engine commands)
-    → forced_in engine ≡ length commands → engine.group ≡ None → engine.copied ≡ None → GoingBeside tending disk before before p (stage_of engine holds.world) start start engine commands script script false
-opened_beside disk before few {commands = commands} script lawful holds all alone none = record {
-  going = opened few script lawful holds all alone;
+abbrev pub opened_beside : {T : Type 0} (disk : T → Disk) (before : T) → AreFew → {tending : Tending} {p : Params} {start : Disk} {engine : EngineView} {commands : List Command} {pace : Pace} (script : List (List ℕ)) → IsDisk start → (holds : Holds p start engine commands)
+    → forced_in engine ≡ length commands → engine.group ≡ None → engine.copied ≡ None → pace ≡ first_pace → FreshBeside tending disk before before p (stage_of engine holds.world) start start engine pace commands script script false
+opened_beside disk before few {commands = commands} script lawful holds all alone none is = record {
+  going = opened few script lawful holds all alone is;
   passes = refl;
   backup = λ tells. none_made commands (disk before) none;
 }
 
-module _ {T : Type 0} (disk : T → Disk) {before mid later : T} {tending : Tending} {p : Params} {first : Stage} {start now new : Disk} {engine after : EngineView} {commands : List Command} {script todo : List (List ℕ)} {refusing : Bool} {result : Result Bool Stop}
-    (few : AreFew) (line : List ℕ) (b : GoingBeside tending disk before mid p first start now engine commands script (line ∷ todo) refusing) (time : Passes start now) (backup_time : Passes (disk before) (disk mid))
+module _ {T : Type 0} (disk : T → Disk) {before mid later : T} {tending : Tending} {p : Params} {first : Stage} {start now new : Disk} {engine after : EngineView} {commands : List Command} {script todo : List (List ℕ)} {refusing : Bool} {pace : Pace} {result : Result Bool Stop}
+    (few : AreFew) (line : List ℕ) (b : GoingBeside tending disk before mid p first start now engine pace commands script (line ∷ todo) refusing) (time : Passes start now) (backup_time : Passes (disk before) (disk mid))
     (a : AnsweringBeside p (disk before) now new engine after b.going.holds.world b.going.account.commands line (disk mid) (disk later) result) (idle : (AsksBackup line → ⊥) → later ≡ mid) where
   -- only a line of a backup did anything with it
   still_passes : PassesBy (b.going.lines ++ line ∷ []) before later
@@ -127,24 +134,22 @@ module _ {T : Type 0} (disk : T → Disk) {before mid later : T} {tending : Tend
       × BackupGoesOn p (disk before) now new engine after b.going.holds.world b.going.account.commands line (disk mid) (disk later) whole.reply whole.all whole.kept.holds.world
 
   -- the run goes on
-  pub goes_on_beside : {kind : Bool} → AsksOnce → result ≡ Ok kind → FreshBeside tending disk before later p first start new after commands script todo (refusing || kind)
+  pub goes_on_beside : {kind : Bool} → AsksOnce → result ≡ Ok kind → FreshBeside tending disk before later p first start new after pace commands script todo (refusing || kind)
   goes_on_beside {kind} once is =
       let g = b.going in
       let both : Whole kind = subst (λ (r : Result Bool Stop). IfOk r Whole) is a.whole in
       let whole = both.0 in
-      let on = gone_on few once line g time (answering_of result a) whole in (
-        record {
-          going = on.later;
-          passes = passes_as before later (sym on.lines_are) still_passes;
-          backup = λ tells.
-              subst (λ (l : List (List ℕ)). BackupSoFar p (disk before) l on.later.replies on.later.account.commands new after on.later.holds.world (disk later)) (sym on.lines_are)
-              (subst (λ (r : List Reply). BackupSoFar p (disk before) (g.lines ++ line ∷ []) r on.later.account.commands new after on.later.holds.world (disk later)) (sym on.replies_are)
-              (subst (λ (c : List Command). BackupSoFar p (disk before) (g.lines ++ line ∷ []) (g.replies ++ whole.reply ∷ []) c new after on.later.holds.world (disk later)) (sym on.commands_are)
-              (subst (λ (v : World Command). BackupSoFar p (disk before) (g.lines ++ line ∷ []) (g.replies ++ whole.reply ∷ []) whole.all new after v (disk later)) (sym on.world_is)
-              (both.1 (backup_time.files_told.0 tells) g.lines g.replies (b.backup tells)))));
-        },
-        on.fresh,
-      )
+      let on = gone_on few once line g time (answering_of result a) whole in
+      record {
+        going = on.later;
+        passes = passes_as before later (sym on.lines_are) still_passes;
+        backup = λ tells.
+            subst (λ (l : List (List ℕ)). BackupSoFar p (disk before) l on.later.replies on.later.account.commands new after on.later.holds.world (disk later)) (sym on.lines_are)
+            (subst (λ (r : List Reply). BackupSoFar p (disk before) (g.lines ++ line ∷ []) r on.later.account.commands new after on.later.holds.world (disk later)) (sym on.replies_are)
+            (subst (λ (c : List Command). BackupSoFar p (disk before) (g.lines ++ line ∷ []) (g.replies ++ whole.reply ∷ []) c new after on.later.holds.world (disk later)) (sym on.commands_are)
+            (subst (λ (v : World Command). BackupSoFar p (disk before) (g.lines ++ line ∷ []) (g.replies ++ whole.reply ∷ []) whole.all new after v (disk later)) (sym on.world_is)
+            (both.1 (backup_time.files_told.0 tells) g.lines g.replies (b.backup tells)))));
+      }
 
   abbrev Quiet : Type 0
   Quiet = (new.said ≡ now.said) × BackupStays p (disk before) now new engine after b.going.holds.world b.going.account.commands line (disk mid) (disk later)
@@ -165,18 +170,18 @@ module _ {T : Type 0} (disk : T → Disk) {before mid later : T} {tending : Tend
       (subst (λ (r : Result Bool Stop). OnErr r (Quiet ⊎ Begun)) is a.partly)
 
 -- a run that ends between two lines, or in the last force
-module _ {T : Type 0} (disk : T → Disk) {before mid : T} {tending : Tending} {p : Params} {first : Stage} {start now : Disk} {engine : EngineView} {commands : List Command} {script : List (List ℕ)} {refusing : Bool} where
-  pub ends_here_beside : {todo : List (List ℕ)} → GoingBeside tending disk before mid p first start now engine commands script todo refusing → IsBackedUp tending disk p first commands script start now before mid
+module _ {T : Type 0} (disk : T → Disk) {before mid : T} {tending : Tending} {p : Params} {first : Stage} {start now : Disk} {engine : EngineView} {commands : List Command} {script : List (List ℕ)} {refusing : Bool} {does : PacedStage → PacedStage → Type 0} {pace : Pace} where
+  pub ends_here_beside : {todo : List (List ℕ)} → BesideOn does tending disk before mid p first start now engine pace commands script todo refusing → IsBackedUp tending disk p first commands script start now before mid
   ends_here_beside b = backed_up disk (told_here b.going) (passes_as before mid (sym (append-nil b.going.lines)) b.passes) (λ tells. (whole_going (b.backup tells)).says)
 
-  pub ends_in_finish_beside : {new : Disk} (b : GoingBeside tending disk before mid p first start now engine commands script [] refusing) → Passes start now → new.said ≡ now.said
+  pub ends_in_finish_beside : {new : Disk} (b : BesideOn does tending disk before mid p first start now engine pace commands script [] refusing) → Passes start now → new.said ≡ now.said
       → (now.tells_moments → LeavesOnly now new (Between p now None (forced_in engine) (length b.going.account.commands) b.going.account.commands)) → IsBackedUp tending disk p first commands script start new before mid
   ends_in_finish_beside b time quiet images = backed_up disk (told_finish b.going time quiet images) (passes_as before mid (sym (append-nil b.going.lines)) b.passes) (λ tells. (whole_going (b.backup tells)).says)
 
   -- the lines that are left
-  pub goes_to_beside : {todo : List (List ℕ)} (rest : List (List ℕ)) → GoingBeside tending disk before mid p first start now engine commands script todo refusing → todo ≡ rest → GoingBeside tending disk before mid p first start now engine commands script rest refusing
-  goes_to_beside rest b is = subst (λ (l : List (List ℕ)). GoingBeside tending disk before mid p first start now engine commands script l refusing) is b
+  pub goes_to_beside : {todo : List (List ℕ)} (rest : List (List ℕ)) → BesideOn does tending disk before mid p first start now engine pace commands script todo refusing → todo ≡ rest → BesideOn does tending disk before mid p first start now engine pace commands script rest refusing
+  goes_to_beside rest b is = subst (λ (l : List (List ℕ)). BesideOn does tending disk before mid p first start now engine pace commands script l refusing) is b
 
   -- a run that has answered all its lines has one more
-  pub next_beside : (line : List ℕ) → GoingBeside tending disk before mid p first start now engine commands script [] refusing → GoingBeside tending disk before mid p first start now engine commands (script ++ line ∷ []) (line ∷ []) refusing
+  pub next_beside : (line : List ℕ) → BesideOn does tending disk before mid p first start now engine pace commands script [] refusing → BesideOn does tending disk before mid p first start now engine pace commands (script ++ line ∷ []) (line ∷ []) refusing
   next_beside line b = record { going = with_next line b.going; passes = b.passes; backup = b.backup }

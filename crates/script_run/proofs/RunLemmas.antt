@@ -22,6 +22,8 @@ use Rattle.script_lines.specs.Replies.{Reply, forced, said_line}
 use Rattle.op_codec.specs.AllOps.{all_meaning}
 use Rattle.store_engine.specs.Engine.{EngineView, IsAfterIn, accepted_in, forced_in, used_in}
 use Rattle.store_engine.specs.Grouping.{ungrouped}
+use Rattle.store_engine.specs.Paces.{first_pace}
+use Rattle.store_engine.specs.declared.pace.Pace.{Pace}
 use Rattle.shell_base.specs.Store.{Command, meaning_in, Stands, Holds, Between}
 use Rattle.shell_base.specs.First.{Stage, stage_of}
 use Rattle.shell_base.specs.Status.{IsCut, status_after}
@@ -32,42 +34,30 @@ use Rattle.shell_base.specs.HoldLaws.{holds_as, holds_stays, holds_between, told
 use Rattle.script_run.specs.Groups.{AreWhole, Becomes, Regroups, account_of, open_in, waiting}
 use Rattle.script_run.specs.Made.{IsFront}
 use Rattle.script_run.specs.Replies.{Replies, IsTrueIn, is_refusing}
-use Rattle.script_run.specs.Stages.{IsKeptUp, IsQuestion, Ends, GoesBy, Leads, AllGoBy, finish_course}
+use Rattle.script_run.specs.Stages.{AllGoBy, Ends, GoesBy, IsQuestion, Leads, PacedStage, finish_course, paced_in, unpaced}
 use Rattle.script_run.specs.declared.tending.Tending.{Tending}
 use Rattle.script_run.specs.declared.tending.Tending.TheVariants.{ByHand, ByLine}
 use Rattle.script_run.specs.Answers.{IsSilent, Moment, TrueWithin, SaysTruly, with_begun, with_line}
 use Rattle.script_run.specs.Courses.{IsAtWork, IsBehind, IsBetween, StageMoment, Works}
-use Rattle.script_run.specs.Run.{IsTrueSaying, IsTrueSoFar, IsAnswered, IsPartly, Working, During, LineMoment, LineStage, StageSoFar, MomentSoFar, Going, IsComplete, IsAnswerFound, Answering, IsRun}
+use Rattle.script_run.specs.Run.{IsTrueSaying, IsTrueSoFar, IsAnswered, IsPartly, Working, During, LineMoment, LineStage, StageSoFar, MomentSoFar, FreshGoing, Going, GoingOn, IsComplete, IsAnswerFound, Answering, IsRun}
 use Rattle.script_run.proofs.GroupLemmas.{AsksOnce, after_whole, none_open, whole_ended, whole_late}
-use Rattle.script_run.proofs.MomentLemmas.{found_steps, images_show, worked_none, works_line}
+use Rattle.script_run.proofs.MomentLemmas.{found_steps, images_show, works_line}
 use Rattle.script_run.proofs.TrueLemmas.{truly_on, truly_quiet, line_behind, found_truly}
 use Rattle.script_run.specs.StoryLaws.{AreEven, after_within, answers_even, becomes_front, ended_whole, next_in, goes_by_more, told_goes, told_truly, said_longer, Story, story_more, story_end, said_more, spoken_more, told_whole, told_silent, told_partly}
 use Rattle.script_run.specs.StartLaws.{AreFew, moment_of, moment_at, first_moment}
 
 -- no upkeep is done
-pub none_kept : (tending : Tending) (p : Params) (s : Stage) → IsKeptUp tending p s s
-none_kept ByHand p s = refl
-none_kept ByLine p s = inl refl
-
-pub nothing_between : (tending : Tending) (p : Params) (s : Stage) (files : Files) → FilesShow (meaning_in p) p files s.world → IsBetween tending p s files
-nothing_between ByHand p s files shows = shows
-nothing_between ByLine p s files shows = inl shows
-
--- none was done behind the last answer
-abbrev pub IsFresh : {tending : Tending} {p : Params} {first : Stage} {start now : Disk} {engine : EngineView} {commands : List Command} {script todo : List (List ℕ)} {refusing : Bool} → Going tending p first start now engine commands script todo refusing → Type 0
-IsFresh {engine = engine} g = g.stage ≡ stage_of engine g.holds.world
-
--- such a run
-abbrev pub FreshGoing : Tending → Params → Stage → Disk → Disk → EngineView → List Command → List (List ℕ) → List (List ℕ) → Bool → Type 0
-FreshGoing tending p first start now engine commands script todo refusing = (g : Going tending p first start now engine commands script todo refusing) × IsFresh g
+pub nothing_between : (tending : Tending) (p : Params) (at : PacedStage) (files : Files) → FilesShow (meaning_in p) p files at.stage.world → IsBetween tending p at files
+nothing_between ByHand p at files shows = shows
+nothing_between ByLine p at files shows = inl shows
 
 -- the story so far
-abbrev story_of : {tending : Tending} {p : Params} {first : Stage} {start now : Disk} {engine : EngineView} {commands : List Command} {script todo : List (List ℕ)} {refusing : Bool}
-    → (g : Going tending p first start now engine commands script todo refusing) → Story p commands script todo g.replies g.waits g.account
+abbrev story_of : {tending : Tending} {p : Params} {first : Stage} {start now : Disk} {engine : EngineView} {commands : List Command} {script todo : List (List ℕ)} {refusing : Bool} {does : PacedStage → PacedStage → Type 0} {pace : Pace}
+    → (g : GoingOn does tending p first start now engine pace commands script todo refusing) → Story p commands script todo g.replies g.waits g.account
 story_of g = record { lines = g.lines; script_is = g.script_is; answers = g.answers }
 
 -- what a moment between these has of the account splits no group
-pub whole_at : {tending : Tending} {p : Params} {first : Stage} {start now : Disk} {engine : EngineView} {commands : List Command} {script todo : List (List ℕ)} {refusing : Bool} (g : Going tending p first start now engine commands script todo refusing) (kept : ℕ)
+pub whole_at : {tending : Tending} {p : Params} {first : Stage} {start now : Disk} {engine : EngineView} {commands : List Command} {script todo : List (List ℕ)} {refusing : Bool} {does : PacedStage → PacedStage → Type 0} {pace : Pace} (g : GoingOn does tending p first start now engine pace commands script todo refusing) (kept : ℕ)
     → (kept ≡ forced_in engine) ⊎ ((engine.group ≡ None) × (length g.account.commands ≤ kept)) → AreWhole kept g.account
 whole_at {engine = engine} g kept which = ⊎_elim
     (λ (same : kept ≡ forced_in engine). subst (λ (k : ℕ). AreWhole k g.account) (sym same) g.whole)
@@ -75,28 +65,28 @@ whole_at {engine = engine} g kept which = ⊎_elim
     which
 
 -- while nothing is said, the story is that of the lines before, with some first commands of the next
-silent_moment : AreFew → {tending : Tending} {p : Params} {first : Stage} {start now : Disk} {engine : EngineView} {commands : List Command} {script todo : List (List ℕ)} {refusing : Bool}
-    (g : Going tending p first start now engine commands script todo refusing) (added : List Command) → IsSilent p g.account.commands todo added → (f : Files) (s : List ℕ)
+silent_moment : AreFew → {tending : Tending} {p : Params} {first : Stage} {start now : Disk} {engine : EngineView} {commands : List Command} {script todo : List (List ℕ)} {refusing : Bool} {does : PacedStage → PacedStage → Type 0} {pace : Pace}
+    (g : GoingOn does tending p first start now engine pace commands script todo refusing) (added : List Command) → IsSilent p g.account.commands todo added → (f : Files) (s : List ℕ)
     → Between p now engine.group (forced_in engine) (length g.account.commands) (g.account.commands ++ added) f s → MomentSoFar p commands script start.said f s
 silent_moment few {tending} {p} {start = start} g added silent f s b =
     moment_of few start.said (flat_map said_line g.replies) f s b.kept (told_silent (IsTrueIn p f) added (story_of g) silent) (b.quiet ∙ g.said_is) (omega (arith, g.all_before, b.enough))
     b.within (whole_at g b.kept b.which) b.stands (λ n has. omega (arith, g.acked n has, b.enough))
 
-working_moment : AreFew → {tending : Tending} {p : Params} {first : Stage} {start now : Disk} {engine : EngineView} {commands : List Command} {script todo : List (List ℕ)} {refusing : Bool} (line : List ℕ)
-    (g : Going tending p first start now engine commands script (line ∷ todo) refusing) → (f : Files) (s : List ℕ) → Working p now engine g.account.commands line f s → MomentSoFar p commands script start.said f s
+working_moment : AreFew → {tending : Tending} {p : Params} {first : Stage} {start now : Disk} {engine : EngineView} {commands : List Command} {script todo : List (List ℕ)} {refusing : Bool} {does : PacedStage → PacedStage → Type 0} {pace : Pace} (line : List ℕ)
+    (g : GoingOn does tending p first start now engine pace commands script (line ∷ todo) refusing) → (f : Files) (s : List ℕ) → Working p now engine g.account.commands line f s → MomentSoFar p commands script start.said f s
 working_moment few {tending} {p} {todo = todo} line g f s w =
     silent_moment few g w.added (⊎_elim (λ (none : w.added ≡ []). inl none) (λ (front : IsFront p g.account.commands line w.added). inr (line, todo, refl, front)) w.front) f s w.between
 
 -- so it is while the store is tended
-pub tending_moment : AreFew → {tending : Tending} {p : Params} {first : Stage} {start now : Disk} {engine : EngineView} {commands : List Command} {script todo : List (List ℕ)} {refusing : Bool}
-    (g : Going tending p first start now engine commands script todo refusing) → (f : Files) (s : List ℕ) → Between p now engine.group (forced_in engine) (length g.account.commands) g.account.commands f s → MomentSoFar p commands script start.said f s
+pub tending_moment : AreFew → {tending : Tending} {p : Params} {first : Stage} {start now : Disk} {engine : EngineView} {commands : List Command} {script todo : List (List ℕ)} {refusing : Bool} {does : PacedStage → PacedStage → Type 0} {pace : Pace}
+    (g : GoingOn does tending p first start now engine pace commands script todo refusing) → (f : Files) (s : List ℕ) → Between p now engine.group (forced_in engine) (length g.account.commands) g.account.commands f s → MomentSoFar p commands script start.said f s
 tending_moment few {tending} {p} {now = now} {engine = engine} g f s b =
     let c = g.account.commands in
     silent_moment few g [] (inl refl) f s (subst (λ (l : List Command). Between p now engine.group (forced_in engine) (length c) l f s) (sym (append-nil c)) b)
 
 -- while an answer is said, it has begun, or is whole
-during_moment : AreFew → {tending : Tending} {p : Params} {first : Stage} {start now : Disk} {engine : EngineView} {commands : List Command} {script todo : List (List ℕ)} {refusing : Bool} (line : List ℕ)
-    (g : Going tending p first start now engine commands script (line ∷ todo) refusing) → (f : Files) (s : List ℕ) → During p now engine g.account.group g.account.commands line f s → MomentSoFar p commands script start.said f s
+during_moment : AreFew → {tending : Tending} {p : Params} {first : Stage} {start now : Disk} {engine : EngineView} {commands : List Command} {script todo : List (List ℕ)} {refusing : Bool} {does : PacedStage → PacedStage → Type 0} {pace : Pace} (line : List ℕ)
+    (g : GoingOn does tending p first start now engine pace commands script (line ∷ todo) refusing) → (f : Files) (s : List ℕ) → During p now engine g.account.group g.account.commands line f s → MomentSoFar p commands script start.said f s
 during_moment few {tending} {p} {first} {start} {now} {engine} {commands} {script} line g f s d =
     moment_of few start.said (flat_map said_line g.replies ++ take d.count (said_line d.reply)) f s d.kept
     (told_partly (IsTrueIn p f) line d.reply d.added d.count (story_of g) d.replies d.tied)
@@ -104,14 +94,14 @@ during_moment few {tending} {p} {first} {start} {now} {engine} {commands} {scrip
     (omega (arith, g.all_before, d.enough)) d.within (whole_at g d.kept d.which) d.stands
     (λ n has. ⊎_elim (λ (h : Contains g.replies (forced n)). omega (arith, g.acked n h, d.enough)) (λ (h : d.reply ≡ forced n). d.acked n h) (spoken_more g.replies d.reply n has))
 
-line_moment : AreFew → {tending : Tending} {p : Params} {first : Stage} {start now : Disk} {engine : EngineView} {commands : List Command} {script todo : List (List ℕ)} {refusing : Bool} (line : List ℕ)
-    (g : Going tending p first start now engine commands script (line ∷ todo) refusing) → (f : Files) (s : List ℕ) → LineMoment p now engine (open_in g.holds.world) g.account.commands line f s → MomentSoFar p commands script start.said f s
+line_moment : AreFew → {tending : Tending} {p : Params} {first : Stage} {start now : Disk} {engine : EngineView} {commands : List Command} {script todo : List (List ℕ)} {refusing : Bool} {does : PacedStage → PacedStage → Type 0} {pace : Pace} (line : List ℕ)
+    (g : GoingOn does tending p first start now engine pace commands script (line ∷ todo) refusing) → (f : Files) (s : List ℕ) → LineMoment p now engine (open_in g.holds.world) g.account.commands line f s → MomentSoFar p commands script start.said f s
 line_moment few {tending} {p} {now = now} {engine = engine} line g f s here = ⊎_elim (working_moment few line g f s)
     (λ (d : During p now engine (open_in g.holds.world) g.account.commands line f s). during_moment few line g f s (subst (λ (o : Option ℕ). During p now engine o g.account.commands line f s) (sym g.group) d)) here
 
 -- while the group is closed and the log forced, the story is that of all lines
-finish_moment : AreFew → {tending : Tending} {p : Params} {first : Stage} {start now : Disk} {engine : EngineView} {commands : List Command} {script : List (List ℕ)} {refusing : Bool}
-    (g : Going tending p first start now engine commands script [] refusing) → (f : Files) (s : List ℕ) → Between p now None (forced_in engine) (length g.account.commands) g.account.commands f s → Moment p commands script start.said f s
+finish_moment : AreFew → {tending : Tending} {p : Params} {first : Stage} {start now : Disk} {engine : EngineView} {commands : List Command} {script : List (List ℕ)} {refusing : Bool} {does : PacedStage → PacedStage → Type 0} {pace : Pace}
+    (g : GoingOn does tending p first start now engine pace commands script [] refusing) → (f : Files) (s : List ℕ) → Between p now None (forced_in engine) (length g.account.commands) g.account.commands f s → Moment p commands script start.said f s
 finish_moment few {tending} {p} {first} {start} {now} {engine} {commands} {script} g f s b =
     let c = g.account.commands in
     let all : c ++ [] ≡ c = append-nil c in
@@ -136,9 +126,9 @@ some_left : (line : List ℕ) (todo : List (List ℕ)) → line ∷ todo ≡ [] 
 some_left line todo none = cc
 
 -- what is done while a line is answered is a moment of the stages
-stage_line : {tending : Tending} {p : Params} {first : Stage} {start now : Disk} {engine : EngineView} {commands : List Command} {script todo : List (List ℕ)} {refusing : Bool} (line : List ℕ)
-    (g : Going tending p first start now engine commands script (line ∷ todo) refusing) → (f : Files) (s : List ℕ) → LineStage p (stage_of engine g.holds.world) now.said line f s → StageSoFar tending p first script start.said f s
-stage_line {tending} {p} {first} {start} {now} {engine} {commands} {script} {todo} line g f s (inl b) = record {
+stage_line : {tending : Tending} {p : Params} {first : Stage} {start now : Disk} {engine : EngineView} {commands : List Command} {script todo : List (List ℕ)} {refusing : Bool} {pace : Pace} (line : List ℕ)
+    (g : Going tending p first start now engine pace commands script (line ∷ todo) refusing) → (f : Files) (s : List ℕ) → LineStage p (stage_of engine g.holds.world) now.said line f s → StageSoFar tending p first script start.said f s
+stage_line {tending} {p} {first} {start} {now} {engine} {commands} {script} {todo} {pace = pace} line g f s (inl b) = record {
   is = record {
     lines = g.lines;
     todo = line ∷ todo;
@@ -148,11 +138,11 @@ stage_line {tending} {p} {first} {start} {now} {engine} {commands} {script} {tod
     script_is = g.script_is;
     said_is = b.silent ∙ g.said_is ∙ sym (append-nil (start.said ++ flat_map said_line g.replies));
     goes = g.goes;
-    work = inr (stage_of engine g.holds.world, g.kept, inl (refl, record { its = b.holds.its; due = b.holds.due; shows = b.holds.shows }));
+    work = inr (paced_in engine g.holds.world pace, g.done, inl (refl, record { its = b.holds.its; due = b.holds.due; shows = b.holds.shows }));
   };
   waiting = λ none. absurd (some_left line todo none);
 }
-stage_line {tending} {p} {first} {start} {now} {engine} {commands} {script} {todo} line g f s (inr b) = record {
+stage_line {tending} {p} {first} {start} {now} {engine} {commands} {script} {todo} {pace = pace} line g f s (inr b) = record {
   is = record {
     lines = g.lines;
     todo = line ∷ todo;
@@ -162,15 +152,15 @@ stage_line {tending} {p} {first} {start} {now} {engine} {commands} {script} {tod
     script_is = g.script_is;
     said_is = b.1 ∙ ap (λ (l : List ℕ). l ++ b.0) g.said_is;
     goes = g.goes;
-    work = inr (stage_of engine g.holds.world, g.kept, inr (line, todo, refl, b.2));
+    work = inr (paced_in engine g.holds.world pace, g.done, inr (line, todo, refl, b.2));
   };
   waiting = λ none. absurd (some_left line todo none);
 }
 
-courses_more : {tending : Tending} {p : Params} {first : Stage} {start now new : Disk} {engine after : EngineView} {commands : List Command} {script todo : List (List ℕ)} {refusing : Bool} {result : Result Bool Stop} (line : List ℕ)
-    (g : Going tending p first start now engine commands script (line ∷ todo) refusing) → Passes start now → Answering p now new engine after g.holds.world g.account.commands line result
+courses_more : {tending : Tending} {p : Params} {first : Stage} {start now new : Disk} {engine after : EngineView} {commands : List Command} {script todo : List (List ℕ)} {refusing : Bool} {pace : Pace} {result : Result Bool Stop} (line : List ℕ)
+    (g : Going tending p first start now engine pace commands script (line ∷ todo) refusing) → Passes start now → Answering p now new engine after g.holds.world g.account.commands line result
     → start.tells_moments → LeavesOnly start new (StageSoFar tending p first script start.said)
-courses_more {tending} {p} {first} {start} {now} {new} {engine} {after} {commands} {script} {todo} {refusing} {result} line g time a told =
+courses_more {tending} {p} {first} {start} {now} {new} {engine} {after} {commands} {script} {todo} line g time a told =
     runs_on start now new (StageSoFar tending p first script start.said) (g.steps told)
     (weaker now new (LineStage p (stage_of engine g.holds.world) now.said line) (StageSoFar tending p first script start.said) (a.steps (time.moments_told.0 told)) (stage_line line g))
 
@@ -179,9 +169,9 @@ pub told_so_far : {tending : Tending} {p : Params} {first : Stage} {start now : 
 told_so_far {tending} {p} {first} {start} {now} {script} leaves = weaker start now (StageSoFar tending p first script start.said) (StageMoment tending p first script start.said) leaves (λ f s m. m.is)
 
 -- the end of an open group and the force after the last line
-stage_finish : {tending : Tending} {p : Params} {first : Stage} {start now : Disk} {engine : EngineView} {commands : List Command} {script : List (List ℕ)} {refusing : Bool} (g : Going tending p first start now engine commands script [] refusing)
+stage_finish : {tending : Tending} {p : Params} {first : Stage} {start now : Disk} {engine : EngineView} {commands : List Command} {script : List (List ℕ)} {refusing : Bool} {pace : Pace} (g : Going tending p first start now engine pace commands script [] refusing)
     → (f : Files) (s : List ℕ) → IsQuiet (ShowsSome (meaning_in p) p g.holds.world (finish_course (meaning_in p) g.holds.world (used_in engine)).steps) now.said f s → StageMoment tending p first script start.said f s
-stage_finish {tending} {p} {first} {start} {now} {engine} {commands} {script} g f s b = record {
+stage_finish {tending} {p} {first} {start} {now} {engine} {commands} {script} {pace = pace} g f s b = record {
   lines = g.lines;
   todo = [];
   replies = g.replies;
@@ -190,7 +180,7 @@ stage_finish {tending} {p} {first} {start} {now} {engine} {commands} {script} g 
   script_is = g.script_is;
   said_is = b.silent ∙ g.said_is ∙ sym (append-nil (start.said ++ flat_map said_line g.replies));
   goes = g.goes;
-  work = inr (stage_of engine g.holds.world, g.kept, inl (refl, record { its = finish_course (meaning_in p) g.holds.world (used_in engine); due = refl; shows = b.holds }));
+  work = inr (paced_in engine g.holds.world pace, g.done, inl (refl, record { its = finish_course (meaning_in p) g.holds.world (used_in engine); due = refl; shows = b.holds }));
 }
 
 -- at the start nothing is done
@@ -204,13 +194,13 @@ stage_start {tending} {p} {start} {engine} {commands} script lawful holds told f
         todo = script;
         replies = [];
         part = [];
-        stage = stage_of engine holds.world;
+        stage = unpaced (stage_of engine holds.world);
         script_is = refl;
         said_is = lawful.said_now told f s left ∙ sym (append-nil start.said) ∙ sym (append-nil (start.said ++ []));
         goes = refl;
-        work = inl (refl, nothing_between tending p (stage_of engine holds.world) f shows);
+        work = inl (refl, nothing_between tending p (unpaced (stage_of engine holds.world)) f shows);
       };
-      waiting = λ none. (refl, nothing_between tending p (stage_of engine holds.world) f shows);
+      waiting = λ none. (refl, nothing_between tending p (unpaced (stage_of engine holds.world)) f shows);
     }
 
 -- one line more is to come
@@ -218,10 +208,10 @@ line_longer : (p : Params) (stage : Stage) (line next part : List ℕ) (f : File
 line_longer p stage line next part f rest (inl work) = inl (work.0, record { its = work.1.its; due = work.1.due; shows = work.1.shows })
 line_longer p stage line next part f rest (inr work) = inr (work.0, work.1 ++ line ∷ [], ap (λ (l : List (List ℕ)). l ++ line ∷ []) work.2, work.3)
 
-work_longer : (tending : Tending) (p : Params) (stage : Stage) (line part : List ℕ) (f : Files) (todo : List (List ℕ)) → (todo ≡ [] → (part ≡ []) × IsBetween tending p stage f) → IsBehind tending p stage todo part f → IsBehind tending p stage (todo ++ line ∷ []) part f
+work_longer : (tending : Tending) (p : Params) (stage : PacedStage) (line part : List ℕ) (f : Files) (todo : List (List ℕ)) → (todo ≡ [] → (part ≡ []) × IsBetween tending p stage f) → IsBehind tending p stage todo part f → IsBehind tending p stage (todo ++ line ∷ []) part f
 work_longer tending p stage line part f [] waits work = inl (waits refl)
 work_longer tending p stage line part f (next ∷ rest) waits (inl between) = inl between
-work_longer tending p stage line part f (next ∷ rest) waits (inr (kept, upkept, work)) = inr (kept, upkept, line_longer p kept line next part f rest work)
+work_longer tending p stage line part f (next ∷ rest) waits (inr (tended, upkept, work)) = inr (tended, upkept, line_longer p tended.stage line next part f rest work)
 
 pub stage_longer : {tending : Tending} {p : Params} {first : Stage} {script : List (List ℕ)} {before : List ℕ} (line : List ℕ) (f : Files) (s : List ℕ) → StageSoFar tending p first script before f s → StageSoFar tending p first (script ++ line ∷ []) before f s
 stage_longer {tending} {p} line f s m = record {
@@ -240,10 +230,10 @@ stage_longer {tending} {p} line f s m = record {
 }
 
 -- the moments of a run, one line further
-moments_more : AreFew → {tending : Tending} {p : Params} {first : Stage} {start now new : Disk} {engine after : EngineView} {commands : List Command} {script todo : List (List ℕ)} {refusing : Bool} {result : Result Bool Stop} (line : List ℕ)
-    (g : Going tending p first start now engine commands script (line ∷ todo) refusing) → Passes start now → Answering p now new engine after g.holds.world g.account.commands line result
+moments_more : AreFew → {tending : Tending} {p : Params} {first : Stage} {start now new : Disk} {engine after : EngineView} {commands : List Command} {script todo : List (List ℕ)} {refusing : Bool} {does : PacedStage → PacedStage → Type 0} {pace : Pace} {result : Result Bool Stop} (line : List ℕ)
+    (g : GoingOn does tending p first start now engine pace commands script (line ∷ todo) refusing) → Passes start now → Answering p now new engine after g.holds.world g.account.commands line result
     → start.tells_moments → LeavesOnly start new (MomentSoFar p commands script start.said)
-moments_more few {tending} {p} {first} {start} {now} {new} {engine} {after} {commands} {script} {todo} {refusing} {result} line g time a told =
+moments_more few {tending} {p} {first} {start} {now} {new} {engine} {after} {commands} {script} {todo} line g time a told =
     runs_on start now new (MomentSoFar p commands script start.said) (g.images told)
     (weaker now new (LineMoment p now engine (open_in g.holds.world) g.account.commands line) (MomentSoFar p commands script start.said) (a.images (time.moments_told.0 told)) (line_moment few line g))
 
@@ -260,33 +250,32 @@ kind_more : (refusing kind : Bool) (replies : List Reply) (reply : Reply) → re
 kind_more refusing kind replies reply before here = grind (arith, before, here, list_any-append is_refusing replies (reply ∷ []))
 
 -- there are as many answers as lines
-pub even_of : {tending : Tending} {p : Params} {first : Stage} {start now : Disk} {engine : EngineView} {commands : List Command} {script todo : List (List ℕ)} {refusing : Bool}
-    (g : Going tending p first start now engine commands script todo refusing) → AreEven g.lines g.replies g.waits
+pub even_of : {tending : Tending} {p : Params} {first : Stage} {start now : Disk} {engine : EngineView} {commands : List Command} {script todo : List (List ℕ)} {refusing : Bool} {does : PacedStage → PacedStage → Type 0} {pace : Pace}
+    (g : GoingOn does tending p first start now engine pace commands script todo refusing) → AreEven g.lines g.replies g.waits
 even_of {tending} {p} {commands = commands} g = answers_even p (account_of commands) g.lines g.replies g.waits g.account g.answers
 
 -- what is replied, by the group of the account
-abbrev replies_in : {tending : Tending} {p : Params} {first : Stage} {start now : Disk} {engine : EngineView} {commands : List Command} {script todo : List (List ℕ)} {refusing : Bool} (g : Going tending p first start now engine commands script todo refusing) (line : List ℕ) (reply : Reply) (added : List Command)
+abbrev replies_in : {tending : Tending} {p : Params} {first : Stage} {start now : Disk} {engine : EngineView} {commands : List Command} {script todo : List (List ℕ)} {refusing : Bool} {does : PacedStage → PacedStage → Type 0} {pace : Pace} (g : GoingOn does tending p first start now engine pace commands script todo refusing) (line : List ℕ) (reply : Reply) (added : List Command)
     → Replies p (open_in g.holds.world) g.account.commands line reply added → Replies p g.account.group g.account.commands line reply added
 replies_in {tending} {p} g line reply added replies = subst (λ (o : Option ℕ). Replies p o g.account.commands line reply added) (sym g.group) replies
 
-abbrev truly_in : {tending : Tending} {p : Params} {first : Stage} {start now : Disk} {engine : EngineView} {commands : List Command} {script todo : List (List ℕ)} {refusing : Bool} (g : Going tending p first start now engine commands script todo refusing) (old new : Disk) (line : List ℕ) (reply : Reply) (added : List Command)
+abbrev truly_in : {tending : Tending} {p : Params} {first : Stage} {start now : Disk} {engine : EngineView} {commands : List Command} {script todo : List (List ℕ)} {refusing : Bool} {does : PacedStage → PacedStage → Type 0} {pace : Pace} (g : GoingOn does tending p first start now engine pace commands script todo refusing) (old new : Disk) (line : List ℕ) (reply : Reply) (added : List Command)
     → LeavesOnly old new (IsTrueSaying p old.said (waiting (open_in g.holds.world) (g.account.commands ++ added)) line reply) → LeavesOnly old new (IsTrueSaying p old.said (waiting g.account.group (g.account.commands ++ added)) line reply)
 truly_in {tending} {p} g old new line reply added truly = subst (λ (o : Option ℕ). LeavesOnly old new (IsTrueSaying p old.said (waiting o (g.account.commands ++ added)) line reply)) (sym g.group) truly
 
 -- The run is one line further, which was answered.
-pub record GoneOn {tending : Tending} {p : Params} {first : Stage} {start now new : Disk} {engine after : EngineView} {commands : List Command} {script todo : List (List ℕ)} {refusing kind : Bool} (line : List ℕ) (g : Going tending p first start now engine commands script (line ∷ todo) refusing)
+pub record GoneOn {tending : Tending} {p : Params} {first : Stage} {start now new : Disk} {engine after : EngineView} {commands : List Command} {script todo : List (List ℕ)} {refusing kind : Bool} {pace : Pace} (line : List ℕ) (g : Going tending p first start now engine pace commands script (line ∷ todo) refusing)
     (whole : IsAnswered p now new engine after g.holds.world g.account.commands line kind) : Type 0 where
-  pub later : Going tending p first start new after commands script todo (refusing || kind)
+  pub later : FreshGoing tending p first start new after pace commands script todo (refusing || kind)
   pub lines_are : later.lines ≡ g.lines ++ line ∷ []
   pub replies_are : later.replies ≡ g.replies ++ whole.reply ∷ []
   pub commands_are : later.account.commands ≡ whole.all
   pub world_is : later.holds.world ≡ whole.kept.holds.world
-  pub fresh : IsFresh later
 
-pub gone_on : AreFew → AsksOnce → {tending : Tending} {p : Params} {first : Stage} {start now new : Disk} {engine after : EngineView} {commands : List Command} {script todo : List (List ℕ)} {refusing kind : Bool} {result : Result Bool Stop} (line : List ℕ)
-    (g : Going tending p first start now engine commands script (line ∷ todo) refusing) → Passes start now → Answering p now new engine after g.holds.world g.account.commands line result
+pub gone_on : AreFew → AsksOnce → {tending : Tending} {p : Params} {first : Stage} {start now new : Disk} {engine after : EngineView} {commands : List Command} {script todo : List (List ℕ)} {refusing kind : Bool} {pace : Pace} {result : Result Bool Stop} (line : List ℕ)
+    (g : Going tending p first start now engine pace commands script (line ∷ todo) refusing) → Passes start now → Answering p now new engine after g.holds.world g.account.commands line result
     → (whole : IsAnswered p now new engine after g.holds.world g.account.commands line kind) → GoneOn line g whole
-gone_on few once {tending} {p} {first} {start} {now} {new} {engine} {after} {commands} {script} {todo} {refusing} {kind} {result} line g time a whole =
+gone_on few once {tending} {p} {first} {start} {now} {new} {engine} {after} {commands} {script} {todo} {refusing} {kind} {pace} line g time a whole =
     let a0 = g.account in
     let reply = whole.reply in
     let added = whole.added in
@@ -319,29 +308,28 @@ gone_on few once {tending} {p} {first} {start} {now} {new} {engine} {after} {com
         images = moments_more few line g time a;
         truly = λ told. subst (λ (l : List ℕ). LeavesOnly start new (IsTrueSoFar p start.said story.lines (g.replies ++ reply ∷ []) (g.waits ++ ops ∷ []) l)) (sym whole.said)
             (truly_on ops line reply (even_of g) (g.truly told) g.said_is (truly_in g now new line reply added (whole.truly (time.moments_told.0 told))));
-        stage = stage_of after whole.kept.holds.world;
-        goes = goes_by_more tending p first g.stage (stage_of after whole.kept.holds.world) g.lines g.replies line reply g.goes (stage_of engine g.holds.world, g.kept, whole.leads);
-        kept = none_kept tending p (stage_of after whole.kept.holds.world);
+        stage = paced_in after whole.kept.holds.world pace;
+        goes = goes_by_more tending p (unpaced first) g.stage (paced_in after whole.kept.holds.world pace) g.lines g.replies line reply g.goes (paced_in engine g.holds.world pace, g.done, whole.leads, refl);
+        done = refl;
         steps = courses_more line g time a;
       };
       lines_are = refl;
       replies_are = refl;
       commands_are = next.commands_are;
       world_is = refl;
-      fresh = refl;
     }
 
-pub goes_on : AreFew → AsksOnce → {tending : Tending} {p : Params} {first : Stage} {start now new : Disk} {engine after : EngineView} {commands : List Command} {script todo : List (List ℕ)} {refusing kind : Bool} {result : Result Bool Stop} (line : List ℕ)
-    (g : Going tending p first start now engine commands script (line ∷ todo) refusing) → Passes start now → result ≡ Ok kind → Answering p now new engine after g.holds.world g.account.commands line result
-    → FreshGoing tending p first start new after commands script todo (refusing || kind)
+pub goes_on : AreFew → AsksOnce → {tending : Tending} {p : Params} {first : Stage} {start now new : Disk} {engine after : EngineView} {commands : List Command} {script todo : List (List ℕ)} {refusing kind : Bool} {pace : Pace} {result : Result Bool Stop} (line : List ℕ)
+    (g : Going tending p first start now engine pace commands script (line ∷ todo) refusing) → Passes start now → result ≡ Ok kind → Answering p now new engine after g.holds.world g.account.commands line result
+    → FreshGoing tending p first start new after pace commands script todo (refusing || kind)
 goes_on few once {tending} {p} {first} {start} {now} {new} {engine} {after} line g time is a =
     let on = gone_on few once line g time a (subst (λ (r : Result Bool Stop). IfOk r (IsAnswered p now new engine after g.holds.world g.account.commands line)) is a.whole) in
-    (on.later, on.fresh)
+    on.later
 
 -- a store is open: nothing is said, and the whole script is still to be answered
-abbrev pub opened : AreFew → {tending : Tending} {p : Params} {start : Disk} {engine : EngineView} {commands : List Command} (script : List (List ℕ)) → IsDisk start → (holds : Holds p start engine commands)
-    → forced_in engine ≡ length commands → engine.group ≡ None → Going tending p (stage_of engine holds.world) start start engine commands script script false
-opened few {tending} {p} {start} {engine} {commands} script lawful holds all alone = record {
+abbrev pub opened : AreFew → {tending : Tending} {p : Params} {start : Disk} {engine : EngineView} {commands : List Command} {pace : Pace} (script : List (List ℕ)) → IsDisk start → (holds : Holds p start engine commands)
+    → forced_in engine ≡ length commands → engine.group ≡ None → pace ≡ first_pace → FreshGoing tending p (stage_of engine holds.world) start start engine pace commands script script false
+opened few {tending} {p} {start} {engine} {commands} script lawful holds all alone is = record {
   lines = [];
   replies = [];
   waits = [];
@@ -360,9 +348,9 @@ opened few {tending} {p} {start} {engine} {commands} script lawful holds all alo
       (λ f s b. first_moment few script f s (subst (λ (n : ℕ). Between p start engine.group n (length commands) commands f s) all b));
   truly = λ told. weaker start start (Between p start engine.group (forced_in engine) (length commands) commands) (IsTrueSoFar p start.said [] [] [] start.said) (holds_between lawful holds told)
       (λ f s b. record { true_within = tt; no_longer = omega (arith, ap length b.quiet) });
-  stage = stage_of engine holds.world;
+  stage = unpaced (stage_of engine holds.world);
   goes = refl;
-  kept = none_kept tending p (stage_of engine holds.world);
+  done = λ i. paced_in engine holds.world (sym is i);
   steps = λ told. started start (StageSoFar tending p (stage_of engine holds.world) script start.said) (stage_start script lawful holds told);
 }
 
@@ -378,15 +366,15 @@ pub record IsTold (tending : Tending) (p : Params) (first : Stage) (commands : L
   pub taken_are : with_line truly.says.story.lines truly.says.story.work ++ take 1 truly.says.story.todo ≡ (lines ++ next) ++ rest
 
 -- what a run says that ends between two lines
-pub told_so_far_by : {tending : Tending} {p : Params} {first : Stage} {start now : Disk} {engine : EngineView} {commands : List Command} {script todo : List (List ℕ)} {refusing : Bool} {new : Disk} (next rest : List (List ℕ)) → take 1 todo ≡ next ++ rest
-    → (g : Going tending p first start now engine commands script todo refusing) → new.said ≡ now.said → (start.tells_moments → LeavesOnly start new (TrueWithin p start.said g.lines g.replies g.waits))
+pub told_so_far_by : {tending : Tending} {p : Params} {first : Stage} {start now : Disk} {engine : EngineView} {commands : List Command} {script todo : List (List ℕ)} {refusing : Bool} {does : PacedStage → PacedStage → Type 0} {pace : Pace} {new : Disk} (next rest : List (List ℕ)) → take 1 todo ≡ next ++ rest
+    → (g : GoingOn does tending p first start now engine pace commands script todo refusing) → new.said ≡ now.said → (start.tells_moments → LeavesOnly start new (TrueWithin p start.said g.lines g.replies g.waits))
     → IsTold tending p first commands script start new g.lines g.replies g.account.commands next
 told_so_far_by {tending} {p} {first} {start} {now} {engine} {new = new} next rest is g quiet truly = let all = told_whole (λ ops line reply. ⊤) (story_of g) in record {
   truly = record {
     says = record { bytes = flat_map said_line g.replies; since = quiet ∙ g.said_is; story = all.story };
     truly = λ told. told_truly start new start.said all (truly told);
     last = g.stage;
-    goes = told_goes tending first g.stage all g.goes;
+    goes = told_goes tending (unpaced first) g.stage all g.goes;
   };
   lines_are = all.lines_are;
   replies_are = all.with_last;
@@ -395,14 +383,14 @@ told_so_far_by {tending} {p} {first} {start} {now} {engine} {new = new} next res
   taken_are = ap (λ (l : List (List ℕ)). g.lines ++ l) is ∙ sym (append_assoc g.lines next rest);
 }
 
-pub told_here : {tending : Tending} {p : Params} {first : Stage} {start now : Disk} {engine : EngineView} {commands : List Command} {script todo : List (List ℕ)} {refusing : Bool}
-    → (g : Going tending p first start now engine commands script todo refusing) → IsTold tending p first commands script start now g.lines g.replies g.account.commands []
+pub told_here : {tending : Tending} {p : Params} {first : Stage} {start now : Disk} {engine : EngineView} {commands : List Command} {script todo : List (List ℕ)} {refusing : Bool} {does : PacedStage → PacedStage → Type 0} {pace : Pace}
+    → (g : GoingOn does tending p first start now engine pace commands script todo refusing) → IsTold tending p first commands script start now g.lines g.replies g.account.commands []
 told_here {tending} {p} {start = start} {now = now} {todo = todo} g =
     told_so_far_by [] (take 1 todo) refl g refl (λ told. weaker start now (IsTrueSoFar p start.said g.lines g.replies g.waits now.said) (TrueWithin p start.said g.lines g.replies g.waits) (g.truly told) (λ files said t. t.true_within))
 
 -- a run that ends between two lines
-pub ends_here : {tending : Tending} {p : Params} {first : Stage} {start now : Disk} {engine : EngineView} {commands : List Command} {script todo : List (List ℕ)} {refusing : Bool} {status : Status}
-    → Going tending p first start now engine commands script todo refusing → IsRun tending p first start now commands script status
+pub ends_here : {tending : Tending} {p : Params} {first : Stage} {start now : Disk} {engine : EngineView} {commands : List Command} {script todo : List (List ℕ)} {refusing : Bool} {does : PacedStage → PacedStage → Type 0} {pace : Pace} {status : Status}
+    → GoingOn does tending p first start now engine pace commands script todo refusing → IsRun tending p first start now commands script status
 ends_here g = record {
   says = (told_here g).truly;
   images = λ told. moments_so_far (g.images told);
@@ -411,8 +399,8 @@ ends_here g = record {
 }
 
 -- one that ends while a line is answered, of which nothing is said, or a beginning of its answer
-module _ {tending : Tending} {p : Params} {first : Stage} {start now new : Disk} {engine after : EngineView} {commands : List Command} {script todo : List (List ℕ)} {refusing : Bool} {result : Result Bool Stop} (line : List ℕ)
-    (g : Going tending p first start now engine commands script (line ∷ todo) refusing) (time : Passes start now) (a : Answering p now new engine after g.holds.world g.account.commands line result) where
+module _ {tending : Tending} {p : Params} {first : Stage} {start now new : Disk} {engine after : EngineView} {commands : List Command} {script todo : List (List ℕ)} {refusing : Bool} {pace : Pace} {result : Result Bool Stop} (line : List ℕ)
+    (g : Going tending p first start now engine pace commands script (line ∷ todo) refusing) (time : Passes start now) (a : Answering p now new engine after g.holds.world g.account.commands line result) where
   pub told_quiet : new.said ≡ now.said → IsTold tending p first commands script start new g.lines g.replies g.account.commands (line ∷ [])
   told_quiet quiet = told_so_far_by (line ∷ []) [] refl g quiet (λ told. truly_quiet (even_of g) (g.truly told) g.said_is (a.images (time.moments_told.0 told)) line_behind)
 
@@ -433,8 +421,9 @@ module _ {tending : Tending} {p : Params} {first : Stage} {start now new : Disk}
               (weaker start new (IsTrueSoFar p start.said (g.lines ++ line ∷ []) (g.replies ++ part.reply ∷ []) (g.waits ++ ops ∷ []) (now.said ++ said_line part.reply))
               (TrueWithin p start.said (g.lines ++ line ∷ []) (g.replies ++ part.reply ∷ []) (g.waits ++ ops ∷ []))
               (truly_on ops line part.reply (even_of g) (g.truly told) g.said_is (truly_in g now new line part.reply part.added (part.truly (time.moments_told.0 told)))) (λ files said t. t.true_within));
-          last = part.after;
-          goes = told_goes tending first part.after told_part (goes_by_more tending p first g.stage part.after g.lines g.replies line part.reply g.goes (stage_of engine g.holds.world, g.kept, part.leads));
+          last = record { stage = part.after; pace = pace };
+          goes = told_goes tending (unpaced first) (record { stage = part.after; pace = pace }) told_part
+              (goes_by_more tending p (unpaced first) g.stage (record { stage = part.after; pace = pace }) g.lines g.replies line part.reply g.goes (paced_in engine g.holds.world pace, g.done, part.leads, refl));
         };
         lines_are = told_part.lines_are;
         replies_are = told_part.with_last;
@@ -443,9 +432,9 @@ module _ {tending : Tending} {p : Params} {first : Stage} {start now new : Disk}
         taken_are = ap (λ (l : List (List ℕ)). l ++ take 1 told_part.story.todo) (told_part.lines_are ∙ sym (append-nil (g.lines ++ line ∷ [])));
       }
 
-pub ends_in_line : AreFew → {tending : Tending} {p : Params} {first : Stage} {start now new : Disk} {engine after : EngineView} {commands : List Command} {script todo : List (List ℕ)} {refusing : Bool} {result : Result Bool Stop} {stop : Stop} {status : Status} (line : List ℕ)
-    (g : Going tending p first start now engine commands script (line ∷ todo) refusing) → Passes start now → result ≡ Err stop → Answering p now new engine after g.holds.world g.account.commands line result → IsRun tending p first start new commands script status
-ends_in_line few {tending} {p} {first} {start} {now} {new} {engine} {after} {commands} {script} {todo} {refusing} {result} {stop} line g time is a = record {
+pub ends_in_line : AreFew → {tending : Tending} {p : Params} {first : Stage} {start now new : Disk} {engine after : EngineView} {commands : List Command} {script todo : List (List ℕ)} {refusing : Bool} {pace : Pace} {result : Result Bool Stop} {stop : Stop} {status : Status} (line : List ℕ)
+    (g : Going tending p first start now engine pace commands script (line ∷ todo) refusing) → Passes start now → result ≡ Err stop → Answering p now new engine after g.holds.world g.account.commands line result → IsRun tending p first start new commands script status
+ends_in_line few {tending} {p} {first} {start} {now} {new} {engine} {after} {commands} {script} {todo} line g time is a = record {
   says = ⊎_elim
       (λ (quiet : new.said ≡ now.said). (told_quiet line g time a quiet).truly)
       (λ (part : IsPartly p now new (stage_of engine g.holds.world) g.account.commands line). (told_begun line g time a part (forced_in engine) (omega (arith, g.holds.says.forced, length-append g.account.commands part.added)) g.whole).truly)
@@ -456,12 +445,12 @@ ends_in_line few {tending} {p} {first} {start} {now} {new} {engine} {after} {com
 }
 
 -- one that ends in the last force, or after it
-pub told_finish : {tending : Tending} {p : Params} {first : Stage} {start now new : Disk} {engine : EngineView} {commands : List Command} {script : List (List ℕ)} {refusing : Bool} (g : Going tending p first start now engine commands script [] refusing) → Passes start now → new.said ≡ now.said
+pub told_finish : {tending : Tending} {p : Params} {first : Stage} {start now new : Disk} {engine : EngineView} {commands : List Command} {script : List (List ℕ)} {refusing : Bool} {does : PacedStage → PacedStage → Type 0} {pace : Pace} (g : GoingOn does tending p first start now engine pace commands script [] refusing) → Passes start now → new.said ≡ now.said
     → (now.tells_moments → LeavesOnly now new (Between p now None (forced_in engine) (length g.account.commands) g.account.commands)) → IsTold tending p first commands script start new g.lines g.replies g.account.commands []
 told_finish g time quiet images = told_so_far_by [] [] refl g quiet (λ told. truly_quiet (even_of g) (g.truly told) g.said_is (images (time.moments_told.0 told)) (λ files said b. omega (arith, ap length b.quiet)))
 
-pub ends_in_finish : AreFew → {tending : Tending} {p : Params} {first : Stage} {start now new : Disk} {engine : EngineView} {commands : List Command} {script : List (List ℕ)} {refusing : Bool} {status : Status} → (IsCut status → ⊥)
-    → (g : Going tending p first start now engine commands script [] refusing) → Passes start now → new.said ≡ now.said
+pub ends_in_finish : AreFew → {tending : Tending} {p : Params} {first : Stage} {start now new : Disk} {engine : EngineView} {commands : List Command} {script : List (List ℕ)} {refusing : Bool} {pace : Pace} {status : Status} → (IsCut status → ⊥)
+    → (g : Going tending p first start now engine pace commands script [] refusing) → Passes start now → new.said ≡ now.said
     → (now.tells_moments → LeavesOnly now new (Between p now None (forced_in engine) (length g.account.commands) g.account.commands))
     → (now.tells_moments → TakesSome (meaning_in p) p now new g.holds.world (finish_course (meaning_in p) g.holds.world (used_in engine)).steps) → IsRun tending p first start new commands script status
 ends_in_finish few {tending} {p} {first} {start} {now} {new} {engine} {commands} {script} uncut g time quiet images takes = record {
@@ -478,11 +467,11 @@ tells true any is = (λ e. sym is, λ e. refl)
 tells false any is = (λ e. cc, λ e. cc (e, is))
 
 -- the end of a whole run
-pub completes : {tending : Tending} {p : Params} {first : Stage} {start now new : Disk} {engine after : EngineView} {commands : List Command} {script : List (List ℕ)} {refusing : Bool}
-    (g : Going tending p first start now engine commands script [] refusing) → new.said ≡ now.said → forced_in after ≡ length g.account.commands → Holds p new after g.account.commands
+pub completes : {tending : Tending} {p : Params} {first : Stage} {start now new : Disk} {engine after : EngineView} {commands : List Command} {script : List (List ℕ)} {refusing : Bool} {pace : Pace}
+    (g : Going tending p first start now engine pace commands script [] refusing) → new.said ≡ now.said → forced_in after ≡ length g.account.commands → Holds p new after g.account.commands
     → after.parts.log.log.pending ≡ [] → IsAfterIn all_meaning p new after g.holds.world (finish_course (meaning_in p) g.holds.world (used_in engine))
     → IsComplete tending p first start new commands script (status_after (Ok refusing))
-completes {tending} {p} {first} {start} {now} {new} {engine} {after} {commands} {script} {refusing} g quiet all holds emptied taken =
+completes {tending} {p} {first} {start} {now} {new} {engine} {after} {commands} {script} {refusing} {pace} g quiet all holds emptied taken =
     let c = g.account.commands in
     let whole : take (forced_in after) c ≡ c = take_all (forced_in after) c (omega (arith, all)) in
     let images = holds.says.images in
@@ -499,17 +488,17 @@ completes {tending} {p} {first} {start} {now} {new} {engine} {after} {commands} 
       settled = holds.shows.shows.log.keeps.settled;
       refusals = tells refusing (list_any is_refusing g.replies) g.kind;
       last = g.stage;
-      kept = stage_of engine g.holds.world;
-      upkept = g.kept;
+      tended = paced_in engine g.holds.world pace;
+      upkept = g.done;
       shows = files_shown (meaning_in p) p new after.parts (ungrouped (run (meaning_in p) g.holds.world (finish_course (meaning_in p) g.holds.world (used_in engine)).steps)) taken.shows.shows;
       ends_last = subst (λ (n : ℕ). EndsAt new.reads n) taken.used (holds.says.none_waits emptied).1.0;
-      goes = subst (λ (l : List (List ℕ)). AllGoBy tending p first l g.replies g.stage) (sym (g.script_is ∙ append-nil g.lines)) g.goes;
+      goes = subst (λ (l : List (List ℕ)). AllGoBy tending p (unpaced first) l g.replies g.stage) (sym (g.script_is ∙ append-nil g.lines)) g.goes;
     }
 
 -- the lines that are left
-pub goes_to : {tending : Tending} {p : Params} {first : Stage} {start now : Disk} {engine : EngineView} {commands : List Command} {script todo : List (List ℕ)} {refusing : Bool} (rest : List (List ℕ))
-    → Going tending p first start now engine commands script todo refusing → todo ≡ rest → Going tending p first start now engine commands script rest refusing
-goes_to {tending} {p} {first} {start} {now} {engine} {commands} {script} {todo} {refusing} rest g is = subst (λ (l : List (List ℕ)). Going tending p first start now engine commands script l refusing) is g
+pub goes_to : {tending : Tending} {p : Params} {first : Stage} {start now : Disk} {engine : EngineView} {commands : List Command} {script todo : List (List ℕ)} {refusing : Bool} {does : PacedStage → PacedStage → Type 0} {pace : Pace} (rest : List (List ℕ))
+    → GoingOn does tending p first start now engine pace commands script todo refusing → todo ≡ rest → GoingOn does tending p first start now engine pace commands script rest refusing
+goes_to {tending} {p} {first} {start} {now} {engine} {commands} {script} {todo} {refusing} {does} {pace} rest g is = subst (λ (l : List (List ℕ)). GoingOn does tending p first start now engine pace commands script l refusing) is g
 
 -- a moment at which no command was added
 abbrev pub works_quietly : {p : Params} {old : Disk} {before : EngineView} {commands : List Command} {line : List ℕ} {f : Files} {s : List ℕ} → Between p old before.group (forced_in before) (length commands) commands f s
@@ -656,8 +645,8 @@ moment_longer more f s so_far = let m = so_far.is in record {
 }
 
 -- a run that has answered all its lines has one more
-abbrev pub with_next : {tending : Tending} {p : Params} {first : Stage} {start now : Disk} {engine : EngineView} {commands : List Command} {script : List (List ℕ)} {refusing : Bool} (line : List ℕ)
-    → Going tending p first start now engine commands script [] refusing → Going tending p first start now engine commands (script ++ line ∷ []) (line ∷ []) refusing
+abbrev pub with_next : {tending : Tending} {p : Params} {first : Stage} {start now : Disk} {engine : EngineView} {commands : List Command} {script : List (List ℕ)} {refusing : Bool} {does : PacedStage → PacedStage → Type 0} {pace : Pace} (line : List ℕ)
+    → GoingOn does tending p first start now engine pace commands script [] refusing → GoingOn does tending p first start now engine pace commands (script ++ line ∷ []) (line ∷ []) refusing
 with_next {tending} {p} {first} {start} {now} {engine} {commands} {script} line g = record {
   lines = g.lines;
   replies = g.replies;
@@ -677,6 +666,6 @@ with_next {tending} {p} {first} {start} {now} {engine} {commands} {script} line 
   truly = g.truly;
   stage = g.stage;
   goes = g.goes;
-  kept = g.kept;
+  done = g.done;
   steps = λ told. weaker start now (StageSoFar tending p first script start.said) (StageSoFar tending p first (script ++ line ∷ []) start.said) (g.steps told) (stage_longer line);
 }

@@ -12,27 +12,27 @@ use Rattle.explain_core.specs.World.{World, Step, run}
 use Rattle.script_lines.specs.Replies.{said_line}
 use Rattle.store_engine.specs.Beside.{MayGoBeside}
 use Rattle.store_engine.specs.Engine.{EngineView, accepted_in, forced_in, so_far}
+use Rattle.store_engine.specs.declared.pace.Pace.{Pace}
 use Rattle.backup_copy.specs.Copies.{Copies}
-use Rattle.shell_base.specs.First.{Stage, stage_of}
+use Rattle.shell_base.specs.First.{Stage}
 use Rattle.shell_base.specs.HoldLaws.{told_by}
 use Rattle.shell_base.specs.Store.{Between, Command, ShowsIn, meaning_in}
 use Rattle.shell_base.specs.declared.status.Status.{Status}
 use Rattle.shell_base.specs.declared.stop.Stop.{Stop}
 use Rattle.script_run.specs.Courses.{IsBetween}
-use Rattle.script_run.specs.Run.{Going, IsRun, IsTrueSoFar, MomentSoFar, StageSoFar}
+use Rattle.script_run.specs.Run.{FreshGoing, Going, IsRun, IsTrueSoFar, MomentSoFar, StageSoFar}
 use Rattle.script_run.specs.Saving.{IsBackedUp}
 use Rattle.script_run.specs.StartLaws.{AreFew}
-use Rattle.script_run.specs.Stages.{IsKeptUp}
+use Rattle.script_run.specs.Stages.{IsTendedTo, PacedStage, paced_in}
 use Rattle.script_run.specs.Tended.{IsTended, Tends}
 use Rattle.script_run.specs.declared.tending.Tending.{Tending}
 use Rattle.script_run.proofs.SavingLemmas.{whole_going}
 use Rattle.script_run.proofs.BackupLemmas.{FreshBeside, GoingBeside, backed_up, passes_as}
-use Rattle.script_run.proofs.RunLemmas.{FreshGoing, IsFresh, IsTold, even_of, moments_so_far, tending_moment, told_so_far, told_so_far_by, whole_at}
-use Rattle.script_run.proofs.TendLemmas.{kept_so}
+use Rattle.script_run.proofs.RunLemmas.{IsTold, even_of, moments_so_far, tending_moment, told_so_far, told_so_far_by, whole_at}
 use Rattle.script_run.proofs.TrueLemmas.{all_said, truly_quiet}
 
-module _ (few : AreFew) {T : Type 0} {tending : Tending} {p : Params} {first : Stage} {start now new : Disk} {engine after : EngineView} {commands : List Command} {script todo : List (List ℕ)} {refusing : Bool} {result : Result T Stop}
-    (g : Going tending p first start now engine commands script todo refusing) (fresh : IsFresh g) (time : Passes start now) (t : Tends tending now new engine after result) where
+module _ (few : AreFew) {T : Type 0} {tending : Tending} {p : Params} {first : Stage} {start now new : Disk} {engine after : EngineView} {commands : List Command} {script todo : List (List ℕ)} {refusing : Bool} {pace later : Pace} {result : Result T Stop}
+    (g : FreshGoing tending p first start now engine pace commands script todo refusing) (time : Passes start now) (t : Tends tending now new engine after pace later result) where
   abbrev told_now : start.tells_moments → now.tells_moments
   told_now told = time.moments_told.0 told
 
@@ -45,9 +45,9 @@ module _ (few : AreFew) {T : Type 0} {tending : Tending} {p : Params} {first : S
       (weaker now new (Between p now engine.group (forced_in engine) (length g.account.commands) g.account.commands) (MomentSoFar p commands script start.said) (t.images p g.account.commands g.holds (told_now told)) (tending_moment few g))
 
   -- behind the last answer
-  between : (f : Files) (s : List ℕ) → IsSilent (IsBetween tending p (stage_of engine g.holds.world)) now.said f s → StageSoFar tending p first script start.said f s
+  between : (f : Files) (s : List ℕ) → IsSilent (IsBetween tending p (paced_in engine g.holds.world pace)) now.said f s → StageSoFar tending p first script start.said f s
   between f s b =
-      let here : IsBetween tending p g.stage f = subst (λ (x : Stage). IsBetween tending p x f) (sym fresh) b.holds in
+      let here : IsBetween tending p g.stage f = subst (λ (x : PacedStage). IsBetween tending p x f) (sym g.done) b.holds in
       record {
         is = record {
           lines = g.lines;
@@ -66,7 +66,7 @@ module _ (few : AreFew) {T : Type 0} {tending : Tending} {p : Params} {first : S
   pub tending_steps : start.tells_moments → LeavesOnly start new (StageSoFar tending p first script start.said)
   tending_steps told =
       runs_on start now new (StageSoFar tending p first script start.said) (g.steps told)
-      (weaker now new (IsSilent (IsBetween tending p (stage_of engine g.holds.world)) now.said) (StageSoFar tending p first script start.said) (t.works p g.account.commands g.holds (told_now told)) between)
+      (weaker now new (IsSilent (IsBetween tending p (paced_in engine g.holds.world pace)) now.said) (StageSoFar tending p first script start.said) (t.works p g.account.commands g.holds (told_now told)) between)
 
   pub tending_truly : start.tells_moments → LeavesOnly start new (IsTrueSoFar p start.said g.lines g.replies g.waits new.said)
   tending_truly told =
@@ -78,7 +78,7 @@ module _ (few : AreFew) {T : Type 0} {tending : Tending} {p : Params} {first : S
       }))
 
   -- the store was tended
-  abbrev pub tended_on : IsTended tending p new engine after g.holds.world g.account.commands → Going tending p first start new after commands script todo refusing
+  abbrev pub tended_on : IsTended tending p new engine after pace later g.holds.world g.account.commands → Going tending p first start new after later commands script todo refusing
   tended_on it = record {
     lines = g.lines;
     replies = g.replies;
@@ -98,7 +98,7 @@ module _ (few : AreFew) {T : Type 0} {tending : Tending} {p : Params} {first : S
     truly = tending_truly;
     stage = g.stage;
     goes = g.goes;
-    kept = subst (λ (x : Stage). IsKeptUp tending p x (stage_of after it.kept.holds.world)) (sym fresh) (kept_so tending p (stage_of engine g.holds.world) (stage_of after it.kept.holds.world) it.leads);
+    done = subst (λ (x : PacedStage). IsTendedTo tending p x (paced_in after it.kept.holds.world later)) (sym g.done) it.leads;
     steps = tending_steps;
   }
 
@@ -115,7 +115,7 @@ module _ (few : AreFew) {T : Type 0} {tending : Tending} {p : Params} {first : S
   }
 
 -- and time passes
-pub tended_time : {T : Type 0} {tending : Tending} {start now new : Disk} {engine after : EngineView} {result : Result T Stop} → IsDisk new → Passes start now → Tends tending now new engine after result → Passes start new
+pub tended_time : {T : Type 0} {tending : Tending} {start now new : Disk} {engine after : EngineView} {pace later : Pace} {result : Result T Stop} → IsDisk new → Passes start now → Tends tending now new engine after pace later result → Passes start new
 tended_time {start = start} {now} {new} lawful time t = passes_twice start now new lawful time t.time
 
 -- what is said of a copy that goes on beside some steps
@@ -131,28 +131,28 @@ still_copying p now new engine after backup w v (Some n) was law copies shows sa
     subst (λ (x : Option ℕ). IfSome x (λ n. Copies all_meaning p new after v backup)) (sym (same ∙ was))
     (subst (λ (u : World Command). Copies all_meaning p new after u backup) (sym is) (law w taken copies may (subst (λ (u : World Command). ShowsIn p new after u) is shows) same))
 
-module _ (few : AreFew) {T : Type 0} {tending : Tending} {p : Params} {first : Stage} {start now new : Disk} {engine after : EngineView} {commands : List Command} {script todo : List (List ℕ)} {refusing : Bool} (time : Passes start now) where
+module _ (few : AreFew) {T : Type 0} {tending : Tending} {p : Params} {first : Stage} {start now new : Disk} {engine after : EngineView} {commands : List Command} {script todo : List (List ℕ)} {refusing : Bool} {pace later : Pace} (time : Passes start now) where
   -- it goes on
-  abbrev pub tended_going : {value : T} → FreshGoing tending p first start now engine commands script todo refusing → Tends tending now new engine after (Ok value) → Going tending p first start new after commands script todo refusing
-  tended_going (g, fresh) t = tended_on few g fresh time t (t.done p g.account.commands g.holds)
+  abbrev pub tended_going : {value : T} → FreshGoing tending p first start now engine pace commands script todo refusing → Tends tending now new engine after pace later (Ok value) → Going tending p first start new after later commands script todo refusing
+  tended_going g t = tended_on few g time t (t.done p g.account.commands g.holds)
 
   -- or ends
-  pub ends_in_tending : {stop : Stop} (status : Status) → FreshGoing tending p first start now engine commands script todo refusing → Tends {T = T} tending now new engine after (Err stop) → IsRun tending p first start new commands script status
-  ends_in_tending status (g, fresh) t = ends_tending few g fresh time t status
+  pub ends_in_tending : {stop : Stop} (status : Status) → FreshGoing tending p first start now engine pace commands script todo refusing → Tends {T = T} tending now new engine after pace later (Err stop) → IsRun tending p first start new commands script status
+  ends_in_tending status g t = ends_tending few g time t status
 
   module _ {B : Type 0} (disk : B → Disk) {before mid : B} where
     -- with its backup
-    pub tended_beside : {value : T} → CopyGoesOn p now new engine after (disk mid) → FreshBeside tending disk before mid p first start now engine commands script todo refusing → Tends tending now new engine after (Ok value)
-        → GoingBeside tending disk before mid p first start new after commands script todo refusing
-    tended_beside law (b, fresh) t =
+    pub tended_beside : {value : T} → CopyGoesOn p now new engine after (disk mid) → FreshBeside tending disk before mid p first start now engine pace commands script todo refusing → Tends tending now new engine after pace later (Ok value)
+        → GoingBeside tending disk before mid p first start new after later commands script todo refusing
+    tended_beside law b t =
         let it = t.done p b.going.account.commands b.going.holds in
         record {
-          going = tended_on few b.going fresh time t it;
+          going = tended_on few b.going time t it;
           passes = b.passes;
           backup = λ tells.
               let was = b.backup tells in
               record { count = was.count; forced = omega (arith, was.forced, it.kept.rising); going = record { says = was.going.says; store = was.going.store; copying = still_copying p now new engine after (disk mid) b.going.holds.world it.kept.holds.world engine.copied refl law was.going.copying it.kept.holds.shows it.copied it.beside } };
         }
 
-    pub ends_in_tending_beside : {stop : Stop} → FreshBeside tending disk before mid p first start now engine commands script todo refusing → Tends {T = T} tending now new engine after (Err stop) → IsBackedUp tending disk p first commands script start new before mid
-    ends_in_tending_beside (b, fresh) t = backed_up disk (told_tending few b.going fresh time t) (passes_as before mid (sym (append-nil b.going.lines)) b.passes) (λ tells. (whole_going (b.backup tells)).says)
+    pub ends_in_tending_beside : {stop : Stop} → FreshBeside tending disk before mid p first start now engine pace commands script todo refusing → Tends {T = T} tending now new engine after pace later (Err stop) → IsBackedUp tending disk p first commands script start new before mid
+    ends_in_tending_beside b t = backed_up disk (told_tending few b.going time t) (passes_as before mid (sym (append-nil b.going.lines)) b.passes) (λ tells. (whole_going (b.backup tells)).says)

@@ -11,7 +11,7 @@ use Rattle.script_run.specs.Groups.{Account, AreWhole, IsAfter, account_before, 
 use Rattle.script_run.specs.Made.{IsFront}
 use Rattle.script_run.specs.Replies.{Replies, IsTrueIn}
 use Rattle.script_run.specs.Printed.{SaysForced}
-use Rattle.script_run.specs.Stages.{AllGoBy}
+use Rattle.script_run.specs.Stages.{AllGoBy, PacedStage, unpaced}
 use Rattle.script_run.specs.declared.tending.Tending.{Tending}
 
 -- The lines get these answers, one after the other, and make the second account of the first. While each is said these
@@ -109,5 +109,5 @@ with_waits {account = account} {added = added} waits (inr begun) = waits ++ wait
 pub record SaysTruly (tending : Tending) (p : Params) (first : Stage) (commands : List Command) (script : List (List ℕ)) (old new : Disk) : Type 0 where
   pub says : SaysAnswers p commands script old.said new.said
   pub truly : old.tells_moments → LeavesOnly old new (TrueWithin p old.said (with_line says.story.lines says.story.work) (with_begun says.story.replies says.story.work) (with_waits says.story.waits says.story.work))
-  pub last : Stage
-  pub goes : AllGoBy tending p first (with_line says.story.lines says.story.work) (with_begun says.story.replies says.story.work) last
+  pub last : PacedStage
+  pub goes : AllGoBy tending p (unpaced first) (with_line says.story.lines says.story.work) (with_begun says.story.replies says.story.work) last

@@ -15,7 +15,7 @@ use Rattle.script_lines.specs.Replies.{Reply, said_line}
 use Rattle.shell_base.specs.declared.budget.Budget.{Budget}
 use Rattle.shell_base.specs.Store.{Command, meaning_in}
 use Rattle.shell_base.specs.First.{Stage, IsFirst, OpeningMoment}
-use Rattle.script_run.specs.Stages.{GivesUp, HasCourse, IsKeptUp, IsUpkeep, Leads, AllGoBy, abort_course, finish_course}
+use Rattle.script_run.specs.Stages.{AllGoBy, GivesUp, HasCourse, IsTendedTo, IsUpkeep, Leads, PacedStage, abort_course, finish_course, unpaced}
 use Rattle.script_run.specs.declared.tending.Tending.{Tending}
 use Rattle.script_run.specs.declared.tending.Tending.TheVariants.{ByHand, ByLine}
 
@@ -57,14 +57,14 @@ pub record IsBeingSaid (p : Params) (s : Stage) (line part : List ℕ) (files : 
 abbrev pub IsAtWork : Params → Stage → List (List ℕ) → List ℕ → Files → Type 0
 IsAtWork p s todo part files = ((part ≡ []) × IsWorkedOn p s todo files) ⊎ ((line : List ℕ) × (rest : List (List ℕ)) × (todo ≡ line ∷ rest) × IsBeingSaid p s line part files)
 
--- the image shows the world of the stage, or, where the store is tended by line, the one after some first steps of upkeep
-abbrev pub IsBetween : Tending → Params → Stage → Files → Type 0
-IsBetween ByHand p s files = FilesShow (meaning_in p) p files s.world
-IsBetween ByLine p s files = FilesShow (meaning_in p) p files s.world ⊎ ((c : Course Command) × IsUpkeep p s c × ShowsSome (meaning_in p) p s.world c.steps files)
+-- the image shows the world of the stage, or, where the store is tended by line, the one after some first steps of the upkeep that is due
+abbrev pub IsBetween : Tending → Params → PacedStage → Files → Type 0
+IsBetween ByHand p at files = FilesShow (meaning_in p) p files at.stage.world
+IsBetween ByLine p at files = FilesShow (meaning_in p) p files at.stage.world ⊎ ((epoch : ℕ) × (c : Course Command) × IsUpkeep p at epoch c × ShowsSome (meaning_in p) p at.stage.world c.steps files)
 
--- after the last answer, which led to this stage: upkeep may be done, or it was, and the next line is at work
-abbrev pub IsBehind : Tending → Params → Stage → List (List ℕ) → List ℕ → Files → Type 0
-IsBehind tending p s todo part files = ((part ≡ []) × IsBetween tending p s files) ⊎ ((kept : Stage) × IsKeptUp tending p s kept × IsAtWork p kept todo part files)
+-- after the last answer, which led to this stage: upkeep is being done, or it was, and the next line is at work
+abbrev pub IsBehind : Tending → Params → PacedStage → List (List ℕ) → List ℕ → Files → Type 0
+IsBehind tending p at todo part files = ((part ≡ []) × IsBetween tending p at files) ⊎ ((tended : PacedStage) × IsTendedTo tending p at tended × IsAtWork p tended.stage todo part files)
 
 -- The bytes said after `before` are whole answers to the first lines of the script, by which the stages go from the first
 -- on, and perhaps a part of the next answer. Before its first byte the image shows the world after some first steps of upkeep
@@ -74,10 +74,10 @@ pub record StageMoment (tending : Tending) (p : Params) (first : Stage) (script 
   pub todo : List (List ℕ)
   pub replies : List Reply
   pub part : List ℕ
-  pub stage : Stage
+  pub stage : PacedStage
   pub script_is : script ≡ lines ++ todo
   pub said_is : said ≡ before ++ flat_map said_line replies ++ part
-  pub goes : AllGoBy tending p first lines replies stage
+  pub goes : AllGoBy tending p (unpaced first) lines replies stage
   pub work : IsBehind tending p stage todo part files
 
 module _ (tending : Tending) (budget : Budget) (p : Params) (commands : List Command) (old : Disk) (first : Stage) (is : IsFirst budget p commands old first) where

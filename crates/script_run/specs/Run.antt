@@ -9,6 +9,7 @@ use Rattle.script_lines.specs.Replies.{Reply, forced, said_line}
 use Rattle.explain_core.specs.World.{World, run}
 use Rattle.standing.specs.Standing.{FilesShow}
 use Rattle.store_engine.specs.Engine.{EngineView, InEachImage, forced_in}
+use Rattle.store_engine.specs.declared.pace.Pace.{Pace}
 use Rattle.shell_base.specs.Store.{Command, meaning_in, Stands, Holds, Kept, Between}
 use Rattle.shell_base.specs.First.{Stage, stage_of}
 use Rattle.shell_base.specs.Status.{IsCut}
@@ -21,7 +22,7 @@ use Rattle.script_run.specs.Groups.{Account, AreInOrder, AreWhole, Becomes, Regr
 use Rattle.script_run.specs.Made.{IsFront}
 use Rattle.script_run.specs.Replies.{Replies, IsTrueIn, is_refusing}
 use Rattle.script_run.specs.Answers.{Answers, Moment, EndsInside, TrueWithin, SaysTruly}
-use Rattle.script_run.specs.Stages.{IsKeptUp, Leads, AllGoBy, finish_course}
+use Rattle.script_run.specs.Stages.{AllGoBy, IsTendedTo, Leads, PacedStage, finish_course, paced_in, unpaced}
 use Rattle.script_run.specs.Courses.{IsBeingSaid, IsBetween, IsWorkedOn, StageMoment}
 use Rattle.script_run.specs.declared.tending.Tending.{Tending}
 
@@ -104,8 +105,9 @@ pub record MomentSoFar (p : Params) (commands : List Command) (script : List (Li
   pub is : Moment p commands script before files said
   pub unclosed : AreWhole is.kept is.story.account
 
--- a run so far, from a start with these commands and this stage: the answers to the lines that were taken, and perhaps upkeep
-pub record Going (tending : Tending) (p : Params) (first : Stage) (start now : Disk) (engine : EngineView) (commands : List Command) (script todo : List (List ℕ)) (refusing : Bool) : Type 0 where
+-- A run so far, from a start with these commands and this stage: the answers to the lines that were taken. So much was done behind the
+-- last of them.
+pub record GoingOn (does : PacedStage → PacedStage → Type 0) (tending : Tending) (p : Params) (first : Stage) (start now : Disk) (engine : EngineView) (pace : Pace) (commands : List Command) (script todo : List (List ℕ)) (refusing : Bool) : Type 0 where
   pub lines : List (List ℕ)
   pub replies : List Reply
   pub waits : List (List Command)
@@ -122,13 +124,21 @@ pub record Going (tending : Tending) (p : Params) (first : Stage) (start now : D
   pub kind : refusing ≡ list_any is_refusing replies
   pub images : start.tells_moments → LeavesOnly start now (MomentSoFar p commands script start.said)
   pub truly : start.tells_moments → LeavesOnly start now (IsTrueSoFar p start.said lines replies waits now.said)
-  pub stage : Stage
-  pub goes : AllGoBy tending p first lines replies stage
-  pub kept : IsKeptUp tending p stage (stage_of engine holds.world)
+  pub stage : PacedStage
+  pub goes : AllGoBy tending p (unpaced first) lines replies stage
+  pub done : does stage (paced_in engine holds.world pace)
   pub steps : start.tells_moments → LeavesOnly start now (StageSoFar tending p first script start.said)
 
+-- the store was tended, and the next line may be read
+abbrev pub Going : Tending → Params → Stage → Disk → Disk → EngineView → Pace → List Command → List (List ℕ) → List (List ℕ) → Bool → Type 0
+Going tending p = GoingOn (IsTendedTo tending p) tending p
+
+-- nothing was done
+abbrev pub FreshGoing : Tending → Params → Stage → Disk → Disk → EngineView → Pace → List Command → List (List ℕ) → List (List ℕ) → Bool → Type 0
+FreshGoing tending p = GoingOn (λ old new. old ≡ new) tending p
+
 -- A whole run: each line is answered, the files stand for all that was added, and the status reports refusals. The
--- stages go from the first on, with each answer; behind the last one, and perhaps upkeep, an open group is closed, and the files
+-- stages go from the first on, with each answer; behind the last one, and the upkeep that is due there, an open group is closed, and the files
 -- show the world after a force, and the log in them ends where the stage had its length.
 pub record IsComplete (tending : Tending) (p : Params) (first : Stage) (start now : Disk) (commands : List Command) (script : List (List ℕ)) (status : Status) : Type 0 where
   pub replies : List Reply
@@ -139,12 +149,12 @@ pub record IsComplete (tending : Tending) (p : Params) (first : Stage) (start no
   pub stands : InEachImage now (λ files. Stands p files account.commands)
   pub settled : IsSettled now
   pub refusals : (status ≡ DoneWithRefusals) ↔ (list_any is_refusing replies ≡ true)
-  pub last : Stage
-  pub goes : AllGoBy tending p first script replies last
-  pub kept : Stage
-  pub upkept : IsKeptUp tending p last kept
-  pub shows : FilesShow (meaning_in p) p now.reads (run (meaning_in p) kept.world (finish_course (meaning_in p) kept.world kept.used).steps)
-  pub ends_last : EndsAt now.reads kept.used
+  pub last : PacedStage
+  pub goes : AllGoBy tending p (unpaced first) script replies last
+  pub tended : PacedStage
+  pub upkept : IsTendedTo tending p last tended
+  pub shows : FilesShow (meaning_in p) p now.reads (run (meaning_in p) tended.stage.world (finish_course (meaning_in p) tended.stage.world tended.stage.used).steps)
+  pub ends_last : EndsAt now.reads tended.stage.used
 
 -- the answer to a line is found and not said yet: what it adds is done, and it is true in each image
 pub record IsAnswerFound (p : Params) (old now : Disk) (before after : EngineView) (w : World Command) (commands : List Command) (line : List ℕ) (reply : Reply) : Type 0 where

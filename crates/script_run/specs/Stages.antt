@@ -1,5 +1,5 @@
 -- What the answers of a run go by: the world that engine and files show, the length of the log, and how far a backup is.
-use Rattle.std.specs.Prelude.{◌≡◌, ◌⊎◌, ◌+◌, ◌^◌, ◌++◌, ◌<◌, ◌≤◌, ⊤, ℕ, IsTrue, List, [], ◌∷◌, length, min, take, Option, None, Some}
+use Rattle.std.specs.Prelude.{◌≡◌, ◌⊎◌, ◌+◌, ◌^◌, ◌++◌, ◌<◌, ◌≤◌, ⊤, ℕ, IsTrue, List, [], ◌∷◌, length, min, take, Option, None, Some, Ok}
 use Rattle.std.specs.Option.{is_some}
 use Rattle.oper_core.specs.Meaning.{Meaning}
 use Rattle.formats.specs.declared.params.Params.{Params}
@@ -21,15 +21,18 @@ use Rattle.script_lines.specs.declared.backup_denial.BackupDenial.{BackupDenial}
 use Rattle.script_lines.specs.declared.backup_denial.BackupDenial.TheVariants.{InBackup, NoBackup, AlreadyStore, NotCopied}
 use Rattle.script_lines.specs.declared.answer.StatLine.{StatLine}
 use Rattle.checkpointing.specs.Courses.{checkpoint_course, trim_course, upkeep_course as tending_course}
+use Rattle.checkpointing.specs.Told.{TellsUpkeep}
+use Rattle.checkpointing.specs.declared.due.Due.{Due}
+use Rattle.checkpointing.specs.declared.upkeep_report.UpkeepReport.{UpkeepReport}
 use Rattle.restart.specs.Courses.{restart_course}
 use Rattle.store_engine.specs.Calls.{begin_course, end_course}
-use Rattle.store_engine.specs.Engine.{group_bytes, is_name, so_far}
-use Rattle.store_engine.specs.Paces.{due_at, load_of}
+use Rattle.store_engine.specs.Engine.{EngineView, group_bytes, is_name, so_far}
+use Rattle.store_engine.specs.Paces.{due_at, first_pace, load_of, pace_after}
 use Rattle.store_engine.specs.declared.pace.Pace.{Pace}
 use Rattle.backup_copy.specs.Length.{backup_length}
 use Rattle.store_engine.specs.Lists.{commands_course}
 use Rattle.shell_base.specs.Store.{Command, meaning_in}
-use Rattle.shell_base.specs.First.{Stage, marks_of}
+use Rattle.shell_base.specs.First.{Stage, marks_of, stage_of}
 use Rattle.shell_base.specs.declared.budget.Budget.TheVariants.{Usual}
 use Rattle.script_run.specs.Made.{Made, AsksMade}
 use Rattle.script_run.specs.Groups.{Becomes, open_in, waiting}
@@ -177,27 +180,51 @@ pub record Leads (p : Params) (old : Stage) (line : List ℕ) (reply : Reply) (n
   pub becomes : Becomes line reply (open_in old.world) (commands_of old.world.history) added (commands_of new.world.history)
   pub goes : GoesBy p old line reply new
 
--- This is the course of the upkeep that a pace finds due in a stage in which no group is open: first the trim, and, though that may
--- be stopped, then the turn.
-pub record IsUpkeep (p : Params) (s : Stage) (c : Course Command) : Type 0 where
+-- What a run goes by: the stage, and the pace that finds upkeep due.
+pub record PacedStage : Type 0 where
+  pub stage : Stage
   pub pace : Pace
+
+-- as a run begins
+abbrev pub unpaced : Stage → PacedStage
+unpaced s = record { stage = s; pace = first_pace }
+
+-- where engine and files show this world
+abbrev pub paced_in : EngineView → World Command → Pace → PacedStage
+paced_in engine w pace = record { stage = stage_of engine w; pace = pace }
+
+-- what the pace finds due there
+abbrev pub due_in : Params → PacedStage → Due
+due_in p at = due_at at.pace (load_of (meaning_in p) p at.stage.copied at.stage.world at.stage.used)
+
+-- This is the course of the upkeep that is due, in a stage in which no group is open: first the trim, and, though that may be stopped,
+-- then the turn.
+pub record IsUpkeep (p : Params) (at : PacedStage) (epoch : ℕ) (c : Course Command) : Type 0 where
+  pub alone : at.stage.world.group ≡ None
+  pub course_is : c ≡ tending_course (meaning_in p) (due_in p at) epoch (so_far at.stage.copied) at.stage.world at.stage.used
+
+-- It was done, and the pace goes on by what became of its trim and of its turn.
+pub record TakesUpkeep (p : Params) (old new : PacedStage) : Type 0 where
   pub epoch : ℕ
-  pub alone : s.world.group ≡ None
-  pub course_is : c ≡ tending_course (meaning_in p) (due_at pace (load_of (meaning_in p) p s.copied s.world s.used)) epoch (so_far s.copied) s.world s.used
+  pub its : Course Command
+  pub due : IsUpkeep p old epoch its
+  pub report : UpkeepReport
+  pub told : TellsUpkeep (meaning_in p) (due_in p old) epoch (so_far old.stage.copied) old.stage.world old.stage.used report
+  pub stage_is : new.stage ≡ stage_after p old.stage its
+  pub pace_is : new.pace ≡ pace_after old.pace (Ok report) new.stage.used p.limit
 
--- The stage in which a line is asked: that after the line before, or, where the store is tended by line, that after some upkeep,
--- whatever stopped it.
-abbrev pub IsKeptUp : Tending → Params → Stage → Stage → Type 0
-IsKeptUp ByHand p old new = new ≡ old
-IsKeptUp ByLine p old new = (new ≡ old) ⊎ ((c : Course Command) × IsUpkeep p old c × (new ≡ stage_after p old c))
+-- Before a line is read: by hand nothing is done, and by line the upkeep that is due, but nothing within a group.
+abbrev pub IsTendedTo : Tending → Params → PacedStage → PacedStage → Type 0
+IsTendedTo ByHand p old new = new ≡ old
+IsTendedTo ByLine p old new = (IsTrue (is_some old.stage.world.group) × (new ≡ old)) ⊎ TakesUpkeep p old new
 
--- a line that is asked after the old stage leads to the new one by this answer
-abbrev pub LeadsOn : Tending → Params → Stage → List ℕ → Reply → Stage → Type 0
-LeadsOn tending p old line reply new = (kept : Stage) × IsKeptUp tending p old kept × Leads p kept line reply new
+-- a line that is asked after the old stage, when the store was tended, leads to the new one by this answer
+abbrev pub LeadsOn : Tending → Params → PacedStage → List ℕ → Reply → PacedStage → Type 0
+LeadsOn tending p old line reply new = (tended : PacedStage) × IsTendedTo tending p old tended × Leads p tended.stage line reply new.stage × (new.pace ≡ tended.pace)
 
 -- the answers to all these lines, one after the other, from the first stage to the last
-abbrev pub AllGoBy : Tending → Params → Stage → List (List ℕ) → List Reply → Stage → Type 0
+abbrev pub AllGoBy : Tending → Params → PacedStage → List (List ℕ) → List Reply → PacedStage → Type 0
 AllGoBy tending p first [] [] last = last ≡ first
-AllGoBy tending p first (line ∷ lines) (reply ∷ replies) last = (mid : Stage) × LeadsOn tending p first line reply mid × AllGoBy tending p mid lines replies last
+AllGoBy tending p first (line ∷ lines) (reply ∷ replies) last = (mid : PacedStage) × LeadsOn tending p first line reply mid × AllGoBy tending p mid lines replies last
 AllGoBy tending p first [] (reply ∷ replies) last = ⊥
 AllGoBy tending p first (line ∷ lines) [] last = ⊥

@@ -20,6 +20,7 @@ use Rattle.script_run.specs.declared.tending.Tending.{Tending}
 use Rattle.script_run.specs.Groups.{Account, account_of, waiting, AreWhole, account_before}
 use Rattle.script_run.specs.Answers.{Begun, TrueWithin, with_begun, with_line, with_waits, SaysTruly, EndsInside, Moment, Said}
 use Rattle.script_run.specs.Run.{IsComplete, MomentSoFar}
+use Rattle.script_run.specs.Stages.{unpaced}
 use Rattle.script_run.specs.Saving.{IsBackedUp, MayBeLeft, PassesBy, SaysOfBackup, KeepsAll, WasThere, IsSavedAsSaid, IsBesideRun}
 use Rattle.script_run.specs.StoryLaws.{AreEven, answers_even, story_start, told_whole, told_goes, told_truly, ended_whole, Told}
 use Rattle.script_run.specs.Replies.{IsTrueIn}
@@ -38,7 +39,7 @@ complete_from quiet all = record {
   refusals = all.refusals;
   last = all.last;
   goes = all.goes;
-  kept = all.kept;
+  tended = all.tended;
   upkept = all.upkept;
   shows = all.shows;
   ends_last = all.ends_last;
@@ -168,8 +169,8 @@ abbrev pub says_nothing : {tending : Tending} {p : Params} {first : Stage} {comm
 says_nothing {tending} {p} {first} {commands} script {old} {new} time quiet =
     let none = told_whole (λ ops line reply. ⊤) (story_start p commands script) in
     record {
-      last = first;
-      goes = told_goes tending first first none refl;
+      last = unpaced first;
+      goes = told_goes tending (unpaced first) (unpaced first) none refl;
       says = record { bytes = []; since = quiet ∙ sym (append-nil old.said); story = none.story };
       truly = λ told. told_truly old new old.said none (first_call old new (TrueWithin p old.said [] [] []) told time (λ files said left. tt));
     }

@@ -15,12 +15,11 @@ use Rattle.script_lines.specs.declared.line.Grouping.TheVariants.{Begin as begin
 use Rattle.script_lines.specs.declared.line.Saving.TheVariants.{Start as bstart}
 use Rattle.script_lines.specs.Replies.{Reply, ok, ran, pairs, bad_tree, tree_full, denied, in_group, no_group, value, forced, bad, refused, full, end, object_value, command_count, stat, copied, saved, backup_denied, summary, silence, text_of, said_line}
 use Rattle.shell_base.specs.Store.{Command}
-use Rattle.shell_base.specs.First.{Stage}
 use Rattle.script_run.specs.declared.tending.Tending.{Tending}
 use Rattle.script_run.specs.Groups.{Account, AreInOrder, AreWhole, Becomes, IsAfter, IsWhole, Regroups, Span, account_before, account_of, all_after, closed_after, closed_with, group_after, waiting}
 use Rattle.script_run.specs.Made.{Made, AsksMade, IsFront, made, made_by}
 use Rattle.script_run.specs.Replies.{IsGranted, Replies}
-use Rattle.script_run.specs.Stages.{LeadsOn, AllGoBy}
+use Rattle.script_run.specs.Stages.{AllGoBy, LeadsOn, PacedStage}
 use Rattle.script_run.specs.Answers.{Answers, Begun, IsSilent, Said, TrueWithin, with_begun, with_line, with_waits}
 
 -- the account after a line
@@ -474,15 +473,15 @@ told_partly {p} tie {commands} {script} {todo} {replies} {waits} {account} line 
         })
 
 -- the stages go on with an answer more
-pub goes_by_more : (tending : Tending) (p : Params) (first mid last : Stage) (lines : List (List ℕ)) (replies : List Reply) (line : List ℕ) (reply : Reply) → AllGoBy tending p first lines replies mid → LeadsOn tending p mid line reply last
+pub goes_by_more : (tending : Tending) (p : Params) (first mid last : PacedStage) (lines : List (List ℕ)) (replies : List Reply) (line : List ℕ) (reply : Reply) → AllGoBy tending p first lines replies mid → LeadsOn tending p mid line reply last
     → AllGoBy tending p first (lines ++ line ∷ []) (replies ++ reply ∷ []) last
-goes_by_more tending p first mid last [] [] line reply so_far here = (last, subst (λ (m : Stage). LeadsOn tending p m line reply last) so_far here, refl)
+goes_by_more tending p first mid last [] [] line reply so_far here = (last, subst (λ (m : PacedStage). LeadsOn tending p m line reply last) so_far here, refl)
 goes_by_more tending p first mid last (l ∷ lines) (r ∷ replies) line reply (next, one, rest) here = (next, one, goes_by_more tending p next mid last lines replies line reply rest here)
 goes_by_more tending p first mid last [] (r ∷ replies) line reply so_far here = absurd so_far
 goes_by_more tending p first mid last (l ∷ lines) [] line reply so_far here = absurd so_far
 
 -- they go along what was reported
-pub told_goes : (tending : Tending) {p : Params} {tie : List Command → List ℕ → Reply → Type 0} {commands : List Command} {script lines : List (List ℕ)} {replies : List Reply} {waits : List (List Command)} {account : Account} {every : List Command} {said : List ℕ} (first last : Stage)
+pub told_goes : (tending : Tending) {p : Params} {tie : List Command → List ℕ → Reply → Type 0} {commands : List Command} {script lines : List (List ℕ)} {replies : List Reply} {waits : List (List Command)} {account : Account} {every : List Command} {said : List ℕ} (first last : PacedStage)
     → (t : Told p tie commands script lines replies waits account every said) → AllGoBy tending p first lines replies last
     → AllGoBy tending p first (with_line t.story.lines t.story.work) (with_begun t.story.replies t.story.work) last
 told_goes tending {p} {lines = lines} first last t g =

@@ -7,10 +7,10 @@
 //! `end` and the counts follow from the course that each line takes. A line may make several commands, a beginning of which stays
 //! where the log, memory or the disk ends them. A group that is open at the end of a script is closed, and where the input or the
 //! output fails nothing of it stays; nothing does of one that a line gives up, for which the store is opened again. A run may tend
-//! its store ([`Tending`]): then bounded upkeep may be done before each line, and the line is answered from the stage behind it
-//! (`IsKeptUp`). Laws say which answer a line gets ([`a_line_gets_the_answer_of_its_cause`],
-//! [`a_backup_line_gets_the_answer_of_its_cause`]), and that what was printed tells the answers
-//! ([`the_lines_said_are_the_answers`]).
+//! its store ([`Tending`]): then before each line that is read outside a group the upkeep is done that a pace finds due, and the
+//! line is answered from the stage behind it (`IsTendedTo`). Laws say which answer a line gets
+//! ([`a_line_gets_the_answer_of_its_cause`], [`a_backup_line_gets_the_answer_of_its_cause`]), and that what was printed tells the
+//! answers ([`the_lines_said_are_the_answers`]).
 //!
 //! A run may make a backup on a second machine, beside its lines (`IsBackupOfRun`): it stands for the first commands that the answer
 //! `saved` counts. Before a line that ends the backup a crash leaves no store there, and then none or the one that is saved; only the

@@ -37,7 +37,7 @@ pub fn tend<M: Machine>(
     pace: &mut Pace,
 ) -> Result<(), Stop>
     requires { engine.old.broken ≡ false }
-    ensures { Tends tending (M.disk machine.old) (M.disk machine.new) engine.old engine.new result }
+    ensures { Tends tending (M.disk machine.old) (M.disk machine.new) engine.old engine.new pace.old pace.new result }
 {
     identities_are_counted::<AllOps>();
     calls_go_beside_a_copy::<AllOps>();

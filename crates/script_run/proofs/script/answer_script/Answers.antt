@@ -11,23 +11,24 @@ use Rattle.script_run.proofs.TendedRuns.{ends_in_tending, ends_in_tending_beside
 use Rattle.script_run.proofs.BackupLemmas.{FreshBeside, answering_of, ends_here_beside, ends_in_finish_beside, ends_in_line_beside, goes_on_beside, goes_to_beside, next_beside, opened_beside}
 use Rattle.script_run.proofs.NotedLemmas.{line_taken, notes_on, notes_to}
 use Rattle.script_run.specs.StartLaws.{notes_begin}
-use Rattle.script_run.proofs.RunLemmas.{FreshGoing, opened, goes_to, with_next, goes_on, ends_here, ends_in_line, ends_in_finish, completes}
+use Rattle.script_run.specs.Run.{FreshGoing}
+use Rattle.script_run.proofs.RunLemmas.{opened, goes_to, with_next, goes_on, ends_here, ends_in_line, ends_in_finish, completes}
 use Rattle.script_run.proofs.ScriptLemmas.{few_begin, takes_on, next_line, ended, input_end, too_much, whole_uncut, finish_stops, finish_uncut, line_stops, line_not_long, line_undamaged, tending_not_long, tending_stops, tending_undamaged}
 use Rattle.script_run.proofs.script.answer_script.Goals as goal
 
 pub returns-in_err-lines-clause-answers : goal.returns-in_err-lines-clause-answers
 returns-in_err-lines-clause-answers g c = λ p commands holds all alone told.
-    ends_here (opened c.standing_files_meet_their_format.ensures.few (lines_of (g.S.Source.left c.args.input.now)) (g.met.M.Machine.lawful c.args.machine.now) holds all alone)
+    ends_here (opened c.standing_files_meet_their_format.ensures.few (lines_of (g.S.Source.left c.args.input.now)) (g.met.M.Machine.lawful c.args.machine.now) holds all alone refl)
 
 pub returns-in_err-lines-clause-backup : goal.returns-in_err-lines-clause-backup
 returns-in_err-lines-clause-backup g c = λ p commands holds all alone none told.
-    ends_here_beside g.T.Machine.disk (opened_beside g.T.Machine.disk c.args.backup.now c.standing_files_meet_their_format.ensures.few (lines_of (g.S.Source.left c.args.input.now)) (g.met.M.Machine.lawful c.args.machine.now) holds all alone none)
+    ends_here_beside g.T.Machine.disk (opened_beside g.T.Machine.disk c.args.backup.now c.standing_files_meet_their_format.ensures.few (lines_of (g.S.Source.left c.args.input.now)) (g.met.M.Machine.lawful c.args.machine.now) holds all alone none refl)
 
 pub returns-in_err-lines-clause-some : goal.returns-in_err-lines-clause-some
 returns-in_err-lines-clause-some g c = (
   [],
-  λ p commands holds all alone. (ends_here (opened c.standing_files_meet_their_format.ensures.few [] (g.met.M.Machine.lawful c.args.machine.now) holds all alone), IfOk-from_err c.from_residual.result _ c.from_residual.ensures.0),
-  λ p commands holds all alone none. ends_here_beside g.T.Machine.disk (opened_beside g.T.Machine.disk c.args.backup.now c.standing_files_meet_their_format.ensures.few [] (g.met.M.Machine.lawful c.args.machine.now) holds all alone none),
+  λ p commands holds all alone. (ends_here (opened c.standing_files_meet_their_format.ensures.few [] (g.met.M.Machine.lawful c.args.machine.now) holds all alone refl), IfOk-from_err c.from_residual.result _ c.from_residual.ensures.0),
+  λ p commands holds all alone none. ends_here_beside g.T.Machine.disk (opened_beside g.T.Machine.disk c.args.backup.now c.standing_files_meet_their_format.ensures.few [] (g.met.M.Machine.lawful c.args.machine.now) holds all alone none refl),
 )
 
 pub loop-lines-init : goal.loop-lines-init
@@ -37,16 +38,16 @@ loop-lines-init g c = record {
   attached = λ attached. attached;
   time = passes_none (g.M.Machine.disk c.args.machine.now);
   going = λ p commands holds all alone told.
-      subst (λ (l : List ℕ). FreshGoing c.args.tending p (stage_of c.args.engine.now holds.world) (g.M.Machine.disk c.args.machine.now) (g.M.Machine.disk c.args.machine.now) c.args.engine.now commands (lines_of (g.S.Source.left c.args.input.now)) (lines_of (l ++ g.S.Source.left c.args.input.now)) false)
-      (sym c.in_ok-lines.ensures.0) (opened c.standing_files_meet_their_format.ensures.few (lines_of (g.S.Source.left c.args.input.now)) (g.met.M.Machine.lawful c.args.machine.now) holds all alone, refl);
+      subst (λ (l : List ℕ). FreshGoing c.args.tending p (stage_of c.args.engine.now holds.world) (g.M.Machine.disk c.args.machine.now) (g.M.Machine.disk c.args.machine.now) c.args.engine.now c.new-pace.result commands (lines_of (g.S.Source.left c.args.input.now)) (lines_of (l ++ g.S.Source.left c.args.input.now)) false)
+      (sym c.in_ok-lines.ensures.0) (opened c.standing_files_meet_their_format.ensures.few (lines_of (g.S.Source.left c.args.input.now)) (g.met.M.Machine.lawful c.args.machine.now) holds all alone c.new-pace.ensures);
   backup_time = passes_none (g.T.Machine.disk c.args.backup.now);
   beside = λ p commands holds all alone none told.
-      subst (λ (l : List ℕ). FreshBeside c.args.tending g.T.Machine.disk c.args.backup.now c.args.backup.now p (stage_of c.args.engine.now holds.world) (g.M.Machine.disk c.args.machine.now) (g.M.Machine.disk c.args.machine.now) c.args.engine.now commands (lines_of (g.S.Source.left c.args.input.now)) (lines_of (l ++ g.S.Source.left c.args.input.now)) false)
-      (sym c.in_ok-lines.ensures.0) (opened_beside g.T.Machine.disk c.args.backup.now c.standing_files_meet_their_format.ensures.few (lines_of (g.S.Source.left c.args.input.now)) (g.met.M.Machine.lawful c.args.machine.now) holds all alone none, refl);
+      subst (λ (l : List ℕ). FreshBeside c.args.tending g.T.Machine.disk c.args.backup.now c.args.backup.now p (stage_of c.args.engine.now holds.world) (g.M.Machine.disk c.args.machine.now) (g.M.Machine.disk c.args.machine.now) c.args.engine.now c.new-pace.result commands (lines_of (g.S.Source.left c.args.input.now)) (lines_of (l ++ g.S.Source.left c.args.input.now)) false)
+      (sym c.in_ok-lines.ensures.0) (opened_beside g.T.Machine.disk c.args.backup.now c.standing_files_meet_their_format.ensures.few (lines_of (g.S.Source.left c.args.input.now)) (g.met.M.Machine.lawful c.args.machine.now) holds all alone none c.new-pace.ensures);
   some = (
     [],
-    λ p commands holds all alone. (opened c.standing_files_meet_their_format.ensures.few [] (g.met.M.Machine.lawful c.args.machine.now) holds all alone, refl),
-    λ p commands holds all alone none. (opened_beside g.T.Machine.disk c.args.backup.now c.standing_files_meet_their_format.ensures.few [] (g.met.M.Machine.lawful c.args.machine.now) holds all alone none, refl),
+    λ p commands holds all alone. opened c.standing_files_meet_their_format.ensures.few [] (g.met.M.Machine.lawful c.args.machine.now) holds all alone c.new-pace.ensures,
+    λ p commands holds all alone none. opened_beside g.T.Machine.disk c.args.backup.now c.standing_files_meet_their_format.ensures.few [] (g.met.M.Machine.lawful c.args.machine.now) holds all alone none c.new-pace.ensures,
   );
   reads = omega arith;
   takes = λ told. record { bytes = []; front = refl; count = omega (arith, c.in_ok-lines.ensures.1) };
