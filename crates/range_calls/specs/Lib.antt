@@ -3,8 +3,10 @@ pub mod Answers
 pub mod Making
 pub mod Joining
 pub mod Due
+pub mod Few
 pub mod Free
 pub mod Turns
+pub mod Rounds
 pub mod OnlyCalls
 pub mod JoinLaws
 pub mod MakeLaws
@@ -12,4 +14,6 @@ pub mod ReadLaws
 pub mod DueLaws
 pub mod TurnLaws
 pub mod RunLaws
+pub mod RoundLaws
+pub mod ComesLaws
 pub mod OnlyCallsLaws

@@ -19,7 +19,7 @@ use op_codec::AllOps;
 use store_engine::{Engine, ExecErr, exec_goes_on, nothing_is_made};
 
 /// Runs a command. It answers as `Engine::exec` does.
-fn run_one<M: Machine>(
+pub(crate) fn run_one<M: Machine>(
     engine: &mut Engine<AllOps>,
     machine: &mut M,
     op: AllOps,
