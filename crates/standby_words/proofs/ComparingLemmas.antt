@@ -1,10 +1,9 @@
 -- A stream is compared with the store before it is followed.
-use Rattle.std.proofs.Common.{◌≡◌, ◌∙◌, ◌+◌, ◌≤◌, ◌<◌, ◌^◌, ◌++◌, List, ℕ, [], Bool, true, false, inl, inr, ⊎_elim, refl, ap, sym, subst, arith, length, length-append, Option, None, Some, Result, Ok, Err}
+use Rattle.std.proofs.Common.{◌≡◌, ◌∙◌, ◌+◌, ◌≤◌, ◌<◌, ◌^◌, ◌++◌, List, ℕ, [], Bool, true, false, inl, inr, ⊎_elim, refl, ap, sym, subst, arith, length, length-append, Option, Some, Result, Ok, Err}
 use Rattle.std.specs.Prelude.{◌↔◌, IfSome, IsErrOf}
 use Rattle.disk_model.specs.Disk.{Disk}
 use Rattle.disk_model.specs.declared.machine.FileNo.{FileNo}
 use Rattle.disk_model.specs.declared.machine.FileNo.TheVariants.{Objects}
-use Rattle.formats.specs.Log.{IsPayload}
 use Rattle.formats.specs.Objects.{IsObjectsFile, bounds_of}
 use Rattle.formats.specs.declared.params.Params.{Params}
 use Rattle.frame_stream.specs.Frames.{frame}

@@ -6,7 +6,7 @@ use Rattle.std.proofs.lemmas.Grind.{common_steps}
 use Rattle.std.proofs.lemmas.List.{append-nil, length-append, take_all}
 use Rattle.disk_model.specs.Disk.{Files, Disk, IsDisk, IsSettled, Passes, LeavesOnly, Stays}
 use Rattle.disk_model.specs.Silent.{IsSilent}
-use Rattle.disk_model.specs.Moments.{first_call, passes_none, passes_twice, runs_on, started, weaker}
+use Rattle.disk_model.specs.Moments.{first_call, passes_twice, runs_on, weaker}
 use Rattle.oper_core.specs.Meaning.{IsSmall, Meaning}
 use Rattle.oper_core.specs.declared.bounds.Bounds.{Bounds}
 use Rattle.formats.specs.Objects.{bounds_of}

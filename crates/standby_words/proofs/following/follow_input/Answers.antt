@@ -1,4 +1,4 @@
-use Rattle.std.proofs.Common.{◌≡◌, ◌∙◌, ◌+◌, ◌^◌, ◌≤◌, ◌++◌, [], List, ℕ, ap, arith, inl, inr, length, drop, refl, subst, sym, take}
+use Rattle.std.proofs.Common.{◌≡◌, ◌∙◌, ◌+◌, ◌^◌, ◌≤◌, ◌++◌, List, ℕ, ap, arith, inl, inr, length, drop, refl, subst, sym, take}
 use Rattle.std.proofs.lemmas.List.{length-take-le}
 use Rattle.frame_stream.specs.FrameBuffer.{taken_by}
 use Rattle.script_lines.specs.declared.read_error.ReadError.TheVariants.{Memory}
