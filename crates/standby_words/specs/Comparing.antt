@@ -1,5 +1,5 @@
 -- A stream is compared with the store before it is followed.
-use Rattle.std.specs.Prelude.{◌≡◌, ⊤, ℕ, Bool, true, false, List, ◌++◌, ◌+◌, Option, None, Some, IfOk, length, Result, Ok}
+use Rattle.std.specs.Prelude.{◌≡◌, ℕ, Bool, true, false, List, ◌++◌, ◌+◌, Option, None, Some, IfOk, length, Result, Ok}
 use Rattle.disk_model.specs.Disk.{Disk}
 use Rattle.formats.specs.Objects.{bounds_of}
 use Rattle.formats.specs.declared.params.Params.{Params}

@@ -1,7 +1,6 @@
 // A stream is compared with what the store has, before it is followed.
-ghost use Rattle.std.specs.Prelude.{◌≡◌, ◌⊎◌, ◌<◌, ◌+◌, ◌^◌, [], ℕ, false, length, IfErr, IfOk, IfSome, IsErrOf};
+ghost use Rattle.std.specs.Prelude.{◌≡◌, ◌<◌, ◌+◌, ◌^◌, [], false, length, IfErr, IfOk, IfSome, IsErrOf};
 ghost use Rattle.disk_model.specs.Disk.{Rises};
-ghost use Rattle.disk_model.specs.declared.machine.FileNo.{FileNo};
 ghost use Rattle.frame_stream.specs.FrameBuffer.{taken_by};
 ghost use Rattle.op_codec.specs.AllOps.{all_meaning};
 ghost use Rattle.store_engine.specs.Engine.{IsEngineRead};

@@ -1,6 +1,5 @@
 use Rattle.std.proofs.Common.{◌∙◌, Bool, Some, [], ap, subst, sym}
-use Rattle.std.specs.Prelude.{Err, IsErrOf}
-use Rattle.standby_node.specs.declared.follow_err.FollowErr.TheVariants.{DiskFault}
+use Rattle.std.specs.Prelude.{Err}
 use Rattle.standby_words.specs.Comparing.{HasMirror}
 use Rattle.standby_words.specs.Following.{IsOfMachine}
 use Rattle.standby_words.proofs.ComparingLemmas.{machine_failed, mirror_begins, read_as, ship_fails}
