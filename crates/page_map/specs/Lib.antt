@@ -4,5 +4,6 @@ pub mod Plan
 pub mod Splits
 pub mod Sets
 pub mod Reads
+pub mod Steps
 pub mod Ranges
 pub mod Deletes

@@ -15,11 +15,17 @@
 //! on call_plans for plans and free objects, on oper_core, and on byteorder for the numbers of children.
 #![tactic(auto)]
 
+mod beside;
 mod laws;
 mod leaf;
 mod map;
+mod places;
 mod refusal;
+mod step;
+mod stepping;
+mod tidying;
 
+pub use beside::Beside;
 pub use laws::{
     a_delete_is_done_or_refused, a_get_finds_what_the_map_has, a_map_depends_on_its_range,
     a_set_goes_by_turns, a_set_is_done_or_refused, an_empty_root_is_an_empty_map,
@@ -28,4 +34,8 @@ pub use laws::{
 };
 pub use leaf::{delete_in, set_in, value_in};
 pub use map::{Map, page_on};
+pub use places::Places;
 pub use refusal::MapRefusal;
+pub use step::Step;
+pub use stepping::{front_in, places_in};
+pub use tidying::{before_takes, root_takes, takes_both};
