@@ -300,7 +300,7 @@ front_is to (c ∷ cells) past within all =
 abbrev pub ReadsCells : Type 0
 ReadsCells = (page : Page) (i : ℕ) → AreShort page.cells → i < length page.cells → (key_of (page_code page) i ≡ key_at page.cells i) × (beside_of (page_code page) i ≡ beside_at page.cells i)
 
-at_seam : (before : List Cell) (c : Cell) (rest : List Cell) → slice_index_or (before ++ c ∷ rest) (length before) ([], []) ≡ c
+pub at_seam : (before : List Cell) (c : Cell) (rest : List Cell) → slice_index_or (before ++ c ∷ rest) (length before) ([], []) ≡ c
 at_seam [] c rest = refl
 at_seam (d ∷ before) c rest = at_seam before c rest
 

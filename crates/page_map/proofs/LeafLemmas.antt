@@ -1,5 +1,5 @@
 -- The leaves of a tree as one list that shares its span, and the place among them to which a choice of cells leads.
-use Rattle.std.proofs.Common.{◌≡◌, ℕ, zero, suc, ◌+◌, ◌-◌, ◌^◌, ◌<◌, ◌≤◌, Bool, true, false, not, if◌then◌else◌, Option, None, Some, Result, Ok, Err, List, [], ◌∷◌, ◌++◌, map, flat_map, length, is_lt, refl, sym, ap, ◌∙◌, subst, arith, append_assoc, true≢false, length-append}
+use Rattle.std.proofs.Common.{◌≡◌, ℕ, zero, suc, ◌+◌, ◌-◌, ◌^◌, ◌<◌, ◌≤◌, Bool, true, false, not, if◌then◌else◌, Option, None, Some, Result, Ok, Err, List, [], ◌∷◌, ◌++◌, map, flat_map, length, is_lt, refl, sym, ap, ◌∙◌, subst, arith, append_assoc, true≢false, length-append, option_and_then}
 use Rattle.std.specs.Prelude.{⊤, IsTrue, nat_lt, nat_le}
 use Rattle.std.specs.List.{list_all}
 use Rattle.std.proofs.lemmas.List.{append-nil}
@@ -10,17 +10,17 @@ use Rattle.key_entries.specs.Entries.{byte_order}
 use Rattle.key_entries.specs.EntryLaws.{both_true}
 use Rattle.page_ops.specs.Page.{Cell}
 use Rattle.page_ops.specs.Seen.{child_cell}
-use Rattle.page_ops.specs.OnCells.{key_at}
+use Rattle.page_ops.specs.Reading.{under}
 use Rattle.page_ops.specs.Search.{last_under}
 use Rattle.page_map.specs.Map.{Span, is_below, is_within, all_past, all_within, Leaf, Tree, root_of, objects_in, pairs_in, cells_in, IsHeld, Each, bytes_at, is_child, Holds, Share, StandIn, one_if, times}
-use Rattle.page_map.specs.Splits.{cells_read, child_at, end_of, front_of}
-use Rattle.page_map.specs.Ranges.{Stop, at_child, child_span, last_below, one_before, stop_from}
+use Rattle.page_map.specs.Splits.{front_of}
+use Rattle.page_map.specs.Ranges.{Stop, at_step, stop_from, under_key}
+use Rattle.page_map.specs.Steps.{Step, last_below, one_before, span_of_step, step_in}
 use Rattle.page_map.proofs.MapLemmas.{Searches, all_both, below_through, child_found, each_at, ends_too, IsAt, lower, not_below_itself, not_below_through, not_both, not_true, on_level, pairs_within, parts_within, span_of, upper, wider, within_parts}
-use Rattle.page_map.proofs.CutLemmas.{ReadsCells, cells_are}
+use Rattle.page_map.proofs.CutLemmas.{ReadsCells}
 use Rattle.page_map.proofs.TreeLemmas.{HoldsChild}
-use Rattle.page_map.proofs.TwoLemmas.{from_is}
+use Rattle.page_map.proofs.StepLemmas.{Finds, front_held, step_held, step_of, step_span}
 use Rattle.page_map.proofs.PlaceLemmas.{share_at}
-use Rattle.page_map.proofs.WayLemmas.{child_ends, child_is}
 
 -- ---- lists that share a span
 
@@ -240,13 +240,15 @@ module _ (searches : Searches) (reads : ReadsCells) (lo hi : ℕ) (small : hi < 
     pub held : IsHeld 0 (bytes_at lo s leaf.object) (leaf.cells ++ leaf.past)
     pub stands : StandIn 0 at.span leaf
 
-  module _ (choose : List Cell → Option ℕ) (P : Span → Type 0) (begins : (span : Span) → P span → IsTrue (is_below span.from span.to)) where
+  -- a choice of cells that the bytes tell
+  module _ (choose : List ℕ → Option ℕ) (pick : List Cell → Option ℕ) (same : (level : ℕ) (bytes : List ℕ) (cells : List Cell) → IsHeld level bytes cells → choose bytes ≡ pick cells) (P : Span → Type 0)
+      (begins : (span : Span) → P span → IsTrue (is_below span.from span.to)) where
     -- the child that is chosen, where its span has the property, too
     pub record Picks (level : ℕ) (span : Span) (t : Tree (suc level)) : Type 0 where
       pub place : ℕ
       pub child : Tree level
       pub at : IsAt place child t.children
-      pub is : choose (cells_in (suc level) t) ≡ Some place
+      pub is : pick (cells_in (suc level) t) ≡ Some place
       pub good : P (span_of span t.children place)
 
     module _ (picks : (level : ℕ) (span : Span) (t : Tree (suc level)) → Share (StandIn level) span t.children → IsTrue (all_past span t.past) → P span → Picks level span t) where
@@ -272,22 +274,21 @@ module _ (searches : Searches) (reads : ReadsCells) (lo hi : ℕ) (small : hi < 
           let inner : Span = span_of span t.children i in
           let below : HoldsChild lo hi s level child = each_at (HoldsChild lo hi s level) t.children i child picked.at holds.1 in
           let rest = stop_found level inner child below.1 (share_at (StandIn level) span t.children i child picked.at stand.0) picked.good in
+          let bytes : List ℕ = bytes_at lo s x in
           let on : ℕ → Span → Result Stop ℕ = stop_from lo hi s choose level in
-          let read : cells_read (bytes_at lo s x) ≡ cells = ap cells_read holds.0.code ∙ cells_are reads (suc level) cells holds.0.short in
-          let low : root_of level child ≤ hi = leb-true (root_of level child) hi (both_true (nat_lt lo (root_of level child)) (nat_le (root_of level child) hi) below.0).1 in
-          let named : child_at cells i ≡ root_of level child = child_is hi small level t i child picked.at low in
-          let from : key_at cells i ≡ inner.from = from_is (StandIn level) (root_of level) span t.children t.past i child picked.at stand.0 in
-          let to : end_of (front_of span.to cells) i span.to ≡ inner.to = child_ends level span t stand.0 stand.1 (begins span good) i child picked.at in
-          let spans : child_span cells i span ≡ inner = λ k. record { from = from k; to = to k } in
+          let begin : IsTrue (is_below span.from span.to) = begins span good in
+          let step : Step = step_of searches reads lo hi small bytes level span t holds.0 stand.0 stand.1 begin i child picked.at below.0 in
+          let steps : option_and_then (step_in lo hi bytes span.to) (choose bytes) ≡ Some step =
+          ap (option_and_then (step_in lo hi bytes span.to)) (same (suc level) bytes cells holds.0 ∙ picked.is)
+          ∙ step_held searches reads lo hi small bytes level span t holds.0 stand.0 stand.1 begin i child picked.at below.0 in
+          let spans : span_of_step span.to step ≡ inner = step_span searches reads lo hi small bytes level span t holds.0 stand.0 stand.1 begin i child picked.at below.0 in
           let parts = parted (StandIn level) (leaves level) (leaves_share level) span t.children i child picked.at stand.0 in
           let here : List (List ℕ × Leaf) = (rest.stop.span.from, rest.among.leaf) ∷ rest.among.back in
           record {
             stop = rest.stop;
             is =
-                ap (λ (b : Bool). if b then at_child lo hi s on x span (cells_read (bytes_at lo s x)) (choose (cells_read (bytes_at lo s x))) else Err x)
-                (on_level searches lo hi small s [] (suc level) (bytes_at lo s x) cells holds.0)
-                ∙ ap (λ (l : List Cell). at_child lo hi s on x span l (choose l)) read ∙ ap (at_child lo hi s on x span cells) picked.is
-                ∙ (λ k. if is_child lo hi (named k) then on (named k) (spans k) else Err x) ∙ ap (λ (b : Bool). if b then on (root_of level child) inner else Err x) below.0 ∙ rest.is;
+                ap (λ (b : Bool). if b then at_step on x span (option_and_then (step_in lo hi bytes span.to) (choose bytes)) else Err x) (on_level searches lo hi small s [] (suc level) bytes cells holds.0)
+                ∙ ap (at_step on x span) steps ∙ ap (on (root_of level child)) spans ∙ rest.is;
             among = record {
               leaf = rest.among.leaf;
               object = rest.among.object;
@@ -309,8 +310,11 @@ module _ (searches : Searches) (reads : ReadsCells) (lo hi : ℕ) (small : hi < 
   each_any [] = tt
   each_any (c ∷ children) = (tt, each_any children)
 
+  pub under_held : (key : List ℕ) (level : ℕ) (bytes : List ℕ) (cells : List Cell) → IsHeld level bytes cells → under_key key bytes ≡ last_under key cells
+  under_held key level bytes cells held = ap (λ (b : List ℕ). under b key) held.code ∙ searches.under (record { level = level; cells = cells }) key held.short held.rise
+
   pub picks_under : (key : List ℕ) (begins : (span : Span) → IsTrue (is_within span key) → IsTrue (is_below span.from span.to)) (level : ℕ) (span : Span) (t : Tree (suc level)) → Share (StandIn level) span t.children
-      → IsTrue (all_past span t.past) → IsTrue (is_within span key) → Picks (last_under key) (λ span. IsTrue (is_within span key)) begins level span t
+      → IsTrue (all_past span t.past) → IsTrue (is_within span key) → Picks (under_key key) (last_under key) (under_held key) (λ span. IsTrue (is_within span key)) begins level span t
   picks_under key begins level span t share past within =
       let found = child_found (StandIn level) (λ child. ⊤) (root_of level) (pairs_in level) (pairs_within level) key span t.children t.past share (each_any t.children) past within in
       record { place = found.place; child = found.child; at = found.at; is = found.under; good = found.within }
@@ -374,9 +378,16 @@ module _ {Child : Type 0} (In : Span → Child → Type 0) (root : Child → ℕ
         }
       ] refl
 
-module _ (searches : Searches) (reads : ReadsCells) (lo hi : ℕ) (small : hi < 2 ^ 32) (s : State) where
+-- the last cell in front of an end
+abbrev pub last_in : Option (List ℕ) → List Cell → Option ℕ
+last_in end cells = one_before (length (front_of end cells))
+
+module _ (searches : Searches) (finds : Finds) (reads : ReadsCells) (lo hi : ℕ) (small : hi < 2 ^ 32) (s : State) where
+  pub below_end : (end : Option (List ℕ)) (level : ℕ) (bytes : List ℕ) (cells : List Cell) → IsHeld level bytes cells → last_below end bytes ≡ last_in end cells
+  below_end end level bytes cells held = ap (option_and_then one_before) (front_held finds level bytes cells held end)
+
   pub picks_below : (end : Option (List ℕ)) (begins : (span : Span) → EndsIn end span → IsTrue (is_below span.from span.to)) (level : ℕ) (span : Span) (t : Tree (suc level)) → Share (StandIn level) span t.children
-      → IsTrue (all_past span t.past) → EndsIn end span → Picks searches reads lo hi small s (last_below end) (EndsIn end) begins level span t
+      → IsTrue (all_past span t.past) → EndsIn end span → Picks searches reads lo hi small s (last_below end) (last_in end) (below_end end) (EndsIn end) begins level span t
   picks_below end begins level span t share past ends =
       let found = last_is (StandIn level) (root_of level) end span t.children t.past share past ends in
       record { place = found.place; child = found.child; at = found.at; is = ap one_before found.count; good = found.good }

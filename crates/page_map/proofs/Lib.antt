@@ -12,6 +12,7 @@ pub mod DueLemmas
 pub mod SettleLemmas
 pub mod TurnLemmas
 pub mod SetLemmas
+pub mod StepLemmas
 pub mod LeafLemmas
 pub mod RangeLemmas
 pub mod ReadLemmas

@@ -21,7 +21,7 @@ use Rattle.page_ops.specs.OnCells.{beside_at}
 use Rattle.page_ops.specs.Search.{last_under, next_under}
 use Rattle.page_map.specs.Map.{Span, is_below, is_within, Leaf, Tree, root_of, pairs_in, cells_in, IsHeld, Each, bytes_at, is_child, Holds, all_within, all_past, Share, StandIn, all_keys, IsMap, content_of, objects_in, one_if, times}
 use Rattle.page_map.specs.Sets.{AreShortPairs, is_short_key, is_short_pair}
-use Rattle.page_map.specs.Walk.{is_on, names_child, child_for, on_from, walk_from, walk, get_in, get_at, get_answer}
+use Rattle.page_map.specs.Walk.{is_on, names_child, child_in, child_for, on_from, walk_from, walk, get_in, get_at, get_answer}
 
 -- ---- the order of keys
 
@@ -410,6 +410,21 @@ pub record Searches : Type 0 where
   pub beside : (page : Page) (i : ℕ) → AreShort page.cells → i < length page.cells → beside_of (page_code page) i ≡ beside_at page.cells i
   pub got : (page : Page) (key : List ℕ) → AreShort page.cells → T (is_sorted byte_order page.cells) → found_in (page_code page) key ≡ Some (find byte_order key page.cells)
 
+-- the child of a cell is the one that the bytes name
+pub child_in_held : (searches : Searches) (lo hi : ℕ) → hi < 2 ^ 32 → (level : ℕ) (bytes : List ℕ) (cells : List Cell) (i child : ℕ) → IsHeld level bytes cells → i < length cells
+    → beside_at cells i ≡ little_bytes 4 child → IsTrue (is_child lo hi child) → child_in lo hi bytes i ≡ Some child
+child_in_held searches lo hi small level bytes cells i child held inside beside there =
+    let page : Page = record { level = level; cells = cells } in
+    let below : child < 2 ^ 32 = omega (arith, small, leb-true child hi (both_true (nat_lt lo child) (nat_le child hi) there).1) in
+    let value : beside_of bytes i ≡ little_bytes 4 child ++ [] =
+    ap (λ (b : List ℕ). beside_of b i) held.code ∙ searches.beside page i held.short inside ∙ beside ∙ sym (append-nil (little_bytes 4 child)) in
+    let named : child_of bytes i ≡ child = ap (little_number 4) value ∙ little_number-little_bytes 4 child [] below in
+    let four : 4 ≤ length (beside_of bytes i) = omega (arith, ap (λ (l : List ℕ). length l) value, length-append (little_bytes 4 child) [], length-little_bytes 4 child) in
+    let names : names_child bytes i ≡ true =
+    ap (λ (b : List ℕ). has_cell b i && nat_le 4 (length (beside_of bytes i))) held.code
+    ∙ ap (λ (t : Bool). t && nat_le 4 (length (beside_of bytes i))) (searches.cell page i held.short inside) ∙ le-leb 4 (length (beside_of bytes i)) four in
+    (λ k. if names k && is_child lo hi (named k) then Some (named k) else None) ∙ ap (λ (t : Bool). if t then Some child else None) there
+
 module _ (searches : Searches) (lo hi : ℕ) (small : hi < 2 ^ 32) (s : State) (key : List ℕ) where
   pub on_level : (level : ℕ) (bytes : List ℕ) (cells : List Cell) → IsHeld level bytes cells → is_on level bytes ≡ true
   on_level level bytes cells held =
@@ -452,17 +467,8 @@ module _ (searches : Searches) (lo hi : ℕ) (small : hi < 2 ^ 32) (s : State) (
   pub child_named : (level : ℕ) (bytes : List ℕ) (cells : List Cell) (i child : ℕ) → IsHeld level bytes cells → last_under key cells ≡ Some i → i < length cells
       → beside_at cells i ≡ little_bytes 4 child → IsTrue (is_child lo hi child) → child_for lo hi bytes (under bytes key) ≡ Some child
   child_named level bytes cells i child held is inside beside there =
-      let page : Page = record { level = level; cells = cells } in
-      let below : child < 2 ^ 32 = omega (arith, small, leb-true child hi (both_true (nat_lt lo child) (nat_le child hi) there).1) in
-      let place : under bytes key ≡ Some i = ap (λ (b : List ℕ). under b key) held.code ∙ searches.under page key held.short held.rise ∙ is in
-      let value : beside_of bytes i ≡ little_bytes 4 child ++ [] =
-      ap (λ (b : List ℕ). beside_of b i) held.code ∙ searches.beside page i held.short inside ∙ beside ∙ sym (append-nil (little_bytes 4 child)) in
-      let named : child_of bytes i ≡ child = ap (little_number 4) value ∙ little_number-little_bytes 4 child [] below in
-      let four : 4 ≤ length (beside_of bytes i) = omega (arith, ap (λ (l : List ℕ). length l) value, length-append (little_bytes 4 child) [], length-little_bytes 4 child) in
-      let names : names_child bytes i ≡ true =
-      ap (λ (b : List ℕ). has_cell b i && nat_le 4 (length (beside_of bytes i))) held.code
-      ∙ ap (λ (t : Bool). t && nat_le 4 (length (beside_of bytes i))) (searches.cell page i held.short inside) ∙ le-leb 4 (length (beside_of bytes i)) four in
-      ap (child_for lo hi bytes) place ∙ (λ k. if names k && is_child lo hi (named k) then Some (named k) else None) ∙ ap (λ (t : Bool). if t then Some child else None) there
+      ap (child_for lo hi bytes) (ap (λ (b : List ℕ). under b key) held.code ∙ searches.under (record { level = level; cells = cells }) key held.short held.rise ∙ is)
+      ∙ child_in_held searches lo hi small level bytes cells i child held inside beside there
 
   joined : (front first cells last back pairs mid : List Cell) → pairs ≡ front ++ (mid ++ back) → mid ≡ first ++ (cells ++ last) → pairs ≡ (front ++ first) ++ (cells ++ (last ++ back))
   joined front first cells last back pairs mid one two =

@@ -16,15 +16,17 @@ use Rattle.key_entries.specs.KeyLaws.{both, first, second, same_key}
 use Rattle.page_ops.specs.Page.{Cell}
 use Rattle.page_ops.specs.Reading.{level_in}
 use Rattle.page_ops.specs.Search.{last_under}
-use Rattle.page_map.specs.Map.{Span, Leaf, Tree, Each, Share, StandIn, Holds, IsMap, all_keys, all_within, bytes_at, content_of, is_below, is_within, one_if, pairs_in, root_of}
+use Rattle.page_map.specs.Map.{Span, Leaf, Tree, IsHeld, Each, Share, StandIn, Holds, IsMap, all_keys, all_within, bytes_at, content_of, is_below, is_within, one_if, pairs_in, root_of}
 use Rattle.page_map.specs.Reads.{back_of, count_of, range_of}
-use Rattle.page_map.specs.Ranges.{Stop, and_count, and_then, back_answer, back_at, back_from, count_answer, count_at, count_from, from_end, last_below, pairs_at, range_answer, range_at, range_from, stop, stop_from}
-use Rattle.page_map.specs.Splits.{cells_read, front_of}
+use Rattle.page_map.specs.Ranges.{Stop, and_count, and_then, back_answer, back_at, back_from, back_on, count_answer, count_at, count_from, count_on, falling, from_end, or_bad, pairs_at, places_at, range_answer, range_at, range_from, range_on, stop, stop_from, under_key}
+use Rattle.page_map.specs.Splits.{front_of}
+use Rattle.page_map.specs.Steps.{Places, first_places, last_below, last_places}
 use Rattle.page_map.proofs.MapLemmas.{Searches, all_both, below_both, below_through, ends_too, in_all, lower, not_below_itself, not_true, pairs_within, root_held, upper, wider, within_parts}
-use Rattle.page_map.proofs.CutLemmas.{ReadsCells, cells_are, front_is, not_below_none, sorted_parts}
+use Rattle.page_map.proofs.CutLemmas.{ReadsCells, front_is, not_below_none, sorted_parts}
 use Rattle.page_map.proofs.TreeLemmas.{HoldsChild}
 use Rattle.page_map.proofs.WayLemmas.{from_below}
-use Rattle.page_map.proofs.LeafLemmas.{EndsIn, IsAmong, Stops, front_below, leaf_pairs, leaves, leaves_are_few, leaves_pairs, leaves_share, leaves_within, picks_below, picks_under, rest_share, share_key, starts, stop_found}
+use Rattle.page_map.proofs.LeafLemmas.{EndsIn, IsAmong, Stops, front_below, leaf_pairs, leaves, leaves_are_few, leaves_pairs, leaves_share, leaves_within, below_end, last_in, picks_below, picks_under, rest_share, share_key, starts, stop_found, under_held}
+use Rattle.page_map.proofs.StepLemmas.{Finds, falling_is, first_held, kept, last_held, places_held, places_of}
 
 -- ---- the pairs of a tree rise
 
@@ -84,9 +86,6 @@ module _ (lo hi : ℕ) (s : State) where
       (λ q. sym (get-entries (content_of is) q) ∙ get-from_entries nat_list_cmp_total pairs q)
 
 -- ---- what is kept of a list
-
-abbrev kept : Span → List Cell → List Cell
-kept w cells = filter (λ c. is_within w c.0) cells
 
 kept_both : (w : Span) (a b : List Cell) → kept w (a ++ b) ≡ kept w a ++ kept w b
 kept_both w a b = filter-append (λ (c : Cell). is_within w c.0) a b
@@ -220,7 +219,7 @@ before_less end (c ∷ front) y back less =
 
 -- ---- one leaf of a walk
 
-module _ (searches : Searches) (reads : ReadsCells) (lo hi : ℕ) (small : hi < 2 ^ 32) (s : State) (is : IsMap lo hi s) where
+module _ (searches : Searches) (finds : Finds) (reads : ReadsCells) (lo hi : ℕ) (small : hi < 2 ^ 32) (s : State) (is : IsMap lo hi s) where
   abbrev level : ℕ
   level = is.level
 
@@ -239,7 +238,7 @@ module _ (searches : Searches) (reads : ReadsCells) (lo hi : ℕ) (small : hi < 
   few : length all ≤ suc hi - lo
   few = leaves_are_few lo hi s level [] t (omega (arith, is.root)) (omega (arith, is.root, is.order)) is.holds is.once
 
-  stop_is : (choose : List Cell → Option ℕ) → stop lo hi s choose ≡ stop_from lo hi s choose level (root_of level t) all_keys
+  stop_is : (choose : List ℕ → Option ℕ) → stop lo hi s choose ≡ stop_from lo hi s choose level (root_of level t) all_keys
   stop_is choose =
       let top : level_in (bytes_at lo s lo) ≡ level = ap (λ (x : ℕ). level_in (bytes_at lo s x)) (sym is.root) ∙ ap level_in (root_held searches lo hi small s [] level t is.holds).code in
       (λ k. stop_from lo hi s choose (top k) (sym is.root k) all_keys)
@@ -269,12 +268,34 @@ module _ (searches : Searches) (reads : ReadsCells) (lo hi : ℕ) (small : hi < 
     below_here : IsTrue (list_all (λ c. is_lt (byte_order c.0 at.span.from)) front)
     below_here = front_below all_keys among.front here among.back share_here
 
-    read_is : pairs_at lo hi s w at ≡ kept w cells
-    read_is =
-        ap (λ (l : List Cell). kept w (front_of at.span.to l))
-        (ap (λ (x : ℕ). cells_read (bytes_at lo s x)) among.object ∙ ap cells_read among.held.code ∙ cells_are reads 0 (cells ++ among.leaf.past) among.held.short)
-        ∙ ap (kept w)
-        (front_is at.span.to cells among.leaf.past (wider (is_within at.span) (λ k. is_below k at.span.to) (λ k e. (within_parts at.span k e).1) cells among.stands.0) among.stands.1)
+    abbrev in_page : List Cell
+    in_page = cells ++ among.leaf.past
+
+    held_there : IsHeld 0 (bytes_at lo s at.object) in_page
+    held_there = subst (λ (x : ℕ). IsHeld 0 (bytes_at lo s x) in_page) (sym among.object) among.held
+
+    front_cells : front_of at.span.to in_page ≡ cells
+    front_cells = front_is at.span.to cells among.leaf.past (wider (is_within at.span) (λ k. is_below k at.span.to) (λ k e. (within_parts at.span k e).1) cells among.stands.0) among.stands.1
+
+    -- where its pairs in the span stand, and the first of them and the last ones
+    abbrev places : Places
+    places = places_of searches finds reads (bytes_at lo s at.object) in_page held_there w at.span.to
+
+    places_are : places_at lo hi s w at ≡ Ok places
+    places_are = ap (or_bad at.object) (places_held searches finds reads (bytes_at lo s at.object) in_page held_there w at.span.to)
+
+    count_kept : places.count ≡ length (kept w cells)
+    count_kept = ap (λ (l : List Cell). length (kept w l)) front_cells
+
+    first_read : (most : ℕ) → pairs_at lo hi s at (first_places most places) ≡ Ok (take most (kept w cells))
+    first_read most =
+        ap (or_bad at.object) (first_held searches finds reads (bytes_at lo s at.object) in_page held_there w at.span.to most)
+        ∙ ap (λ (l : List Cell). Ok (take most (kept w l))) front_cells
+
+    last_read : (most : ℕ) → falling (pairs_at lo hi s at (last_places most places)) ≡ Ok (take most (reverse (kept w cells)))
+    last_read most =
+        ap (λ (o : Option (List Cell)). falling (or_bad at.object o)) (last_held searches finds reads (bytes_at lo s at.object) in_page held_there w at.span.to most)
+        ∙ ap (λ (l : List Cell). Ok l) (falling_is most (kept w (front_of at.span.to in_page)) ∙ ap (λ (l : List Cell). take most (reverse (kept w l))) front_cells)
 
     -- from a key in it on: its pairs, and then those from its end on
     abbrev behind : Option (List ℕ) → List Cell
@@ -384,22 +405,22 @@ module _ (searches : Searches) (reads : ReadsCells) (lo hi : ℕ) (small : hi < 
   begins_at key span within = from_below span key within
 
   abbrev StopsAt : List ℕ → Type 0
-  StopsAt key = Stops searches reads lo hi small s (last_under key) (λ span. IsTrue (is_within span key)) (begins_at key) (picks_under searches reads lo hi small s key (begins_at key)) level all_keys t
+  StopsAt key = Stops searches reads lo hi small s (under_key key) (last_under key) (under_held searches reads lo hi small s key) (λ span. IsTrue (is_within span key)) (begins_at key) (picks_under searches reads lo hi small s key (begins_at key)) level all_keys t
 
   stop_at : (key : List ℕ) → StopsAt key
   stop_at key =
-      stop_found searches reads lo hi small s (last_under key) (λ span. IsTrue (is_within span key)) (begins_at key) (picks_under searches reads lo hi small s key (begins_at key)) level all_keys t is.holds is.stand
+      stop_found searches reads lo hi small s (under_key key) (last_under key) (under_held searches reads lo hi small s key) (λ span. IsTrue (is_within span key)) (begins_at key) (picks_under searches reads lo hi small s key (begins_at key)) level all_keys t is.holds is.stand
       (in_all key)
 
   begins_before : (end : Option (List ℕ)) (span : Span) → EndsIn end span → IsTrue (is_below span.from span.to)
   begins_before end span ends = ends.ends span.from ends.begins
 
   abbrev StopsBefore : Option (List ℕ) → Type 0
-  StopsBefore end = Stops searches reads lo hi small s (last_below end) (EndsIn end) (begins_before end) (picks_below searches reads lo hi small s end (begins_before end)) level all_keys t
+  StopsBefore end = Stops searches reads lo hi small s (last_below end) (last_in end) (below_end searches finds reads lo hi small s end) (EndsIn end) (begins_before end) (picks_below searches finds reads lo hi small s end (begins_before end)) level all_keys t
 
   stop_before : (end : Option (List ℕ)) → IsTrue (is_below [] end) → StopsBefore end
   stop_before end some =
-      stop_found searches reads lo hi small s (last_below end) (EndsIn end) (begins_before end) (picks_below searches reads lo hi small s end (begins_before end)) level all_keys t is.holds is.stand
+      stop_found searches reads lo hi small s (last_below end) (last_in end) (below_end searches finds reads lo hi small s end) (EndsIn end) (begins_before end) (picks_below searches finds reads lo hi small s end (begins_before end)) level all_keys t is.holds is.stand
       (record { begins = some; ends = λ key inside. refl })
 
   -- a span that is not empty ends above the empty key
@@ -409,17 +430,18 @@ module _ (searches : Searches) (reads : ReadsCells) (lo hi : ℕ) (small : hi < 
   some_below key (Some (b ∷ end)) below = refl
 
   range_step : (n most : ℕ) (w : Span) → ((m : ℕ) (v : Span) → ahead v.from all < n → range_from lo hi s n m v ≡ Ok (take m (kept v pairs))) → ahead w.from all < suc n
-      → range_at lo hi s (range_from lo hi s n) most w (stop lo hi s (last_under w.from)) ≡ Ok (take most (kept w pairs))
+      → range_at lo hi s (range_from lo hi s n) most w (stop lo hi s (under_key w.from)) ≡ Ok (take most (kept w pairs))
   range_step n most w rest low =
       let found = stop_at w.from in
       let at : Stop = found.stop in
       let mine : List Cell = kept w found.among.leaf.cells in
-      ap (range_at lo hi s (range_from lo hi s n) most w) (stop_is (last_under w.from) ∙ found.is)
-      ∙ ap (λ (l : List Cell). and_then (take most l) (from_end [] (range_from lo hi s n (most - length l)) w at.span.to)) (read_is at found.among w)
+      ap (range_at lo hi s (range_from lo hi s n) most w) (stop_is (under_key w.from) ∙ found.is)
+      ∙ ap (range_on lo hi s (range_from lo hi s n) most w at) (places_are at found.among w)
+      ∙ (λ k. and_then (first_read at found.among w most k) (from_end [] (range_from lo hi s n (most - count_kept at found.among w k)) w at.span.to))
       ∙ ends at.span.to refl
     where
       ends : (o : Option (List ℕ)) → (stop_at w.from).stop.span.to ≡ o
-          → and_then (take most (kept w (stop_at w.from).among.leaf.cells)) (from_end [] (range_from lo hi s n (most - length (kept w (stop_at w.from).among.leaf.cells))) w o) ≡ Ok (take most (kept w pairs))
+          → and_then (Ok (take most (kept w (stop_at w.from).among.leaf.cells))) (from_end [] (range_from lo hi s n (most - length (kept w (stop_at w.from).among.leaf.cells))) w o) ≡ Ok (take most (kept w pairs))
       ends None e =
           let mine : List Cell = kept w (stop_at w.from).among.leaf.cells in
           ap (λ (l : List Cell). Ok l) (append-nil (take most mine) ∙ ap (take most) (sym (forward (stop_at w.from).stop (stop_at w.from).among w (stop_at w.from).good None e ∙ append-nil mine)))
@@ -427,7 +449,7 @@ module _ (searches : Searches) (reads : ReadsCells) (lo hi : ℕ) (small : hi < 
           let found = stop_at w.from in
           let mine : List Cell = kept w found.among.leaf.cells in
           let v : Span = record { from = key; to = w.to } in
-          ap (and_then (take most mine)) (rest (most - length mine) v (omega (arith, low, fewer_ahead found.stop found.among w found.good key e)))
+          ap (and_then (Ok (take most mine))) (rest (most - length mine) v (omega (arith, low, fewer_ahead found.stop found.among w found.good key e)))
           ∙ ap (λ (l : List Cell). Ok l) (sym (take_both most mine (kept v pairs)) ∙ ap (take most) (sym (forward found.stop found.among w found.good (Some key) e)))
 
   none_taken : {A : Type 0} (most : ℕ) (l : List A) → (most ≡ 0) ⊎ (l ≡ []) → take most l ≡ []
@@ -439,7 +461,7 @@ module _ (searches : Searches) (reads : ReadsCells) (lo hi : ℕ) (small : hi < 
   range_is zero most w low = absurd (omega (arith, low))
   range_is (suc n) most w low =
       elim (nat_lt 0 most && is_below w.from w.to) as (λ g. (nat_lt 0 most && is_below w.from w.to) ≡ g
-      → (if g then range_at lo hi s (range_from lo hi s n) most w (stop lo hi s (last_under w.from)) else Ok []) ≡ Ok (take most (kept w pairs))) [
+      → (if g then range_at lo hi s (range_from lo hi s n) most w (stop lo hi s (under_key w.from)) else Ok []) ≡ Ok (take most (kept w pairs))) [
         | true ↦ λ e. range_step n most w (range_is n) low
         | false ↦ λ e. ap (λ (l : List Cell). Ok l) (sym (none_taken most (kept w pairs) (asked (nothing_asked most w e))))
       ] refl
@@ -449,11 +471,12 @@ module _ (searches : Searches) (reads : ReadsCells) (lo hi : ℕ) (small : hi < 
       asked (inr none) = inr (none pairs)
 
   count_step : (n : ℕ) (w : Span) → ((v : Span) → ahead v.from all < n → count_from lo hi s n v ≡ Ok (length (kept v pairs))) → ahead w.from all < suc n
-      → count_at lo hi s (count_from lo hi s n) w (stop lo hi s (last_under w.from)) ≡ Ok (length (kept w pairs))
+      → count_at lo hi s (count_from lo hi s n) w (stop lo hi s (under_key w.from)) ≡ Ok (length (kept w pairs))
   count_step n w rest low =
       let found = stop_at w.from in
-      ap (count_at lo hi s (count_from lo hi s n) w) (stop_is (last_under w.from) ∙ found.is)
-      ∙ ap (λ (l : List Cell). and_count (length l) (from_end 0 (count_from lo hi s n) w found.stop.span.to)) (read_is found.stop found.among w)
+      ap (count_at lo hi s (count_from lo hi s n) w) (stop_is (under_key w.from) ∙ found.is)
+      ∙ ap (count_on lo hi s (count_from lo hi s n) w found.stop) (places_are found.stop found.among w)
+      ∙ ap (λ (k : ℕ). and_count k (from_end 0 (count_from lo hi s n) w found.stop.span.to)) (count_kept found.stop found.among w)
       ∙ ends found.stop.span.to refl
     where
       ends : (o : Option (List ℕ)) → (stop_at w.from).stop.span.to ≡ o
@@ -471,7 +494,7 @@ module _ (searches : Searches) (reads : ReadsCells) (lo hi : ℕ) (small : hi < 
   count_is : (n : ℕ) (w : Span) → ahead w.from all < n → count_from lo hi s n w ≡ Ok (length (kept w pairs))
   count_is zero w low = absurd (omega (arith, low))
   count_is (suc n) w low =
-      elim (is_below w.from w.to) as (λ g. is_below w.from w.to ≡ g → (if g then count_at lo hi s (count_from lo hi s n) w (stop lo hi s (last_under w.from)) else Ok 0) ≡ Ok (length (kept w pairs))) [
+      elim (is_below w.from w.to) as (λ g. is_below w.from w.to ≡ g → (if g then count_at lo hi s (count_from lo hi s n) w (stop lo hi s (under_key w.from)) else Ok 0) ≡ Ok (length (kept w pairs))) [
         | true ↦ λ e. count_step n w (count_is n) low
         | false ↦ λ e. ap (λ (l : List Cell). Ok (length l)) (sym (none_in w e pairs))
       ] refl
@@ -485,8 +508,9 @@ module _ (searches : Searches) (reads : ReadsCells) (lo hi : ℕ) (small : hi < 
       let mine : List Cell = kept w found.among.leaf.cells in
       let v : Span = record { from = w.from; to = Some at.span.from } in
       ap (back_at lo hi s (back_from lo hi s n) most w) (stop_is (last_below w.to) ∙ found.is)
-      ∙ ap (λ (l : List Cell). and_then (take most (reverse l)) (back_from lo hi s n (most - length l) v)) (read_is at found.among w)
-      ∙ ap (and_then (take most (reverse mine))) (rest (most - length mine) v (omega (arith, low, fewer_before at found.among w found.good)))
+      ∙ ap (back_on lo hi s (back_from lo hi s n) most w at) (places_are at found.among w)
+      ∙ (λ k. and_then (last_read at found.among w most k) (back_from lo hi s n (most - count_kept at found.among w k) v))
+      ∙ ap (and_then (Ok (take most (reverse mine)))) (rest (most - length mine) v (omega (arith, low, fewer_before at found.among w found.good)))
       ∙ ap (λ (k : ℕ). Ok (take most (reverse mine) ++ take (most - k) (reverse (kept v pairs)))) (sym (length-reverse mine))
       ∙ ap (λ (l : List Cell). Ok l)
       (sym (take_both most (reverse mine) (reverse (kept v pairs))) ∙ ap (take most) (sym (reverse-append (kept v pairs) mine)) ∙ ap (λ (l : List Cell). take most (reverse l)) (sym (backward at found.among w found.good)))

@@ -1,10 +1,11 @@
 -- A search finds no place behind the last one.
-use Rattle.std.proofs.Common.{◌≡◌, ℕ, zero, suc, ◌+◌, ◌/◌, ◌<◌, ◌≤◌, true, false, if◌then◌else◌, None, Some, List, is_lt, refl, subst, arith}
+use Rattle.std.proofs.Common.{◌≡◌, ℕ, zero, suc, ◌+◌, ◌/◌, ◌<◌, ◌≤◌, true, false, if◌then◌else◌, Option, None, Some, List, is_lt, refl, subst, arith}
 use Rattle.std.specs.Prelude.{nat_lt}
 use Rattle.std.proofs.lemmas.Bool.{ltb-true}
 use Rattle.key_entries.specs.Entries.{byte_order}
 use Rattle.key_entries.specs.EntryLaws.{same_some}
 use Rattle.page_ops.specs.Reading.{count_in, has_cell, key_of, seek, seek_from}
+use Rattle.page_map.specs.Steps.{front_in}
 
 seek_low : (n : ℕ) (bytes key : List ℕ) (lo hi i : ℕ) → lo ≤ hi → seek_from n bytes key lo hi ≡ Some i → i ≤ hi
 seek_low zero bytes key lo hi i order e = subst (λ (k : ℕ). k ≤ hi) (same_some lo i e) order
@@ -26,3 +27,7 @@ seek_low (suc n) bytes key lo hi i order e =
 
 pub place_low : (bytes key : List ℕ) (i : ℕ) → seek bytes key ≡ Some i → i ≤ count_in bytes
 place_low bytes key i e = seek_low (count_in bytes) bytes key 0 (count_in bytes) i (omega arith) e
+
+pub front_low : (bytes : List ℕ) (end : Option (List ℕ)) (n : ℕ) → front_in bytes end ≡ Some n → n ≤ count_in bytes
+front_low bytes None n e = omega (arith, same_some (count_in bytes) n e)
+front_low bytes (Some end) n e = place_low bytes end n e

@@ -66,32 +66,32 @@ module _ (lo hi : ℕ) (s : State) where
   pairs_at leaf places = or_bad leaf.object (cells_at (bytes_at lo s leaf.object) places)
 
   -- the first of them, and then those behind the leaf
-  abbrev pub range_in : (ℕ → Span → Result (List Cell) ℕ) → ℕ → Span → Stop → Result Places ℕ → Result (List Cell) ℕ
-  range_in on most span leaf (Err bad) = Err bad
-  range_in on most span leaf (Ok places) = and_then (pairs_at leaf (first_places most places)) (from_end [] (on (most - places.count)) span leaf.span.to)
+  abbrev pub range_on : (ℕ → Span → Result (List Cell) ℕ) → ℕ → Span → Stop → Result Places ℕ → Result (List Cell) ℕ
+  range_on on most span leaf (Err bad) = Err bad
+  range_on on most span leaf (Ok places) = and_then (pairs_at leaf (first_places most places)) (from_end [] (on (most - places.count)) span leaf.span.to)
 
   abbrev pub range_at : (ℕ → Span → Result (List Cell) ℕ) → ℕ → Span → Result Stop ℕ → Result (List Cell) ℕ
   range_at on most span (Err bad) = Err bad
-  range_at on most span (Ok leaf) = range_in on most span leaf (places_at span leaf)
+  range_at on most span (Ok leaf) = range_on on most span leaf (places_at span leaf)
 
   -- the last of them, falling, and then those before the leaf
-  abbrev pub back_in : (ℕ → Span → Result (List Cell) ℕ) → ℕ → Span → Stop → Result Places ℕ → Result (List Cell) ℕ
-  back_in on most span leaf (Err bad) = Err bad
-  back_in on most span leaf (Ok places) =
+  abbrev pub back_on : (ℕ → Span → Result (List Cell) ℕ) → ℕ → Span → Stop → Result Places ℕ → Result (List Cell) ℕ
+  back_on on most span leaf (Err bad) = Err bad
+  back_on on most span leaf (Ok places) =
       and_then (falling (pairs_at leaf (last_places most places))) (on (most - places.count) (record { from = span.from; to = Some leaf.span.from }))
 
   abbrev pub back_at : (ℕ → Span → Result (List Cell) ℕ) → ℕ → Span → Result Stop ℕ → Result (List Cell) ℕ
   back_at on most span (Err bad) = Err bad
-  back_at on most span (Ok leaf) = back_in on most span leaf (places_at span leaf)
+  back_at on most span (Ok leaf) = back_on on most span leaf (places_at span leaf)
 
   -- how many they are, and then those behind the leaf
-  abbrev pub count_in : (Span → Result ℕ ℕ) → Span → Stop → Result Places ℕ → Result ℕ ℕ
-  count_in on span leaf (Err bad) = Err bad
-  count_in on span leaf (Ok places) = and_count places.count (from_end 0 on span leaf.span.to)
+  abbrev pub count_on : (Span → Result ℕ ℕ) → Span → Stop → Result Places ℕ → Result ℕ ℕ
+  count_on on span leaf (Err bad) = Err bad
+  count_on on span leaf (Ok places) = and_count places.count (from_end 0 on span leaf.span.to)
 
   abbrev pub count_at : (Span → Result ℕ ℕ) → Span → Result Stop ℕ → Result ℕ ℕ
   count_at on span (Err bad) = Err bad
-  count_at on span (Ok leaf) = count_in on span leaf (places_at span leaf)
+  count_at on span (Ok leaf) = count_on on span leaf (places_at span leaf)
 
   -- the pairs of a span, at most so many, over at most n leaves: from its beginning on, and from its end back
   abbrev pub range_from : ℕ → ℕ → Span → Result (List Cell) ℕ

@@ -9,7 +9,7 @@ returns c =
     let searches : Searches = record { opens = search.opens; under = search.under; cell = λ page i short inside. (search.cell page i short inside).0; beside = λ page i short inside. (search.cell page i short inside).2; got = search.got } in
     let reads : ReadsCells = λ page i short inside. ((search.cell page i short inside).1, (search.cell page i short inside).2) in
     record {
-      range = λ lo hi s span most small is. range_read searches reads lo hi small s is span most;
-      back = λ lo hi s span most small is. back_read searches reads lo hi small s is span most;
-      count = λ lo hi s span small is. count_read searches reads lo hi small s is span;
+      range = λ lo hi s span most small is. range_read searches search.place reads lo hi small s is span most;
+      back = λ lo hi s span most small is. back_read searches search.place reads lo hi small s is span most;
+      count = λ lo hi s span small is. count_read searches search.place reads lo hi small s is span;
     }
