@@ -9,7 +9,7 @@ use Rattle.key_entries.specs.Entries.{byte_order}
 use Rattle.key_entries.specs.EntryLaws.{same_some}
 use Rattle.key_entries.specs.Pairs.{has, without}
 use Rattle.call_plans.specs.Laws.{after_all}
-use Rattle.call_plans.specs.Plan.{refused_by}
+use Rattle.call_plans.specs.Plan.{refused_by, with_command}
 use Rattle.page_ops.specs.Page.{Cell, page_of}
 use Rattle.page_ops.specs.Reading.{level_in}
 use Rattle.page_ops.specs.Operation.{page_meaning}
@@ -19,7 +19,8 @@ use Rattle.page_map.specs.Map.{bytes_at, content_of}
 use Rattle.page_map.specs.Plan.{Admits, delete_command}
 use Rattle.page_map.specs.Splits.{size_of}
 use Rattle.page_map.specs.Sets.{IsKept, Keeps, room_of}
-use Rattle.page_map.specs.Deletes.{Deletes, delete_by, delete_plan, tidy_commands}
+use Rattle.page_map.specs.Deletes.{Deletes, delete_by, delete_plan, tidy_plan}
+use Rattle.page_map.specs.declared.refusal.MapRefusal.{MapRefusal}
 use Rattle.page_map.specs.declared.refusal.MapRefusal.TheVariants.{NoKey}
 use Rattle.page_map.proofs.MapLemmas.{Searches}
 use Rattle.page_map.proofs.CutLemmas.{ReadsCells, page_size}
@@ -69,9 +70,10 @@ module _ (searches : Searches) (changes : Changes) (reads : ReadsCells) (b : Bou
     content : content_of kept.map ≡ remove (content_of is.map) key
     content = delete_content searches changes lo hi small b s key is.map done
 
-    deletes_there : Deletes b lo hi s is key (record { commands = out ∷ tidy_commands b lo hi key next; refusal = None })
+    deletes_there : Deletes b lo hi s is key (with_command out (tidy_plan b lo hi key next))
     deletes_there =
-        let keeps = tidy_is_kept changes reads b lo hi small admits key next kept in
+        let tidy = tidy_is_kept searches changes reads b lo hi small admits key next kept in
+        let keeps = tidy.1 in
         let top : level_in (bytes_at lo next lo) ≡ is.map.level =
         ap (λ (y : ℕ). level_in (bytes_at lo next y)) (sym kept.map.root) ∙ ap level_in (root_held lo hi next kept.map.level kept.map.tree kept.map.holds).code ∙ done.3 in
         record {
@@ -79,11 +81,14 @@ module _ (searches : Searches) (changes : Changes) (reads : ReadsCells) (b : Bou
           kept = both_kept keeps;
           same = refl;
           done = λ e. (omega arith, λ k. keeps.content k ∙ content);
-          refused = λ r e. cc;
+          refused = λ r e. absurd (not_refused r (sym tidy.0 ∙ e));
           few = omega (arith, top, few_tidied b lo hi key (level_in (bytes_at lo next lo) + 2) next);
         }
       where
-        both_kept : Keeps b lo hi next kept (tidy_commands b lo hi key next) → (k : ℕ) → IsKept b lo hi (after_all (page_meaning b) s (take k (out ∷ tidy_commands b lo hi key next)))
+        not_refused : (r : MapRefusal) → None ≡ Some r → ⊥
+        not_refused r e = cc
+
+        both_kept : Keeps b lo hi next kept (tidy_plan b lo hi key next).commands → (k : ℕ) → IsKept b lo hi (after_all (page_meaning b) s (take k (out ∷ (tidy_plan b lo hi key next).commands)))
         both_kept keeps zero = is
         both_kept keeps (suc k) = keeps.kept k
 

@@ -228,6 +228,10 @@ module _ (searches : Searches) (reads : ReadsCells) (lo hi : ℕ) (small : hi < 
   place_inside =
       omega (arith, at_inside t.children i child at, length-append (live_in (suc level) t) t.past, length-map t.children (λ (c : List ℕ × Tree level). child_cell c.0 (root_of level c.1)))
 
+  pub child_is_at : child_in lo hi bytes i ≡ Some (root_of level child)
+  child_is_at =
+      child_in_held searches lo hi small (suc level) bytes names i (root_of level child) held place_inside (ap (λ (c : Cell). c.1) (cell_is (StandIn level) (root_of level) t.children t.past i child at)) there
+
   pub step_held : step_in lo hi bytes span.to i ≡ Some step_of
   step_held =
       step_cells searches reads (suc level) bytes names held lo hi small span.to i (root_of level child) place_inside

@@ -1,20 +1,19 @@
 -- The commands that tidy the way to a key keep the map.
-use Rattle.std.proofs.Common.{◌≡◌, length-append, ◌*◌, ◌≢◌, ℕ, zero, suc, ◌+◌, ◌-◌, ◌^◌, ◌<◌, ◌≤◌, ◌==◌, Bool, true, false, if◌then◌else◌, Option, None, Some, List, [], ◌∷◌, ◌++◌, T, map, flat_map, length, drop, is_lt, refl, sym, ap, ◌∙◌, subst, arith, take_all}
-use Rattle.std.specs.Prelude.{IsTrue, nat_lt, nat_le}
+use Rattle.std.proofs.Common.{◌≡◌, length-append, ◌*◌, ◌≢◌, ℕ, zero, suc, ◌+◌, ◌-◌, ◌^◌, ◌<◌, ◌≤◌, ◌==◌, Bool, true, false, if◌then◌else◌, Option, None, Some, Result, Ok, Err, List, [], ◌∷◌, ◌++◌, T, map, flat_map, length, drop, is_lt, is_some, option_and_then, option_map, refl, sym, ap, ◌∙◌, subst, arith, take_all}
+use Rattle.std.specs.Prelude.{⊤, IsTrue, nat_lt, nat_le}
 use Rattle.std.specs.FinMap.{from_entries}
 use Rattle.std.proofs.lemmas.Bool.{eqb-true, leb-true, ltb-true}
 use Rattle.std.specs.FinMap.Entries.{is_sorted}
 use Rattle.std.proofs.lemmas.List.{append-nil, length-map}
-use Rattle.byteorder.specs.Endian.{little_bytes, little_number}
-use Rattle.oper_core.specs.LittleEndian.{little_number-little_bytes}
 use Rattle.oper_core.specs.State.{State}
 use Rattle.oper_core.specs.Meaning.{Accepts, Meaning, after}
 use Rattle.oper_core.specs.declared.bounds.Bounds.{Bounds}
 use Rattle.key_entries.specs.Entries.{byte_order}
 use Rattle.key_entries.specs.EntryLaws.{both_true}
 use Rattle.call_plans.specs.Laws.{after_all}
+use Rattle.call_plans.specs.Plan.{Plan}
 use Rattle.page_ops.specs.Page.{Cell, page_of, AreShort}
-use Rattle.page_ops.specs.Reading.{level_in}
+use Rattle.page_ops.specs.Reading.{count_in, key_of, level_in, under}
 use Rattle.page_ops.specs.Seen.{child_cell}
 use Rattle.page_ops.specs.Search.{last_under}
 use Rattle.page_ops.specs.Operation.{page_meaning}
@@ -22,16 +21,23 @@ use Rattle.page_ops.specs.declared.page_op.PageOp.{PageOp}
 use Rattle.page_ops.specs.declared.page_op.PageOp.TheVariants.{Part, Keep, Turn, Free}
 use Rattle.page_map.specs.Map.{Span, is_below, is_within, all_keys, all_past, Leaf, Tree, root_of, pairs_in, cells_in, IsHeld, Each, bytes_at, Holds, Share, StandIn, content_of, objects_in, one_if, times}
 use Rattle.page_map.specs.Plan.{Admits}
-use Rattle.page_map.specs.Splits.{cells_read, child_at, end_of, front_of}
+use Rattle.page_map.specs.Splits.{front_of}
 use Rattle.page_map.specs.Sets.{AreShortPairs, IsKept, Keeps, is_short_key, room_of}
-use Rattle.page_map.specs.Deletes.{before_takes, else_root, front_at, gives_way, leaf_goes, on_way, root_goes, takes_both, tidied, tidy_commands, tidy_from, tidy_turn}
-use Rattle.page_map.proofs.MapLemmas.{IsAt, among, below_through, child_found, each_at, ends_too, in_all, moved, not_below_through, one_here, pairs_within, parts_within, span_of, times_both, upper, wider, within_parts}
-use Rattle.page_map.proofs.CutLemmas.{ReadsCells, cells_are, front_is}
+use Rattle.page_map.specs.Deletes.{before_takes, by_tidying, child_goes, else_root, front_at, gives_way, leaf_goes, on_way, root_goes, root_takes, takes_both, tidied, tidy_from, tidy_plan, tidy_turn, when_empty}
+use Rattle.page_map.specs.Ranges.{or_bad}
+use Rattle.page_map.specs.Steps.{Step, before_in, beside_in, both_under, ended, front_in, only_child, step_in, step_under, with_beside}
+use Rattle.page_map.specs.Walk.{child_in, is_on}
+use Rattle.page_map.specs.declared.beside.Beside.{Beside}
+use Rattle.page_map.specs.declared.beside.Beside.TheVariants.{Next, Before, Only}
+use Rattle.page_map.specs.declared.refusal.MapRefusal.{MapRefusal}
+use Rattle.page_map.proofs.MapLemmas.{IsAt, Searches, among, below_through, child_found, each_at, ends_too, in_all, moved, not_below_through, on_level, one_here, pairs_within, parts_within, span_of, times_both, upper, wider, within_parts}
+use Rattle.page_map.proofs.CutLemmas.{ReadsCells, front_is}
+use Rattle.page_map.proofs.StepLemmas.{child_is_at, count_held, front_held, has_next, step_ends, step_from, step_held, step_of}
 use Rattle.page_map.proofs.ChangeLemmas.{Changes, written_else}
 use Rattle.page_map.proofs.TreeLemmas.{HoldsBelow, HoldsChild, below_held, last_held, last_part, last_root, live_in, parts_short, root_held, whole_is}
 use Rattle.page_map.proofs.TwoLemmas.{at_inside}
 use Rattle.page_map.proofs.PlaceLemmas.{IsPlace, SameAt, below_over, each_same, held_over, place_below, place_here, root_reached, share_at}
-use Rattle.page_map.proofs.WayLemmas.{child_ends, child_is, from_below, front_live, page_cells}
+use Rattle.page_map.proofs.WayLemmas.{from_below}
 use Rattle.page_map.proofs.DueLemmas.{none_past}
 use Rattle.page_map.proofs.OpLemmas.{IsWritten, bytes_else, bytes_there, fits_after, free_done, part_done, read_child, read_inner, room_cap, turn_done}
 use Rattle.page_map.proofs.TurnLemmas.{IsTree, keeps_more, keeps_none, kept_by, page_fits, tree_of, trim_keeps}
@@ -59,16 +65,29 @@ module _ {Child : Type 0} (In : Span → Child → Type 0) where
   next_ends span (c ∷ d ∷ e ∷ children) zero b two share key below = below_through key d.0 e.0 below (within_parts (upper span d.0) e.0 share.3.1).0
   next_ends span (c ∷ d ∷ children) (suc i) b two share key below = next_ends (upper span d.0) (d ∷ children) i b two share.3 key below
 
-nothing_in : (l : List Cell) → (length l == 0) ≡ true → l ≡ []
-nothing_in [] e = refl
-nothing_in (c ∷ l) e = absurd (omega (arith, eqb-true (suc (length l)) 0 e))
+  -- one ends where the next begins
+  end_next : (span : Span) (children : List (List ℕ × Child)) (i : ℕ) (b : Child) → IsAt (suc i) b children → (span_of span children i).to ≡ Some (span_of span children (suc i)).from
+  end_next span [] i b two = absurd two
+  end_next span (c ∷ []) i b two = absurd two
+  end_next span (c ∷ d ∷ []) zero b two = refl
+  end_next span (c ∷ d ∷ e ∷ children) zero b two = refl
+  end_next span (c ∷ d ∷ children) (suc i) b two = end_next (upper span d.0) (d ∷ children) i b two
 
-module _ (changes : Changes) (reads : ReadsCells) (b : Bounds) (lo hi : ℕ) (small : hi < 2 ^ 32) (admits : Admits b hi) (key : List ℕ) where
+nothing_in : (l : List Cell) → length l ≡ 0 → l ≡ []
+nothing_in [] e = refl
+nothing_in (c ∷ l) e = absurd (omega (arith, e))
+
+module _ (searches : Searches) (changes : Changes) (reads : ReadsCells) (b : Bounds) (lo hi : ℕ) (small : hi < 2 ^ 32) (admits : Admits b hi) (key : List ℕ) where
   abbrev room : ℕ
   room = room_of b.cap
 
   abbrev meaning : Meaning PageOp
   meaning = page_meaning b
+
+  -- what is tidied next keeps the map
+  abbrev Tidies : (s : State) → IsKept b lo hi s → Result (List PageOp) ℕ → Type 0
+  Tidies s is (Err bad) = ⊥
+  Tidies s is (Ok ops) = Keeps b lo hi s is ops
 
   -- ---- an object that is not reached is given back
 
@@ -225,25 +244,27 @@ module _ (changes : Changes) (reads : ReadsCells) (b : Bounds) (lo hi : ℕ) (sm
       stands_at : (j : ℕ) (leaf : Leaf) → IsAt j leaf children → StandIn 0 (span_of inner children j) leaf
       stands_at j leaf at = share_at (StandIn 0) inner children j leaf at place.stand.0
 
-      named : (j : ℕ) (leaf : Leaf) → IsAt j leaf children → child_at cells j ≡ leaf.object
-      named j leaf at = child_is hi small 0 page j leaf at (child_low 0 s leaf (held_at j leaf at))
+      abbrev bytes : List ℕ
+      bytes = bytes_at lo s q
 
-      read_at : (j : ℕ) (leaf : Leaf) → IsAt j leaf children → cells_read (bytes_at lo s (child_at cells j)) ≡ leaf.cells ++ leaf.past
-      read_at j leaf at =
-          ap (λ (x : ℕ). cells_read (bytes_at lo s x)) (named j leaf at) ∙ ap cells_read (held_at j leaf at).1.code ∙ cells_are reads 0 (leaf.cells ++ leaf.past) (held_at j leaf at).1.short
+      abbrev step_at : (j : ℕ) (leaf : Leaf) → IsAt j leaf children → Step
+      step_at j leaf at = step_of searches reads lo hi small bytes 0 inner page held_page.0 place.stand.0 place.stand.1 ends j leaf at (held_at j leaf at).0
 
-      front_is_at : (j : ℕ) (leaf : Leaf) → IsAt j leaf children → front_at lo s (end_of (front_of inner.to cells) j inner.to) (child_at cells j) ≡ leaf.cells
-      front_is_at j leaf at =
+      named : (j : ℕ) (leaf : Leaf) → IsAt j leaf children → child_in lo hi bytes j ≡ Some leaf.object
+      named j leaf at = child_is_at searches reads lo hi small bytes 0 inner page held_page.0 place.stand.0 place.stand.1 ends j leaf at (held_at j leaf at).0
+
+      front_is_at : (j : ℕ) (leaf : Leaf) → IsAt j leaf children → (to : Option (List ℕ)) → to ≡ (span_of inner children j).to → front_at lo hi s to leaf.object ≡ Some (length leaf.cells)
+      front_is_at j leaf at to ends_there =
           let span : Span = span_of inner children j in
-          let end : end_of (front_of inner.to cells) j inner.to ≡ span.to = child_ends 0 inner page place.stand.0 place.stand.1 ends j leaf at in
-          (λ k. front_of (end k) (read_at j leaf at k))
-          ∙ front_is span.to leaf.cells leaf.past (wider (is_within span) (λ k. is_below k span.to) (λ k e. (within_parts span k e).1) leaf.cells (stands_at j leaf at).0) (stands_at j leaf at).1
-
-      both_names : (i j x y : ℕ) (leaf other : Leaf) → IsAt x leaf children → IsAt y other children → takes_both lo s q i leaf.object other.object ≡ takes_both lo s q i (child_at cells x) (child_at cells y)
-      both_names i j x y leaf other one two = λ k. Turn q i 2 (sym (named x leaf one) k) ∷ Free (sym (named y other two) k) ∷ []
+          let held : IsHeld 0 (bytes_at lo s leaf.object) (leaf.cells ++ leaf.past) = (held_at j leaf at).1 in
+          ap (λ (t : Bool). if t then front_in (bytes_at lo s leaf.object) to else None) (on_level searches lo hi small s [] 0 (bytes_at lo s leaf.object) (leaf.cells ++ leaf.past) held)
+          ∙ front_held changes.place 0 (bytes_at lo s leaf.object) (leaf.cells ++ leaf.past) held to
+          ∙ ap (λ (l : List Cell). Some (length l))
+          (ap (λ (e : Option (List ℕ)). front_of e (leaf.cells ++ leaf.past)) ends_there
+          ∙ front_is span.to leaf.cells leaf.past (wider (is_within span) (λ k. is_below k span.to) (λ k e. (within_parts span k e).1) leaf.cells (stands_at j leaf at).0) (stands_at j leaf at).1)
 
       -- the next one takes its place
-      next_takes : (i : ℕ) (leaf next : Leaf) → IsAt i leaf children → IsAt (suc i) next children → leaf.cells ≡ [] → Keeps b lo hi s is (takes_both lo s q i (child_at cells (suc i)) (child_at cells i))
+      next_takes : (i : ℕ) (leaf next : Leaf) → IsAt i leaf children → IsAt (suc i) next children → leaf.cells ≡ [] → Keeps b lo hi s is (takes_both q i next.object leaf.object)
       next_takes i leaf next one two empty =
           let span : Span = span_of inner children (suc i) in
           let joined : Span = joined_span inner children i in
@@ -252,66 +273,106 @@ module _ (changes : Changes) (reads : ReadsCells) (b : Bounds) (lo hi : ℕ) (sm
                 (λ k e. parts_within joined k (not_below_through k span.from joined.from (within_parts span k e).0 (next_begins (StandIn 0) inner children i next two place.stand.0)) (within_parts span k e).1) next.cells (stands_at (suc i) next two).0,
             (stands_at (suc i) next two).1,
           ) in
-          subst (λ (ops : List PageOp). Keeps b lo hi s is ops) (both_names i i (suc i) i next leaf two one)
-          (drop_keeps i leaf next next leaf one two (λ y. omega arith) (ap (λ (l : List Cell). l ++ next.cells) empty) stands (held_at (suc i) next two) (child_low 0 s leaf (held_at i leaf one))
-          (short_at (suc i) next two) is same)
+          drop_keeps i leaf next next leaf one two (λ y. omega arith) (ap (λ (l : List Cell). l ++ next.cells) empty) stands (held_at (suc i) next two) (child_low 0 s leaf (held_at i leaf one))
+          (short_at (suc i) next two) is same
 
       -- the one before it does
-      before_keeps : (j : ℕ) (first leaf : Leaf) → IsAt j first children → IsAt (suc j) leaf children → leaf.cells ≡ []
-          → Keeps b lo hi s is (before_takes lo s q cells j (front_at lo s (end_of (front_of inner.to cells) j inner.to) (child_at cells j)))
-      before_keeps j first leaf one two empty =
+      first_takes : (j : ℕ) (first leaf : Leaf) → IsAt j first children → IsAt (suc j) leaf children → leaf.cells ≡ [] → first.past ≡ [] → Keeps b lo hi s is (takes_both q j first.object leaf.object)
+      first_takes j first leaf one two empty none =
           let span : Span = span_of inner children j in
           let joined : Span = joined_span inner children j in
-          let names : List PageOp = takes_both lo s q j (child_at cells j) (child_at cells (suc j)) in
-          let choose : Bool → List Cell → List PageOp = λ t front. if t then Keep (child_at cells j) (length front) ∷ [] else names in
-          let here : nat_lt (length (front_at lo s (end_of (front_of inner.to cells) j inner.to) (child_at cells j))) (length (cells_read (bytes_at lo s (child_at cells j)))) ≡ nat_lt (length first.cells) (length (first.cells ++ first.past)) =
-          λ k. nat_lt (length (front_is_at j first one k)) (length (read_at j first one k)) in
-          subst (λ (ops : List PageOp). Keeps b lo hi s is ops) (λ k. choose (sym here k) (sym (front_is_at j first one) k))
-          (elim (nat_lt (length first.cells) (length (first.cells ++ first.past))) as (λ t. nat_lt (length first.cells) (length (first.cells ++ first.past)) ≡ t → Keeps b lo hi s is (choose t first.cells)) [
-            | true ↦ λ e.
-                subst (λ (ops : List PageOp). Keeps b lo hi s is ops) (λ k. Keep (sym (named j first one) k) (length first.cells) ∷ [])
-                (trim_keeps changes reads b lo hi small admits key [] s level t tree 0 inner page place j first one is same)
-            | false ↦ λ e.
-                let none : first.past ≡ [] = none_past 0 first e in
-                let stands : StandIn 0 joined first = (
-                  wider (is_within span) (is_within joined) (λ k e. parts_within joined k (within_parts span k e).0 (next_ends (StandIn 0) inner children j leaf two place.stand.0 k (within_parts span k e).1)) first.cells
-                      (stands_at j first one).0,
-                  subst (λ (l : List Cell). IsTrue (all_past joined l)) (sym none) refl,
-                ) in
-                subst (λ (ops : List PageOp). Keeps b lo hi s is ops) (both_names j j j (suc j) first leaf one two)
-                (drop_keeps j first leaf first leaf one two (λ y. refl) (ap (λ (l : List Cell). first.cells ++ l) empty ∙ append-nil first.cells) stands (held_at j first one)
-                (child_low 0 s leaf (held_at (suc j) leaf two)) (short_at j first one) is same)
+          let stands : StandIn 0 joined first = (
+            wider (is_within span) (is_within joined) (λ k e. parts_within joined k (within_parts span k e).0 (next_ends (StandIn 0) inner children j leaf two place.stand.0 k (within_parts span k e).1)) first.cells
+                (stands_at j first one).0,
+            subst (λ (l : List Cell). IsTrue (all_past joined l)) (sym none) refl,
+          ) in
+          drop_keeps j first leaf first leaf one two (λ y. refl) (ap (λ (l : List Cell). first.cells ++ l) empty ∙ append-nil first.cells) stands (held_at j first one)
+          (child_low 0 s leaf (held_at (suc j) leaf two)) (short_at j first one) is same
+
+      trims_or_takes : (j : ℕ) (first leaf : Leaf) → IsAt j first children → IsAt (suc j) leaf children → leaf.cells ≡ []
+          → Keeps b lo hi s is (before_takes q j first.object leaf.object (bytes_at lo s first.object) (length first.cells))
+      trims_or_takes j first leaf one two empty =
+          let count : count_in (bytes_at lo s first.object) ≡ length (first.cells ++ first.past) = count_held 0 (bytes_at lo s first.object) (first.cells ++ first.past) (held_at j first one).1 in
+          let choose : Bool → List PageOp = λ t. if t then Keep first.object (length first.cells) ∷ [] else takes_both q j first.object leaf.object in
+          subst (λ (n : ℕ). Keeps b lo hi s is (choose (nat_lt (length first.cells) n))) (sym count)
+          (elim (nat_lt (length first.cells) (length (first.cells ++ first.past))) as (λ t. nat_lt (length first.cells) (length (first.cells ++ first.past)) ≡ t → Keeps b lo hi s is (choose t)) [
+            | true ↦ λ e. trim_keeps changes reads b lo hi small admits key [] s level t tree 0 inner page place j first one is same
+            | false ↦ λ e. first_takes j first leaf one two empty (none_past 0 first e)
           ] refl)
 
-      count_is : length (front_of inner.to cells) ≡ length children
-      count_is = ap (λ (l : List Cell). length l) (front_live 0 inner page place.stand.0 place.stand.1 ends) ∙ length-map children (λ (c : List ℕ × Leaf). child_cell c.0 (root_of 0 c.1))
+      before_is : (j : ℕ) (first leaf : Leaf) → IsAt j first children → (at : IsAt (suc j) leaf children)
+          → gives_way lo hi s q (step_at (suc j) leaf at) (Before first.object) ≡ Ok (before_takes q j first.object leaf.object (bytes_at lo s first.object) (length first.cells))
+      before_is j first leaf one two =
+          let from : key_of bytes (suc j) ≡ (span_of inner children (suc j)).from =
+          step_from searches reads lo hi small bytes 0 inner page held_page.0 place.stand.0 place.stand.1 ends (suc j) leaf two (held_at (suc j) leaf two).0 in
+          let front : front_at lo hi s (Some (key_of bytes (suc j))) first.object ≡ Some (length first.cells) =
+          front_is_at j first one (Some (key_of bytes (suc j))) (ap (λ (k : List ℕ). Some k) from ∙ sym (end_next (StandIn 0) inner children j leaf two)) in
+          let place_is : suc j - 1 ≡ j = omega arith in
+          (λ k. or_bad first.object (option_map (before_takes q (place_is k) first.object leaf.object (bytes_at lo s first.object)) (front k)))
 
-      at_earlier : (i : ℕ) (leaf : Leaf) → IsAt (suc i) leaf children → i < length children
-      at_earlier i leaf at = omega (arith, at_inside children (suc i) leaf at)
+      -- which one is beside it
+      record IsBeside (i : ℕ) (leaf : Leaf) (at : IsAt i leaf children) : Type 0 where
+        pub beside : Beside
+        pub is_beside : beside_in lo hi bytes i (is_some (step_at i leaf at).end) ≡ Some beside
+        pub keeps : leaf.cells ≡ [] → Tidies s is (gives_way lo hi s q (step_at i leaf at) beside)
 
-      way_keeps : (i : ℕ) (leaf : Leaf) → IsAt i leaf children → leaf.cells ≡ [] → Keeps b lo hi s is (gives_way lo s q inner.to cells i)
-      way_keeps zero leaf at empty =
-          elim (nat_lt 1 (length (front_of inner.to cells))) as (λ t. nat_lt 1 (length (front_of inner.to cells)) ≡ t
-          → Keeps b lo hi s is (if t then takes_both lo s q 0 (child_at cells 1) (child_at cells 0) else [])) [
-            | true ↦ λ e. let next = child_there children 1 (omega (arith, ltb-true 1 (length (front_of inner.to cells)) e, count_is)) in next_takes 0 leaf next.0 at next.1 empty
-            | false ↦ λ e. keeps_none b lo hi s is
+      more_is : (i : ℕ) (leaf : Leaf) (at : IsAt i leaf children) → is_some (step_at i leaf at).end ≡ nat_lt (suc i) (length children)
+      more_is i leaf at = has_next searches reads lo hi small bytes 0 inner page held_page.0 place.stand.0 place.stand.1 ends i leaf at (held_at i leaf at).0
+
+      next_beside : (i : ℕ) (leaf : Leaf) (at : IsAt i leaf children) → nat_lt (suc i) (length children) ≡ true → IsBeside i leaf at
+      next_beside i leaf at more =
+          let next = child_there children (suc i) (ltb-true (suc i) (length children) more) in
+          record {
+            beside = Next next.0.object;
+            is_beside =
+                ap (λ (t : Bool). if t then option_map Next (child_in lo hi bytes (suc i)) else before_in lo hi bytes i) (more_is i leaf at ∙ more)
+                ∙ ap (option_map Next) (named (suc i) next.0 next.1);
+            keeps = λ empty. next_takes i leaf next.0 at next.1 empty;
+          }
+
+      before_beside : (i : ℕ) (leaf : Leaf) (at : IsAt i leaf children) → nat_lt (suc i) (length children) ≡ false → IsBeside i leaf at
+      before_beside zero leaf at last = record {
+        beside = Only;
+        is_beside = ap (λ (t : Bool). if t then option_map Next (child_in lo hi bytes 1) else Some Only) (more_is 0 leaf at ∙ last);
+        keeps = λ empty. keeps_none b lo hi s is;
+      }
+      before_beside (suc j) leaf at last =
+          let first = child_there children j (omega (arith, at_inside children (suc j) leaf at)) in
+          record {
+            beside = Before first.0.object;
+            is_beside =
+                ap (λ (t : Bool). if t then option_map Next (child_in lo hi bytes (suc (suc j))) else option_map Before (child_in lo hi bytes j)) (more_is (suc j) leaf at ∙ last)
+                ∙ ap (option_map Before) (named j first.0 first.1);
+            keeps = λ empty. subst (λ (r : Result (List PageOp) ℕ). Tidies s is r) (sym (before_is j first.0 leaf first.1 at)) (trims_or_takes j first.0 leaf first.1 at empty);
+          }
+
+      beside_found : (i : ℕ) (leaf : Leaf) (at : IsAt i leaf children) → IsBeside i leaf at
+      beside_found i leaf at =
+          elim (nat_lt (suc i) (length children)) as (λ t. nat_lt (suc i) (length children) ≡ t → IsBeside i leaf at) [
+            | true ↦ λ e. next_beside i leaf at e
+            | false ↦ λ e. before_beside i leaf at e
           ] refl
-      way_keeps (suc j) leaf at empty =
-          let first = child_there children j (at_earlier j leaf at) in
-          elim (nat_lt (suc (suc j)) (length (front_of inner.to cells))) as (λ t. nat_lt (suc (suc j)) (length (front_of inner.to cells)) ≡ t
-          → Keeps b lo hi s is (if t then takes_both lo s q (suc j) (child_at cells (suc (suc j))) (child_at cells (suc j))
-          else before_takes lo s q cells j (front_at lo s (end_of (front_of inner.to cells) j inner.to) (child_at cells j)))) [
-            | true ↦ λ e. let next = child_there children (suc (suc j)) (omega (arith, ltb-true (suc (suc j)) (length (front_of inner.to cells)) e, count_is)) in next_takes (suc j) leaf next.0 at next.1 empty
-            | false ↦ λ e. before_keeps j first.0 leaf first.1 at empty
-          ] refl
 
-      leaf_keeps : (i : ℕ) (leaf : Leaf) → IsAt i leaf children → Keeps b lo hi s is (leaf_goes lo s q inner.to cells (Some i))
-      leaf_keeps i leaf at =
-          subst (λ (front : List Cell). Keeps b lo hi s is (if length front == 0 then gives_way lo s q inner.to cells i else [])) (sym (front_is_at i leaf at))
-          (elim (length leaf.cells == 0) as (λ t. (length leaf.cells == 0) ≡ t → Keeps b lo hi s is (if t then gives_way lo s q inner.to cells i else [])) [
-            | true ↦ λ e. way_keeps i leaf at (nothing_in leaf.cells e)
-            | false ↦ λ e. keeps_none b lo hi s is
-          ] refl)
+      both_is : (i : ℕ) (leaf : Leaf) (at : IsAt i leaf children) → under bytes key ≡ Some i → both_under lo hi bytes inner.to key ≡ Some (step_at i leaf at, (beside_found i leaf at).beside)
+      both_is i leaf at found =
+          let step : step_in lo hi bytes inner.to i ≡ Some (step_at i leaf at) =
+          step_held searches reads lo hi small bytes 0 inner page held_page.0 place.stand.0 place.stand.1 ends i leaf at (held_at i leaf at).0 in
+          ap (λ (o : Option ℕ). option_and_then (with_beside lo hi bytes inner.to) (option_and_then (step_in lo hi bytes inner.to) o)) found
+          ∙ ap (option_and_then (with_beside lo hi bytes inner.to)) step ∙ ap (option_map (λ beside. (step_at i leaf at, beside))) (beside_found i leaf at).is_beside
+
+      leaf_is : (i : ℕ) (leaf : Leaf) (at : IsAt i leaf children) → under bytes key ≡ Some i
+          → leaf_goes lo hi s q inner.to (both_under lo hi bytes inner.to key) ≡ when_empty leaf.object (gives_way lo hi s q (step_at i leaf at) (beside_found i leaf at).beside) (Some (length leaf.cells))
+      leaf_is i leaf at found =
+          ap (leaf_goes lo hi s q inner.to) (both_is i leaf at found)
+          ∙ ap (when_empty leaf.object (gives_way lo hi s q (step_at i leaf at) (beside_found i leaf at).beside))
+          (front_is_at i leaf at (ended inner.to (step_at i leaf at).end) (step_ends searches reads lo hi small bytes 0 inner page held_page.0 place.stand.0 place.stand.1 ends i leaf at (held_at i leaf at).0))
+
+      leaf_keeps : (i : ℕ) (leaf : Leaf) (at : IsAt i leaf children) → under bytes key ≡ Some i → Tidies s is (leaf_goes lo hi s q inner.to (both_under lo hi bytes inner.to key))
+      leaf_keeps i leaf at found = subst (λ (r : Result (List PageOp) ℕ). Tidies s is r) (sym (leaf_is i leaf at found)) (by_count (length leaf.cells) refl)
+        where
+          by_count : (n : ℕ) → length leaf.cells ≡ n → Tidies s is (when_empty leaf.object (gives_way lo hi s q (step_at i leaf at) (beside_found i leaf at).beside) (Some n))
+          by_count zero e = (beside_found i leaf at).keeps (nothing_in leaf.cells e)
+          by_count (suc n) e = keeps_none b lo hi s is
 
   -- ---- the page above the leaf of the key
 
@@ -324,7 +385,11 @@ module _ (changes : Changes) (reads : ReadsCells) (b : Bounds) (lo hi : ℕ) (sm
       pub i : ℕ
       pub leaf : Leaf
       pub at : IsAt i leaf page.children
-      pub ops_are : tidy_from lo s key level (root_of level t) span.to ≡ leaf_goes lo s page.object inner.to (cells_in 1 page) (Some i)
+      pub found : under (bytes_at lo s page.object) key ≡ Some i
+      pub turn_is : tidy_from lo hi s key level (root_of level t) span.to ≡ leaf_goes lo hi s page.object inner.to (both_under lo hi (bytes_at lo s page.object) inner.to key)
+
+    under_is : (level x : ℕ) (cells : List Cell) (i : ℕ) → IsHeld level (bytes_at lo s x) cells → last_under key cells ≡ Some i → under (bytes_at lo s x) key ≡ Some i
+    under_is level x cells i held found = ap (λ (b : List ℕ). under b key) held.code ∙ searches.under (record { level = level; cells = cells }) key held.short held.rise ∙ found
 
     above_found : (level : ℕ) (span : Span) (t : Tree (suc level)) → Holds lo hi s (suc level) t → StandIn (suc level) span t → IsTrue (is_within span key) → IsAbove (suc level) span t
     above_found zero span t holds stand within =
@@ -337,20 +402,27 @@ module _ (changes : Changes) (reads : ReadsCells) (b : Bounds) (lo hi : ℕ) (sm
           i = found.place;
           leaf = found.child;
           at = found.at;
-          ops_are =
-              ap (λ (l : List Cell). leaf_goes lo s t.object span.to l (last_under key l)) (page_cells reads lo hi small room key [] s 1 t.object (cells_in 1 t) holds.0)
-              ∙ ap (leaf_goes lo s t.object span.to (cells_in 1 t)) found.under;
+          found = under_is 1 t.object (cells_in 1 t) found.place holds.0 found.under;
+          turn_is =
+              ap (λ (b : Bool). if b then leaf_goes lo hi s t.object span.to (both_under lo hi (bytes_at lo s t.object) span.to key) else Err t.object)
+              (on_level searches lo hi small s [] 1 (bytes_at lo s t.object) (cells_in 1 t) holds.0);
         }
     above_found (suc level) span t holds stand within =
+        let x : ℕ = t.object in
+        let bytes : List ℕ = bytes_at lo s x in
         let cells : List Cell = cells_in (suc (suc level)) t in
         let found =
         child_found (StandIn (suc level)) (HoldsChild lo hi s (suc level)) (root_of (suc level)) (pairs_in (suc level)) (pairs_within (suc level)) key span t.children t.past stand.0 holds.1 stand.1 within in
         let i : ℕ = found.place in
-        let rest = above_found level (span_of span t.children i) found.child found.held.1 found.stands found.within in
+        let inner : Span = span_of span t.children i in
+        let rest = above_found level inner found.child found.held.1 found.stands found.within in
         let ends : IsTrue (is_below span.from span.to) = from_below span key within in
-        let on : ℕ → Option (List ℕ) → List PageOp = tidy_from lo s key (suc level) in
-        let named : child_at cells i ≡ root_of (suc level) found.child = child_is hi small (suc level) t i found.child found.at (child_low (suc level) s found.child found.held) in
-        let end : end_of (front_of span.to cells) i span.to ≡ (span_of span t.children i).to = child_ends (suc level) span t stand.0 stand.1 ends i found.child found.at in
+        let on : ℕ → Option (List ℕ) → Result (List PageOp) ℕ = tidy_from lo hi s key (suc level) in
+        let step : Step = step_of searches reads lo hi small bytes (suc level) span t holds.0 stand.0 stand.1 ends i found.child found.at found.held.0 in
+        let steps : step_under lo hi bytes span.to key ≡ Some step =
+        ap (option_and_then (step_in lo hi bytes span.to)) (under_is (suc (suc level)) x cells i holds.0 found.under)
+        ∙ step_held searches reads lo hi small bytes (suc level) span t holds.0 stand.0 stand.1 ends i found.child found.at found.held.0 in
+        let to : ended span.to step.end ≡ inner.to = step_ends searches reads lo hi small bytes (suc level) span t holds.0 stand.0 stand.1 ends i found.child found.at found.held.0 in
         record {
           inner = rest.inner;
           page = rest.page;
@@ -359,9 +431,10 @@ module _ (changes : Changes) (reads : ReadsCells) (b : Bounds) (lo hi : ℕ) (sm
           i = rest.i;
           leaf = rest.leaf;
           at = rest.at;
-          ops_are =
-              ap (λ (l : List Cell). on_way lo s on span.to l (last_under key l)) (page_cells reads lo hi small room key [] s (suc (suc level)) t.object cells holds.0) ∙ ap (on_way lo s on span.to cells) found.under
-              ∙ (λ k. on (named k) (end k)) ∙ rest.ops_are;
+          found = rest.found;
+          turn_is =
+              ap (λ (b : Bool). if b then on_way on x span.to (step_under lo hi bytes span.to key) else Err x) (on_level searches lo hi small s [] (suc (suc level)) bytes cells holds.0)
+              ∙ ap (on_way on x span.to) steps ∙ ap (on (root_of (suc level) found.child)) to ∙ rest.turn_is;
         }
 
   -- ---- a root with one child
@@ -472,49 +545,85 @@ module _ (changes : Changes) (reads : ReadsCells) (b : Bounds) (lo hi : ℕ) (sm
         (keeps_more b lo hi s_up (kept_by b lo hi s_up level up tree_up) (Free old) [] last.0 (kept_by b lo hi s2 level up last.1) refl (keeps_none b lo hi s2 (kept_by b lo hi s2 level up last.1)))
 
     -- where the root has one child
-    only_keeps : (is : IsKept b lo hi s) → from_entries (pairs_in (suc level) t) ≡ content_of is.map → Keeps b lo hi s is (root_goes lo s (suc level) (child_cell from old ∷ []))
-    only_keeps is same =
-        let low : old < 2 ^ 32 = omega (arith, small, child_low level s child child_held) in
-        let named : child_at (child_cell from old ∷ []) 0 ≡ old = ap (little_number 4) (sym (append-nil (little_bytes 4 old))) ∙ little_number-little_bytes 4 old [] low in
-        let read : cells_read (bytes_at lo s (child_at (child_cell from old ∷ []) 0)) ≡ page =
-        ap (λ (x : ℕ). cells_read (bytes_at lo s x)) named ∙ ap cells_read root_is.code ∙ cells_are reads level page root_is.short in
-        subst (λ (ops : List PageOp). Keeps b lo hi s is ops) (λ k. Part lo (sym named k) 0 (length (sym read k)) ∷ Free (sym named k) ∷ []) (up_keeps is same)
+    only_is : child_goes lo hi s level (Some (Some old)) ≡ Ok (Part lo old 0 (length page) ∷ Free old ∷ [])
+    only_is =
+        ap (λ (t : Bool). if t then Ok (root_takes lo old (count_in (bytes_at lo s old))) else Err old) (on_level searches lo hi small s [] level (bytes_at lo s old) page root_is)
+        ∙ ap (λ (n : ℕ). Ok (root_takes lo old n)) (count_held level (bytes_at lo s old) page root_is)
 
-  module _ (s : State) (level : ℕ) (t : Tree (suc level)) (tree : IsTree b lo hi s (suc level) t) (is : IsKept b lo hi s) (same : from_entries (pairs_in (suc level) t) ≡ content_of is.map) where
-    by_children : (kids : List (List ℕ × Tree level)) → t.children ≡ kids → Keeps b lo hi s is (root_goes lo s (suc level) (map (λ c. child_cell c.0 (root_of level c.1)) kids))
-    by_children [] e = keeps_none b lo hi s is
-    by_children (c ∷ []) e = only_keeps s level t tree c.0 c.1 e is same
-    by_children (c ∷ d ∷ kids) e = keeps_none b lo hi s is
+    only_keeps : (is : IsKept b lo hi s) → from_entries (pairs_in (suc level) t) ≡ content_of is.map → Tidies s is (child_goes lo hi s level (Some (Some old)))
+    only_keeps is same = subst (λ (r : Result (List PageOp) ℕ). Tidies s is r) (sym only_is) (up_keeps is same)
 
-    root_keeps_map : Keeps b lo hi s is (root_goes lo s (suc level) (cells_read (bytes_at lo s lo)))
-    root_keeps_map =
-        let live : List Cell = live_in (suc level) t in
-        let read : cells_read (bytes_at lo s lo) ≡ live =
-        ap (λ (x : ℕ). cells_read (bytes_at lo s x)) (sym tree.root) ∙ page_cells reads lo hi small room key [] s (suc level) t.object (cells_in (suc level) t) tree.holds.0
-        ∙ ap (λ (l : List Cell). live ++ l) (root_ends (suc level) t tree.stand) ∙ append-nil live in
-        subst (λ (l : List Cell). Keeps b lo hi s is (root_goes lo s (suc level) l)) (sym read) (by_children t.children refl)
+  module _ (s : State) (level : ℕ) (t : Tree (suc level)) (tree : IsTree b lo hi s (suc level) t) where
+    abbrev root_cells : List Cell
+    root_cells = cells_in (suc level) t
 
-    or_root : (ops : List PageOp) → Keeps b lo hi s is ops → Keeps b lo hi s is (else_root lo s (suc level) ops)
-    or_root [] keeps = root_keeps_map
-    or_root (op ∷ ops) keeps = keeps
+    top_held : IsHeld (suc level) (bytes_at lo s lo) root_cells
+    top_held = subst (λ (x : ℕ). IsHeld (suc level) (bytes_at lo s x) root_cells) tree.root tree.holds.0
+
+    -- it has no cells but those of its children
+    top_count : count_in (bytes_at lo s lo) ≡ length t.children
+    top_count =
+        count_held (suc level) (bytes_at lo s lo) root_cells top_held
+        ∙ ap (λ (l : List Cell). length l) (ap (λ (l : List Cell). live_in (suc level) t ++ l) (root_ends (suc level) t tree.stand) ∙ append-nil (live_in (suc level) t))
+        ∙ length-map t.children (λ (c : List ℕ × Tree level). child_cell c.0 (root_of level c.1))
+
+    -- its one child, where it has one
+    abbrev one_of : List (List ℕ × Tree level) → Option ℕ
+    one_of [] = None
+    one_of (c ∷ []) = Some (root_of level c.1)
+    one_of (c ∷ d ∷ kids) = None
+
+    only_found : (kids : List (List ℕ × Tree level)) → t.children ≡ kids → only_child lo hi (bytes_at lo s lo) ≡ Some (one_of kids)
+    only_found [] e =
+        ap (λ (t : Bool). if t then option_map Some (child_in lo hi (bytes_at lo s lo) 0) else Some None) (ap (λ (n : ℕ). n == 1) (top_count ∙ ap (λ (l : List (List ℕ × Tree level)). length l) e))
+    only_found (c ∷ []) e =
+        let at : IsAt 0 c.1 t.children = subst (λ (l : List (List ℕ × Tree level)). IsAt 0 c.1 l) (sym e) refl in
+        ap (λ (t : Bool). if t then option_map Some (child_in lo hi (bytes_at lo s lo) 0) else Some None) (ap (λ (n : ℕ). n == 1) (top_count ∙ ap (λ (l : List (List ℕ × Tree level)). length l) e))
+        ∙ ap (option_map Some)
+        (child_is_at searches reads lo hi small (bytes_at lo s lo) level all_keys t top_held tree.stand.0 tree.stand.1 refl 0 c.1 at (each_at (HoldsChild lo hi s level) t.children 0 c.1 at tree.holds.1).0)
+    only_found (c ∷ d ∷ kids) e =
+        ap (λ (t : Bool). if t then option_map Some (child_in lo hi (bytes_at lo s lo) 0) else Some None)
+        (ap (λ (n : ℕ). n == 1) (top_count ∙ ap (λ (l : List (List ℕ × Tree level)). length l) e) ∙ many (length kids))
+      where
+        many : (n : ℕ) → (suc (suc n) == 1) ≡ false
+        many n = elim (suc (suc n) == 1) as (λ t. (suc (suc n) == 1) ≡ t → t ≡ false) [ true ↦ λ f. absurd (omega (arith, eqb-true (suc (suc n)) 1 f)) | false ↦ λ f. refl ] refl
+
+    module _ (is : IsKept b lo hi s) (same : from_entries (pairs_in (suc level) t) ≡ content_of is.map) where
+      by_children : (kids : List (List ℕ × Tree level)) → t.children ≡ kids → Tidies s is (child_goes lo hi s level (Some (one_of kids)))
+      by_children [] e = keeps_none b lo hi s is
+      by_children (c ∷ []) e = only_keeps s level t tree c.0 c.1 e is same
+      by_children (c ∷ d ∷ kids) e = keeps_none b lo hi s is
+
+      root_keeps_map : Tidies s is (root_goes lo hi s (suc level))
+      root_keeps_map = subst (λ (o : Option (Option ℕ)). Tidies s is (child_goes lo hi s level o)) (sym (only_found t.children refl)) (by_children t.children refl)
+
+      or_root : (r : Result (List PageOp) ℕ) → Tidies s is r → Tidies s is (else_root lo hi s (suc level) r)
+      or_root (Err bad) keeps = absurd keeps
+      or_root (Ok []) keeps = root_keeps_map
+      or_root (Ok (op ∷ ops)) keeps = keeps
 
   -- ---- one turn after the other
 
   turn_keeps : (s : State) (level : ℕ) (t : Tree level) → IsTree b lo hi s level t → (is : IsKept b lo hi s) → from_entries (pairs_in level t) ≡ content_of is.map
-      → Keeps b lo hi s is (else_root lo s level (tidy_from lo s key level (root_of level t) None))
-  turn_keeps s zero t tree is same = keeps_none b lo hi s is
+      → Tidies s is (else_root lo hi s level (tidy_from lo hi s key level (root_of level t) None))
+  turn_keeps s zero t tree is same =
+      subst (λ (r : Result (List PageOp) ℕ). Tidies s is (else_root lo hi s 0 r))
+      (sym (ap (λ (b : Bool). if b then Ok [] else Err t.object) (on_level searches lo hi small s [] 0 (bytes_at lo s t.object) (cells_in 0 t) tree.holds))) (keeps_none b lo hi s is)
   turn_keeps s (suc level) t tree is same =
       let found = above_found s level all_keys t tree.holds tree.stand (in_all key) in
-      subst (λ (ops : List PageOp). Keeps b lo hi s is (else_root lo s (suc level) ops)) (sym found.ops_are)
-      (or_root s level t tree is same (leaf_goes lo s found.page.object found.inner.to (cells_in 1 found.page) (Some found.i))
-      (leaf_keeps s (suc level) t tree found.inner found.page found.place is same found.ends found.i found.leaf found.at))
+      subst (λ (r : Result (List PageOp) ℕ). Tidies s is (else_root lo hi s (suc level) r)) (sym found.turn_is)
+      (or_root s level t tree is same (leaf_goes lo hi s found.page.object found.inner.to (both_under lo hi (bytes_at lo s found.page.object) found.inner.to key))
+      (leaf_keeps s (suc level) t tree found.inner found.page found.place is same found.ends found.i found.leaf found.at found.found))
 
-  tidy_keeps : (s : State) (is : IsKept b lo hi s) → Keeps b lo hi s is (tidy_turn lo s key)
+  tidy_keeps : (s : State) (is : IsKept b lo hi s) → Tidies s is (tidy_turn lo hi s key)
   tidy_keeps s is =
       let level : ℕ = is.map.level in
       let t : Tree level = is.map.tree in
       let top : level_in (bytes_at lo s lo) ≡ level = ap (λ (x : ℕ). level_in (bytes_at lo s x)) (sym is.map.root) ∙ ap level_in (root_held lo hi s level t is.map.holds).code in
-      subst (λ (ops : List PageOp). Keeps b lo hi s is ops) (λ k. else_root lo s (sym top k) (tidy_from lo s key (sym top k) (is.map.root k) None)) (turn_keeps s level t (tree_of b lo hi s is) is refl)
+      subst (λ (r : Result (List PageOp) ℕ). Tidies s is r) (λ k. else_root lo hi s (sym top k) (tidy_from lo hi s key (sym top k) (is.map.root k) None)) (turn_keeps s level t (tree_of b lo hi s is) is refl)
+
+  keeps_all : (ops : List PageOp) (s : State) (is : IsKept b lo hi s) → Keeps b lo hi s is ops → IsKept b lo hi (after_all meaning s ops)
+  keeps_all ops s is keeps = subst (λ (l : List PageOp). IsKept b lo hi (after_all meaning s l)) (take_all (length ops) ops (omega arith)) (keeps.kept (length ops))
 
   keeps_both : (ops : List PageOp) (s : State) (is : IsKept b lo hi s) → Keeps b lo hi s is ops → (others : List PageOp)
       → ((next : IsKept b lo hi (after_all meaning s ops)) → Keeps b lo hi (after_all meaning s ops) next others) → Keeps b lo hi s is (ops ++ others)
@@ -524,64 +633,95 @@ module _ (changes : Changes) (reads : ReadsCells) (b : Bounds) (lo hi : ℕ) (sm
       record { accepted = keeps.accepted.1; kept = λ k. keeps.kept (suc k); content = λ k. keeps.content (suc k) ∙ sym (keeps.content 1) } in
       keeps_more b lo hi s is op (ops ++ others) keeps.accepted.0 (keeps.kept 1) (keeps.content 1) (keeps_both ops (after meaning s op) (keeps.kept 1) tail others rest)
 
-  tidied_keeps : (n : ℕ) (s : State) (is : IsKept b lo hi s) → Keeps b lo hi s is (tidied b lo hi key n s)
-  tidied_keeps zero s is = keeps_none b lo hi s is
-  tidied_keeps (suc n) s is =
-      keeps_both (tidy_turn lo s key) s is (tidy_keeps s is) (tidied b lo hi key n (after_all meaning s (tidy_turn lo s key))) (λ next. tidied_keeps n (after_all meaning s (tidy_turn lo s key)) next)
+  -- the plan is not refused, and its commands keep the map
+  abbrev pub IsTidyPlan : (s : State) → IsKept b lo hi s → Plan PageOp MapRefusal → Type 0
+  IsTidyPlan s is plan = (plan.refusal ≡ None) × Keeps b lo hi s is plan.commands
 
-  pub tidy_is_kept : (s : State) (is : IsKept b lo hi s) → Keeps b lo hi s is (tidy_commands b lo hi key s)
+  tidied_keeps : (n : ℕ) (s : State) (is : IsKept b lo hi s) → IsTidyPlan s is (tidied b lo hi key n s)
+  tidied_keeps zero s is = (refl, keeps_none b lo hi s is)
+  tidied_keeps (suc n) s is = by_turn (tidy_turn lo hi s key) (tidy_keeps s is) (λ ops next. tidied_keeps n (after_all meaning s ops) next)
+    where
+      by_turn : (r : Result (List PageOp) ℕ) → Tidies s is r → ((ops : List PageOp) (next : IsKept b lo hi (after_all meaning s ops)) → IsTidyPlan (after_all meaning s ops) next (tidied b lo hi key n (after_all meaning s ops)))
+          → IsTidyPlan s is (by_tidying (λ ops. tidied b lo hi key n (after_all meaning s ops)) r)
+      by_turn (Err bad) keeps rest = absurd keeps
+      by_turn (Ok ops) keeps rest = (
+        (rest ops (keeps_all ops s is keeps)).0,
+        keeps_both ops s is keeps (tidied b lo hi key n (after_all meaning s ops)).commands (λ next. (rest ops next).1),
+      )
+
+  pub tidy_is_kept : (s : State) (is : IsKept b lo hi s) → IsTidyPlan s is (tidy_plan b lo hi key s)
   tidy_is_kept s is = tidied_keeps (level_in (bytes_at lo s lo) + 2) s is
 
 -- ---- how many commands they are
 
-module _ (lo : ℕ) (s : State) where
-  few_before : (q : ℕ) (cells : List Cell) (j : ℕ) (front : List Cell) → length (before_takes lo s q cells j front) ≤ 2
-  few_before q cells j front =
-      elim (nat_lt (length front) (length (cells_read (bytes_at lo s (child_at cells j))))) as (λ t. length (if t then Keep (child_at cells j) (length front) ∷ []
-      else takes_both lo s q j (child_at cells j) (child_at cells (suc j))) ≤ 2) [ true ↦ omega arith | false ↦ omega arith ]
+-- two at most in a turn
+abbrev AreFew : Result (List PageOp) ℕ → Type 0
+AreFew (Err bad) = ⊤
+AreFew (Ok ops) = length ops ≤ 2
 
-  few_way : (q : ℕ) (to : Option (List ℕ)) (cells : List Cell) (i : ℕ) → length (gives_way lo s q to cells i) ≤ 2
-  few_way q to cells zero =
-      elim (nat_lt 1 (length (front_of to cells))) as (λ t. length (if t then takes_both lo s q 0 (child_at cells 1) (child_at cells 0) else []) ≤ 2) [ true ↦ omega arith | false ↦ omega arith ]
-  few_way q to cells (suc j) =
-      let front : List Cell = front_at lo s (end_of (front_of to cells) j to) (child_at cells j) in
-      elim (nat_lt (suc (suc j)) (length (front_of to cells))) as (λ t. length (if t then takes_both lo s q (suc j) (child_at cells (suc (suc j))) (child_at cells (suc j))
-      else before_takes lo s q cells j front) ≤ 2) [ true ↦ omega arith | false ↦ few_before q cells j front ]
+module _ (lo hi : ℕ) (s : State) where
+  few_before : (q i stays goes : ℕ) (bytes : List ℕ) (n : ℕ) → length (before_takes q i stays goes bytes n) ≤ 2
+  few_before q i stays goes bytes n =
+      elim (nat_lt n (count_in bytes)) as (λ t. length (if t then Keep stays n ∷ [] else takes_both q i stays goes) ≤ 2) [ true ↦ omega arith | false ↦ omega arith ]
 
-  few_leaf : (q : ℕ) (to : Option (List ℕ)) (cells : List Cell) (o : Option ℕ) → length (leaf_goes lo s q to cells o) ≤ 2
-  few_leaf q to cells None = omega arith
-  few_leaf q to cells (Some i) =
-      elim (length (front_at lo s (end_of (front_of to cells) i to) (child_at cells i)) == 0) as (λ t. length (if t then gives_way lo s q to cells i else []) ≤ 2) [
-        | true ↦ few_way q to cells i
-        | false ↦ omega arith
-      ]
+  few_way : (q : ℕ) (leaf : Step) (beside : Beside) → AreFew (gives_way lo hi s q leaf beside)
+  few_way q leaf Only = omega arith
+  few_way q leaf (Next other) = omega arith
+  few_way q leaf (Before other) = by_front (front_at lo hi s (Some leaf.from) other)
+    where
+      by_front : (o : Option ℕ) → AreFew (or_bad other (option_map (before_takes q (leaf.place - 1) other leaf.object (bytes_at lo s other)) o))
+      by_front None = tt
+      by_front (Some n) = few_before q (leaf.place - 1) other leaf.object (bytes_at lo s other) n
 
-  few_on : (on : ℕ → Option (List ℕ) → List PageOp) → ((x : ℕ) (to : Option (List ℕ)) → length (on x to) ≤ 2) → (to : Option (List ℕ)) (cells : List Cell) (o : Option ℕ) → length (on_way lo s on to cells o) ≤ 2
-  few_on on few to cells None = omega arith
-  few_on on few to cells (Some i) = few (child_at cells i) (end_of (front_of to cells) i to)
+  few_empty : (x : ℕ) (way : Result (List PageOp) ℕ) → AreFew way → (o : Option ℕ) → AreFew (when_empty x way o)
+  few_empty x way few None = tt
+  few_empty x way few (Some zero) = few
+  few_empty x way few (Some (suc n)) = omega arith
 
-  few_from : (key : List ℕ) (level x : ℕ) (to : Option (List ℕ)) → length (tidy_from lo s key level x to) ≤ 2
-  few_from key zero x to = omega arith
-  few_from key (suc zero) x to = let cells : List Cell = cells_read (bytes_at lo s x) in few_leaf x to cells (last_under key cells)
+  few_leaf : (q : ℕ) (to : Option (List ℕ)) (o : Option (Step × Beside)) → AreFew (leaf_goes lo hi s q to o)
+  few_leaf q to None = tt
+  few_leaf q to (Some both) = few_empty both.0.object (gives_way lo hi s q both.0 both.1) (few_way q both.0 both.1) (front_at lo hi s (ended to both.0.end) both.0.object)
+
+  few_on : (on : ℕ → Option (List ℕ) → Result (List PageOp) ℕ) → ((x : ℕ) (to : Option (List ℕ)) → AreFew (on x to)) → (x : ℕ) (to : Option (List ℕ)) (o : Option Step) → AreFew (on_way on x to o)
+  few_on on few x to None = tt
+  few_on on few x to (Some step) = few step.object (ended to step.end)
+
+  few_if : (t : Bool) (x : ℕ) (r : Result (List PageOp) ℕ) → AreFew r → AreFew (if t then r else Err x)
+  few_if true x r few = few
+  few_if false x r few = tt
+
+  few_from : (key : List ℕ) (level x : ℕ) (to : Option (List ℕ)) → AreFew (tidy_from lo hi s key level x to)
+  few_from key zero x to = few_if (is_on 0 (bytes_at lo s x)) x (Ok []) (omega arith)
+  few_from key (suc zero) x to =
+      let both : Option (Step × Beside) = both_under lo hi (bytes_at lo s x) to key in few_if (is_on 1 (bytes_at lo s x)) x (leaf_goes lo hi s x to both) (few_leaf x to both)
   few_from key (suc (suc level)) x to =
-      let cells : List Cell = cells_read (bytes_at lo s x) in few_on (tidy_from lo s key (suc level)) (few_from key (suc level)) to cells (last_under key cells)
+      let step : Option Step = step_under lo hi (bytes_at lo s x) to key in
+      few_if (is_on (suc (suc level)) (bytes_at lo s x)) x (on_way (tidy_from lo hi s key (suc level)) x to step) (few_on (tidy_from lo hi s key (suc level)) (few_from key (suc level)) x to step)
 
-  few_root : (level : ℕ) (cells : List Cell) → length (root_goes lo s level cells) ≤ 2
-  few_root zero cells = omega arith
-  few_root (suc level) [] = omega arith
-  few_root (suc level) (c ∷ []) = omega arith
-  few_root (suc level) (c ∷ d ∷ cells) = omega arith
+  few_child : (level : ℕ) (o : Option (Option ℕ)) → AreFew (child_goes lo hi s level o)
+  few_child level None = tt
+  few_child level (Some None) = omega arith
+  few_child level (Some (Some child)) = few_if (is_on level (bytes_at lo s child)) child (Ok (root_takes lo child (count_in (bytes_at lo s child)))) (omega arith)
 
-  few_else : (level : ℕ) (ops : List PageOp) → length ops ≤ 2 → length (else_root lo s level ops) ≤ 2
-  few_else level [] few = few_root level (cells_read (bytes_at lo s lo))
-  few_else level (op ∷ ops) few = few
+  few_root : (level : ℕ) → AreFew (root_goes lo hi s level)
+  few_root zero = omega arith
+  few_root (suc level) = few_child level (only_child lo hi (bytes_at lo s lo))
 
-  few_turn : (key : List ℕ) → length (tidy_turn lo s key) ≤ 2
-  few_turn key = let level : ℕ = level_in (bytes_at lo s lo) in few_else level (tidy_from lo s key level lo None) (few_from key level lo None)
+  few_else : (level : ℕ) (r : Result (List PageOp) ℕ) → AreFew r → AreFew (else_root lo hi s level r)
+  few_else level (Err bad) few = tt
+  few_else level (Ok []) few = few_root level
+  few_else level (Ok (op ∷ ops)) few = few
 
-pub few_tidied : (b : Bounds) (lo hi : ℕ) (key : List ℕ) (n : ℕ) (s : State) → length (tidied b lo hi key n s) ≤ 2 * n
+  few_turn : (key : List ℕ) → AreFew (tidy_turn lo hi s key)
+  few_turn key = let level : ℕ = level_in (bytes_at lo s lo) in few_else level (tidy_from lo hi s key level lo None) (few_from key level lo None)
+
+pub few_tidied : (b : Bounds) (lo hi : ℕ) (key : List ℕ) (n : ℕ) (s : State) → length (tidied b lo hi key n s).commands ≤ 2 * n
 few_tidied b lo hi key zero s = omega arith
-few_tidied b lo hi key (suc n) s =
-    let first : List PageOp = tidy_turn lo s key in
-    let next : State = after_all (page_meaning b) s first in
-    omega (arith, few_turn lo s key, few_tidied b lo hi key n next, length-append first (tidied b lo hi key n next))
+few_tidied b lo hi key (suc n) s = by_turn (tidy_turn lo hi s key) (few_turn lo hi s key) (λ ops. few_tidied b lo hi key n (after_all (page_meaning b) s ops))
+  where
+    by_turn : (r : Result (List PageOp) ℕ) → AreFew r → ((ops : List PageOp) → length (tidied b lo hi key n (after_all (page_meaning b) s ops)).commands ≤ 2 * n)
+        → length (by_tidying (λ ops. tidied b lo hi key n (after_all (page_meaning b) s ops)) r).commands ≤ 2 * suc n
+    by_turn (Err bad) few rest = omega arith
+    by_turn (Ok ops) few rest =
+        let others : List PageOp = (tidied b lo hi key n (after_all (page_meaning b) s ops)).commands in
+        omega (arith, few, rest ops, length-append ops others)

@@ -26,5 +26,5 @@ returns c =
     let reads : ReadsCells = λ page i short inside. ((search.cell page i short inside).1, (search.cell page i short inside).2) in
     record {
       delete = λ b lo hi s key small admits is. delete_is_planned searches changes reads b lo hi small admits key s is;
-      tidy = λ b lo hi s key small admits is. tidy_is_kept changes reads b lo hi small admits key s is;
+      tidy = λ b lo hi s key small admits is. tidy_is_kept searches changes reads b lo hi small admits key s is;
     }
