@@ -29,10 +29,11 @@ use Rattle.page_ops.specs.Search.{place_for}
 use Rattle.page_ops.specs.Operation.{fits_code, objects_of, page_meaning, read_by, value_made, written_by}
 use Rattle.page_ops.specs.declared.page_op.PageOp.{PageOp}
 use Rattle.page_ops.specs.declared.page_op.PageOp.TheVariants.{Put, Set, Delete}
+use Rattle.page_map.specs.Deletes.{NoneIsEmpty}
 use Rattle.page_map.specs.Map.{Span, is_within, is_below, all_within, all_past, all_keys, pairs_in, bytes_at, IsMap, content_of, objects_in, times}
 use Rattle.page_map.specs.Plan.{Admits, delete_command, set_command, OnlyTooLarge, set_at, set_in, delete_at, delete_in, at_leaf, at_place, SetMakes, DeleteMakes}
 use Rattle.page_map.specs.Sets.{AreShortPairs, is_short_pair}
-use Rattle.page_map.proofs.MapLemmas.{Searches, less_is, turned, IsLeafFor, map_leaf, moved, walk_is, leaf_tells, past_is_above, within_parts}
+use Rattle.page_map.proofs.MapLemmas.{Needs, Searches, less_is, turned, IsLeafFor, map_leaf, moved, walk_is, leaf_tells, past_is_above, within_parts}
 
 -- ---- lists of cells
 
@@ -239,7 +240,7 @@ module _ (searches : Searches) (changes : Changes) (lo hi : ℕ) (small : hi < 2
   IsDone v op =
       (kept : IsMap lo hi (after (page_meaning b) s op)) × ((q : List ℕ) → get (content_of kept) q ≡ (if eq_by_cmp byte_order q key then v else get (content_of is) q))
       × ((room : ℕ) → IsTrue (new_short room v) → AreShortPairs room is.level is.tree → AreShortPairs room kept.level kept.tree)
-      × (kept.level ≡ is.level)
+      × (kept.level ≡ is.level) × (NoneIsEmpty is.level is.tree → Needs key 2 kept.level kept.tree)
 
   abbrev pub set_op : Bool → List ℕ → PageOp
   set_op there value = if there then Set object place value else Put object place key value
@@ -276,6 +277,7 @@ module _ (searches : Searches) (changes : Changes) (lo hi : ℕ) (small : hi < 2
             ∙ ap (λ (o : Option (List ℕ)). if eq_by_cmp byte_order q key then v else o) (sym (get-from_entries nat_list_cmp_total (pairs_in is.level is.tree) q ∙ ap (find byte_order q) here.split)),
         λ room new all. again.short room (shorts room new (here.short_there room all)) all,
         refl,
+        again.needs,
       )
 
   -- an operation that makes a leaf of other cells, where it is accepted

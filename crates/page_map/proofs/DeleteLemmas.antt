@@ -19,7 +19,7 @@ use Rattle.page_map.specs.Map.{bytes_at, content_of}
 use Rattle.page_map.specs.Plan.{Admits, delete_command}
 use Rattle.page_map.specs.Splits.{size_of}
 use Rattle.page_map.specs.Sets.{IsKept, Keeps, room_of}
-use Rattle.page_map.specs.Deletes.{Deletes, delete_by, delete_plan, tidy_plan}
+use Rattle.page_map.specs.Deletes.{Deletes, NoneIsEmpty, delete_by, delete_plan, tidy_plan, tidy_turn}
 use Rattle.page_map.specs.declared.refusal.MapRefusal.{MapRefusal}
 use Rattle.page_map.specs.declared.refusal.MapRefusal.TheVariants.{NoKey}
 use Rattle.page_map.proofs.MapLemmas.{Searches}
@@ -27,9 +27,9 @@ use Rattle.page_map.proofs.CutLemmas.{ReadsCells, page_size}
 use Rattle.page_map.proofs.ChangeLemmas.{Changes, IsDone, delete_command_is, delete_content, delete_done, delete_fits, has_too, here, object, place, read_there, whole}
 use Rattle.page_map.proofs.TreeLemmas.{root_held}
 use Rattle.page_map.proofs.OpLemmas.{fits_room}
-use Rattle.page_map.proofs.TurnLemmas.{page_fits}
+use Rattle.page_map.proofs.TurnLemmas.{page_fits, tree_of}
 use Rattle.page_map.proofs.SetLemmas.{fits_too}
-use Rattle.page_map.proofs.TidyLemmas.{few_tidied, tidy_is_kept}
+use Rattle.page_map.proofs.TidyLemmas.{few_tidied, tidied_ends, tidy_is_kept}
 
 size_out : (key : List ℕ) (cells : List Cell) → size_of (without key cells) ≤ size_of cells
 size_out key [] = omega arith
@@ -118,3 +118,24 @@ module _ (searches : Searches) (changes : Changes) (reads : ReadsCells) (b : Bou
         | false ↦ λ e command.
             subst (λ (r : Result (Option PageOp) ℕ). Deletes b lo hi s is key (delete_by b lo hi key s r)) (sym command) (deletes_none (not_found (get (content_of is.map) key) e))
       ] refl (delete_command_is searches changes lo hi small b s key is.map)
+
+  -- behind a delete that is done nothing is left to tidy
+  not_done : (r : MapRefusal) → Some r ≡ None → ⊥
+  not_done r e = cc
+
+  pub delete_is_tidy : NoneIsEmpty is.map.level is.map.tree → (delete_plan b lo hi key s).refusal ≡ None → tidy_turn lo hi (after_all (page_meaning b) s (delete_plan b lo hi key s).commands) key ≡ Ok []
+  delete_is_tidy none =
+      elim (is_some (get (content_of is.map) key)) as (λ t. is_some (get (content_of is.map) key) ≡ t → delete_command lo hi s key ≡ Ok (if t then Some out else None)
+      → (delete_plan b lo hi key s).refusal ≡ None → tidy_turn lo hi (after_all (page_meaning b) s (delete_plan b lo hi key s).commands) key ≡ Ok []) [
+        | true ↦ λ e command refusal.
+            ap (λ (r : Result (Option PageOp) ℕ). tidy_turn lo hi (after_all (page_meaning b) s (delete_by b lo hi key s r).commands) key) command
+            ∙ tidy_behind (sym (has_too searches changes lo hi small b s key is.map) ∙ e)
+        | false ↦ λ e command refusal. absurd (not_done NoKey (sym (ap (λ (r : Result (Option PageOp) ℕ). (delete_by b lo hi key s r).refusal) command) ∙ refusal))
+      ] refl (delete_command_is searches changes lo hi small b s key is.map)
+    where
+      tidy_behind : (there : has key cells ≡ true) → tidy_turn lo hi (after_all (page_meaning b) next (tidy_plan b lo hi key next).commands) key ≡ Ok []
+      tidy_behind there =
+          let made : IsKept b lo hi next = kept there in
+          let top : level_in (bytes_at lo next lo) ≡ made.map.level =
+          ap (λ (y : ℕ). level_in (bytes_at lo next y)) (sym made.map.root) ∙ ap level_in (root_held lo hi next made.map.level made.map.tree made.map.holds).code in
+          tidied_ends searches changes reads b lo hi small admits key (level_in (bytes_at lo next lo) + 2) next made.map.level made.map.tree (tree_of b lo hi next made) 2 ((done there).4 none) (omega (arith, top))

@@ -1,5 +1,5 @@
 -- Two children beside each other become one: the page above names the one that stays in the place of both.
-use Rattle.std.proofs.Common.{◌≡◌, ℕ, zero, suc, ◌+◌, ◌<◌, ◌≤◌, Bool, List, [], ◌∷◌, ◌++◌, T, map, flat_map, length, take, drop, is_lt, refl, sym, ap, ◌∙◌, arith, append_assoc}
+use Rattle.std.proofs.Common.{◌≡◌, ◌≢◌, ℕ, zero, suc, ◌+◌, ◌<◌, ◌≤◌, Bool, List, [], ◌∷◌, ◌++◌, T, map, flat_map, length, take, drop, is_lt, refl, sym, ap, ◌∙◌, arith, append_assoc}
 use Rattle.std.specs.Prelude.{IsTrue}
 use Rattle.std.specs.List.{list_all}
 use Rattle.std.specs.FinMap.Entries.{below_all, is_sorted}
@@ -48,6 +48,21 @@ module _ {Child : Type 0} where
   each_one P (c ∷ []) zero kid all new = all
   each_one P (c ∷ d ∷ children) zero kid all new = (new, all.1.1)
   each_one P (c ∷ children) (suc i) kid all new = (all.0, each_one P children i kid all.1 new)
+
+  each_by : (P : Child → Type 0) (children : List (List ℕ × Child)) → ((j : ℕ) (child : Child) → IsAt j child children → P child) → Each P children
+  each_by P [] all = tt
+  each_by P (c ∷ children) all = (all 0 c.1 refl, each_by P children (λ j child at. all (suc j) child at))
+
+  pub each_one_but : (P : Child → Type 0) (children : List (List ℕ × Child)) (i : ℕ) (kid : Child) → suc i < length children → ((j : ℕ) (child : Child) → IsAt j child children → j ≢ i → j ≢ suc i → P child) → P kid
+      → Each P (with_one i kid children)
+  each_one_but P [] i kid inside all new = absurd (omega (arith, inside))
+  each_one_but P (c ∷ []) i kid inside all new = absurd (omega (arith, inside))
+  each_one_but P (c ∷ d ∷ children) zero kid inside all new =
+      (new, each_by P children (λ j child at. all (suc (suc j)) child at (λ e. absurd (omega (arith, e))) (λ e. absurd (omega (arith, e)))))
+  each_one_but P (c ∷ d ∷ children) (suc i) kid inside all new = (
+    all 0 c.1 refl (λ e. absurd (omega (arith, e))) (λ e. absurd (omega (arith, e))),
+    each_one_but P (d ∷ children) i kid (omega (arith, inside)) (λ j child at one two. all (suc j) child at (λ e. one (omega (arith, e))) (λ e. two (omega (arith, e)))) new,
+  )
 
   pub keys_one : (test : List ℕ → Bool) (children : List (List ℕ × Child)) (i : ℕ) (kid : Child) → IsTrue (list_all (λ c. test c.0) children) → IsTrue (list_all (λ c. test c.0) (with_one i kid children))
   keys_one test [] i kid all = refl

@@ -1,6 +1,6 @@
 -- The way to a key leads to the leaf that has it, where any has.
-use Rattle.std.proofs.Common.{◌≡◌, ◌≢◌, ℕ, zero, suc, ◌+◌, ◌^◌, ◌<◌, ◌≤◌, ◌==◌, Bool, true, false, cond, not, ◌&&◌, if◌then◌else◌, Option, None, Some, Ok, Err, List, [], ◌∷◌, ◌++◌, T, map, flat_map, length, Ordering, Less, Equal, Greater, is_lt, is_eq, refl, sym, ap, ◌∙◌, subst, arith, append_assoc, length-append, true≢false}
-use Rattle.std.specs.Prelude.{IsTrue, nat_lt, nat_le}
+use Rattle.std.proofs.Common.{◌≡◌, ◌≢◌, ◌⊎◌, inl, inr, ℕ, zero, suc, ◌+◌, ◌^◌, ◌<◌, ◌≤◌, ◌==◌, Bool, true, false, cond, not, ◌&&◌, if◌then◌else◌, Option, None, Some, Ok, Err, List, [], ◌∷◌, ◌++◌, T, map, flat_map, length, Ordering, Less, Equal, Greater, is_lt, is_eq, refl, sym, ap, ◌∙◌, subst, arith, append_assoc, length-append, true≢false}
+use Rattle.std.specs.Prelude.{⊤, IsTrue, nat_lt, nat_le}
 use Rattle.std.specs.List.{list_all}
 use Rattle.std.specs.Ordering.{ordering_reverse}
 use Rattle.std.specs.Cmp.Lexicographic.{nat_list_cmp_total}
@@ -12,7 +12,7 @@ use Rattle.byteorder.specs.Endian.{little_bytes, little_number}
 use Rattle.oper_core.specs.LittleEndian.{length-little_bytes, little_number-little_bytes}
 use Rattle.oper_core.specs.State.{State}
 use Rattle.key_entries.specs.Entries.{byte_order}
-use Rattle.key_entries.specs.EntryLaws.{both_true, true_both}
+use Rattle.key_entries.specs.EntryLaws.{both_true, same_some, true_both}
 use Rattle.key_entries.specs.KeyLaws.{same_key}
 use Rattle.page_ops.specs.Page.{Cell, Page, page_code, page_of, AreShort}
 use Rattle.page_ops.specs.Reading.{has_cell, opens, level_in, under, beside_of, child_of, found_in}
@@ -20,6 +20,7 @@ use Rattle.page_ops.specs.Seen.{child_cell}
 use Rattle.page_ops.specs.OnCells.{beside_at}
 use Rattle.page_ops.specs.Search.{last_under, next_under}
 use Rattle.page_map.specs.Map.{Span, is_below, is_within, Leaf, Tree, root_of, pairs_in, cells_in, IsHeld, Each, bytes_at, is_child, Holds, all_within, all_past, Share, StandIn, all_keys, IsMap, content_of, objects_in, one_if, times}
+use Rattle.page_map.specs.Deletes.{NoneIsEmpty}
 use Rattle.page_map.specs.Sets.{AreShortPairs, is_short_key, is_short_pair}
 use Rattle.page_map.specs.Walk.{is_on, names_child, child_in, child_for, on_from, walk_from, walk, get_in, get_at, get_answer}
 
@@ -262,6 +263,80 @@ module _ {Child : Type 0} where
           let inside = among x children i child at in
           (moves c.1 (omega (arith, both, once, there, inside)) held.0, each_again children i child other at (omega (arith, both, once)) there new held.1)
 
+  pub at_same : (children : List (List ℕ × Child)) (i : ℕ) (a b : Child) → IsAt i a children → IsAt i b children → a ≡ b
+  at_same [] i a b one two = absurd one
+  at_same (c ∷ children) zero a b one two = sym one ∙ two
+  at_same (c ∷ children) (suc i) a b one two = at_same children i a b one two
+
+  -- the new child, and those that stay
+  pub at_new : (children : List (List ℕ × Child)) (i : ℕ) (new kid : Child) → IsAt i kid (with_child i new children) → new ≡ kid
+  at_new [] i new kid at = absurd at
+  at_new (c ∷ children) zero new kid at = at
+  at_new (c ∷ children) (suc i) new kid at = at_new children i new kid at
+
+  pub with_all : (P : Child → Type 0) (children : List (List ℕ × Child)) (i j : ℕ) (new kid : Child) → IsAt j kid (with_child i new children) → P new → (IsAt j kid children → P kid) → P kid
+  with_all P [] i j new kid at one two = absurd at
+  with_all P (c ∷ children) zero zero new kid at one two = subst P at one
+  with_all P (c ∷ children) zero (suc j) new kid at one two = two at
+  with_all P (c ∷ children) (suc i) zero new kid at one two = two at
+  with_all P (c ∷ children) (suc i) (suc j) new kid at one two = with_all P children i j new kid at one two
+
+  at_other : (children : List (List ℕ × Child)) (i j : ℕ) (new kid : Child) → IsAt j kid (with_child i new children) → j ≢ i → IsAt j kid children
+  at_other [] i j new kid at apart = absurd at
+  at_other (c ∷ children) zero zero new kid at apart = absurd (apart refl)
+  at_other (c ∷ children) zero (suc j) new kid at apart = at
+  at_other (c ∷ children) (suc i) zero new kid at apart = at
+  at_other (c ∷ children) (suc i) (suc j) new kid at apart = at_other children i j new kid at (λ e. apart (ap suc e))
+
+  length_with : (children : List (List ℕ × Child)) (i : ℕ) (new : Child) → length (with_child i new children) ≡ length children
+  length_with [] i new = refl
+  length_with (c ∷ children) zero new = refl
+  length_with (c ∷ children) (suc i) new = ap suc (length_with children i new)
+
+-- ---- how many turns tidy the way to a key
+
+module _ (key : List ℕ) where
+  -- the leaf of the key has a cell, or is an only child
+  abbrev pub Rests : Tree 1 → Type 0
+  Rests page = (length page.children ≤ 1) ⊎ ((i : ℕ) (leaf : Leaf) → IsAt i leaf page.children → last_under key (cells_in 1 page) ≡ Some i → 0 < length leaf.cells)
+
+  -- each other one has a cell
+  abbrev pub Others : Tree 1 → Type 0
+  Others page = (length page.children ≤ 1) ⊎ ((i : ℕ) (leaf : Leaf) → IsAt i leaf page.children → last_under key (cells_in 1 page) ≢ Some i → 0 < length leaf.cells)
+
+  -- the one before it has no cells past its span
+  abbrev pub Trimmed : Tree 1 → Type 0
+  Trimmed page = (i : ℕ) (first : Leaf) → IsAt i first page.children → last_under key (cells_in 1 page) ≡ Some (suc i) → first.past ≡ []
+
+  -- so many turns are enough until it rests
+  abbrev pub NeedsHere : ℕ → Tree 1 → Type 0
+  NeedsHere zero page = Rests page
+  NeedsHere (suc zero) page = Others page × Trimmed page
+  NeedsHere (suc (suc n)) page = Others page
+
+  abbrev pub Needs : ℕ → (level : ℕ) → Tree level → Type 0
+  Needs n zero leaf = ⊤
+  Needs n (suc zero) page = NeedsHere n page
+  Needs n (suc (suc level)) page = (i : ℕ) (child : Tree (suc level)) → IsAt i child page.children → last_under key (cells_in (suc (suc level)) page) ≡ Some i → Needs n (suc level) child
+
+  pub needs_below : (n level : ℕ) (t : Tree (suc level)) (i : ℕ) (child new : Tree level) → IsAt i child t.children → root_of level new ≡ root_of level child → last_under key (cells_in (suc level) t) ≡ Some i → 1 ≤ level
+      → Needs n level new → Needs n (suc level) (record { object = t.object; children = with_child i new t.children; past = t.past })
+  needs_below n zero t i child new at root under more needs = absurd (omega (arith, more))
+  needs_below n (suc level) t i child new at root under more needs = λ j kid there here.
+      let cells = ap (λ (l : List Cell). last_under key (l ++ t.past)) (cells_again (root_of (suc level)) t.children i child new at root) in
+      let same : j ≡ i = same_some j i (sym here ∙ cells ∙ under) in
+      subst (Needs n (suc level)) (at_new t.children i new kid (subst (λ (p : ℕ). IsAt p kid (with_child i new t.children)) same there)) needs
+
+  -- where none but only children were empty, and another leaf of the key has come in
+  needs_changed : (level : ℕ) (t : Tree (suc level)) (i : ℕ) (child new : Tree level) → IsAt i child t.children → root_of level new ≡ root_of level child → last_under key (cells_in (suc level) t) ≡ Some i
+      → (NoneIsEmpty level child → Needs 2 level new) → NoneIsEmpty (suc level) t → Needs 2 (suc level) (record { object = t.object; children = with_child i new t.children; past = t.past })
+  needs_changed zero t i child new at root under below (inl few) = inl (omega (arith, few, length_with t.children i new))
+  needs_changed zero t i child new at root under below (inr each) = inr (λ j leaf there apart.
+      let cells = ap (λ (l : List Cell). last_under key (l ++ t.past)) (cells_again (root_of zero) t.children i child new at root) in
+      each_at (λ (leaf : Leaf). 0 < length leaf.cells) t.children j leaf (at_other t.children i j new leaf there (λ e. apart (cells ∙ under ∙ ap (λ (p : ℕ). Some p) (sym e)))) each)
+  needs_changed (suc level) t i child new at root under below none =
+      needs_below 2 (suc level) t i child new at root under (omega arith) (below (each_at (NoneIsEmpty (suc level)) t.children i child at none))
+
 -- ---- the child under which a key stands
 
 past_none : (key : List ℕ) (span : Span) (past : List Cell) → IsTrue (is_below key span.to) → IsTrue (all_past span past) → last_under key past ≡ None
@@ -440,6 +515,7 @@ module _ (searches : Searches) (lo hi : ℕ) (small : hi < 2 ^ 32) (s : State) (
     pub stand : StandIn level outer tree
     pub pairs_are : pairs_in level tree ≡ pairs
     pub short : (room : ℕ) → IsTrue (list_all (is_short_pair room) cells) → AreShortPairs room level t → AreShortPairs room level tree
+    pub needs : NoneIsEmpty level t → Needs key 2 level tree
 
   -- the leaf of the key: the pairs of the other leaves do not have it, and another state may have others in it
   pub record IsLeafFor (level : ℕ) (outer : Span) (t : Tree level) : Type 0 where
@@ -493,6 +569,7 @@ module _ (searches : Searches) (lo hi : ℕ) (small : hi < 2 ^ 32) (s : State) (
       stand = (there, stands.1);
       pairs_are = sym (append-nil cells);
       short = λ room there short. there;
+      needs = λ none. tt;
     };
     short_there = λ room short. short;
     walk = ap (λ (b : Bool). if b then Ok t.object else Err t.object) (on_level 0 (bytes_at lo s t.object) (t.cells ++ t.past) holds);
@@ -542,6 +619,7 @@ module _ (searches : Searches) (lo hi : ℕ) (small : hi < 2 ^ 32) (s : State) (
                 keys_with (is_short_key room) t.children found.place changed.tree short.0,
                 each_with (AreShortPairs room level) t.children found.place changed.tree short.1 (changed.short room there (each_at (AreShortPairs room level) t.children found.place found.child found.at short.1)),
               );
+              needs = needs_changed key level t found.place found.child changed.tree found.at changed.root found.under changed.needs;
             };
         short_there = λ room short. rest.short_there room (each_at (AreShortPairs room level) t.children found.place found.child found.at short.1);
         walk =

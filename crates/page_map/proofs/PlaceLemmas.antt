@@ -9,7 +9,7 @@ use Rattle.page_ops.specs.Page.{Cell}
 use Rattle.page_map.specs.Map.{Span, is_below, Tree, root_of, pairs_in, cells_in, IsHeld, Each, bytes_at, is_child, Holds, Share, StandIn, objects_in, times}
 use Rattle.page_ops.specs.Search.{last_under}
 use Rattle.page_map.specs.Sets.{AreShortPairs, is_short_key}
-use Rattle.page_map.proofs.MapLemmas.{each_at, each_with, keys_with, lower, upper, IsAt, span_of, with_child, shared_again, cells_again, times_both, among, one_here, held_again}
+use Rattle.page_map.proofs.MapLemmas.{Needs, needs_below, each_at, each_with, keys_with, lower, upper, IsAt, span_of, with_child, shared_again, cells_again, times_both, among, one_here, held_again}
 use Rattle.page_map.proofs.CutLemmas.{ReadsCells}
 use Rattle.page_map.proofs.TreeLemmas.{HoldsBelow, HoldsChild}
 use Rattle.page_map.proofs.WayLemmas.{Settled, settled_up}
@@ -121,6 +121,7 @@ module _ (reads : ReadsCells) (lo hi : ℕ) (small : hi < 2 ^ 32) (room : ℕ) (
     pub pairs_are : pairs_in level tree ≡ pairs
     pub short : AreShortPairs room l other → AreShortPairs room level t → AreShortPairs room level tree
     pub settled : (n : ℕ) → Settled reads lo hi small room key value new n l (root_of l other) inner.to → Settled reads lo hi small room key value new n level (root_of level tree) outer.to
+    pub needs : 1 ≤ l → (n : ℕ) → Needs key n l other → Needs key n level tree
 
   -- the page has this span in the tree, and is on the way to the key
   pub record IsPlace (level : ℕ) (outer : Span) (t : Tree level) (l : ℕ) (inner : Span) (page : Tree l) : Type 0 where
@@ -157,6 +158,7 @@ module _ (reads : ReadsCells) (lo hi : ℕ) (small : hi < 2 ^ 32) (room : ℕ) (
       pairs_are = sym (append-nil (pairs_in level other));
       short = λ short all. short;
       settled = λ n rest. rest;
+      needs = λ more n rest. rest;
     };
   }
 
@@ -210,6 +212,7 @@ module _ (reads : ReadsCells) (lo hi : ℕ) (small : hi < 2 ^ 32) (room : ℕ) (
               settled_up reads lo hi small room key value new n level outer (record { object = t.object; children = kids; past = t.past }) held_top share stand.1 ends i changed.tree
               (at_with t.children i child changed.tree at) (ap (last_under key) cells ∙ under) low
               (subst (λ (to : Option (List ℕ)). Settled reads lo hi small room key value new n level (root_of level changed.tree) to) (sym (end_with outer t.children i changed.tree)) (changed.settled n rest));
+          needs = λ more n rest. needs_below key n level t i child changed.tree at changed.root under (omega (arith, more, place.depth)) (changed.needs more n rest);
         }
 
     pub place_below : IsPlace (suc level) outer t l inner page

@@ -1,15 +1,15 @@
 -- The commands that tidy the way to a key keep the map.
-use Rattle.std.proofs.Common.{◌≡◌, length-append, ◌*◌, ◌≢◌, ℕ, zero, suc, ◌+◌, ◌-◌, ◌^◌, ◌<◌, ◌≤◌, ◌==◌, Bool, true, false, if◌then◌else◌, Option, None, Some, Result, Ok, Err, List, [], ◌∷◌, ◌++◌, T, map, flat_map, length, drop, is_lt, is_some, option_and_then, option_map, refl, sym, ap, ◌∙◌, subst, arith, take_all}
+use Rattle.std.proofs.Common.{◌≡◌, length-append, ◌*◌, ◌≢◌, ◌⊎◌, inl, inr, ℕ, zero, suc, ◌+◌, ◌-◌, ◌^◌, ◌<◌, ◌≤◌, ◌==◌, Bool, true, false, if◌then◌else◌, Option, None, Some, Result, Ok, Err, List, [], ◌∷◌, ◌++◌, T, map, flat_map, length, drop, is_lt, is_some, option_and_then, option_map, refl, sym, ap, ◌∙◌, subst, arith, take_all}
 use Rattle.std.specs.Prelude.{⊤, IsTrue, nat_lt, nat_le}
 use Rattle.std.specs.FinMap.{from_entries}
-use Rattle.std.proofs.lemmas.Bool.{eqb-true, leb-true, ltb-true}
+use Rattle.std.proofs.lemmas.Bool.{eqb-true, le-ltb, leb-true, ltb-false, ltb-true}
 use Rattle.std.specs.FinMap.Entries.{is_sorted}
 use Rattle.std.proofs.lemmas.List.{append-nil, length-map}
 use Rattle.oper_core.specs.State.{State}
 use Rattle.oper_core.specs.Meaning.{Accepts, Meaning, after}
 use Rattle.oper_core.specs.declared.bounds.Bounds.{Bounds}
 use Rattle.key_entries.specs.Entries.{byte_order}
-use Rattle.key_entries.specs.EntryLaws.{both_true}
+use Rattle.key_entries.specs.EntryLaws.{both_true, same_some}
 use Rattle.call_plans.specs.Laws.{after_all}
 use Rattle.call_plans.specs.Plan.{Plan}
 use Rattle.page_ops.specs.Page.{Cell, page_of, AreShort}
@@ -30,18 +30,18 @@ use Rattle.page_map.specs.Walk.{child_in, is_on}
 use Rattle.page_map.specs.declared.beside.Beside.{Beside}
 use Rattle.page_map.specs.declared.beside.Beside.TheVariants.{Next, Before, Only}
 use Rattle.page_map.specs.declared.refusal.MapRefusal.{MapRefusal}
-use Rattle.page_map.proofs.MapLemmas.{IsAt, Searches, among, below_through, child_found, each_at, ends_too, in_all, moved, not_below_through, on_level, one_here, pairs_within, parts_within, span_of, times_both, upper, wider, within_parts}
+use Rattle.page_map.proofs.MapLemmas.{IsAt, Needs, NeedsHere, Others, Rests, Searches, Trimmed, among, at_new, at_same, below_through, cells_again, child_found, each_at, ends_too, in_all, moved, not_below_through, on_level, one_here, pairs_within, parts_within, span_of, times_both, upper, wider, with_all, with_child, within_parts}
 use Rattle.page_map.proofs.CutLemmas.{ReadsCells, front_is}
 use Rattle.page_map.proofs.StepLemmas.{child_is_at, count_held, front_held, has_next, step_ends, step_from, step_held, step_of}
 use Rattle.page_map.proofs.ChangeLemmas.{Changes, written_else}
-use Rattle.page_map.proofs.TreeLemmas.{HoldsBelow, HoldsChild, below_held, last_held, last_part, last_root, live_in, parts_short, root_held, whole_is}
+use Rattle.page_map.proofs.TreeLemmas.{HoldsBelow, HoldsChild, bare, below_held, last_held, last_part, last_root, live_in, parts_short, root_held, whole_is}
 use Rattle.page_map.proofs.TwoLemmas.{at_inside}
 use Rattle.page_map.proofs.PlaceLemmas.{IsPlace, SameAt, below_over, each_same, held_over, place_below, place_here, root_reached, share_at}
 use Rattle.page_map.proofs.WayLemmas.{from_below}
 use Rattle.page_map.proofs.DueLemmas.{none_past}
 use Rattle.page_map.proofs.OpLemmas.{IsWritten, bytes_else, bytes_there, fits_after, free_done, part_done, read_child, read_inner, room_cap, turn_done}
-use Rattle.page_map.proofs.TurnLemmas.{IsTree, keeps_more, keeps_none, kept_by, page_fits, tree_of, trim_keeps}
-use Rattle.page_map.proofs.GoneLemmas.{cells_one, child_there, each_one, joined_span, keys_one, pairs_one, rise_one, share_one, size_one, times_one, two_inside, with_one}
+use Rattle.page_map.proofs.TurnLemmas.{IsTree, keeps_more, keeps_none, kept_by, page_fits, tree_of, trim_keeps, trim_tree}
+use Rattle.page_map.proofs.GoneLemmas.{cells_one, child_there, each_one, each_one_but, joined_span, keys_one, pairs_one, rise_one, share_one, size_one, times_one, two_inside, with_one}
 use Rattle.page_map.proofs.SetLemmas.{fits_too, root_ends}
 
 -- ---- spans beside each other
@@ -88,6 +88,18 @@ module _ (searches : Searches) (changes : Changes) (reads : ReadsCells) (b : Bou
   abbrev Tidies : (s : State) → IsKept b lo hi s → Result (List PageOp) ℕ → Type 0
   Tidies s is (Err bad) = ⊥
   Tidies s is (Ok ops) = Keeps b lo hi s is ops
+
+  -- a turn of at least one command, behind which fewer are needed
+  pub record GoesOn (s : State) (most : ℕ) (r : Result (List PageOp) ℕ) : Type 0 where
+    pub op : PageOp
+    pub ops : List PageOp
+    pub turn_is : r ≡ Ok (op ∷ ops)
+    pub depth : ℕ
+    pub made : Tree depth
+    pub tree_made : IsTree b lo hi (after_all meaning s (op ∷ ops)) depth made
+    pub left : ℕ
+    pub needs : Needs key left depth made
+    pub fewer : depth + left < most
 
   -- ---- an object that is not reached is given back
 
@@ -148,6 +160,13 @@ module _ (searches : Searches) (changes : Changes) (reads : ReadsCells) (b : Bou
     apart_below : (y : ℕ) → 1 ≤ times y below → y ≢ q
     apart_below y there e = absurd (omega (arith, there, q_not_below, ap (λ (z : ℕ). times z below) e))
 
+    -- commands that keep the map, and leave a tree with another page in the place of this one
+    record Drops (is : IsKept b lo hi s) (ops : List PageOp) (other : Tree 1) : Type 0 where
+      pub keeps : Keeps b lo hi s is ops
+      pub made : Tree level
+      pub tree_made : IsTree b lo hi (after_all meaning s ops) level made
+      pub needs : (n : ℕ) → Needs key n 1 other → Needs key n level made
+
     -- one of two leaves takes the place of both
     module _ (i : ℕ) (a next kid gone : Leaf) (one : IsAt i a children) (two : IsAt (suc i) next children)
         (objects : (y : ℕ) → times y (objects_in 0 a) + times y (objects_in 0 next) ≡ times y (objects_in 0 kid) + times y (objects_in 0 gone)) (pairs : pairs_in 0 a ++ pairs_in 0 next ≡ pairs_in 0 kid)
@@ -202,6 +221,7 @@ module _ (searches : Searches) (changes : Changes) (reads : ReadsCells) (b : Bou
         pub is : IsTree b lo hi s1 level made
         pub same_pairs : pairs_in level made ≡ pairs_in level t
         pub none : times x (objects_in level made) ≡ 0
+        pub needs : (n : ℕ) → Needs key n 1 other → Needs key n level made
 
       dropped : IsDropped
       dropped =
@@ -222,15 +242,22 @@ module _ (searches : Searches) (changes : Changes) (reads : ReadsCells) (b : Bou
             };
             same_pairs = changed.pairs_are ∙ ap (λ (c : List Cell). place.before ++ (c ++ place.after)) (pairs_one (pairs_in 0) children i a next kid one two pairs) ∙ sym place.split;
             none = omega (arith, changed.objects x, counts x, tree.once x, place.reached x, one_here x []);
+            needs = changed.needs (omega arith);
           }
 
-      drop_keeps : (is : IsKept b lo hi s) → from_entries (pairs_in level t) ≡ content_of is.map → Keeps b lo hi s is (turn ∷ Free x ∷ [])
+      drop_keeps : (is : IsKept b lo hi s) → from_entries (pairs_in level t) ≡ content_of is.map → Drops is (turn ∷ Free x ∷ []) other
       drop_keeps is same =
           let last = over_free s1 x gone_low level dropped.made dropped.none dropped.is in
           let s2 : State = after meaning s1 (Free x) in
-          keeps_more b lo hi s is turn (Free x ∷ []) written.accepted (kept_by b lo hi s1 level dropped.made dropped.is) (ap from_entries dropped.same_pairs ∙ same)
-          (keeps_more b lo hi s1 (kept_by b lo hi s1 level dropped.made dropped.is) (Free x) [] last.0 (kept_by b lo hi s2 level dropped.made last.1) refl
-          (keeps_none b lo hi s2 (kept_by b lo hi s2 level dropped.made last.1)))
+          record {
+            keeps =
+                keeps_more b lo hi s is turn (Free x ∷ []) written.accepted (kept_by b lo hi s1 level dropped.made dropped.is) (ap from_entries dropped.same_pairs ∙ same)
+                (keeps_more b lo hi s1 (kept_by b lo hi s1 level dropped.made dropped.is) (Free x) [] last.0 (kept_by b lo hi s2 level dropped.made last.1) refl
+                (keeps_none b lo hi s2 (kept_by b lo hi s2 level dropped.made last.1)));
+            made = dropped.made;
+            tree_made = last.1;
+            needs = dropped.needs;
+          }
 
     -- ---- an empty leaf
 
@@ -264,7 +291,8 @@ module _ (searches : Searches) (changes : Changes) (reads : ReadsCells) (b : Bou
           ∙ front_is span.to leaf.cells leaf.past (wider (is_within span) (λ k. is_below k span.to) (λ k e. (within_parts span k e).1) leaf.cells (stands_at j leaf at).0) (stands_at j leaf at).1)
 
       -- the next one takes its place
-      next_takes : (i : ℕ) (leaf next : Leaf) → IsAt i leaf children → IsAt (suc i) next children → leaf.cells ≡ [] → Keeps b lo hi s is (takes_both q i next.object leaf.object)
+      next_takes : (i : ℕ) (leaf next : Leaf) → IsAt i leaf children → IsAt (suc i) next children → leaf.cells ≡ []
+          → Drops is (takes_both q i next.object leaf.object) (record { object = q; children = with_one i next children; past = page.past })
       next_takes i leaf next one two empty =
           let span : Span = span_of inner children (suc i) in
           let joined : Span = joined_span inner children i in
@@ -277,7 +305,8 @@ module _ (searches : Searches) (changes : Changes) (reads : ReadsCells) (b : Bou
           (short_at (suc i) next two) is same
 
       -- the one before it does
-      first_takes : (j : ℕ) (first leaf : Leaf) → IsAt j first children → IsAt (suc j) leaf children → leaf.cells ≡ [] → first.past ≡ [] → Keeps b lo hi s is (takes_both q j first.object leaf.object)
+      first_takes : (j : ℕ) (first leaf : Leaf) → IsAt j first children → IsAt (suc j) leaf children → leaf.cells ≡ [] → first.past ≡ []
+          → Drops is (takes_both q j first.object leaf.object) (record { object = q; children = with_one j first children; past = page.past })
       first_takes j first leaf one two empty none =
           let span : Span = span_of inner children j in
           let joined : Span = joined_span inner children j in
@@ -297,7 +326,7 @@ module _ (searches : Searches) (changes : Changes) (reads : ReadsCells) (b : Bou
           subst (λ (n : ℕ). Keeps b lo hi s is (choose (nat_lt (length first.cells) n))) (sym count)
           (elim (nat_lt (length first.cells) (length (first.cells ++ first.past))) as (λ t. nat_lt (length first.cells) (length (first.cells ++ first.past)) ≡ t → Keeps b lo hi s is (choose t)) [
             | true ↦ λ e. trim_keeps changes reads b lo hi small admits key [] s level t tree 0 inner page place j first one is same
-            | false ↦ λ e. first_takes j first leaf one two empty (none_past 0 first e)
+            | false ↦ λ e. (first_takes j first leaf one two empty (none_past 0 first e)).keeps
           ] refl)
 
       before_is : (j : ℕ) (first leaf : Leaf) → IsAt j first children → (at : IsAt (suc j) leaf children)
@@ -327,7 +356,7 @@ module _ (searches : Searches) (changes : Changes) (reads : ReadsCells) (b : Bou
             is_beside =
                 ap (λ (t : Bool). if t then option_map Next (child_in lo hi bytes (suc i)) else before_in lo hi bytes i) (more_is i leaf at ∙ more)
                 ∙ ap (option_map Next) (named (suc i) next.0 next.1);
-            keeps = λ empty. next_takes i leaf next.0 at next.1 empty;
+            keeps = λ empty. (next_takes i leaf next.0 at next.1 empty).keeps;
           }
 
       before_beside : (i : ℕ) (leaf : Leaf) (at : IsAt i leaf children) → nat_lt (suc i) (length children) ≡ false → IsBeside i leaf at
@@ -353,26 +382,188 @@ module _ (searches : Searches) (changes : Changes) (reads : ReadsCells) (b : Bou
             | false ↦ λ e. before_beside i leaf at e
           ] refl
 
-      both_is : (i : ℕ) (leaf : Leaf) (at : IsAt i leaf children) → under bytes key ≡ Some i → both_under lo hi bytes inner.to key ≡ Some (step_at i leaf at, (beside_found i leaf at).beside)
-      both_is i leaf at found =
-          let step : step_in lo hi bytes inner.to i ≡ Some (step_at i leaf at) =
-          step_held searches reads lo hi small bytes 0 inner page held_page.0 place.stand.0 place.stand.1 ends i leaf at (held_at i leaf at).0 in
-          ap (λ (o : Option ℕ). option_and_then (with_beside lo hi bytes inner.to) (option_and_then (step_in lo hi bytes inner.to) o)) found
-          ∙ ap (option_and_then (with_beside lo hi bytes inner.to)) step ∙ ap (option_map (λ beside. (step_at i leaf at, beside))) (beside_found i leaf at).is_beside
+      abbrev turn_here : Result (List PageOp) ℕ
+      turn_here = leaf_goes lo hi s q inner.to (both_under lo hi bytes inner.to key)
 
-      leaf_is : (i : ℕ) (leaf : Leaf) (at : IsAt i leaf children) → under bytes key ≡ Some i
-          → leaf_goes lo hi s q inner.to (both_under lo hi bytes inner.to key) ≡ when_empty leaf.object (gives_way lo hi s q (step_at i leaf at) (beside_found i leaf at).beside) (Some (length leaf.cells))
-      leaf_is i leaf at found =
-          ap (leaf_goes lo hi s q inner.to) (both_is i leaf at found)
-          ∙ ap (when_empty leaf.object (gives_way lo hi s q (step_at i leaf at) (beside_found i leaf at).beside))
-          (front_is_at i leaf at (ended inner.to (step_at i leaf at).end) (step_ends searches reads lo hi small bytes 0 inner page held_page.0 place.stand.0 place.stand.1 ends i leaf at (held_at i leaf at).0))
+      module _ (i : ℕ) (leaf : Leaf) (at : IsAt i leaf children) (found : under bytes key ≡ Some i) where
+        both_is : (by : IsBeside i leaf at) → both_under lo hi bytes inner.to key ≡ Some (step_at i leaf at, by.beside)
+        both_is by =
+            let step : step_in lo hi bytes inner.to i ≡ Some (step_at i leaf at) =
+            step_held searches reads lo hi small bytes 0 inner page held_page.0 place.stand.0 place.stand.1 ends i leaf at (held_at i leaf at).0 in
+            ap (λ (o : Option ℕ). option_and_then (with_beside lo hi bytes inner.to) (option_and_then (step_in lo hi bytes inner.to) o)) found
+            ∙ ap (option_and_then (with_beside lo hi bytes inner.to)) step ∙ ap (option_map (λ beside. (step_at i leaf at, beside))) by.is_beside
 
-      leaf_keeps : (i : ℕ) (leaf : Leaf) (at : IsAt i leaf children) → under bytes key ≡ Some i → Tidies s is (leaf_goes lo hi s q inner.to (both_under lo hi bytes inner.to key))
-      leaf_keeps i leaf at found = subst (λ (r : Result (List PageOp) ℕ). Tidies s is r) (sym (leaf_is i leaf at found)) (by_count (length leaf.cells) refl)
+        leaf_is : (by : IsBeside i leaf at) (n : ℕ) → length leaf.cells ≡ n → turn_here ≡ when_empty leaf.object (gives_way lo hi s q (step_at i leaf at) by.beside) (Some n)
+        leaf_is by n count =
+            ap (leaf_goes lo hi s q inner.to) (both_is by)
+            ∙ ap (when_empty leaf.object (gives_way lo hi s q (step_at i leaf at) by.beside))
+            (front_is_at i leaf at (ended inner.to (step_at i leaf at).end) (step_ends searches reads lo hi small bytes 0 inner page held_page.0 place.stand.0 place.stand.1 ends i leaf at (held_at i leaf at).0)
+            ∙ ap (λ (k : ℕ). Some k) count)
+
+        leaf_keeps : Tidies s is turn_here
+        leaf_keeps = by_count (length leaf.cells) refl
+          where
+            by_count : (n : ℕ) → length leaf.cells ≡ n → Tidies s is turn_here
+            by_count zero e = subst (λ (r : Result (List PageOp) ℕ). Tidies s is r) (sym (leaf_is (beside_found i leaf at) 0 e)) ((beside_found i leaf at).keeps (nothing_in leaf.cells e))
+            by_count (suc n) e = subst (λ (r : Result (List PageOp) ℕ). Tidies s is r) (sym (leaf_is (beside_found i leaf at) (suc n) e)) (keeps_none b lo hi s is)
+
+      -- ---- and then the leaf of the key rests
+
+      abbrev IsFilled : Leaf → Type 0
+      IsFilled leaf = 0 < length leaf.cells
+
+      others_of : (n : ℕ) → NeedsHere key (suc n) page → Others key page
+      others_of zero needs = needs.0
+      others_of (suc n) needs = needs
+
+      filled_but : (i : ℕ) → last_under key cells ≡ Some i → Others key page → 1 < length children → (j : ℕ) (leaf : Leaf) → IsAt j leaf children → j ≢ i → IsFilled leaf
+      filled_but i here (inl few) more j leaf at apart = absurd (omega (arith, few, more))
+      filled_but i here (inr others) more j leaf at apart = others j leaf at (λ e. apart (same_some j i (sym e ∙ here)))
+
+      joined_rests : (i : ℕ) (kid : Leaf) → suc i < length children → ((j : ℕ) (leaf : Leaf) → IsAt j leaf children → j ≢ i → j ≢ suc i → IsFilled leaf) → IsFilled kid
+          → Rests key (record { object = q; children = with_one i kid children; past = page.past })
+      joined_rests i kid more others filled = inr (λ j leaf at here. each_at IsFilled (with_one i kid children) j leaf at (each_one_but IsFilled children i kid more others filled))
+
+      module _ (i : ℕ) (leaf : Leaf) (at : IsAt i leaf children) (found : under bytes key ≡ Some i) (here : last_under key cells ≡ Some i) where
+        filled_rests : IsFilled leaf → Rests key page
+        filled_rests some = inr (λ j other there e.
+            subst IsFilled (at_same children i leaf other at (subst (λ (p : ℕ). IsAt p other children) (same_some j i (sym e ∙ here)) there)) some)
+
+        next_goes : (n : ℕ) → Others key page → leaf.cells ≡ [] → nat_lt (suc i) (length children) ≡ true → GoesOn s (level + suc n) turn_here
+        unfolding next_beside
+        next_goes n others empty more =
+            let inside : suc i < length children = ltb-true (suc i) (length children) more in
+            let next = child_there children (suc i) inside in
+            let takes = next_takes i leaf next.0 at next.1 empty in
+            let filled : (j : ℕ) (leaf : Leaf) → IsAt j leaf children → j ≢ i → IsFilled leaf = filled_but i here others (omega (arith, inside)) in
+            record {
+              op = Turn q i 2 next.0.object;
+              ops = Free leaf.object ∷ [];
+              turn_is = leaf_is i leaf at found (next_beside i leaf at more) 0 (ap (λ (l : List Cell). length l) empty);
+              depth = level;
+              made = takes.made;
+              tree_made = takes.tree_made;
+              left = 0;
+              needs = takes.needs 0 (joined_rests i next.0 inside (λ j leaf at one two. filled j leaf at one) (filled (suc i) next.0 next.1 (λ e. absurd (omega (arith, e)))));
+              fewer = omega arith;
+            }
+
+      -- the leaf before it
+      module _ (j : ℕ) (first leaf : Leaf) (one : IsAt j first children) (two : IsAt (suc j) leaf children) (found : under bytes key ≡ Some (suc j)) (here : last_under key cells ≡ Some (suc j)) (empty : leaf.cells ≡ [])
+          (others : Others key page) (turn_is : turn_here ≡ Ok (before_takes q j first.object leaf.object (bytes_at lo s first.object) (length first.cells))) where
+        inside_two : suc j < length children
+        inside_two = at_inside children (suc j) leaf two
+
+        filled : (k : ℕ) (leaf : Leaf) → IsAt k leaf children → k ≢ suc j → IsFilled leaf
+        filled = filled_but (suc j) here others (omega (arith, inside_two))
+
+        first_filled : IsFilled first
+        first_filled = filled j first one (λ e. absurd (omega (arith, e)))
+
+        chosen : (t : Bool) → nat_lt (length first.cells) (length (first.cells ++ first.past)) ≡ t → turn_here ≡ Ok (if t then Keep first.object (length first.cells) ∷ [] else takes_both q j first.object leaf.object)
+        chosen t e =
+            let count : count_in (bytes_at lo s first.object) ≡ length (first.cells ++ first.past) = count_held 0 (bytes_at lo s first.object) (first.cells ++ first.past) (held_at j first one).1 in
+            turn_is ∙ ap (λ (t : Bool). Ok (if t then Keep first.object (length first.cells) ∷ [] else takes_both q j first.object leaf.object)) (ap (nat_lt (length first.cells)) count ∙ e)
+
+        first_goes : (n : ℕ) → nat_lt (length first.cells) (length (first.cells ++ first.past)) ≡ false → GoesOn s (level + suc n) turn_here
+        first_goes n e =
+            let takes = first_takes j first leaf one two empty (none_past 0 first e) in
+            record {
+              op = Turn q j 2 first.object;
+              ops = Free leaf.object ∷ [];
+              turn_is = chosen false e;
+              depth = level;
+              made = takes.made;
+              tree_made = takes.tree_made;
+              left = 0;
+              needs = takes.needs 0 (joined_rests j first inside_two (λ k leaf at one two. filled k leaf at two) first_filled);
+              fewer = omega arith;
+            }
+
+        abbrev trimmed_page : Tree 1
+        trimmed_page = record { object = q; children = with_child j (bare 0 first) children; past = page.past }
+
+        trimmed_cells : last_under key (cells_in 1 trimmed_page) ≡ Some (suc j)
+        trimmed_cells = ap (λ (l : List Cell). last_under key (l ++ page.past)) (cells_again (root_of 0) children j first (bare 0 first) one refl) ∙ here
+
+        trimmed_others : Others key trimmed_page
+        trimmed_others = inr (λ k leaf there apart.
+            with_all IsFilled children j k (bare 0 first) leaf there first_filled (λ stays. filled k leaf stays (λ e. apart (trimmed_cells ∙ ap (λ (p : ℕ). Some p) (sym e)))))
+
+        trimmed_there : Trimmed key trimmed_page
+        trimmed_there = λ k other there e.
+            let same : k ≡ j = let next : suc k ≡ suc j = same_some (suc k) (suc j) (sym e ∙ trimmed_cells) in omega (arith, next) in
+            subst (λ (l : Leaf). l.past ≡ []) (at_new children j (bare 0 first) other (subst (λ (p : ℕ). IsAt p other (with_child j (bare 0 first) children)) same there)) refl
+
+        trims : (n : ℕ) → NeedsHere key (suc n) page → nat_lt (length first.cells) (length (first.cells ++ first.past)) ≡ true → GoesOn s (level + suc n) turn_here
+        trims zero needs e =
+            let none : first.past ≡ [] = needs.1 j first one here in
+            absurd (omega (arith, ltb-true (length first.cells) (length (first.cells ++ first.past)) e, length-append first.cells first.past, ap (λ (l : List Cell). length l) none))
+        trims (suc n) needs e =
+            let trim = trim_tree changes reads b lo hi small admits key [] s level t tree 0 inner page place j first one in
+            record {
+              op = Keep first.object (length first.cells);
+              ops = [];
+              turn_is = chosen true e;
+              depth = level;
+              made = trim.made;
+              tree_made = trim.is;
+              left = 1;
+              needs = trim.needs 1 (trimmed_others, trimmed_there);
+              fewer = omega arith;
+            }
+
+        before_goes : (n : ℕ) → NeedsHere key (suc n) page → GoesOn s (level + suc n) turn_here
+        before_goes n needs =
+            elim (nat_lt (length first.cells) (length (first.cells ++ first.past))) as (λ t. nat_lt (length first.cells) (length (first.cells ++ first.past)) ≡ t → GoesOn s (level + suc n) turn_here) [
+              | true ↦ λ e. trims n needs e
+              | false ↦ λ e. first_goes n e
+            ] refl
+
+      -- an only child
+      only_idle : (leaf : Leaf) (at : IsAt 0 leaf children) → under bytes key ≡ Some 0 → leaf.cells ≡ [] → nat_lt 1 (length children) ≡ false → turn_here ≡ Ok []
+      unfolding before_beside
+      only_idle leaf at found empty last = leaf_is 0 leaf at found (before_beside 0 leaf at last) 0 (ap (λ (l : List Cell). length l) empty)
+
+      last_goes : (i : ℕ) (leaf : Leaf) → IsAt i leaf children → under bytes key ≡ Some i → last_under key cells ≡ Some i → (n : ℕ) → NeedsHere key (suc n) page → leaf.cells ≡ [] → nat_lt (suc i) (length children) ≡ false
+          → ((turn_here ≡ Ok []) × Rests key page) ⊎ GoesOn s (level + suc n) turn_here
+      unfolding before_beside
+      last_goes zero leaf at found here n needs empty last = inl (only_idle leaf at found empty last, inl (omega (arith, ltb-false 1 (length children) last)))
+      last_goes (suc j) leaf at found here n needs empty last =
+          let first = child_there children j (omega (arith, at_inside children (suc j) leaf at)) in
+          inr (before_goes j first.0 leaf first.1 at found here empty (others_of n needs)
+          (leaf_is (suc j) leaf at found (before_beside (suc j) leaf at last) 0 (ap (λ (l : List Cell). length l) empty) ∙ before_is j first.0 leaf first.1 at) n needs)
+
+      page_turn : (i : ℕ) (leaf : Leaf) → IsAt i leaf children → under bytes key ≡ Some i → last_under key cells ≡ Some i → (n : ℕ) → NeedsHere key (suc n) page
+          → ((turn_here ≡ Ok []) × Rests key page) ⊎ GoesOn s (level + suc n) turn_here
+      page_turn i leaf at found here n needs = by_count (length leaf.cells) refl
         where
-          by_count : (n : ℕ) → length leaf.cells ≡ n → Tidies s is (when_empty leaf.object (gives_way lo hi s q (step_at i leaf at) (beside_found i leaf at).beside) (Some n))
-          by_count zero e = (beside_found i leaf at).keeps (nothing_in leaf.cells e)
-          by_count (suc n) e = keeps_none b lo hi s is
+          by_count : (k : ℕ) → length leaf.cells ≡ k → ((turn_here ≡ Ok []) × Rests key page) ⊎ GoesOn s (level + suc n) turn_here
+          by_count (suc k) e = inl (leaf_is i leaf at found (beside_found i leaf at) (suc k) e, filled_rests i leaf at found here (omega (arith, e)))
+          by_count zero e =
+              elim (nat_lt (suc i) (length children)) as (λ t. nat_lt (suc i) (length children) ≡ t → ((turn_here ≡ Ok []) × Rests key page) ⊎ GoesOn s (level + suc n) turn_here) [
+                | true ↦ λ more. inr (next_goes i leaf at found here n (others_of n needs) (nothing_in leaf.cells e) more)
+                | false ↦ λ last. last_goes i leaf at found here n needs (nothing_in leaf.cells e) last
+              ] refl
+
+      filled_idle : (i : ℕ) (leaf : Leaf) → IsAt i leaf children → under bytes key ≡ Some i → 0 < length leaf.cells → turn_here ≡ Ok []
+      filled_idle i leaf at found some = by_count (length leaf.cells) refl
+        where
+          by_count : (k : ℕ) → length leaf.cells ≡ k → turn_here ≡ Ok []
+          by_count (suc k) e = leaf_is i leaf at found (beside_found i leaf at) (suc k) e
+          by_count zero e = absurd (omega (arith, e, some))
+
+      few_idle : (i : ℕ) (leaf : Leaf) → IsAt i leaf children → under bytes key ≡ Some i → length children ≤ 1 → turn_here ≡ Ok []
+      few_idle (suc i) leaf at found few = absurd (omega (arith, few, at_inside children (suc i) leaf at))
+      few_idle zero leaf at found few = by_count (length leaf.cells) refl
+        where
+          by_count : (k : ℕ) → length leaf.cells ≡ k → turn_here ≡ Ok []
+          by_count (suc k) e = leaf_is 0 leaf at found (beside_found 0 leaf at) (suc k) e
+          by_count zero e = only_idle leaf at found (nothing_in leaf.cells e) (le-ltb 1 (length children) few)
+
+      rests_idle : (i : ℕ) (leaf : Leaf) → IsAt i leaf children → under bytes key ≡ Some i → last_under key cells ≡ Some i → Rests key page → turn_here ≡ Ok []
+      rests_idle i leaf at found here (inl few) = few_idle i leaf at found few
+      rests_idle i leaf at found here (inr filled) = filled_idle i leaf at found (filled i leaf at here)
 
   -- ---- the page above the leaf of the key
 
@@ -386,6 +577,9 @@ module _ (searches : Searches) (changes : Changes) (reads : ReadsCells) (b : Bou
       pub leaf : Leaf
       pub at : IsAt i leaf page.children
       pub found : under (bytes_at lo s page.object) key ≡ Some i
+      pub here : last_under key (cells_in 1 page) ≡ Some i
+      pub needs : (n : ℕ) → Needs key n level t → NeedsHere key n page
+      pub rests : Rests key page → Needs key 0 level t
       pub turn_is : tidy_from lo hi s key level (root_of level t) span.to ≡ leaf_goes lo hi s page.object inner.to (both_under lo hi (bytes_at lo s page.object) inner.to key)
 
     under_is : (level x : ℕ) (cells : List Cell) (i : ℕ) → IsHeld level (bytes_at lo s x) cells → last_under key cells ≡ Some i → under (bytes_at lo s x) key ≡ Some i
@@ -403,6 +597,9 @@ module _ (searches : Searches) (changes : Changes) (reads : ReadsCells) (b : Bou
           leaf = found.child;
           at = found.at;
           found = under_is 1 t.object (cells_in 1 t) found.place holds.0 found.under;
+          here = found.under;
+          needs = λ n needs. needs;
+          rests = λ rests. rests;
           turn_is =
               ap (λ (b : Bool). if b then leaf_goes lo hi s t.object span.to (both_under lo hi (bytes_at lo s t.object) span.to key) else Err t.object)
               (on_level searches lo hi small s [] 1 (bytes_at lo s t.object) (cells_in 1 t) holds.0);
@@ -432,6 +629,10 @@ module _ (searches : Searches) (changes : Changes) (reads : ReadsCells) (b : Bou
           leaf = rest.leaf;
           at = rest.at;
           found = rest.found;
+          here = rest.here;
+          needs = λ n needs. rest.needs n (needs i found.child found.at found.under);
+          rests = λ rests j kid there here.
+              subst (Needs key 0 (suc level)) (at_same t.children i found.child kid found.at (subst (λ (p : ℕ). IsAt p kid t.children) (same_some j i (sym here ∙ found.under)) there)) (rest.rests rests);
           turn_is =
               ap (λ (b : Bool). if b then on_way on x span.to (step_under lo hi bytes span.to key) else Err x) (on_level searches lo hi small s [] (suc (suc level)) bytes cells holds.0)
               ∙ ap (on_way on x span.to) steps ∙ ap (on (root_of (suc level) found.child)) to ∙ rest.turn_is;
@@ -553,6 +754,27 @@ module _ (searches : Searches) (changes : Changes) (reads : ReadsCells) (b : Bou
     only_keeps : (is : IsKept b lo hi s) → from_entries (pairs_in (suc level) t) ≡ content_of is.map → Tidies s is (child_goes lo hi s level (Some (Some old)))
     only_keeps is same = subst (λ (r : Result (List PageOp) ℕ). Tidies s is r) (sym only_is) (up_keeps is same)
 
+    up_tree : IsTree b lo hi (after_all meaning s (Part lo old 0 (length page) ∷ Free old ∷ [])) level up
+    up_tree = (over_free s_up old (child_low level s child child_held) level up old_gone tree_up).1
+
+    up_needs : Needs key 0 (suc level) t → Needs key 0 level up
+    up_needs needs = at_level level child whole_page (below level child t only tree.stand.0 tree.holds.1 tree.stand.1 needs)
+      where
+        -- the one child is that of the key
+        below : (level : ℕ) (child : Tree level) (t : Tree (suc level)) → t.children ≡ (from, child) ∷ [] → Share (StandIn level) all_keys t.children → Each (HoldsChild lo hi s level) t.children
+            → IsTrue (all_past all_keys t.past) → Needs key 0 (suc level) t → Needs key 0 level child
+        below zero child t only share held past needs = tt
+        below (suc level) child t only share held past needs =
+            let found = child_found (StandIn (suc level)) (HoldsChild lo hi s (suc level)) (root_of (suc level)) (pairs_in (suc level)) (pairs_within (suc level)) key all_keys t.children t.past share held past (in_all key) in
+            let first : found.place ≡ 0 = omega (arith, at_inside t.children found.place found.child found.at, ap (λ (l : List (List ℕ × Tree (suc level))). length l) only) in
+            needs 0 child (subst (λ (l : List (List ℕ × Tree (suc level))). IsAt 0 child l) (sym only) refl) (found.under ∙ ap (λ (p : ℕ). Some p) first)
+
+        at_level : (level : ℕ) (child : Tree level) → cells_in level child ≡ live_in level child → Needs key 0 level child → Needs key 0 level (last_part level lo 0 child)
+        at_level zero child same needs = tt
+        at_level (suc zero) child same (inl few) = inl few
+        at_level (suc zero) child same (inr filled) = inr (λ i leaf at here. filled i leaf at (ap (last_under key) (same ∙ sym (append-nil (live_in 1 child))) ∙ here))
+        at_level (suc (suc level)) child same needs = λ i kid at here. needs i kid at (ap (last_under key) (same ∙ sym (append-nil (live_in (suc (suc level)) child))) ∙ here)
+
   module _ (s : State) (level : ℕ) (t : Tree (suc level)) (tree : IsTree b lo hi s (suc level) t) where
     abbrev root_cells : List Cell
     root_cells = cells_in (suc level) t
@@ -587,6 +809,27 @@ module _ (searches : Searches) (changes : Changes) (reads : ReadsCells) (b : Bou
       where
         many : (n : ℕ) → (suc (suc n) == 1) ≡ false
         many n = elim (suc (suc n) == 1) as (λ t. (suc (suc n) == 1) ≡ t → t ≡ false) [ true ↦ λ f. absurd (omega (arith, eqb-true (suc (suc n)) 1 f)) | false ↦ λ f. refl ] refl
+
+    child_turn : Needs key 0 (suc level) t → (kids : List (List ℕ × Tree level)) → t.children ≡ kids
+        → (child_goes lo hi s level (Some (one_of kids)) ≡ Ok []) ⊎ GoesOn s (suc level) (child_goes lo hi s level (Some (one_of kids)))
+    child_turn needs [] e = inl refl
+    child_turn needs (c ∷ []) e =
+        inr (record {
+          op = Part lo (root_of level c.1) 0 (length (cells_in level c.1));
+          ops = Free (root_of level c.1) ∷ [];
+          turn_is = only_is s level t tree c.0 c.1 e;
+          depth = level;
+          made = last_part level lo 0 c.1;
+          tree_made = up_tree s level t tree c.0 c.1 e;
+          left = 0;
+          needs = up_needs s level t tree c.0 c.1 e needs;
+          fewer = omega arith;
+        })
+    child_turn needs (c ∷ d ∷ kids) e = inl refl
+
+    root_turn : Needs key 0 (suc level) t → (root_goes lo hi s (suc level) ≡ Ok []) ⊎ GoesOn s (suc level) (root_goes lo hi s (suc level))
+    root_turn needs =
+        subst (λ (o : Option (Option ℕ)). (child_goes lo hi s level o ≡ Ok []) ⊎ GoesOn s (suc level) (child_goes lo hi s level o)) (sym (only_found t.children refl)) (child_turn needs t.children refl)
 
     module _ (is : IsKept b lo hi s) (same : from_entries (pairs_in (suc level) t) ≡ content_of is.map) where
       by_children : (kids : List (List ℕ × Tree level)) → t.children ≡ kids → Tidies s is (child_goes lo hi s level (Some (one_of kids)))
@@ -651,6 +894,102 @@ module _ (searches : Searches) (changes : Changes) (reads : ReadsCells) (b : Bou
 
   pub tidy_is_kept : (s : State) (is : IsKept b lo hi s) → IsTidyPlan s is (tidy_plan b lo hi key s)
   tidy_is_kept s is = tidied_keeps (level_in (bytes_at lo s lo) + 2) s is
+
+  -- ---- where nothing is left to tidy
+
+  later : (s : State) (few most : ℕ) (r : Result (List PageOp) ℕ) → few ≤ most → GoesOn s few r → GoesOn s most r
+  later s few most r less goes = record {
+    op = goes.op;
+    ops = goes.ops;
+    turn_is = goes.turn_is;
+    depth = goes.depth;
+    made = goes.made;
+    tree_made = goes.tree_made;
+    left = goes.left;
+    needs = goes.needs;
+    fewer = omega (arith, less, goes.fewer);
+  }
+
+  -- nothing is left, or there is a turn that leaves less
+  abbrev IsTurn : State → ℕ → Result (List PageOp) ℕ → Type 0
+  IsTurn s most r = (r ≡ Ok []) ⊎ GoesOn s most r
+
+  module _ (s : State) (level : ℕ) (t : Tree (suc level)) (tree : IsTree b lo hi s (suc level) t) where
+    at_root : (most : ℕ) → suc level ≤ most → Needs key 0 (suc level) t → (r : Result (List PageOp) ℕ) → r ≡ Ok [] → IsTurn s most (else_root lo hi s (suc level) r)
+    at_root most less needs r none = subst (λ (r : Result (List PageOp) ℕ). IsTurn s most (else_root lo hi s (suc level) r)) (sym none) (by_turn (root_turn s level t tree needs))
+      where
+        by_turn : (root_goes lo hi s (suc level) ≡ Ok []) ⊎ GoesOn s (suc level) (root_goes lo hi s (suc level)) → IsTurn s most (root_goes lo hi s (suc level))
+        by_turn (inl none) = inl none
+        by_turn (inr goes) = inr (later s (suc level) most (root_goes lo hi s (suc level)) less goes)
+
+    at_page : (most : ℕ) (r : Result (List PageOp) ℕ) → GoesOn s most r → IsTurn s most (else_root lo hi s (suc level) r)
+    at_page most r goes =
+        inr (record {
+          op = goes.op;
+          ops = goes.ops;
+          turn_is = ap (else_root lo hi s (suc level)) goes.turn_is;
+          depth = goes.depth;
+          made = goes.made;
+          tree_made = goes.tree_made;
+          left = goes.left;
+          needs = goes.needs;
+          fewer = goes.fewer;
+        })
+
+  abbrev turn_in : State → (level : ℕ) → Tree level → Result (List PageOp) ℕ
+  turn_in s level t = else_root lo hi s level (tidy_from lo hi s key level (root_of level t) None)
+
+  tree_turn : (s : State) (level : ℕ) (t : Tree level) → IsTree b lo hi s level t → (n : ℕ) → Needs key n level t → IsTurn s (level + n) (turn_in s level t)
+  tree_turn s zero t tree n needs =
+      inl (ap (else_root lo hi s 0) (ap (λ (b : Bool). if b then Ok [] else Err t.object) (on_level searches lo hi small s [] 0 (bytes_at lo s t.object) (cells_in 0 t) tree.holds)))
+  tree_turn s (suc level) t tree zero needs =
+      let is : IsKept b lo hi s = kept_by b lo hi s (suc level) t tree in
+      let found = above_found s level all_keys t tree.holds tree.stand (in_all key) in
+      at_root s level t tree (suc level + 0) (omega arith) needs (tidy_from lo hi s key (suc level) t.object None)
+      (found.turn_is ∙ rests_idle s (suc level) t tree found.inner found.page found.place is refl found.ends found.i found.leaf found.at found.found found.here (found.needs 0 needs))
+  tree_turn s (suc level) t tree (suc n) needs =
+      let is : IsKept b lo hi s = kept_by b lo hi s (suc level) t tree in
+      let found = above_found s level all_keys t tree.holds tree.stand (in_all key) in
+      by_page (leaf_goes lo hi s found.page.object found.inner.to (both_under lo hi (bytes_at lo s found.page.object) found.inner.to key)) (Rests key found.page) found.turn_is found.rests
+      (page_turn s (suc level) t tree found.inner found.page found.place is refl found.ends found.i found.leaf found.at found.found found.here n (found.needs (suc n) needs))
+    where
+      by_page : (r : Result (List PageOp) ℕ) (Rest : Type 0) → tidy_from lo hi s key (suc level) t.object None ≡ r → (Rest → Needs key 0 (suc level) t) → ((r ≡ Ok []) × Rest) ⊎ GoesOn s (suc level + suc n) r
+          → IsTurn s (suc level + suc n) (turn_in s (suc level) t)
+      by_page r Rest is rests (inl idle) = at_root s level t tree (suc level + suc n) (omega arith) (rests idle.1) (tidy_from lo hi s key (suc level) t.object None) (is ∙ idle.0)
+      by_page r Rest is rests (inr goes) = subst (λ (r : Result (List PageOp) ℕ). IsTurn s (suc level + suc n) (else_root lo hi s (suc level) r)) (sym is) (at_page s level t tree (suc level + suc n) r goes)
+
+  next_turn : (s : State) (level : ℕ) (t : Tree level) (tree : IsTree b lo hi s level t) (n : ℕ) → Needs key n level t → IsTurn s (level + n) (tidy_turn lo hi s key)
+  next_turn s level t tree n needs =
+      let top : level_in (bytes_at lo s lo) ≡ level = ap (λ (x : ℕ). level_in (bytes_at lo s x)) (sym tree.root) ∙ ap level_in (root_held lo hi s level t tree.holds).code in
+      subst (λ (r : Result (List PageOp) ℕ). IsTurn s (level + n) r) (λ k. else_root lo hi s (sym top k) (tidy_from lo hi s key (sym top k) (tree.root k) None)) (tree_turn s level t tree n needs)
+
+  idle : (n : ℕ) (s : State) → tidy_turn lo hi s key ≡ Ok [] → (tidied b lo hi key n s).commands ≡ []
+  idle zero s none = refl
+  idle (suc n) s none = ap (λ (r : Result (List PageOp) ℕ). (by_tidying (λ ops. tidied b lo hi key n (after_all meaning s ops)) r).commands) none ∙ idle n s none
+
+  all_after : (ops others : List PageOp) (s : State) → after_all meaning s (ops ++ others) ≡ after_all meaning (after_all meaning s ops) others
+  all_after [] others s = refl
+  all_after (op ∷ ops) others s = all_after ops others (after meaning s op)
+
+  pub tidied_ends : (n : ℕ) (s : State) (level : ℕ) (t : Tree level) → IsTree b lo hi s level t → (k : ℕ) → Needs key k level t → level + k ≤ n
+      → tidy_turn lo hi (after_all meaning s (tidied b lo hi key n s).commands) key ≡ Ok []
+  tidied_ends zero s level t tree k needs few = by_turn (next_turn s level t tree k needs)
+    where
+      by_turn : IsTurn s (level + k) (tidy_turn lo hi s key) → tidy_turn lo hi s key ≡ Ok []
+      by_turn (inl none) = none
+      by_turn (inr goes) = absurd (omega (arith, few, goes.fewer))
+  tidied_ends (suc n) s level t tree k needs few =
+      by_turn (next_turn s level t tree k needs) (λ goes. tidied_ends n (after_all meaning s (goes.op ∷ goes.ops)) goes.depth goes.made goes.tree_made goes.left goes.needs (omega (arith, few, goes.fewer)))
+    where
+      by_turn : IsTurn s (level + k) (tidy_turn lo hi s key)
+          → ((goes : GoesOn s (level + k) (tidy_turn lo hi s key)) → tidy_turn lo hi (after_all meaning (after_all meaning s (goes.op ∷ goes.ops)) (tidied b lo hi key n (after_all meaning s (goes.op ∷ goes.ops))).commands) key ≡ Ok [])
+          → tidy_turn lo hi (after_all meaning s (tidied b lo hi key (suc n) s).commands) key ≡ Ok []
+      by_turn (inl none) on = ap (λ (ops : List PageOp). tidy_turn lo hi (after_all meaning s ops) key) (idle (suc n) s none) ∙ none
+      by_turn (inr goes) on =
+          let ops : List PageOp = goes.op ∷ goes.ops in
+          let others : List PageOp = (tidied b lo hi key n (after_all meaning s ops)).commands in
+          ap (λ (r : Result (List PageOp) ℕ). tidy_turn lo hi (after_all meaning s (by_tidying (λ ops. tidied b lo hi key n (after_all meaning s ops)) r).commands) key) goes.turn_is
+          ∙ ap (λ (x : State). tidy_turn lo hi x key) (all_after ops others s) ∙ on goes
 
 -- ---- how many commands they are
 

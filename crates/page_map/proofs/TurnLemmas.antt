@@ -24,7 +24,7 @@ use Rattle.page_map.specs.Plan.{Admits}
 use Rattle.page_ops.specs.Search.{last_under, next_under}
 use Rattle.page_map.specs.Splits.{Split, ask_above, has_room, inner_split, size_of}
 use Rattle.page_map.specs.Sets.{AreShortPairs, IsKept, Keeps, is_short_key, room_of}
-use Rattle.page_map.proofs.MapLemmas.{lower, not_both, parts_within, IsAt, cells_again, each_at, each_with, keys_with, objects_again, shared_again, span_of, with_child, among, one_here, times_both, held_again}
+use Rattle.page_map.proofs.MapLemmas.{Needs, lower, not_both, parts_within, IsAt, cells_again, each_at, each_with, keys_with, objects_again, shared_again, span_of, with_child, among, one_here, times_both, held_again}
 use Rattle.page_map.proofs.CutLemmas.{ReadsCells, code_size, not_below_none, page_size, pair_size, size_both, size_put, size_taken, sorted_parts, sorted_taken}
 use Rattle.page_map.proofs.ChangeLemmas.{Changes, read_as}
 use Rattle.page_map.proofs.TreeLemmas.{HoldsBelow, HoldsChild, IsCut, bare, bare_held, bare_objects, bare_pairs, bare_root, bare_short, bare_stands, below_held, first_held, first_part, first_root, last_held, last_part, last_root, live_in, parts_objects, parts_pairs, parts_short, past_in, root_held, whole_is}
@@ -561,6 +561,7 @@ module _ (changes : Changes) (reads : ReadsCells) (b : Bounds) (lo hi : ℕ) (sm
       pub is : IsTree b lo hi after_trim level made
       pub pairs : pairs_in level made ≡ pairs_in level t
       pub settled : (n : ℕ) → Settled reads lo hi small room sought value after_trim n (suc l) q inner.to → Settled reads lo hi small room sought value after_trim n level (root_of level made) None
+      pub needs : (n : ℕ) → Needs sought n (suc l) other → Needs sought n level made
 
     pub trim_tree : IsTrimmed
     trim_tree =
@@ -588,6 +589,7 @@ module _ (changes : Changes) (reads : ReadsCells) (b : Bounds) (lo hi : ℕ) (sm
           };
           pairs = changed.pairs_are ∙ ap (λ (c : List Cell). place.before ++ (c ++ place.after)) (pairs_with (pairs_in l) children i child (bare l child) at (bare_pairs l child)) ∙ sym place.split;
           settled = changed.settled;
+          needs = changed.needs (omega arith);
         }
 
     -- what is due behind it comes before

@@ -46,6 +46,8 @@ pub fn a_delete_is_done_or_refused()
     ensures delete { (b : Bounds) (lo hi : ℕ) (s : State) (key : List ℕ) → hi < 2 ^ 32 → Admits b hi → (is : IsKept b lo hi s) → Deletes b lo hi s is key (delete_plan b lo hi key s) }
     ensures tidy { (b : Bounds) (lo hi : ℕ) (s : State) (key : List ℕ) → hi < 2 ^ 32 → Admits b hi → (is : IsKept b lo hi s)
         → ((tidy_plan b lo hi key s).refusal ≡ None) × Keeps b lo hi s is (tidy_plan b lo hi key s).commands }
+    ensures tidied { (b : Bounds) (lo hi : ℕ) (s : State) (key : List ℕ) → hi < 2 ^ 32 → Admits b hi → (is : IsKept b lo hi s) → NoneIsEmpty is.map.level is.map.tree → (delete_plan b lo hi key s).refusal ≡ None
+        → tidy_turn lo hi (after_all (page_meaning b) s (delete_plan b lo hi key s).commands) key ≡ Ok [] }
 {
     a_search_finds_the_place();
     operations_are_on_cells();

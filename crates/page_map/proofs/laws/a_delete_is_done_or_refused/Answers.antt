@@ -1,7 +1,7 @@
 use Rattle.page_map.proofs.MapLemmas.{Searches}
 use Rattle.page_map.proofs.CutLemmas.{ReadsCells}
 use Rattle.page_map.proofs.ChangeLemmas.{Changes}
-use Rattle.page_map.proofs.DeleteLemmas.{delete_is_planned}
+use Rattle.page_map.proofs.DeleteLemmas.{delete_is_planned, delete_is_tidy}
 use Rattle.page_map.proofs.TidyLemmas.{tidy_is_kept}
 use Rattle.page_map.proofs.laws.a_delete_is_done_or_refused.Goals as goal
 
@@ -27,4 +27,5 @@ returns c =
     record {
       delete = λ b lo hi s key small admits is. delete_is_planned searches changes reads b lo hi small admits key s is;
       tidy = λ b lo hi s key small admits is. tidy_is_kept searches changes reads b lo hi small admits key s is;
+      tidied = λ b lo hi s key small admits is none. delete_is_tidy searches changes reads b lo hi small admits key s is none;
     }
