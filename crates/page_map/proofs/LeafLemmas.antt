@@ -12,7 +12,7 @@ use Rattle.page_ops.specs.Page.{Cell}
 use Rattle.page_ops.specs.Seen.{child_cell}
 use Rattle.page_ops.specs.Reading.{under}
 use Rattle.page_ops.specs.Search.{last_under}
-use Rattle.page_map.specs.Map.{Span, is_below, is_within, all_past, all_within, Leaf, Tree, root_of, objects_in, pairs_in, cells_in, IsHeld, Each, bytes_at, is_child, Holds, Share, StandIn, one_if, times}
+use Rattle.page_map.specs.Map.{Span, is_below, is_within, all_past, all_within, Leaf, Tree, root_of, objects_in, pairs_in, cells_in, IsHeld, Each, bytes_at, Holds, Share, StandIn, one_if, times}
 use Rattle.page_map.specs.Splits.{front_of}
 use Rattle.page_map.specs.Ranges.{Stop, at_step, stop_from, under_key}
 use Rattle.page_map.specs.Steps.{Step, last_below, one_before, span_of_step, step_in}

@@ -1,16 +1,16 @@
 -- What is read in one page where the span of its keys is carried along: of any bytes, and of pages that are held.
-use Rattle.std.proofs.Common.{◌≡◌, ℕ, zero, suc, ◌+◌, ◌-◌, ◌^◌, ◌<◌, ◌≤◌, ◌==◌, Bool, true, false, not, ◌&&◌, if◌then◌else◌, Option, None, Some, List, [], ◌∷◌, ◌++◌, T, cond, filter, length, take, drop, min, reverse, is_lt, is_some, refl, sym, ap, ◌∙◌, subst, arith, append_assoc, length-append, true≢false, take-append-drop, take_all, option_and_then, option_map, flat_map}
+use Rattle.std.proofs.Common.{◌≡◌, ℕ, zero, suc, ◌+◌, ◌-◌, ◌^◌, ◌<◌, ◌≤◌, ◌==◌, Bool, true, false, not, ◌&&◌, if◌then◌else◌, Option, None, Some, List, [], ◌∷◌, ◌++◌, T, cond, filter, length, take, drop, min, reverse, is_lt, is_some, refl, sym, ap, ◌∙◌, arith, append_assoc, length-append, true≢false, take-append-drop, take_all, option_and_then, option_map, flat_map}
 use Rattle.std.specs.Prelude.{IsTrue, nat_lt, nat_le}
 use Rattle.std.specs.List.{list_all}
 use Rattle.std.specs.FinMap.Entries.{below_all, is_sorted}
 use Rattle.std.proofs.lemmas.Bool.{eq-eqb, eqb-true, le-ltb, lt-ltb, leb-true, leb-false, ltb-true, ltb-false}
-use Rattle.std.proofs.lemmas.List.{append-nil, length-drop, length-map, length-reverse, length-take, reverse-append}
+use Rattle.std.proofs.lemmas.List.{length-drop, length-map, length-reverse, length-take, reverse-append}
 use Rattle.byteorder.specs.Endian.{little_bytes}
 use Rattle.oper_core.specs.LittleEndian.{little_number-little_bytes}
 use Rattle.key_entries.specs.Entries.{byte_order}
 use Rattle.key_entries.specs.EntryLaws.{both_true, true_both}
 use Rattle.key_entries.specs.KeyLaws.{first, second}
-use Rattle.page_ops.specs.Page.{Cell, Page, AreShort, cells_code, page_code, page_of, places_from}
+use Rattle.page_ops.specs.Page.{Cell, Page, AreShort, cells_code, page_code, places_from}
 use Rattle.page_ops.specs.Reading.{beside_of, child_of, count_in, has_cell, has_key, cell_bytes, key_of, place_of, places_at, seek}
 use Rattle.page_ops.specs.Seen.{child_cell}
 use Rattle.page_ops.specs.OnCells.{beside_at, key_at}
@@ -19,7 +19,6 @@ use Rattle.page_map.specs.Map.{Span, Tree, root_of, cells_in, IsHeld, all_past, 
 use Rattle.page_map.specs.Splits.{end_of, front_of}
 use Rattle.page_map.specs.Steps.{Places, Step, beside_in, cells_at, cells_from, ended, first_places, front_in, last_places, next_end, places_in, places_to, sooner, span_of_step, step_in, step_to}
 use Rattle.page_map.specs.Walk.{child_in}
-use Rattle.page_map.specs.declared.beside.Beside.{Beside}
 use Rattle.page_map.specs.declared.beside.Beside.TheVariants.{Next, Before}
 use Rattle.page_map.proofs.MapLemmas.{IsAt, Searches, below_through, child_in_held, ends_too, not_true, span_of, true_not}
 use Rattle.page_map.proofs.CutLemmas.{ReadsCells, at_seam, not_below_behind}

@@ -1,6 +1,6 @@
 -- What a delete does: the command that takes the key out, and then those that tidy the way to it: a leaf that has no cells left gives
 -- way to the one beside it in its page, and a root with one child becomes it.
-use Rattle.std.specs.Prelude.{◌≡◌, ◌⊎◌, ⊤, ℕ, zero, suc, ◌+◌, ◌*◌, ◌-◌, ◌<◌, ◌≤◌, ◌==◌, Option, None, Some, Result, Ok, Err, List, [], ◌∷◌, ◌++◌, length, take, nat_lt, if◌then◌else◌, option_and_then, option_map}
+use Rattle.std.specs.Prelude.{◌≡◌, ◌⊎◌, ⊤, ℕ, zero, suc, ◌+◌, ◌*◌, ◌-◌, ◌<◌, ◌≤◌, Option, None, Some, Result, Ok, Err, List, [], ◌∷◌, ◌++◌, length, take, nat_lt, if◌then◌else◌, option_map}
 use Rattle.std.specs.FinMap.{get, remove}
 use Rattle.oper_core.specs.State.{State}
 use Rattle.oper_core.specs.Meaning.{after}

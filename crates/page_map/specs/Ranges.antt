@@ -1,6 +1,6 @@
 -- Ranges of a map, read leaf by leaf: the way to a key, or to the end of a span, leads to a leaf, and where the keys of that leaf
 -- end, or begin, the next one is looked for.
-use Rattle.std.specs.Prelude.{ℕ, zero, suc, ◌+◌, ◌-◌, ◌&&◌, Option, None, Some, Result, Ok, Err, List, [], ◌++◌, reverse, nat_lt, if◌then◌else◌, option_and_then, option_map}
+use Rattle.std.specs.Prelude.{ℕ, zero, suc, ◌+◌, ◌-◌, ◌&&◌, Option, None, Some, Result, Ok, Err, List, [], ◌++◌, reverse, nat_lt, if◌then◌else◌, option_and_then}
 use Rattle.oper_core.specs.State.{State}
 use Rattle.page_ops.specs.Page.{Cell}
 use Rattle.page_ops.specs.Reading.{level_in, under}

@@ -1,6 +1,5 @@
 // The way down through the pages where the span of their keys is carried along, and which cells of a leaf stand in a span.
 ghost use Rattle.std.specs.Prelude.{◌≡◌, option_map};
-ghost use Rattle.std.specs.Ordering.{is_lt};
 ghost use Rattle.page_map.specs.Map as maps;
 ghost use Rattle.page_map.specs.Steps as steps;
 ghost use Rattle.page_map.specs.Steps.{step_seen};
@@ -30,13 +29,7 @@ fn sooner<'a>(one: Option<&'a [u8]>, other: Option<&'a [u8]>) -> Option<&'a [u8]
     ensures { option_map (λ end. end.now) result ≡ steps.sooner (option_map (λ end. end.now) one.entry) (option_map (λ end. end.now) other.entry) }
 {
     match one {
-        Some(key) => {
-            if is_below(key, other) {
-                one
-            } else {
-                other
-            }
-        }
+        Some(key) => { if is_below(key, other) { one } else { other } }
         None => other,
     }
 }
@@ -119,7 +112,12 @@ impl Map {
     }
 
     /// The step down to the last child that begins below an end.
-    pub fn step_below<'a>(&self, page: &Page<'a>, to: Option<&[u8]>, end: Option<&[u8]>) -> Option<Step<'a>>
+    pub fn step_below<'a>(
+        &self,
+        page: &Page<'a>,
+        to: Option<&[u8]>,
+        end: Option<&[u8]>,
+    ) -> Option<Step<'a>>
         ensures { option_map step_seen result ≡ steps.step_below self.now.lo self.now.hi page.now (option_map (λ end. end.now) to.entry) (option_map (λ end. end.now) end.entry) }
     {
         let place = last_below(page, end)?;

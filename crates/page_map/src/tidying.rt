@@ -24,7 +24,14 @@ pub fn takes_both(page: u32, place: u16, stays: u32, goes: u32) -> (PageOp, Opti
 
 /// The commands by which the leaf of this place takes the place of the next one, too, which begins at `end`. Where it has cells
 /// from there on, these go first. None where a cell that is asked does not fit.
-pub fn before_takes(page: u32, place: u16, stays: u32, goes: u32, leaf: &Page, end: &[u8]) -> Option<(PageOp, Option<PageOp>)>
+pub fn before_takes(
+    page: u32,
+    place: u16,
+    stays: u32,
+    goes: u32,
+    leaf: &Page,
+    end: &[u8],
+) -> Option<(PageOp, Option<PageOp>)>
     ensures { option_map listed result ≡ option_map (deletes.before_takes page place stays goes leaf.now) (front_of leaf.now (Some end.now)) }
 {
     let count = front_in(leaf, Some(end))?;

@@ -1,5 +1,5 @@
-use Rattle.std.proofs.Common.{rules, ◌≡◌, ◌≤◌, ℕ, Option, None, Some, List, option_map, arith, refl, sym, ap, ◌∙◌}
-use Rattle.page_ops.specs.Reading.{count_in, seek}
+use Rattle.std.proofs.Common.{rules, ◌≡◌, ℕ, Option, Some, List, option_map, arith}
+use Rattle.page_ops.specs.Reading.{seek}
 use Rattle.page_map.specs.Steps.{front_in, sooner}
 use Rattle.page_map.proofs.SeekBound.{front_low, place_low}
 use Rattle.page_map.proofs.stepping.places_in.Goals as goal
