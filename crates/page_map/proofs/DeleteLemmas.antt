@@ -19,7 +19,7 @@ use Rattle.page_map.specs.Map.{bytes_at, content_of}
 use Rattle.page_map.specs.Plan.{Admits, delete_command}
 use Rattle.page_map.specs.Splits.{size_of}
 use Rattle.page_map.specs.Sets.{IsKept, Keeps, room_of}
-use Rattle.page_map.specs.Deletes.{Deletes, NoneIsEmpty, delete_by, delete_plan, tidy_plan, tidy_turn}
+use Rattle.page_map.specs.Deletes.{Deletes, IsFull, NoneIsEmpty, delete_by, delete_plan, tidy_plan, tidy_turn}
 use Rattle.page_map.specs.declared.refusal.MapRefusal.{MapRefusal}
 use Rattle.page_map.specs.declared.refusal.MapRefusal.TheVariants.{NoKey}
 use Rattle.page_map.proofs.MapLemmas.{Searches}
@@ -123,17 +123,20 @@ module _ (searches : Searches) (changes : Changes) (reads : ReadsCells) (b : Bou
   not_done : (r : MapRefusal) → Some r ≡ None → ⊥
   not_done r e = cc
 
-  pub delete_is_tidy : NoneIsEmpty is.map.level is.map.tree → (delete_plan b lo hi key s).refusal ≡ None → tidy_turn lo hi (after_all (page_meaning b) s (delete_plan b lo hi key s).commands) key ≡ Ok []
+  abbrev Rests : Result (Option PageOp) ℕ → Type 0
+  Rests r =
+      (delete_by b lo hi key s r).refusal ≡ None
+      → (tidy_turn lo hi (after_all (page_meaning b) s (delete_by b lo hi key s r).commands) key ≡ Ok []) × IsFull b lo hi (after_all (page_meaning b) s (delete_by b lo hi key s r).commands)
+
+  pub delete_is_tidy : NoneIsEmpty is.map.level is.map.tree → Rests (delete_command lo hi s key)
   delete_is_tidy none =
-      elim (is_some (get (content_of is.map) key)) as (λ t. is_some (get (content_of is.map) key) ≡ t → delete_command lo hi s key ≡ Ok (if t then Some out else None)
-      → (delete_plan b lo hi key s).refusal ≡ None → tidy_turn lo hi (after_all (page_meaning b) s (delete_plan b lo hi key s).commands) key ≡ Ok []) [
-        | true ↦ λ e command refusal.
-            ap (λ (r : Result (Option PageOp) ℕ). tidy_turn lo hi (after_all (page_meaning b) s (delete_by b lo hi key s r).commands) key) command
-            ∙ tidy_behind (sym (has_too searches changes lo hi small b s key is.map) ∙ e)
-        | false ↦ λ e command refusal. absurd (not_done NoKey (sym (ap (λ (r : Result (Option PageOp) ℕ). (delete_by b lo hi key s r).refusal) command) ∙ refusal))
+      elim (is_some (get (content_of is.map) key)) as (λ t. is_some (get (content_of is.map) key) ≡ t → delete_command lo hi s key ≡ Ok (if t then Some out else None) → Rests (delete_command lo hi s key)) [
+        | true ↦ λ e command. subst Rests (sym command) (λ refusal. tidy_behind (sym (has_too searches changes lo hi small b s key is.map) ∙ e))
+        | false ↦ λ e command. subst Rests (sym command) (λ refusal. absurd (not_done NoKey refusal))
       ] refl (delete_command_is searches changes lo hi small b s key is.map)
     where
-      tidy_behind : (there : has key cells ≡ true) → tidy_turn lo hi (after_all (page_meaning b) next (tidy_plan b lo hi key next).commands) key ≡ Ok []
+      tidy_behind : (there : has key cells ≡ true)
+          → (tidy_turn lo hi (after_all (page_meaning b) next (tidy_plan b lo hi key next).commands) key ≡ Ok []) × IsFull b lo hi (after_all (page_meaning b) next (tidy_plan b lo hi key next).commands)
       tidy_behind there =
           let made : IsKept b lo hi next = kept there in
           let top : level_in (bytes_at lo next lo) ≡ made.map.level =

@@ -49,7 +49,7 @@ module _ {Child : Type 0} where
   each_one P (c ∷ d ∷ children) zero kid all new = (new, all.1.1)
   each_one P (c ∷ children) (suc i) kid all new = (all.0, each_one P children i kid all.1 new)
 
-  each_by : (P : Child → Type 0) (children : List (List ℕ × Child)) → ((j : ℕ) (child : Child) → IsAt j child children → P child) → Each P children
+  pub each_by : (P : Child → Type 0) (children : List (List ℕ × Child)) → ((j : ℕ) (child : Child) → IsAt j child children → P child) → Each P children
   each_by P [] all = tt
   each_by P (c ∷ children) all = (all 0 c.1 refl, each_by P children (λ j child at. all (suc j) child at))
 

@@ -296,11 +296,7 @@ module _ {Child : Type 0} where
 -- ---- how many turns tidy the way to a key
 
 module _ (key : List ℕ) where
-  -- the leaf of the key has a cell, or is an only child
-  abbrev pub Rests : Tree 1 → Type 0
-  Rests page = (length page.children ≤ 1) ⊎ ((i : ℕ) (leaf : Leaf) → IsAt i leaf page.children → last_under key (cells_in 1 page) ≡ Some i → 0 < length leaf.cells)
-
-  -- each other one has a cell
+  -- each leaf but that of the key has a cell, or is an only child
   abbrev pub Others : Tree 1 → Type 0
   Others page = (length page.children ≤ 1) ⊎ ((i : ℕ) (leaf : Leaf) → IsAt i leaf page.children → last_under key (cells_in 1 page) ≢ Some i → 0 < length leaf.cells)
 
@@ -308,24 +304,39 @@ module _ (key : List ℕ) where
   abbrev pub Trimmed : Tree 1 → Type 0
   Trimmed page = (i : ℕ) (first : Leaf) → IsAt i first page.children → last_under key (cells_in 1 page) ≡ Some (suc i) → first.past ≡ []
 
-  -- so many turns are enough until it rests
+  -- so many turns are enough until that has one, too
   abbrev pub NeedsHere : ℕ → Tree 1 → Type 0
-  NeedsHere zero page = Rests page
+  NeedsHere zero page = NoneIsEmpty 1 page
   NeedsHere (suc zero) page = Others page × Trimmed page
   NeedsHere (suc (suc n)) page = Others page
 
   abbrev pub Needs : ℕ → (level : ℕ) → Tree level → Type 0
   Needs n zero leaf = ⊤
   Needs n (suc zero) page = NeedsHere n page
-  Needs n (suc (suc level)) page = (i : ℕ) (child : Tree (suc level)) → IsAt i child page.children → last_under key (cells_in (suc (suc level)) page) ≡ Some i → Needs n (suc level) child
+  Needs n (suc (suc level)) page =
+      (i : ℕ) (child : Tree (suc level)) → IsAt i child page.children
+      → (last_under key (cells_in (suc (suc level)) page) ≡ Some i → Needs n (suc level) child) × (last_under key (cells_in (suc (suc level)) page) ≢ Some i → NoneIsEmpty (suc level) child)
 
-  pub needs_below : (n level : ℕ) (t : Tree (suc level)) (i : ℕ) (child new : Tree level) → IsAt i child t.children → root_of level new ≡ root_of level child → last_under key (cells_in (suc level) t) ≡ Some i → 1 ≤ level
-      → Needs n level new → Needs n (suc level) (record { object = t.object; children = with_child i new t.children; past = t.past })
-  needs_below n zero t i child new at root under more needs = absurd (omega (arith, more))
-  needs_below n (suc level) t i child new at root under more needs = λ j kid there here.
-      let cells = ap (λ (l : List Cell). last_under key (l ++ t.past)) (cells_again (root_of (suc level)) t.children i child new at root) in
-      let same : j ≡ i = same_some j i (sym here ∙ cells ∙ under) in
-      subst (Needs n (suc level)) (at_new t.children i new kid (subst (λ (p : ℕ). IsAt p kid (with_child i new t.children)) same there)) needs
+  pub full_needs : (level : ℕ) (t : Tree level) → NoneIsEmpty level t → Needs 0 level t
+  full_needs zero t full = tt
+  full_needs (suc zero) t full = full
+  full_needs (suc (suc level)) t full = λ i child at.
+      let below = each_at (NoneIsEmpty (suc level)) t.children i child at full in
+      (λ here. full_needs (suc level) child below, λ apart. below)
+
+  -- another child in the place of that of the key
+  pub needs_below : (n level : ℕ) (t : Tree (suc (suc level))) (i : ℕ) (child new : Tree (suc level)) → IsAt i child t.children → root_of (suc level) new ≡ root_of (suc level) child
+      → last_under key (cells_in (suc (suc level)) t) ≡ Some i
+      → ((j : ℕ) (kid : Tree (suc level)) → IsAt j kid t.children → last_under key (cells_in (suc (suc level)) t) ≢ Some j → NoneIsEmpty (suc level) kid) → Needs n (suc level) new
+      → Needs n (suc (suc level)) (record { object = t.object; children = with_child i new t.children; past = t.past })
+  needs_below n level t i child new at root under others needs = λ j kid there.
+      let cells = ap (λ (l : List Cell). last_under key (l ++ t.past)) (cells_again (root_of (suc level)) t.children i child new at root) in (
+        λ here.
+            let same : j ≡ i = same_some j i (sym here ∙ cells ∙ under) in
+            subst (Needs n (suc level)) (at_new t.children i new kid (subst (λ (p : ℕ). IsAt p kid (with_child i new t.children)) same there)) needs,
+        λ apart.
+            others j kid (at_other t.children i j new kid there (λ e. apart (cells ∙ under ∙ ap (λ (p : ℕ). Some p) (sym e)))) (λ e. apart (cells ∙ e)),
+      )
 
   -- where none but only children were empty, and another leaf of the key has come in
   needs_changed : (level : ℕ) (t : Tree (suc level)) (i : ℕ) (child new : Tree level) → IsAt i child t.children → root_of level new ≡ root_of level child → last_under key (cells_in (suc level) t) ≡ Some i
@@ -335,7 +346,7 @@ module _ (key : List ℕ) where
       let cells = ap (λ (l : List Cell). last_under key (l ++ t.past)) (cells_again (root_of zero) t.children i child new at root) in
       each_at (λ (leaf : Leaf). 0 < length leaf.cells) t.children j leaf (at_other t.children i j new leaf there (λ e. apart (cells ∙ under ∙ ap (λ (p : ℕ). Some p) (sym e)))) each)
   needs_changed (suc level) t i child new at root under below none =
-      needs_below 2 (suc level) t i child new at root under (omega arith) (below (each_at (NoneIsEmpty (suc level)) t.children i child at none))
+      needs_below 2 level t i child new at root under (λ j kid there apart. each_at (NoneIsEmpty (suc level)) t.children j kid there none) (below (each_at (NoneIsEmpty (suc level)) t.children i child at none))
 
 -- ---- the child under which a key stands
 

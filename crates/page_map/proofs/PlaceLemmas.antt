@@ -110,6 +110,13 @@ module _ (lo hi : ℕ) where
       each_same (objects_in level) (HoldsChild lo hi s level) (HoldsChild lo hi new level) (SameAt s new) (λ child same held. (held.0, held_over s new level child same held.1)) t.children
       (λ y there. same y (omega (arith, there)) (λ e. absurd (omega (arith, there, once t.object, one_here t.object all, ap (λ (x : ℕ). times x all) e)))) below
 
+-- how many turns are needed does not change by what is off the way to the key
+needs_up : (key : List ℕ) (m n level l : ℕ) (t : Tree (suc level)) (i : ℕ) (child new : Tree level) → IsAt i child t.children → root_of level new ≡ root_of level child → last_under key (cells_in (suc level) t) ≡ Some i → 1 ≤ l → l ≤ level
+    → Needs key m (suc level) t → (Needs key m level child → Needs key n level new) → Needs key n (suc level) (record { object = t.object; children = with_child i new t.children; past = t.past })
+needs_up key m n zero l t i child new at root under some deep old goes = absurd (omega (arith, some, deep))
+needs_up key m n (suc level) l t i child new at root under some deep old goes =
+    needs_below key n level t i child new at root under (λ j kid there apart. (old j kid there).1 apart) (goes ((old i child at).0 under))
+
 module _ (reads : ReadsCells) (lo hi : ℕ) (small : hi < 2 ^ 32) (room : ℕ) (key value : List ℕ) where
   -- a tree with another page in the place of one
   pub record IsReplaced (new : State) (level : ℕ) (outer : Span) (t : Tree level) (l : ℕ) (inner : Span) (page other : Tree l) (pairs : List Cell) : Type 0 where
@@ -121,7 +128,7 @@ module _ (reads : ReadsCells) (lo hi : ℕ) (small : hi < 2 ^ 32) (room : ℕ) (
     pub pairs_are : pairs_in level tree ≡ pairs
     pub short : AreShortPairs room l other → AreShortPairs room level t → AreShortPairs room level tree
     pub settled : (n : ℕ) → Settled reads lo hi small room key value new n l (root_of l other) inner.to → Settled reads lo hi small room key value new n level (root_of level tree) outer.to
-    pub needs : 1 ≤ l → (n : ℕ) → Needs key n l other → Needs key n level tree
+    pub needs : 1 ≤ l → (m n : ℕ) → Needs key m level t → Needs key n l other → Needs key n level tree
 
   -- the page has this span in the tree, and is on the way to the key
   pub record IsPlace (level : ℕ) (outer : Span) (t : Tree level) (l : ℕ) (inner : Span) (page : Tree l) : Type 0 where
@@ -158,7 +165,7 @@ module _ (reads : ReadsCells) (lo hi : ℕ) (small : hi < 2 ^ 32) (room : ℕ) (
       pairs_are = sym (append-nil (pairs_in level other));
       short = λ short all. short;
       settled = λ n rest. rest;
-      needs = λ more n rest. rest;
+      needs = λ more m n old rest. rest;
     };
   }
 
@@ -212,7 +219,7 @@ module _ (reads : ReadsCells) (lo hi : ℕ) (small : hi < 2 ^ 32) (room : ℕ) (
               settled_up reads lo hi small room key value new n level outer (record { object = t.object; children = kids; past = t.past }) held_top share stand.1 ends i changed.tree
               (at_with t.children i child changed.tree at) (ap (last_under key) cells ∙ under) low
               (subst (λ (to : Option (List ℕ)). Settled reads lo hi small room key value new n level (root_of level changed.tree) to) (sym (end_with outer t.children i changed.tree)) (changed.settled n rest));
-          needs = λ more n rest. needs_below key n level t i child changed.tree at changed.root under (omega (arith, more, place.depth)) (changed.needs more n rest);
+          needs = λ more m n old rest. needs_up key m n level l t i child changed.tree at changed.root under (omega (arith, more)) place.depth old (λ below. changed.needs more m n below rest);
         }
 
     pub place_below : IsPlace (suc level) outer t l inner page

@@ -1,8 +1,8 @@
 -- The commands that tidy the way to a key keep the map.
-use Rattle.std.proofs.Common.{◌≡◌, length-append, ◌*◌, ◌≢◌, ◌⊎◌, inl, inr, ℕ, zero, suc, ◌+◌, ◌-◌, ◌^◌, ◌<◌, ◌≤◌, ◌==◌, Bool, true, false, if◌then◌else◌, Option, None, Some, Result, Ok, Err, List, [], ◌∷◌, ◌++◌, T, map, flat_map, length, drop, is_lt, is_some, option_and_then, option_map, refl, sym, ap, ◌∙◌, subst, arith, take_all}
+use Rattle.std.proofs.Common.{◌≡◌, length-append, ◌*◌, ◌≢◌, ◌⊎◌, inl, inr, ℕ, zero, suc, ◌+◌, ◌-◌, ◌^◌, ◌<◌, ◌≤◌, ◌==◌, Bool, true, false, if◌then◌else◌, Option, None, Some, Result, Ok, Err, List, [], ◌∷◌, ◌++◌, T, map, flat_map, length, drop, is_lt, is_some, option_and_then, option_map, refl, sym, ap, ◌∙◌, subst, arith, take_all, true≢false}
 use Rattle.std.specs.Prelude.{⊤, IsTrue, nat_lt, nat_le}
 use Rattle.std.specs.FinMap.{from_entries}
-use Rattle.std.proofs.lemmas.Bool.{eqb-true, le-ltb, leb-true, ltb-false, ltb-true}
+use Rattle.std.proofs.lemmas.Bool.{eq-eqb, eqb-true, le-ltb, leb-true, ltb-false, ltb-true}
 use Rattle.std.specs.FinMap.Entries.{is_sorted}
 use Rattle.std.proofs.lemmas.List.{append-nil, length-map}
 use Rattle.oper_core.specs.State.{State}
@@ -23,14 +23,14 @@ use Rattle.page_map.specs.Map.{Span, is_below, is_within, all_keys, all_past, Le
 use Rattle.page_map.specs.Plan.{Admits}
 use Rattle.page_map.specs.Splits.{front_of}
 use Rattle.page_map.specs.Sets.{AreShortPairs, IsKept, Keeps, is_short_key, room_of}
-use Rattle.page_map.specs.Deletes.{before_takes, by_tidying, child_goes, else_root, front_at, gives_way, leaf_goes, on_way, root_goes, root_takes, takes_both, tidied, tidy_from, tidy_plan, tidy_turn, when_empty}
+use Rattle.page_map.specs.Deletes.{IsFull, NoneIsEmpty, before_takes, by_tidying, child_goes, else_root, front_at, gives_way, leaf_goes, on_way, root_goes, root_takes, takes_both, tidied, tidy_from, tidy_plan, tidy_turn, when_empty}
 use Rattle.page_map.specs.Ranges.{or_bad}
 use Rattle.page_map.specs.Steps.{Step, before_in, beside_in, both_under, ended, front_in, only_child, step_in, step_under, with_beside}
 use Rattle.page_map.specs.Walk.{child_in, is_on}
 use Rattle.page_map.specs.declared.beside.Beside.{Beside}
 use Rattle.page_map.specs.declared.beside.Beside.TheVariants.{Next, Before, Only}
 use Rattle.page_map.specs.declared.refusal.MapRefusal.{MapRefusal}
-use Rattle.page_map.proofs.MapLemmas.{IsAt, Needs, NeedsHere, Others, Rests, Searches, Trimmed, among, at_new, at_same, below_through, cells_again, child_found, each_at, ends_too, in_all, moved, not_below_through, on_level, one_here, pairs_within, parts_within, span_of, times_both, upper, wider, with_all, with_child, within_parts}
+use Rattle.page_map.proofs.MapLemmas.{IsAt, Needs, NeedsHere, Others, Searches, Trimmed, among, at_new, at_same, below_through, cells_again, child_found, each_at, ends_too, full_needs, in_all, moved, not_below_through, on_level, one_here, pairs_within, parts_within, span_of, times_both, upper, wider, with_all, with_child, within_parts}
 use Rattle.page_map.proofs.CutLemmas.{ReadsCells, front_is}
 use Rattle.page_map.proofs.StepLemmas.{child_is_at, count_held, front_held, has_next, step_ends, step_from, step_held, step_of}
 use Rattle.page_map.proofs.ChangeLemmas.{Changes, written_else}
@@ -41,7 +41,7 @@ use Rattle.page_map.proofs.WayLemmas.{from_below}
 use Rattle.page_map.proofs.DueLemmas.{none_past}
 use Rattle.page_map.proofs.OpLemmas.{IsWritten, bytes_else, bytes_there, fits_after, free_done, part_done, read_child, read_inner, room_cap, turn_done}
 use Rattle.page_map.proofs.TurnLemmas.{IsTree, keeps_more, keeps_none, kept_by, page_fits, tree_of, trim_keeps, trim_tree}
-use Rattle.page_map.proofs.GoneLemmas.{cells_one, child_there, each_one, each_one_but, joined_span, keys_one, pairs_one, rise_one, share_one, size_one, times_one, two_inside, with_one}
+use Rattle.page_map.proofs.GoneLemmas.{cells_one, child_there, each_by, each_one, each_one_but, joined_span, keys_one, pairs_one, rise_one, share_one, size_one, times_one, two_inside, with_one}
 use Rattle.page_map.proofs.SetLemmas.{fits_too, root_ends}
 
 -- ---- spans beside each other
@@ -165,7 +165,7 @@ module _ (searches : Searches) (changes : Changes) (reads : ReadsCells) (b : Bou
       pub keeps : Keeps b lo hi s is ops
       pub made : Tree level
       pub tree_made : IsTree b lo hi (after_all meaning s ops) level made
-      pub needs : (n : ℕ) → Needs key n 1 other → Needs key n level made
+      pub needs : (m n : ℕ) → Needs key m level t → Needs key n 1 other → Needs key n level made
 
     -- one of two leaves takes the place of both
     module _ (i : ℕ) (a next kid gone : Leaf) (one : IsAt i a children) (two : IsAt (suc i) next children)
@@ -221,7 +221,7 @@ module _ (searches : Searches) (changes : Changes) (reads : ReadsCells) (b : Bou
         pub is : IsTree b lo hi s1 level made
         pub same_pairs : pairs_in level made ≡ pairs_in level t
         pub none : times x (objects_in level made) ≡ 0
-        pub needs : (n : ℕ) → Needs key n 1 other → Needs key n level made
+        pub needs : (m n : ℕ) → Needs key m level t → Needs key n 1 other → Needs key n level made
 
       dropped : IsDropped
       dropped =
@@ -421,17 +421,24 @@ module _ (searches : Searches) (changes : Changes) (reads : ReadsCells) (b : Bou
       filled_but i here (inr others) more j leaf at apart = others j leaf at (λ e. apart (same_some j i (sym e ∙ here)))
 
       joined_rests : (i : ℕ) (kid : Leaf) → suc i < length children → ((j : ℕ) (leaf : Leaf) → IsAt j leaf children → j ≢ i → j ≢ suc i → IsFilled leaf) → IsFilled kid
-          → Rests key (record { object = q; children = with_one i kid children; past = page.past })
-      joined_rests i kid more others filled = inr (λ j leaf at here. each_at IsFilled (with_one i kid children) j leaf at (each_one_but IsFilled children i kid more others filled))
+          → NoneIsEmpty 1 (record { object = q; children = with_one i kid children; past = page.past })
+      joined_rests i kid more others filled = inr (each_one_but IsFilled children i kid more others filled)
 
       module _ (i : ℕ) (leaf : Leaf) (at : IsAt i leaf children) (found : under bytes key ≡ Some i) (here : last_under key cells ≡ Some i) where
-        filled_rests : IsFilled leaf → Rests key page
-        filled_rests some = inr (λ j other there e.
-            subst IsFilled (at_same children i leaf other at (subst (λ (p : ℕ). IsAt p other children) (same_some j i (sym e ∙ here)) there)) some)
+        filled_rests : IsFilled leaf → Others key page → NoneIsEmpty 1 page
+        filled_rests some (inl few) = inl few
+        filled_rests some (inr others) = inr (each_by IsFilled children filled)
+          where
+            filled : (j : ℕ) (other : Leaf) → IsAt j other children → IsFilled other
+            filled j other there =
+                elim (j == i) as (λ t. (j == i) ≡ t → IsFilled other) [
+                  | true ↦ λ e. subst IsFilled (at_same children i leaf other at (subst (λ (p : ℕ). IsAt p other children) (eqb-true j i e) there)) some
+                  | false ↦ λ e. others j other there (λ u. absurd (true≢false (sym (eq-eqb j i (same_some j i (sym u ∙ here))) ∙ e)))
+                ] refl
 
-        next_goes : (n : ℕ) → Others key page → leaf.cells ≡ [] → nat_lt (suc i) (length children) ≡ true → GoesOn s (level + suc n) turn_here
+        next_goes : (n : ℕ) → Needs key (suc n) level t → Others key page → leaf.cells ≡ [] → nat_lt (suc i) (length children) ≡ true → GoesOn s (level + suc n) turn_here
         unfolding next_beside
-        next_goes n others empty more =
+        next_goes n whole others empty more =
             let inside : suc i < length children = ltb-true (suc i) (length children) more in
             let next = child_there children (suc i) inside in
             let takes = next_takes i leaf next.0 at next.1 empty in
@@ -444,7 +451,7 @@ module _ (searches : Searches) (changes : Changes) (reads : ReadsCells) (b : Bou
               made = takes.made;
               tree_made = takes.tree_made;
               left = 0;
-              needs = takes.needs 0 (joined_rests i next.0 inside (λ j leaf at one two. filled j leaf at one) (filled (suc i) next.0 next.1 (λ e. absurd (omega (arith, e)))));
+              needs = takes.needs (suc n) 0 whole (joined_rests i next.0 inside (λ j leaf at one two. filled j leaf at one) (filled (suc i) next.0 next.1 (λ e. absurd (omega (arith, e)))));
               fewer = omega arith;
             }
 
@@ -465,8 +472,8 @@ module _ (searches : Searches) (changes : Changes) (reads : ReadsCells) (b : Bou
             let count : count_in (bytes_at lo s first.object) ≡ length (first.cells ++ first.past) = count_held 0 (bytes_at lo s first.object) (first.cells ++ first.past) (held_at j first one).1 in
             turn_is ∙ ap (λ (t : Bool). Ok (if t then Keep first.object (length first.cells) ∷ [] else takes_both q j first.object leaf.object)) (ap (nat_lt (length first.cells)) count ∙ e)
 
-        first_goes : (n : ℕ) → nat_lt (length first.cells) (length (first.cells ++ first.past)) ≡ false → GoesOn s (level + suc n) turn_here
-        first_goes n e =
+        first_goes : (n : ℕ) → Needs key (suc n) level t → nat_lt (length first.cells) (length (first.cells ++ first.past)) ≡ false → GoesOn s (level + suc n) turn_here
+        first_goes n whole e =
             let takes = first_takes j first leaf one two empty (none_past 0 first e) in
             record {
               op = Turn q j 2 first.object;
@@ -476,7 +483,7 @@ module _ (searches : Searches) (changes : Changes) (reads : ReadsCells) (b : Bou
               made = takes.made;
               tree_made = takes.tree_made;
               left = 0;
-              needs = takes.needs 0 (joined_rests j first inside_two (λ k leaf at one two. filled k leaf at two) first_filled);
+              needs = takes.needs (suc n) 0 whole (joined_rests j first inside_two (λ k leaf at one two. filled k leaf at two) first_filled);
               fewer = omega arith;
             }
 
@@ -495,11 +502,11 @@ module _ (searches : Searches) (changes : Changes) (reads : ReadsCells) (b : Bou
             let same : k ≡ j = let next : suc k ≡ suc j = same_some (suc k) (suc j) (sym e ∙ trimmed_cells) in omega (arith, next) in
             subst (λ (l : Leaf). l.past ≡ []) (at_new children j (bare 0 first) other (subst (λ (p : ℕ). IsAt p other (with_child j (bare 0 first) children)) same there)) refl
 
-        trims : (n : ℕ) → NeedsHere key (suc n) page → nat_lt (length first.cells) (length (first.cells ++ first.past)) ≡ true → GoesOn s (level + suc n) turn_here
-        trims zero needs e =
+        trims : (n : ℕ) → Needs key (suc n) level t → NeedsHere key (suc n) page → nat_lt (length first.cells) (length (first.cells ++ first.past)) ≡ true → GoesOn s (level + suc n) turn_here
+        trims zero whole needs e =
             let none : first.past ≡ [] = needs.1 j first one here in
             absurd (omega (arith, ltb-true (length first.cells) (length (first.cells ++ first.past)) e, length-append first.cells first.past, ap (λ (l : List Cell). length l) none))
-        trims (suc n) needs e =
+        trims (suc n) whole needs e =
             let trim = trim_tree changes reads b lo hi small admits key [] s level t tree 0 inner page place j first one in
             record {
               op = Keep first.object (length first.cells);
@@ -509,15 +516,15 @@ module _ (searches : Searches) (changes : Changes) (reads : ReadsCells) (b : Bou
               made = trim.made;
               tree_made = trim.is;
               left = 1;
-              needs = trim.needs 1 (trimmed_others, trimmed_there);
+              needs = trim.needs (suc (suc n)) 1 whole (trimmed_others, trimmed_there);
               fewer = omega arith;
             }
 
-        before_goes : (n : ℕ) → NeedsHere key (suc n) page → GoesOn s (level + suc n) turn_here
-        before_goes n needs =
+        before_goes : (n : ℕ) → Needs key (suc n) level t → NeedsHere key (suc n) page → GoesOn s (level + suc n) turn_here
+        before_goes n whole needs =
             elim (nat_lt (length first.cells) (length (first.cells ++ first.past))) as (λ t. nat_lt (length first.cells) (length (first.cells ++ first.past)) ≡ t → GoesOn s (level + suc n) turn_here) [
-              | true ↦ λ e. trims n needs e
-              | false ↦ λ e. first_goes n e
+              | true ↦ λ e. trims n whole needs e
+              | false ↦ λ e. first_goes n whole e
             ] refl
 
       -- an only child
@@ -525,25 +532,25 @@ module _ (searches : Searches) (changes : Changes) (reads : ReadsCells) (b : Bou
       unfolding before_beside
       only_idle leaf at found empty last = leaf_is 0 leaf at found (before_beside 0 leaf at last) 0 (ap (λ (l : List Cell). length l) empty)
 
-      last_goes : (i : ℕ) (leaf : Leaf) → IsAt i leaf children → under bytes key ≡ Some i → last_under key cells ≡ Some i → (n : ℕ) → NeedsHere key (suc n) page → leaf.cells ≡ [] → nat_lt (suc i) (length children) ≡ false
-          → ((turn_here ≡ Ok []) × Rests key page) ⊎ GoesOn s (level + suc n) turn_here
+      last_goes : (i : ℕ) (leaf : Leaf) → IsAt i leaf children → under bytes key ≡ Some i → last_under key cells ≡ Some i → (n : ℕ) → Needs key (suc n) level t → NeedsHere key (suc n) page → leaf.cells ≡ []
+          → nat_lt (suc i) (length children) ≡ false → ((turn_here ≡ Ok []) × NoneIsEmpty 1 page) ⊎ GoesOn s (level + suc n) turn_here
       unfolding before_beside
-      last_goes zero leaf at found here n needs empty last = inl (only_idle leaf at found empty last, inl (omega (arith, ltb-false 1 (length children) last)))
-      last_goes (suc j) leaf at found here n needs empty last =
+      last_goes zero leaf at found here n whole needs empty last = inl (only_idle leaf at found empty last, inl (omega (arith, ltb-false 1 (length children) last)))
+      last_goes (suc j) leaf at found here n whole needs empty last =
           let first = child_there children j (omega (arith, at_inside children (suc j) leaf at)) in
           inr (before_goes j first.0 leaf first.1 at found here empty (others_of n needs)
-          (leaf_is (suc j) leaf at found (before_beside (suc j) leaf at last) 0 (ap (λ (l : List Cell). length l) empty) ∙ before_is j first.0 leaf first.1 at) n needs)
+          (leaf_is (suc j) leaf at found (before_beside (suc j) leaf at last) 0 (ap (λ (l : List Cell). length l) empty) ∙ before_is j first.0 leaf first.1 at) n whole needs)
 
-      page_turn : (i : ℕ) (leaf : Leaf) → IsAt i leaf children → under bytes key ≡ Some i → last_under key cells ≡ Some i → (n : ℕ) → NeedsHere key (suc n) page
-          → ((turn_here ≡ Ok []) × Rests key page) ⊎ GoesOn s (level + suc n) turn_here
-      page_turn i leaf at found here n needs = by_count (length leaf.cells) refl
+      page_turn : (i : ℕ) (leaf : Leaf) → IsAt i leaf children → under bytes key ≡ Some i → last_under key cells ≡ Some i → (n : ℕ) → Needs key (suc n) level t → NeedsHere key (suc n) page
+          → ((turn_here ≡ Ok []) × NoneIsEmpty 1 page) ⊎ GoesOn s (level + suc n) turn_here
+      page_turn i leaf at found here n whole needs = by_count (length leaf.cells) refl
         where
-          by_count : (k : ℕ) → length leaf.cells ≡ k → ((turn_here ≡ Ok []) × Rests key page) ⊎ GoesOn s (level + suc n) turn_here
-          by_count (suc k) e = inl (leaf_is i leaf at found (beside_found i leaf at) (suc k) e, filled_rests i leaf at found here (omega (arith, e)))
+          by_count : (k : ℕ) → length leaf.cells ≡ k → ((turn_here ≡ Ok []) × NoneIsEmpty 1 page) ⊎ GoesOn s (level + suc n) turn_here
+          by_count (suc k) e = inl (leaf_is i leaf at found (beside_found i leaf at) (suc k) e, filled_rests i leaf at found here (omega (arith, e)) (others_of n needs))
           by_count zero e =
-              elim (nat_lt (suc i) (length children)) as (λ t. nat_lt (suc i) (length children) ≡ t → ((turn_here ≡ Ok []) × Rests key page) ⊎ GoesOn s (level + suc n) turn_here) [
-                | true ↦ λ more. inr (next_goes i leaf at found here n (others_of n needs) (nothing_in leaf.cells e) more)
-                | false ↦ λ last. last_goes i leaf at found here n needs (nothing_in leaf.cells e) last
+              elim (nat_lt (suc i) (length children)) as (λ t. nat_lt (suc i) (length children) ≡ t → ((turn_here ≡ Ok []) × NoneIsEmpty 1 page) ⊎ GoesOn s (level + suc n) turn_here) [
+                | true ↦ λ more. inr (next_goes i leaf at found here n whole (others_of n needs) (nothing_in leaf.cells e) more)
+                | false ↦ λ last. last_goes i leaf at found here n whole needs (nothing_in leaf.cells e) last
               ] refl
 
       filled_idle : (i : ℕ) (leaf : Leaf) → IsAt i leaf children → under bytes key ≡ Some i → 0 < length leaf.cells → turn_here ≡ Ok []
@@ -561,9 +568,9 @@ module _ (searches : Searches) (changes : Changes) (reads : ReadsCells) (b : Bou
           by_count (suc k) e = leaf_is 0 leaf at found (beside_found 0 leaf at) (suc k) e
           by_count zero e = only_idle leaf at found (nothing_in leaf.cells e) (le-ltb 1 (length children) few)
 
-      rests_idle : (i : ℕ) (leaf : Leaf) → IsAt i leaf children → under bytes key ≡ Some i → last_under key cells ≡ Some i → Rests key page → turn_here ≡ Ok []
-      rests_idle i leaf at found here (inl few) = few_idle i leaf at found few
-      rests_idle i leaf at found here (inr filled) = filled_idle i leaf at found (filled i leaf at here)
+      rests_idle : (i : ℕ) (leaf : Leaf) → IsAt i leaf children → under bytes key ≡ Some i → NoneIsEmpty 1 page → turn_here ≡ Ok []
+      rests_idle i leaf at found (inl few) = few_idle i leaf at found few
+      rests_idle i leaf at found (inr filled) = filled_idle i leaf at found (each_at IsFilled children i leaf at filled)
 
   -- ---- the page above the leaf of the key
 
@@ -579,7 +586,7 @@ module _ (searches : Searches) (changes : Changes) (reads : ReadsCells) (b : Bou
       pub found : under (bytes_at lo s page.object) key ≡ Some i
       pub here : last_under key (cells_in 1 page) ≡ Some i
       pub needs : (n : ℕ) → Needs key n level t → NeedsHere key n page
-      pub rests : Rests key page → Needs key 0 level t
+      pub full : (n : ℕ) → Needs key n level t → NoneIsEmpty 1 page → NoneIsEmpty level t
       pub turn_is : tidy_from lo hi s key level (root_of level t) span.to ≡ leaf_goes lo hi s page.object inner.to (both_under lo hi (bytes_at lo s page.object) inner.to key)
 
     under_is : (level x : ℕ) (cells : List Cell) (i : ℕ) → IsHeld level (bytes_at lo s x) cells → last_under key cells ≡ Some i → under (bytes_at lo s x) key ≡ Some i
@@ -599,7 +606,7 @@ module _ (searches : Searches) (changes : Changes) (reads : ReadsCells) (b : Bou
           found = under_is 1 t.object (cells_in 1 t) found.place holds.0 found.under;
           here = found.under;
           needs = λ n needs. needs;
-          rests = λ rests. rests;
+          full = λ n needs full. full;
           turn_is =
               ap (λ (b : Bool). if b then leaf_goes lo hi s t.object span.to (both_under lo hi (bytes_at lo s t.object) span.to key) else Err t.object)
               (on_level searches lo hi small s [] 1 (bytes_at lo s t.object) (cells_in 1 t) holds.0);
@@ -630,9 +637,16 @@ module _ (searches : Searches) (changes : Changes) (reads : ReadsCells) (b : Bou
           at = rest.at;
           found = rest.found;
           here = rest.here;
-          needs = λ n needs. rest.needs n (needs i found.child found.at found.under);
-          rests = λ rests j kid there here.
-              subst (Needs key 0 (suc level)) (at_same t.children i found.child kid found.at (subst (λ (p : ℕ). IsAt p kid t.children) (same_some j i (sym here ∙ found.under)) there)) (rest.rests rests);
+          needs = λ n needs. rest.needs n ((needs i found.child found.at).0 found.under);
+          full = λ n needs full.
+              each_by (NoneIsEmpty (suc level)) t.children
+              (λ j kid there.
+              elim (j == i) as (λ t. (j == i) ≡ t → NoneIsEmpty (suc level) kid) [
+                | true ↦ λ e.
+                    subst (NoneIsEmpty (suc level)) (at_same t.children i found.child kid found.at (subst (λ (p : ℕ). IsAt p kid t.children) (eqb-true j i e) there))
+                    (rest.full n ((needs i found.child found.at).0 found.under) full)
+                | false ↦ λ e. (needs j kid there).1 (λ u. absurd (true≢false (sym (eq-eqb j i (same_some j i (sym u ∙ found.under))) ∙ e)))
+              ] refl);
           turn_is =
               ap (λ (b : Bool). if b then on_way on x span.to (step_under lo hi bytes span.to key) else Err x) (on_level searches lo hi small s [] (suc (suc level)) bytes cells holds.0)
               ∙ ap (on_way on x span.to) steps ∙ ap (on (root_of (suc level) found.child)) to ∙ rest.turn_is;
@@ -757,23 +771,17 @@ module _ (searches : Searches) (changes : Changes) (reads : ReadsCells) (b : Bou
     up_tree : IsTree b lo hi (after_all meaning s (Part lo old 0 (length page) ∷ Free old ∷ [])) level up
     up_tree = (over_free s_up old (child_low level s child child_held) level up old_gone tree_up).1
 
-    up_needs : Needs key 0 (suc level) t → Needs key 0 level up
-    up_needs needs = at_level level child whole_page (below level child t only tree.stand.0 tree.holds.1 tree.stand.1 needs)
+    up_full : NoneIsEmpty (suc level) t → NoneIsEmpty level up
+    up_full full = moved_up level child (below level t only full)
       where
-        -- the one child is that of the key
-        below : (level : ℕ) (child : Tree level) (t : Tree (suc level)) → t.children ≡ (from, child) ∷ [] → Share (StandIn level) all_keys t.children → Each (HoldsChild lo hi s level) t.children
-            → IsTrue (all_past all_keys t.past) → Needs key 0 (suc level) t → Needs key 0 level child
-        below zero child t only share held past needs = tt
-        below (suc level) child t only share held past needs =
-            let found = child_found (StandIn (suc level)) (HoldsChild lo hi s (suc level)) (root_of (suc level)) (pairs_in (suc level)) (pairs_within (suc level)) key all_keys t.children t.past share held past (in_all key) in
-            let first : found.place ≡ 0 = omega (arith, at_inside t.children found.place found.child found.at, ap (λ (l : List (List ℕ × Tree (suc level))). length l) only) in
-            needs 0 child (subst (λ (l : List (List ℕ × Tree (suc level))). IsAt 0 child l) (sym only) refl) (found.under ∙ ap (λ (p : ℕ). Some p) first)
+        below : (level : ℕ) (t : Tree (suc level)) {child : Tree level} → t.children ≡ (from, child) ∷ [] → NoneIsEmpty (suc level) t → NoneIsEmpty level child
+        below zero t only full = tt
+        below (suc level) t only full = (subst (λ (l : List (List ℕ × Tree (suc level))). Each (NoneIsEmpty (suc level)) l) only full).0
 
-        at_level : (level : ℕ) (child : Tree level) → cells_in level child ≡ live_in level child → Needs key 0 level child → Needs key 0 level (last_part level lo 0 child)
-        at_level zero child same needs = tt
-        at_level (suc zero) child same (inl few) = inl few
-        at_level (suc zero) child same (inr filled) = inr (λ i leaf at here. filled i leaf at (ap (last_under key) (same ∙ sym (append-nil (live_in 1 child))) ∙ here))
-        at_level (suc (suc level)) child same needs = λ i kid at here. needs i kid at (ap (last_under key) (same ∙ sym (append-nil (live_in (suc (suc level)) child))) ∙ here)
+        moved_up : (level : ℕ) (child : Tree level) → NoneIsEmpty level child → NoneIsEmpty level (last_part level lo 0 child)
+        moved_up zero child full = tt
+        moved_up (suc zero) child full = full
+        moved_up (suc (suc level)) child full = full
 
   module _ (s : State) (level : ℕ) (t : Tree (suc level)) (tree : IsTree b lo hi s (suc level) t) where
     abbrev root_cells : List Cell
@@ -810,10 +818,10 @@ module _ (searches : Searches) (changes : Changes) (reads : ReadsCells) (b : Bou
         many : (n : ℕ) → (suc (suc n) == 1) ≡ false
         many n = elim (suc (suc n) == 1) as (λ t. (suc (suc n) == 1) ≡ t → t ≡ false) [ true ↦ λ f. absurd (omega (arith, eqb-true (suc (suc n)) 1 f)) | false ↦ λ f. refl ] refl
 
-    child_turn : Needs key 0 (suc level) t → (kids : List (List ℕ × Tree level)) → t.children ≡ kids
+    child_turn : NoneIsEmpty (suc level) t → (kids : List (List ℕ × Tree level)) → t.children ≡ kids
         → (child_goes lo hi s level (Some (one_of kids)) ≡ Ok []) ⊎ GoesOn s (suc level) (child_goes lo hi s level (Some (one_of kids)))
-    child_turn needs [] e = inl refl
-    child_turn needs (c ∷ []) e =
+    child_turn full [] e = inl refl
+    child_turn full (c ∷ []) e =
         inr (record {
           op = Part lo (root_of level c.1) 0 (length (cells_in level c.1));
           ops = Free (root_of level c.1) ∷ [];
@@ -822,14 +830,14 @@ module _ (searches : Searches) (changes : Changes) (reads : ReadsCells) (b : Bou
           made = last_part level lo 0 c.1;
           tree_made = up_tree s level t tree c.0 c.1 e;
           left = 0;
-          needs = up_needs s level t tree c.0 c.1 e needs;
+          needs = full_needs key level (last_part level lo 0 c.1) (up_full s level t tree c.0 c.1 e full);
           fewer = omega arith;
         })
-    child_turn needs (c ∷ d ∷ kids) e = inl refl
+    child_turn full (c ∷ d ∷ kids) e = inl refl
 
-    root_turn : Needs key 0 (suc level) t → (root_goes lo hi s (suc level) ≡ Ok []) ⊎ GoesOn s (suc level) (root_goes lo hi s (suc level))
-    root_turn needs =
-        subst (λ (o : Option (Option ℕ)). (child_goes lo hi s level o ≡ Ok []) ⊎ GoesOn s (suc level) (child_goes lo hi s level o)) (sym (only_found t.children refl)) (child_turn needs t.children refl)
+    root_turn : NoneIsEmpty (suc level) t → (root_goes lo hi s (suc level) ≡ Ok []) ⊎ GoesOn s (suc level) (root_goes lo hi s (suc level))
+    root_turn full =
+        subst (λ (o : Option (Option ℕ)). (child_goes lo hi s level o ≡ Ok []) ⊎ GoesOn s (suc level) (child_goes lo hi s level o)) (sym (only_found t.children refl)) (child_turn full t.children refl)
 
     module _ (is : IsKept b lo hi s) (same : from_entries (pairs_in (suc level) t) ≡ content_of is.map) where
       by_children : (kids : List (List ℕ × Tree level)) → t.children ≡ kids → Tidies s is (child_goes lo hi s level (Some (one_of kids)))
@@ -910,16 +918,19 @@ module _ (searches : Searches) (changes : Changes) (reads : ReadsCells) (b : Bou
     fewer = omega (arith, less, goes.fewer);
   }
 
-  -- nothing is left, or there is a turn that leaves less
+  -- nothing is left, and no leaf is without cells; or there is a turn that leaves less
   abbrev IsTurn : State → ℕ → Result (List PageOp) ℕ → Type 0
-  IsTurn s most r = (r ≡ Ok []) ⊎ GoesOn s most r
+  IsTurn s most r = ((r ≡ Ok []) × IsFull b lo hi s) ⊎ GoesOn s most r
+
+  full_by : (s : State) (level : ℕ) (t : Tree level) → IsTree b lo hi s level t → NoneIsEmpty level t → IsFull b lo hi s
+  full_by s level t tree full = record { kept = kept_by b lo hi s level t tree; full = full }
 
   module _ (s : State) (level : ℕ) (t : Tree (suc level)) (tree : IsTree b lo hi s (suc level) t) where
-    at_root : (most : ℕ) → suc level ≤ most → Needs key 0 (suc level) t → (r : Result (List PageOp) ℕ) → r ≡ Ok [] → IsTurn s most (else_root lo hi s (suc level) r)
-    at_root most less needs r none = subst (λ (r : Result (List PageOp) ℕ). IsTurn s most (else_root lo hi s (suc level) r)) (sym none) (by_turn (root_turn s level t tree needs))
+    at_root : (most : ℕ) → suc level ≤ most → NoneIsEmpty (suc level) t → (r : Result (List PageOp) ℕ) → r ≡ Ok [] → IsTurn s most (else_root lo hi s (suc level) r)
+    at_root most less full r none = subst (λ (r : Result (List PageOp) ℕ). IsTurn s most (else_root lo hi s (suc level) r)) (sym none) (by_turn (root_turn s level t tree full))
       where
         by_turn : (root_goes lo hi s (suc level) ≡ Ok []) ⊎ GoesOn s (suc level) (root_goes lo hi s (suc level)) → IsTurn s most (root_goes lo hi s (suc level))
-        by_turn (inl none) = inl none
+        by_turn (inl none) = inl (none, full_by s (suc level) t tree full)
         by_turn (inr goes) = inr (later s (suc level) most (root_goes lo hi s (suc level)) less goes)
 
     at_page : (most : ℕ) (r : Result (List PageOp) ℕ) → GoesOn s most r → IsTurn s most (else_root lo hi s (suc level) r)
@@ -941,22 +952,26 @@ module _ (searches : Searches) (changes : Changes) (reads : ReadsCells) (b : Bou
 
   tree_turn : (s : State) (level : ℕ) (t : Tree level) → IsTree b lo hi s level t → (n : ℕ) → Needs key n level t → IsTurn s (level + n) (turn_in s level t)
   tree_turn s zero t tree n needs =
-      inl (ap (else_root lo hi s 0) (ap (λ (b : Bool). if b then Ok [] else Err t.object) (on_level searches lo hi small s [] 0 (bytes_at lo s t.object) (cells_in 0 t) tree.holds)))
+      inl (
+        ap (else_root lo hi s 0) (ap (λ (b : Bool). if b then Ok [] else Err t.object) (on_level searches lo hi small s [] 0 (bytes_at lo s t.object) (cells_in 0 t) tree.holds)),
+        full_by s 0 t tree tt,
+      )
   tree_turn s (suc level) t tree zero needs =
       let is : IsKept b lo hi s = kept_by b lo hi s (suc level) t tree in
       let found = above_found s level all_keys t tree.holds tree.stand (in_all key) in
-      at_root s level t tree (suc level + 0) (omega arith) needs (tidy_from lo hi s key (suc level) t.object None)
-      (found.turn_is ∙ rests_idle s (suc level) t tree found.inner found.page found.place is refl found.ends found.i found.leaf found.at found.found found.here (found.needs 0 needs))
+      let full : NoneIsEmpty 1 found.page = found.needs 0 needs in
+      at_root s level t tree (suc level + 0) (omega arith) (found.full 0 needs full) (tidy_from lo hi s key (suc level) t.object None)
+      (found.turn_is ∙ rests_idle s (suc level) t tree found.inner found.page found.place is refl found.ends found.i found.leaf found.at found.found full)
   tree_turn s (suc level) t tree (suc n) needs =
       let is : IsKept b lo hi s = kept_by b lo hi s (suc level) t tree in
       let found = above_found s level all_keys t tree.holds tree.stand (in_all key) in
-      by_page (leaf_goes lo hi s found.page.object found.inner.to (both_under lo hi (bytes_at lo s found.page.object) found.inner.to key)) (Rests key found.page) found.turn_is found.rests
-      (page_turn s (suc level) t tree found.inner found.page found.place is refl found.ends found.i found.leaf found.at found.found found.here n (found.needs (suc n) needs))
+      by_page (leaf_goes lo hi s found.page.object found.inner.to (both_under lo hi (bytes_at lo s found.page.object) found.inner.to key)) (NoneIsEmpty 1 found.page) found.turn_is (found.full (suc n) needs)
+      (page_turn s (suc level) t tree found.inner found.page found.place is refl found.ends found.i found.leaf found.at found.found found.here n needs (found.needs (suc n) needs))
     where
-      by_page : (r : Result (List PageOp) ℕ) (Rest : Type 0) → tidy_from lo hi s key (suc level) t.object None ≡ r → (Rest → Needs key 0 (suc level) t) → ((r ≡ Ok []) × Rest) ⊎ GoesOn s (suc level + suc n) r
+      by_page : (r : Result (List PageOp) ℕ) (Rest : Type 0) → tidy_from lo hi s key (suc level) t.object None ≡ r → (Rest → NoneIsEmpty (suc level) t) → ((r ≡ Ok []) × Rest) ⊎ GoesOn s (suc level + suc n) r
           → IsTurn s (suc level + suc n) (turn_in s (suc level) t)
-      by_page r Rest is rests (inl idle) = at_root s level t tree (suc level + suc n) (omega arith) (rests idle.1) (tidy_from lo hi s key (suc level) t.object None) (is ∙ idle.0)
-      by_page r Rest is rests (inr goes) = subst (λ (r : Result (List PageOp) ℕ). IsTurn s (suc level + suc n) (else_root lo hi s (suc level) r)) (sym is) (at_page s level t tree (suc level + suc n) r goes)
+      by_page r Rest is full (inl idle) = at_root s level t tree (suc level + suc n) (omega arith) (full idle.1) (tidy_from lo hi s key (suc level) t.object None) (is ∙ idle.0)
+      by_page r Rest is full (inr goes) = subst (λ (r : Result (List PageOp) ℕ). IsTurn s (suc level + suc n) (else_root lo hi s (suc level) r)) (sym is) (at_page s level t tree (suc level + suc n) r goes)
 
   next_turn : (s : State) (level : ℕ) (t : Tree level) (tree : IsTree b lo hi s level t) (n : ℕ) → Needs key n level t → IsTurn s (level + n) (tidy_turn lo hi s key)
   next_turn s level t tree n needs =
@@ -971,25 +986,28 @@ module _ (searches : Searches) (changes : Changes) (reads : ReadsCells) (b : Bou
   all_after [] others s = refl
   all_after (op ∷ ops) others s = all_after ops others (after meaning s op)
 
-  pub tidied_ends : (n : ℕ) (s : State) (level : ℕ) (t : Tree level) → IsTree b lo hi s level t → (k : ℕ) → Needs key k level t → level + k ≤ n
-      → tidy_turn lo hi (after_all meaning s (tidied b lo hi key n s).commands) key ≡ Ok []
+  -- behind so many turns
+  abbrev pub IsRest : State → Type 0
+  IsRest s = (tidy_turn lo hi s key ≡ Ok []) × IsFull b lo hi s
+
+  pub tidied_ends : (n : ℕ) (s : State) (level : ℕ) (t : Tree level) → IsTree b lo hi s level t → (k : ℕ) → Needs key k level t → level + k ≤ n → IsRest (after_all meaning s (tidied b lo hi key n s).commands)
   tidied_ends zero s level t tree k needs few = by_turn (next_turn s level t tree k needs)
     where
-      by_turn : IsTurn s (level + k) (tidy_turn lo hi s key) → tidy_turn lo hi s key ≡ Ok []
-      by_turn (inl none) = none
+      by_turn : IsTurn s (level + k) (tidy_turn lo hi s key) → IsRest s
+      by_turn (inl rest) = rest
       by_turn (inr goes) = absurd (omega (arith, few, goes.fewer))
   tidied_ends (suc n) s level t tree k needs few =
       by_turn (next_turn s level t tree k needs) (λ goes. tidied_ends n (after_all meaning s (goes.op ∷ goes.ops)) goes.depth goes.made goes.tree_made goes.left goes.needs (omega (arith, few, goes.fewer)))
     where
       by_turn : IsTurn s (level + k) (tidy_turn lo hi s key)
-          → ((goes : GoesOn s (level + k) (tidy_turn lo hi s key)) → tidy_turn lo hi (after_all meaning (after_all meaning s (goes.op ∷ goes.ops)) (tidied b lo hi key n (after_all meaning s (goes.op ∷ goes.ops))).commands) key ≡ Ok [])
-          → tidy_turn lo hi (after_all meaning s (tidied b lo hi key (suc n) s).commands) key ≡ Ok []
-      by_turn (inl none) on = ap (λ (ops : List PageOp). tidy_turn lo hi (after_all meaning s ops) key) (idle (suc n) s none) ∙ none
+          → ((goes : GoesOn s (level + k) (tidy_turn lo hi s key)) → IsRest (after_all meaning (after_all meaning s (goes.op ∷ goes.ops)) (tidied b lo hi key n (after_all meaning s (goes.op ∷ goes.ops))).commands))
+          → IsRest (after_all meaning s (tidied b lo hi key (suc n) s).commands)
+      by_turn (inl rest) on = subst (λ (ops : List PageOp). IsRest (after_all meaning s ops)) (sym (idle (suc n) s rest.0)) rest
       by_turn (inr goes) on =
           let ops : List PageOp = goes.op ∷ goes.ops in
           let others : List PageOp = (tidied b lo hi key n (after_all meaning s ops)).commands in
-          ap (λ (r : Result (List PageOp) ℕ). tidy_turn lo hi (after_all meaning s (by_tidying (λ ops. tidied b lo hi key n (after_all meaning s ops)) r).commands) key) goes.turn_is
-          ∙ ap (λ (x : State). tidy_turn lo hi x key) (all_after ops others s) ∙ on goes
+          subst IsRest
+          (sym (ap (λ (r : Result (List PageOp) ℕ). after_all meaning s (by_tidying (λ ops. tidied b lo hi key n (after_all meaning s ops)) r).commands) goes.turn_is ∙ all_after ops others s)) (on goes)
 
 -- ---- how many commands they are
 

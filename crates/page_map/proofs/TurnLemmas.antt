@@ -561,7 +561,7 @@ module _ (changes : Changes) (reads : ReadsCells) (b : Bounds) (lo hi : ℕ) (sm
       pub is : IsTree b lo hi after_trim level made
       pub pairs : pairs_in level made ≡ pairs_in level t
       pub settled : (n : ℕ) → Settled reads lo hi small room sought value after_trim n (suc l) q inner.to → Settled reads lo hi small room sought value after_trim n level (root_of level made) None
-      pub needs : (n : ℕ) → Needs sought n (suc l) other → Needs sought n level made
+      pub needs : (m n : ℕ) → Needs sought m level t → Needs sought n (suc l) other → Needs sought n level made
 
     pub trim_tree : IsTrimmed
     trim_tree =

@@ -122,6 +122,11 @@ NoneIsEmpty zero leaf = ⊤
 NoneIsEmpty (suc zero) page = (length page.children ≤ 1) ⊎ Each (λ leaf. 0 < length leaf.cells) page.children
 NoneIsEmpty (suc (suc level)) page = Each (NoneIsEmpty (suc level)) page.children
 
+-- a map whose leaves have cells
+pub record IsFull (b : Bounds) (lo hi : ℕ) (s : State) : Type 0 where
+  pub kept : IsKept b lo hi s
+  pub full : NoneIsEmpty kept.map.level kept.map.tree
+
 module _ (b : Bounds) (lo hi : ℕ) (s : State) (is : IsKept b lo hi s) where
   -- The commands of a delete are accepted one after the other, and behind each the range is a map: from the first one on, without
   -- the key. It is refused exactly where the map lacks the key, and then there are none. They are so few.

@@ -10,7 +10,7 @@ ghost use Rattle.key_entries.specs.Entries.{byte_order};
 ghost use Rattle.call_plans.specs.Laws.{AreAlike, after_all};
 ghost use Rattle.page_ops.specs.Operation.{page_meaning, written_by};
 ghost use Rattle.page_ops.specs.declared.page_op.PageOp.{PageOp};
-ghost use Rattle.page_map.specs.Deletes.{Deletes, NoneIsEmpty, delete_plan, tidy_plan, tidy_turn};
+ghost use Rattle.page_map.specs.Deletes.{Deletes, IsFull, NoneIsEmpty, delete_plan, tidy_plan, tidy_turn};
 ghost use Rattle.page_map.specs.Map.{IsMap, Span, all_keys, content_of, objects_in, times};
 ghost use Rattle.page_map.specs.Plan.{Admits, DeleteMakes, SetMakes};
 ghost use Rattle.page_map.specs.Ranges.{back_answer, count_answer, range_answer};
@@ -41,13 +41,13 @@ pub fn changes_are_those_of_the_map()
 /// On a map the commands of a delete are accepted one after the other, and behind each the range is a map: from the first one on,
 /// without the key; they are two for each level at most and five. It is refused exactly where the map lacks the key. The commands
 /// that tidy the way to a key, where a leaf without cells gives way and a root with one child becomes it, keep what the map holds.
-/// Where no leaf was without cells but an only child, nothing is left to tidy behind a delete.
+/// Where no leaf but an only child was without cells, nothing is left to tidy behind a delete that is done, and none is again.
 pub fn a_delete_is_done_or_refused()
     ensures delete { (b : Bounds) (lo hi : ℕ) (s : State) (key : List ℕ) → hi < 2 ^ 32 → Admits b hi → (is : IsKept b lo hi s) → Deletes b lo hi s is key (delete_plan b lo hi key s) }
     ensures tidy { (b : Bounds) (lo hi : ℕ) (s : State) (key : List ℕ) → hi < 2 ^ 32 → Admits b hi → (is : IsKept b lo hi s)
         → ((tidy_plan b lo hi key s).refusal ≡ None) × Keeps b lo hi s is (tidy_plan b lo hi key s).commands }
     ensures tidied { (b : Bounds) (lo hi : ℕ) (s : State) (key : List ℕ) → hi < 2 ^ 32 → Admits b hi → (is : IsKept b lo hi s) → NoneIsEmpty is.map.level is.map.tree → (delete_plan b lo hi key s).refusal ≡ None
-        → tidy_turn lo hi (after_all (page_meaning b) s (delete_plan b lo hi key s).commands) key ≡ Ok [] }
+        → (tidy_turn lo hi (after_all (page_meaning b) s (delete_plan b lo hi key s).commands) key ≡ Ok []) × IsFull b lo hi (after_all (page_meaning b) s (delete_plan b lo hi key s).commands) }
 {
     a_search_finds_the_place();
     operations_are_on_cells();
