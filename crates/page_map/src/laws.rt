@@ -41,7 +41,7 @@ pub fn changes_are_those_of_the_map()
 /// On a map the commands of a delete are accepted one after the other, and behind each the range is a map: from the first one on,
 /// without the key; they are two for each level at most and five. It is refused exactly where the map lacks the key. The commands
 /// that tidy the way to a key, where a leaf without cells gives way and a root with one child becomes it, keep what the map holds.
-/// Where no leaf but an only child was without cells, nothing is left to tidy behind a delete that is done, and none is again.
+/// Where no leaf was without cells but only children, nothing is left to tidy behind a delete that is done, and again none is.
 pub fn a_delete_is_done_or_refused()
     ensures delete { (b : Bounds) (lo hi : ℕ) (s : State) (key : List ℕ) → hi < 2 ^ 32 → Admits b hi → (is : IsKept b lo hi s) → Deletes b lo hi s is key (delete_plan b lo hi key s) }
     ensures tidy { (b : Bounds) (lo hi : ℕ) (s : State) (key : List ℕ) → hi < 2 ^ 32 → Admits b hi → (is : IsKept b lo hi s)

@@ -2,17 +2,21 @@
 //!
 //! As code the crate has the range (`Map`) and the single steps of which a client over an engine makes calls: a page of a level
 //! (`page_on`), the child under which a key stands, what a leaf has at a key (`value_in`), the command of a set or a delete there
-//! (`set_in`, `delete_in`), and why a call is refused (`MapRefusal`). Nothing takes memory.
+//! (`set_in`, `delete_in`), and why a call is refused (`MapRefusal`). For ranges it has the step down to a child with the span of its
+//! keys (`Map::step_under`, `Map::step_below`), and where the pairs of a span stand in a leaf (`places_in`); for the tidying behind a
+//! delete whether a leaf is empty (`front_in`), the one beside it (`Map::beside`), and the commands (`takes_both`, `before_takes`,
+//! `root_takes`). Each reads one page, whatever its bytes are. Nothing takes memory.
 //!
 //! The definitions are which ranges are maps and what they hold (`Map`), the way to the leaf of a key and what a get answers
-//! (`Walk`), the command that a set or a delete is (`Plan`), where a page is cut (`Splits`), the turns of a set (`Sets`), the
-//! commands of a delete (`Deletes`), what is read of a map (`Reads`), and how ranges are read leaf by leaf (`Ranges`). The laws: on a
-//! map a get finds what the map has; the command of a set or a delete leaves a map with the change, and is refused only where the
-//! leaf would be too large; a set cuts pages until the pair has room, in commands each of which leaves a map with the old content,
-//! and the last with the pair; a delete takes the key out first, and then the leaf, where it has no cells left and its page another
-//! child; ranges, both ways, are those of the map, and so are the pairs beside a key, at either end and with a prefix. Pages that
-//! are not empty are not joined yet. The crate depends on page_ops for pages and operations, on key_entries for the order of keys,
-//! on call_plans for plans and free objects, on oper_core, and on byteorder for the numbers of children.
+//! (`Walk`), the command that a set or a delete is (`Plan`), where a page is cut (`Splits`), the turns of a set (`Sets`), what one page
+//! tells where spans are carried along (`Steps`), the commands of a delete (`Deletes`), what is read of a map (`Reads`), and how
+//! ranges are read leaf by leaf (`Ranges`). The laws: on a map a get finds what the map has; the command of a set or a delete leaves
+//! a map with the change, and is refused only where the leaf would be too large; a set cuts pages until the pair has room, in
+//! commands each of which leaves a map with the old content, and the last with the pair; a delete takes the key out first, and then
+//! the leaf, where it has no cells left and its page another child, and leaves nothing to tidy; ranges, both ways, are those of the
+//! map, and so are the pairs beside a key, at either end and with a prefix. Pages that are not empty are not joined yet. The crate
+//! depends on page_ops for pages and operations, on key_entries for the order of keys, on call_plans for plans and free objects, on
+//! oper_core, and on byteorder for the numbers of children.
 #![tactic(auto)]
 
 mod beside;
