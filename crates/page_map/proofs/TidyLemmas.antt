@@ -1,5 +1,5 @@
 -- The commands that tidy the way to a key keep the map.
-use Rattle.std.proofs.Common.{◌≡◌, length-append, ◌*◌, ◌≢◌, ◌⊎◌, inl, inr, ℕ, zero, suc, ◌+◌, ◌-◌, ◌^◌, ◌<◌, ◌≤◌, ◌==◌, Bool, true, false, if◌then◌else◌, Option, None, Some, Result, Ok, Err, List, [], ◌∷◌, ◌++◌, T, map, flat_map, length, drop, is_lt, is_some, option_and_then, option_map, refl, sym, ap, ◌∙◌, subst, arith, take_all, true≢false}
+use Rattle.std.proofs.Common.{◌≡◌, length-append, ◌*◌, ◌≢◌, ◌⊎◌, inl, inr, ℕ, zero, suc, ◌+◌, ◌-◌, ◌^◌, ◌<◌, ◌≤◌, ◌==◌, Bool, true, false, if◌then◌else◌, Option, None, Some, Result, Ok, Err, List, [], ◌∷◌, ◌++◌, T, flat_map, length, drop, is_lt, is_some, option_and_then, option_map, refl, sym, ap, ◌∙◌, subst, arith, take_all, true≢false}
 use Rattle.std.specs.Prelude.{⊤, IsTrue, nat_lt, nat_le}
 use Rattle.std.specs.FinMap.{from_entries}
 use Rattle.std.proofs.lemmas.Bool.{eq-eqb, eqb-true, le-ltb, leb-true, ltb-false, ltb-true}
