@@ -4,3 +4,5 @@ pub mod Committing
 pub mod Staged
 pub mod Admitted
 pub mod Whole
+pub mod Snapshots
+pub mod Keeping

@@ -29,7 +29,7 @@ use store_engine::{Engine, ExecErr};
 #[derive(Drop)]
 pub struct Transaction<O: Oper> {
     alloc: Global,
-    ops: VecDeque<O>,
+    pub(crate) ops: VecDeque<O>,
     // So many bytes have their records.
     bytes: u64,
     // The values that they make.
