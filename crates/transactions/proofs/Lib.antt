@@ -8,3 +8,5 @@ mod Appending
 mod OverlayLemmas
 mod Reading
 mod Staging
+mod Kept
+mod GoingOn

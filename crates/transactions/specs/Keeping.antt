@@ -6,7 +6,10 @@ use Rattle.formats.specs.declared.params.Params.{Params}
 use Rattle.dirty_cache.specs.Contents.{Contents, held}
 use Rattle.store_engine.specs.Store.{state_of}
 
--- what was kept is kept as it was, and what is kept beside it is the value after the commands
-pub record KeepsMore {O : Type 0} (meaning : Bounds → Meaning O) (p : Params) (commands : List O) (old new : Contents) : Type 0 where
-  pub same : (x : ℕ) → IsSome (held old x) → held new x ≡ held old x
-  pub values : (x : ℕ) → held old x ≡ None → IfSome (held new x) (λ e. e.bytes ≡ state_of meaning p commands x)
+-- what was kept is kept as it was
+abbrev pub KeepsOld : Contents → Contents → Type 0
+KeepsOld old new = (x : ℕ) → IsSome (held old x) → held new x ≡ held old x
+
+-- what is kept beside it is the value after the commands
+abbrev pub AddsValues : {O : Type 0} → (Bounds → Meaning O) → Params → List O → Contents → Contents → Type 0
+AddsValues meaning p commands old new = (x : ℕ) → held old x ≡ None → IfSome (held new x) (λ e. e.bytes ≡ state_of meaning p commands x)

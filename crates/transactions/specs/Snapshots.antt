@@ -1,18 +1,23 @@
 -- Snapshots: as commands change objects, the values that these had are kept.
-use Rattle.std.specs.Prelude.{◌≡◌, ◌<◌, ◌++◌, ⊤, ℕ, All, List, [], ◌∷◌, length, IfSome, IsSome, Result}
+use Rattle.std.specs.Prelude.{◌≡◌, ◌<◌, ◌++◌, ⊤, ℕ, All, List, [], ◌∷◌, length, Some, IfSome, IsSome, Result, Ok, Err}
 use Rattle.std.specs.Result.{result_err}
 use Rattle.disk_model.specs.Disk.{Disk}
 use Rattle.oper_core.specs.Meaning.{Meaning}
 use Rattle.oper_core.specs.declared.bounds.Bounds.{Bounds}
 use Rattle.formats.specs.declared.params.Params.{Params}
 use Rattle.dirty_cache.specs.Contents.{Contents, held}
+use Rattle.execution.specs.Answers.{ending_of_error}
 use Rattle.execution.specs.declared.exec_err.ExecErr.{ExecErr}
+use Rattle.running_store.specs.Calls.{IsFailed}
 use Rattle.store_engine.specs.Commands.{HasRun}
 use Rattle.store_engine.specs.Engine.{EngineView}
 use Rattle.store_engine.specs.Lists.{AreCalls}
 use Rattle.store_engine.specs.Store.{meaning_in, state_of}
+use Rattle.transactions.specs.Keeping.{KeepsOld}
 use Rattle.transactions.specs.Staged.{OnlyReads}
 use Rattle.transactions.specs.declared.snapshot.Snapshot.{Snapshot}
+use Rattle.transactions.specs.declared.snapshot_err.SnapshotErr.{SnapshotErr}
+use Rattle.transactions.specs.declared.snapshot_err.SnapshotErr.TheVariants.{GivenUp, Read}
 
 -- each of these objects that a store with so many has is kept
 abbrev pub AreKept : ℕ → Contents → List ℕ → Type 0
@@ -30,7 +35,7 @@ module _ {O : Type 0} (meaning : Bounds → Meaning O) (p : Params) where
     pub since : List O
     pub behind : commands ≡ base ++ since
     pub writes : WriteKept kept since
-    pub values : (x : ℕ) → IfSome (held kept x) (λ e. e.bytes ≡ state_of meaning p base x)
+    pub values : (x : ℕ) → x < p.objects → IfSome (held kept x) (λ e. e.bytes ≡ state_of meaning p base x)
 
   -- it is a snapshot of the state after `base` in a store that has `commands` now, unless it was given up
   pub record IsSnapshot (snapshot : Snapshot) (base commands : List O) : Type 0 where
@@ -41,9 +46,15 @@ module _ {O : Type 0} (meaning : Bounds → Meaning O) (p : Params) where
   abbrev pub Covers : Snapshot → List O → Type 0
   Covers snapshot ops = IfSome snapshot.kept (λ kept. WriteKept kept ops)
 
--- what was kept is kept still, unless the snapshot is given up
+-- what it keeps it kept before, or it is kept beside that, unless it was given up
 abbrev pub KeepsOn : Snapshot → Snapshot → Type 0
-KeepsOn old new = IfSome new.kept (λ after. IfSome old.kept (λ before. (x : ℕ) → IsSome (held before x) → IsSome (held after x)))
+KeepsOn old new = IfSome new.kept (λ after. (before : Contents) × (old.kept ≡ Some before) × KeepsOld before after)
+
+-- the disk failed while a value was read
+abbrev pub HasFailed : {T : Type 0} → Result T SnapshotErr → Type 0
+HasFailed (Ok value) = ⊥
+HasFailed (Err GivenUp) = ⊥
+HasFailed (Err (Read cause)) = IsFailed (ending_of_error cause)
 
 -- Beside a snapshot a command first reads values that are to be kept, which leaves what the store stands for, and is then done as it is
 -- done without one: the engine's own contract holds of that, word for word. Here `disk` is what proofs know of a machine.

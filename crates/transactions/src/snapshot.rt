@@ -1,10 +1,11 @@
 // A state of the store is kept, while commands are added.
 ghost use Rattle.std.specs.Prelude.{◌≡◌, ◌≤◌, ◌<◌, ◌⊎◌, ◌++◌, ◌∷◌, [], ⊤, ℕ, List, false, true, length, take, None, Err, IfOk, IfSome, IsErrOf, IsSome, IsTrue, OnErr, OnOk};
+ghost use Rattle.disk_model.specs.Disk.{Passes};
 ghost use Rattle.execution.specs.declared.exec_err.ExecErr.TheVariants.{DiskFault};
 ghost use Rattle.formats.specs.declared.params.Params.{Params};
 ghost use Rattle.store_engine.specs.Engine.{Holds, params_of};
 ghost use Rattle.store_engine.specs.Store.{state_of};
-ghost use Rattle.transactions.specs.Snapshots.{AreKept, Covers, IsSnapshot, KeepsOn, RunsBeside};
+ghost use Rattle.transactions.specs.Snapshots.{AreKept, Covers, HasFailed, IsSnapshot, KeepsOn, RunsBeside};
 ghost use Rattle.transactions.specs.Staged.{OnlyReads};
 
 use crate::keeping::keep_all;
@@ -70,7 +71,7 @@ impl Snapshot {
     ) -> Result<(), SnapshotErr>
         requires unbroken { engine.old.broken ≡ false }
         requires few { length into.old < 4 }
-        ensures reads { OnlyReads O.meaning (M.disk machine.old) (M.disk machine.new) engine.old engine.new (engine.new.broken ≡ true) }
+        ensures reads { OnlyReads O.meaning (M.disk machine.old) (M.disk machine.new) engine.old engine.new (HasFailed result) }
         ensures value { (p : Params) (base commands : List O) → Holds O.meaning p (M.disk machine.old) engine.old commands → IsSnapshot O.meaning p self.now base commands → object < p.objects →
             OnOk result (into.new ≡ into.old ++ state_of O.meaning p base object ∷ []) }
         ensures given_up { self.now.kept ≡ None → result ≡ Err SnapshotErr.GivenUp }
@@ -102,9 +103,10 @@ impl Snapshot {
         let Some(mut kept) = mem::replace(&mut self.kept, None) else {
             return;
         };
-        if keep_all(&mut kept, engine, machine, objects) {
-            self.kept = Some(kept);
+        if !keep_all(&mut kept, engine, machine, objects) {
+            return;
         }
+        self.kept = Some(kept);
     }
 
     /// Does the same for all that the staged commands of a transaction write.
@@ -119,12 +121,13 @@ impl Snapshot {
         ensures covers { Covers O.meaning (params_of engine.old) self.new transaction.now.ops.items }
         ensures snapshot { (p : Params) (base commands : List O) → Holds O.meaning p (M.disk machine.old) engine.old commands → IsSnapshot O.meaning p self.old base commands → IsSnapshot O.meaning p self.new base commands }
     {
-        for op in transaction.ops.iter() {
+        let mut next = 0;
+        while let Some(op) = transaction.ops.get(next) {
             if engine.is_broken() {
-                self.kept = None;
                 return;
             }
             self.keep(engine, machine, op.writes().as_slice());
+            next += 1;
         }
     }
 
@@ -137,6 +140,7 @@ impl Snapshot {
         op: O,
     ) -> Result<u64, ExecErr>
         requires unbroken { engine.old.broken ≡ false }
+        ensures time { Passes (M.disk machine.old) (M.disk machine.new) }
         ensures run { RunsBeside O.meaning M.disk machine.old machine.new engine.old engine.new op result ⊎ ((result ≡ Err DiskFault) × (engine.new.broken ≡ true) × OnlyReads O.meaning (M.disk machine.old) (M.disk machine.new) engine.old engine.new ⊤) }
         ensures done { (p : Params) (base commands : List O) → Holds O.meaning p (M.disk machine.old) engine.old commands → IsSnapshot O.meaning p self.old base commands → OnOk result (IsSnapshot O.meaning p self.new base (commands ++ op ∷ [])) }
         ensures undone { (p : Params) (base commands : List O) → Holds O.meaning p (M.disk machine.old) engine.old commands → IsSnapshot O.meaning p self.old base commands → OnErr result (IsSnapshot O.meaning p self.new base commands) }
@@ -155,9 +159,10 @@ impl Snapshot {
         ensures stands { self.old.at ≤ engine.now.parts.log.accepted → self.new ≡ self.old }
     {
         engine_stands(machine, engine);
-        if engine.accepted() < self.at {
-            self.kept = None;
+        if self.at <= engine.accepted() {
+            return;
         }
+        self.kept = None;
     }
 }
 
