@@ -145,7 +145,8 @@ impl Snapshot {
         ensures done { (p : Params) (base commands : List O) → Holds O.meaning p (M.disk machine.old) engine.old commands → IsSnapshot O.meaning p self.old base commands → OnOk result (IsSnapshot O.meaning p self.new base (commands ++ op ∷ [])) }
         ensures undone { (p : Params) (base commands : List O) → Holds O.meaning p (M.disk machine.old) engine.old commands → IsSnapshot O.meaning p self.old base commands → OnErr result (IsSnapshot O.meaning p self.new base commands) }
     {
-        self.keep(engine, machine, op.writes().as_slice());
+        let writes = op.writes();
+        self.keep(engine, machine, writes.as_slice());
         if engine.is_broken() {
             return Err(ExecErr::DiskFault);
         }

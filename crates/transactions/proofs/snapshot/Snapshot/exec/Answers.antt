@@ -36,7 +36,7 @@ pub returns-clause-done : goal.returns-clause-done
 returns-clause-done g c = λ p base commands holds it.
     on_ok c.exec.result _
     (goes_on g.O.Oper.meaning p c.keep.new.self base commands (c.args.op ∷ []) 1 (c.keep.ensures.snapshot p base commands holds it)
-    (one_covered g.O.Oper.meaning p (params_of c.args.engine.now) holds.shows.shows.store.params c.keep.new.self c.args.op c.as_slice.result.now (c.as_slice.ensures.value ∙ c.writes.ensures (bounds_of p)) c.keep.ensures.kept))
+    (one_covered g.O.Oper.meaning p (params_of c.args.engine.now) holds.shows.shows.store.params c.keep.new.self c.args.op c.as_slice.result.now (c.as_slice.ensures.value ∙ c.writes-writes.ensures (bounds_of p)) c.keep.ensures.kept))
 
 pub returns-clause-undone : goal.returns-clause-undone
 returns-clause-undone g c = λ p base commands holds it. on_err c.exec.result _ (c.keep.ensures.snapshot p base commands holds it)
