@@ -1,5 +1,5 @@
 -- Values that are kept, and what a snapshot has of them.
-use Rattle.std.proofs.Common.{◌≡◌, ◌∙◌, ◌==◌, sym, subst, ap, ℕ, ◌<◌, true, false, Bool, List, [], ◌∷◌, ◌++◌, fold, take, zero, suc, ◌+◌, length, slice_index, get_or, All, true≢false, refl, inl, inr, ◌⊎◌, ⊎_elim, Option, None, Some, nat_eq}
+use Rattle.std.proofs.Common.{◌≡◌, ◌∙◌, ◌==◌, sym, subst, ap, ℕ, ◌<◌, true, false, List, [], ◌∷◌, ◌++◌, fold, take, zero, suc, ◌+◌, length, slice_index, get_or, true≢false, refl, inl, inr, ◌⊎◌, ⊎_elim, Option, None, Some, nat_eq}
 use Rattle.std.specs.Prelude.{IfSome, IsSome, is_some}
 use Rattle.std.specs.Option.{option_map_or}
 use Rattle.std.proofs.lemmas.Bool.{cases_Bool, cond-true, cond-false, eqb-true, false_from_ne_true}

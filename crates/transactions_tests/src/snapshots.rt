@@ -97,7 +97,10 @@ fn seen<M: Machine>(
             return None;
         }
         let mut values = Values::new(alloc);
-        if snapshot.value(engine, machine, object, &mut values).is_err() {
+        if snapshot
+            .value(engine, machine, object, &mut values)
+            .is_err()
+        {
             return None;
         }
         if values.len() != 1 || values.get(0).len() != 1 {

@@ -1,4 +1,4 @@
-use Rattle.std.proofs.Common.{◌∙◌, sym, refl, true, [], None, Some}
+use Rattle.std.proofs.Common.{◌∙◌, refl, [], None, Some}
 use Rattle.transactions.proofs.Kept.{fetched_or_broken, one_old, one_value, values_same}
 use Rattle.transactions.proofs.keeping.keep_one.Goals as goal
 

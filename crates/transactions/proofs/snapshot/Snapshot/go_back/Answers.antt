@@ -1,4 +1,4 @@
-use Rattle.std.proofs.Common.{◌∙◌, sym, arith, take, length}
+use Rattle.std.proofs.Common.{arith, take}
 use Rattle.transactions.proofs.GoingOn.{goes_back}
 use Rattle.transactions.proofs.snapshot.Snapshot.go_back.Goals as goal
 

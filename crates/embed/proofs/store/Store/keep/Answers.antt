@@ -1,0 +1,17 @@
+use Rattle.disk_model.specs.Moments.{passes_none}
+use Rattle.embed.proofs.store.Store.keep.Goals as goal
+
+pub returns-then-is_broken-clause-time : goal.returns-then-is_broken-clause-time
+returns-then-is_broken-clause-time g c = passes_none _
+
+pub returns-then-is_broken-clause-snapshot : goal.returns-then-is_broken-clause-snapshot
+returns-then-is_broken-clause-snapshot g c = λ p base commands holds it. it
+
+pub returns-clause-time : goal.returns-clause-time
+returns-clause-time g c = c.keep.ensures.reads.kept.time
+
+pub returns-clause-reads : goal.returns-clause-reads
+returns-clause-reads g c = λ unbroken. c.keep.ensures.reads
+
+pub returns-clause-snapshot : goal.returns-clause-snapshot
+returns-clause-snapshot g c = c.keep.ensures.snapshot
