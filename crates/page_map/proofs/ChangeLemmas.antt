@@ -127,7 +127,7 @@ place_most key [] = omega arith
 place_most key (c ∷ cells) =
     elim (is_lt (byte_order c.0 key)) as (λ t. (if t then suc (place_for key cells) else 0) ≤ suc (length cells)) [ true ↦ omega (arith, place_most key cells) | false ↦ omega arith ]
 
-place_in : (key : List ℕ) (cells : List Cell) → has key cells ≡ true → place_for key cells < length cells
+pub place_in : (key : List ℕ) (cells : List Cell) → has key cells ≡ true → place_for key cells < length cells
 place_in key [] there = cc
 place_in key (c ∷ cells) there =
     elim (is_lt (byte_order c.0 key)) as (λ t. is_lt (byte_order c.0 key) ≡ t → (if t then suc (place_for key cells) else 0) < suc (length cells)) [
@@ -295,10 +295,10 @@ module _ (searches : Searches) (changes : Changes) (lo hi : ℕ) (small : hi < 2
   pages_short : All IsShortPage (page ∷ [])
   pages_short = All-cons IsShortPage page [] here.held.short (All-nil IsShortPage)
 
-  stands : stands_at bytes place key ≡ has key whole
+  pub stands : stands_at bytes place key ≡ has key whole
   stands = ap (λ (b : List ℕ). stands_at b place key) here.held.code ∙ changes.there page key here.held.short here.held.rise
 
-  found_place : seek bytes key ≡ Some place
+  pub found_place : seek bytes key ≡ Some place
   found_place = ap (λ (b : List ℕ). seek b key) here.held.code ∙ changes.place page key here.held.short here.held.rise
 
   -- what is read: where the key is there, the object is not empty

@@ -19,13 +19,13 @@ cells_rise : (c : Cell) (cells : List Cell) → T (is_sorted byte_order (c ∷ c
 cells_rise c cells rise = (first (below_all byte_order c.0 cells) (is_sorted byte_order cells) rise, second (below_all byte_order c.0 cells) (is_sorted byte_order cells) rise)
 
 -- the first of some cells, and the others
-place_first : (key : List ℕ) (c : Cell) (cells : List Cell) → is_lt (byte_order c.0 key) ≡ true → place_for key (c ∷ cells) ≡ suc (place_for key cells)
+pub place_first : (key : List ℕ) (c : Cell) (cells : List Cell) → is_lt (byte_order c.0 key) ≡ true → place_for key (c ∷ cells) ≡ suc (place_for key cells)
 place_first key c cells below = ap (λ (t : Bool). if t then suc (place_for key cells) else 0) below
 
-place_none : (key : List ℕ) (c : Cell) (cells : List Cell) → is_lt (byte_order c.0 key) ≡ false → place_for key (c ∷ cells) ≡ 0
+pub place_none : (key : List ℕ) (c : Cell) (cells : List Cell) → is_lt (byte_order c.0 key) ≡ false → place_for key (c ∷ cells) ≡ 0
 place_none key c cells reached = ap (λ (t : Bool). if t then suc (place_for key cells) else 0) reached
 
-put_by : (key value : List ℕ) (c : Cell) (cells : List Cell) (o : Ordering) → byte_order key c.0 ≡ o
+pub put_by : (key value : List ℕ) (c : Cell) (cells : List Cell) (o : Ordering) → byte_order key c.0 ≡ o
     → put byte_order key value (c ∷ cells) ≡ by_order o ((key, value) ∷ c ∷ cells) ((c.0, value) ∷ cells) (c ∷ put byte_order key value cells)
 put_by key value c cells o e = ap (λ (o : Ordering). by_order o ((key, value) ∷ c ∷ cells) ((c.0, value) ∷ cells) (c ∷ put byte_order key value cells)) e
 
@@ -125,10 +125,10 @@ under_first q c cells j e =
       | false ↦ λ e. (refl, e)
     ] e
 
-under_with : (q : List ℕ) (c : Cell) (cells : List Cell) → is_lt (byte_order q c.0) ≡ false → last_under q (c ∷ cells) ≡ next_under (last_under q cells)
+pub under_with : (q : List ℕ) (c : Cell) (cells : List Cell) → is_lt (byte_order q c.0) ≡ false → last_under q (c ∷ cells) ≡ next_under (last_under q cells)
 under_with q c cells e = ap (λ (t : Bool). if t then None else next_under (last_under q cells)) e
 
-under_above : (q : List ℕ) (c : Cell) (cells : List Cell) → is_lt (byte_order q c.0) ≡ true → last_under q (c ∷ cells) ≡ None
+pub under_above : (q : List ℕ) (c : Cell) (cells : List Cell) → is_lt (byte_order q c.0) ≡ true → last_under q (c ∷ cells) ≡ None
 under_above q c cells e = ap (λ (t : Bool). if t then None else next_under (last_under q cells)) e
 
 next_some : (o : Option ℕ) (j : ℕ) → next_under o ≡ Some (suc j) → o ≡ Some j

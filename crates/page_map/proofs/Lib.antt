@@ -11,6 +11,9 @@ pub mod OpLemmas
 pub mod DueLemmas
 pub mod SettleLemmas
 pub mod TurnLemmas
+pub mod CellLemmas
+pub mod RowLemmas
+pub mod RoomLemmas
 pub mod SetLemmas
 pub mod StepLemmas
 pub mod LeafLemmas
@@ -19,4 +22,5 @@ pub mod ReadLemmas
 pub mod GoneLemmas
 pub mod TidyLemmas
 pub mod DeleteLemmas
+pub mod DescentLemmas
 pub mod SeekBound

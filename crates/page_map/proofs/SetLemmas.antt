@@ -1,9 +1,9 @@
 -- What comes next in a set: on a map that calls keep, commands that keep it, the command that puts the pair in, or a refusal by its cause.
-use Rattle.std.proofs.Common.{◌≡◌, ◌≢◌, inl, inr, ℕ, zero, suc, ◌+◌, ◌-◌, ◌*◌, ◌^◌, ◌<◌, ◌≤◌, ◌==◌, Bool, true, false, ◌&&◌, ◌||◌, if◌then◌else◌, Option, None, Some, List, [], ◌∷◌, ◌++◌, length, take, unwrap_or, refl, sym, ap, ◌∙◌, subst, arith, length-append}
+use Rattle.std.proofs.Common.{◌≡◌, ◌≢◌, inl, inr, ℕ, zero, suc, ◌+◌, ◌-◌, ◌*◌, ◌^◌, ◌<◌, ◌≤◌, ◌==◌, Bool, true, false, ◌&&◌, ◌||◌, if◌then◌else◌, Option, None, Some, Ok, List, [], ◌∷◌, ◌++◌, length, take, unwrap_or, refl, sym, ap, ◌∙◌, subst, arith, length-append}
 use Rattle.std.specs.Prelude.{IsTrue, nat_lt, nat_le}
 use Rattle.std.specs.FinMap.{from_entries, insert}
 use Rattle.std.specs.FinMap.Entries.{put}
-use Rattle.std.proofs.lemmas.Bool.{leb-true, le-ltb, ltb-true, ltb-false}
+use Rattle.std.proofs.lemmas.Bool.{leb-true, leb-false, le-ltb, ltb-true, ltb-false}
 use Rattle.oper_core.specs.State.{State}
 use Rattle.oper_core.specs.Meaning.{Accepts, after, read_values}
 use Rattle.oper_core.specs.declared.bounds.Bounds.{Bounds}
@@ -16,25 +16,28 @@ use Rattle.call_plans.specs.Free.{free_from}
 use Rattle.call_plans.specs.FreeLaws.{first_free}
 use Rattle.page_ops.specs.Page.{Cell, page_of}
 use Rattle.page_ops.specs.Reading.{level_in}
+use Rattle.page_ops.specs.Search.{place_for}
 use Rattle.page_ops.specs.Effects.{made_by, where_short}
 use Rattle.page_ops.specs.Operation.{page_meaning, value_made, written_by}
 use Rattle.page_ops.specs.OperationLaws.{short_made}
 use Rattle.page_ops.specs.declared.page_op.PageOp.{PageOp}
-use Rattle.page_ops.specs.declared.page_op.PageOp.TheVariants.{Part, Keep, TurnTwo, Root}
+use Rattle.page_ops.specs.declared.page_op.PageOp.TheVariants.{Put, Set, Part, Keep, TurnTwo, Root}
 use Rattle.page_map.specs.Map.{IsHeld, Tree, StandIn, all_keys, all_past, bytes_at, cells_in, content_of, root_of}
-use Rattle.page_map.specs.Plan.{Admits, set_command}
-use Rattle.page_map.specs.Splits.{Split, Due, fits, asks, granted, cells_read, due_from, has_room, size_of}
-use Rattle.page_map.specs.Sets.{Turn, does, ends, refuses, Inserts, IsCause, IsKept, IsTurn, Keeps, child_split, is_pair, is_short_key, is_short_pair, room_of, due_in, by_turn, root_split, set_by, set_from, set_plan, set_turn, Sets, turn_of}
+use Rattle.page_map.specs.Plan.{Admits, set_at}
+use Rattle.page_map.specs.Walk.{walk}
+use Rattle.page_map.specs.Splits.{Split, Due, fits, asks, granted, bad_from, cells_read, due_from, has_room, size_of}
+use Rattle.page_map.specs.Sets.{Turn, does, ends, refuses, Inserts, IsCause, IsKept, IsTurn, Keeps, child_split, is_pair, is_short_key, is_short_pair, room_of, cut_turn, due_in, by_turn, length_with, put_turn, root_split, set_by, set_from, set_plan, set_turn, Sets, unless_bad}
 use Rattle.page_map.specs.declared.refusal.MapRefusal.{MapRefusal}
-use Rattle.page_map.specs.declared.refusal.MapRefusal.TheVariants.{MapFull, TooLong}
-use Rattle.page_map.proofs.MapLemmas.{Searches, IsLeafFor, in_all, map_leaf, root_held}
+use Rattle.page_map.specs.declared.refusal.MapRefusal.TheVariants.{BadMap, MapFull, TooLong}
+use Rattle.page_map.proofs.MapLemmas.{Searches, IsLeafFor, in_all, map_leaf, root_held, walk_is}
 use Rattle.page_map.proofs.CutLemmas.{ReadsCells, cells_are, page_size}
-use Rattle.page_map.proofs.ChangeLemmas.{Changes, read_as, set_command_is, set_content, set_fits, set_is_done, set_op, whole}
+use Rattle.page_map.proofs.ChangeLemmas.{Changes, found_place, read_as, set_content, set_fits, set_is_done, set_op, stands, whole}
 use Rattle.page_map.proofs.TreeLemmas.{live_in, past_in, whole_is}
 use Rattle.page_map.proofs.OpLemmas.{fits_room, room_low}
 use Rattle.page_map.proofs.WayLemmas.{IsLess, Settled, rank}
 use Rattle.page_map.proofs.SettleLemmas.{rank_low}
 use Rattle.page_map.proofs.DueLemmas.{DueFound, IsAsked, IsDue, IsGranted, due_found, none_past}
+use Rattle.page_map.proofs.RoomLemmas.{length_is, none_bad}
 use Rattle.page_map.proofs.TurnLemmas.{IsTree, cut_keeps, cut_settles, kept_by, made3, page_fits, root_keeps, root_settles, top_pairs, top_tree, tree_of, trim_keeps, trim_settles, trim_tree}
 
 -- no cell is past the span of the root
@@ -96,9 +99,13 @@ module _ (searches : Searches) (changes : Changes) (reads : ReadsCells) (b : Bou
 
   -- ---- turns that cut a page
 
+  -- what is due on a map
+  abbrev due_of : State → Option Due
+  due_of new = due_from room lo new key value (level_in (bytes_at lo new lo)) lo None
+
   -- behind a turn what is due is less
   abbrev LessAt : ℕ → State → Type 0
-  LessAt n new = (d : Due) × (due_in b lo hi key value new ≡ Some d) × IsLess n d
+  LessAt n new = (d : Due) × (due_of new ≡ Some d) × IsLess n d
 
   less_at : (new : State) (l : ℕ) (p : Tree l) (n : ℕ) → IsTree b lo hi new l p → Settled reads lo hi small room key value new n l (root_of l p) None → LessAt n new
   less_at new l p n made settled =
@@ -218,14 +225,21 @@ module _ (searches : Searches) (changes : Changes) (reads : ReadsCells) (b : Bou
         let part = both_true (is_short_key room key) (nat_le (4 * length value) room) short_pair in
         omega (arith, leb-true (4 * length value) room part.1, room_low b.cap)
 
+    abbrev cells : List Cell
+    cells = whole searches changes lo hi small b s key is.map
+
+    -- how long the leaf becomes
+    abbrev new_size : ℕ
+    new_size = 4 + size_of (put byte_order key value cells)
+
+    read : cells_read (bytes_at lo s leaf) ≡ cells
+    read = ap cells_read here.held.code ∙ cells_are reads 0 cells here.held.short
+
     -- where the leaf has room it is accepted
-    accepted : 4 + size_of (put byte_order key value (cells_read (bytes_at lo s leaf))) ≤ room → Accepts (page_meaning b) s op
+    accepted : new_size ≤ room → Accepts (page_meaning b) s op
     accepted roomy =
-        let cells : List Cell = whole searches changes lo hi small b s key is.map in
-        let read : cells_read (bytes_at lo s leaf) ≡ cells = ap cells_read here.held.code ∙ cells_are reads 0 cells here.held.short in
         set_fits searches changes lo hi small b s key is.map value admits key_length value_length
-        (fits_room (length (page_of 0 (put byte_order key value cells))) b.cap
-        (omega (arith, roomy, page_size 0 (put byte_order key value cells), ap (λ (l : List Cell). size_of (put byte_order key value l)) read)))
+        (fits_room (length (page_of 0 (put byte_order key value cells))) b.cap (omega (arith, roomy, page_size 0 (put byte_order key value cells))))
 
     puts_in : Accepts (page_meaning b) s op → Inserts b lo hi s is key value op
     puts_in accepted =
@@ -236,10 +250,10 @@ module _ (searches : Searches) (changes : Changes) (reads : ReadsCells) (b : Bou
           content = set_content searches changes lo hi small b s key is.map value op done;
         }
 
-    due_turn : (d : Due) → IsDue reads lo hi small s room key value leaf level all_keys t d → Goes (rank_of d) (turn_of op lo free (Some d))
-    due_turn fits roomy = puts_in (accepted roomy)
-    due_turn (asks w) asked = root_turn w asked free refl
-    due_turn (granted w q i) given =
+    cut_goes : (d : Due) → IsDue reads lo hi small s room key value leaf level all_keys t d → room < new_size → Goes (rank_of d) (cut_turn lo free (Ok d))
+    cut_goes fits roomy full = absurd (omega (arith, roomy, full, ap (λ (l : List Cell). size_of (put byte_order key value l)) read))
+    cut_goes (asks w) asked full = root_turn w asked free refl
+    cut_goes (granted w q i) given full =
         elim w.has_past as (λ p. w.has_past ≡ p → Goes (rank w) (if p then does (Keep w.object w.count ∷ []) else child_split w q i free)) [
           | true ↦ λ p. trim_turn w q i given p
           | false ↦ λ p. child_turn w q i given p free refl
@@ -257,16 +271,41 @@ module _ (searches : Searches) (changes : Changes) (reads : ReadsCells) (b : Bou
     found =
         due_found reads lo hi small s room key value leaf searches short_pair pages_fit level all_keys t is.map.holds is.map.stand is.short (in_all key) here.walk
 
-    due_is : due_in b lo hi key value s ≡ Some found.due
-    due_is = (λ k. due_from room lo s key value (top_level k) (sym is.map.root k) None) ∙ found.comes
+    due_root : due_of s ≡ Some found.due
+    due_root = (λ k. due_from room lo s key value (top_level k) (sym is.map.root k) None) ∙ found.comes
 
-    turn_is : set_turn b lo hi key value s ≡ turn_of op lo free (Some found.due)
+    none_is_bad : bad_from lo hi s key (level_in (bytes_at lo s lo)) lo ≡ None
+    none_is_bad =
+        (λ k. bad_from lo hi s key (top_level k) (sym is.map.root k)) ∙ none_bad searches reads lo hi small s key level all_keys t is.map.holds is.map.stand (in_all key)
+
+    due_is : due_in b lo hi key value s ≡ Ok found.due
+    due_is = λ k. unless_bad lo (none_is_bad k) (due_root k)
+
+    -- the turn, by the room in the leaf
+    abbrev turn_by : Bool → Turn
+    turn_by roomy = if roomy then ends op else cut_turn lo free (Ok found.due)
+
+    turn_is : set_turn b lo hi key value s ≡ turn_by (nat_le new_size room)
     turn_is =
-        ap (λ (p : Bool). if p then set_by b lo hi key value s (set_command lo hi s key value) else refuses TooLong) pair
-        ∙ ap (set_by b lo hi key value s) (set_command_is searches changes lo hi small b s key is.map value) ∙ ap (turn_of op lo free) due_is
+        let place : ℕ = place_for key cells in
+        let size : length_with (bytes_at lo s leaf) key value place ≡ new_size = length_is changes reads key value (bytes_at lo s leaf) cells here.held in
+        let put_in : set_at leaf (bytes_at lo s leaf) key value place ≡ op =
+        ap (λ (there : Bool). if there then Set leaf place value else Put leaf place key value) (stands searches changes lo hi small b s key is.map) in
+        ap (λ (p : Bool). if p then set_by b lo hi key value s (walk lo hi s key) else refuses TooLong) pair
+        ∙ ap (set_by b lo hi key value s) (walk_is searches lo hi small s key is.map)
+        ∙ ap (put_turn b lo hi key value s leaf) (found_place searches changes lo hi small b s key is.map)
+        ∙ (λ k. if nat_le (size k) room then ends (put_in k) else cut_turn lo free (due_is k))
+
+    by_room : (P : Turn → Type 0) → (new_size ≤ room → P (ends op)) → (room < new_size → P (cut_turn lo free (Ok found.due))) → P (set_turn b lo hi key value s)
+    by_room P roomy full =
+        subst P (sym turn_is)
+        (elim (nat_le new_size room) as (λ t. nat_le new_size room ≡ t → P (turn_by t)) [
+          | true ↦ λ e. roomy (leb-true new_size room e)
+          | false ↦ λ e. full (leb-false new_size room e)
+        ] refl)
 
     set_goes : Goes (rank_of found.due) (set_turn b lo hi key value s)
-    set_goes = subst (λ (r : Turn). Goes (rank_of found.due) r) (sym turn_is) (due_turn found.due found.is)
+    set_goes = by_room (Goes (rank_of found.due)) (λ roomy. puts_in (accepted roomy)) (cut_goes found.due found.is)
 
     -- what is due at first
     first_rank : (d : Due) → IsDue reads lo hi small s room key value leaf level all_keys t d → rank_of d ≤ 2 * level + 1
@@ -288,7 +327,7 @@ module _ (searches : Searches) (changes : Changes) (reads : ReadsCells) (b : Bou
         | true ↦ λ p. only_turn (rank_of (found p).due) (set_turn b lo hi key value s) (set_goes p)
         | false ↦ λ p.
             subst (λ (r : Turn). IsTurn b lo hi s is key value r)
-            (sym (ap (λ (q : Bool). if q then set_by b lo hi key value s (set_command lo hi s key value) else refuses TooLong) p)) p
+            (sym (ap (λ (q : Bool). if q then set_by b lo hi key value s (walk lo hi s key) else refuses TooLong) p)) p
       ] refl
 
 -- ---- turns one after the other
@@ -400,7 +439,7 @@ module _ (searches : Searches) (changes : Changes) (reads : ReadsCells) (b : Bou
     -- the rest of a call, of n turns
     abbrev IsRest : ℕ → Type 0
     IsRest n =
-        (k : ℕ) (s : State) (is : IsKept b lo hi s) (d : Due) → due_in b lo hi key value s ≡ Some d → IsLess k d → k < n → Sets b lo hi s is key value (planned n s) (3 * k + 1)
+        (k : ℕ) (s : State) (is : IsKept b lo hi s) (d : Due) → due_of searches changes reads b lo hi small admits s is key value s ≡ Some d → IsLess k d → k < n → Sets b lo hi s is key value (planned n s) (3 * k + 1)
 
     abbrev behind : ℕ → State → List PageOp → Plan PageOp MapRefusal
     behind n s ops = planned n (after_all (page_meaning b) s ops)
@@ -413,41 +452,41 @@ module _ (searches : Searches) (changes : Changes) (reads : ReadsCells) (b : Bou
     one_turn n m k s is rest (ends op) goes less low = fewer b lo hi key value s is (op ∷ []) None 1 (3 * m + 1) (ended_at b lo hi key value s is op goes) (omega arith)
     one_turn n m k s is rest (refuses r) goes less low = fewer b lo hi key value s is [] (Some r) 0 (3 * m + 1) (refused_at b lo hi key value s is r goes) (omega arith)
 
-    -- the turn of what is due
-    by_due : (n k : ℕ) (s : State) (is : IsKept b lo hi s) → IsRest n → (d : Due) → GoesAt s is (rank_at s is d) (turn_of (op_at s is) lo (free_from s (suc lo) (hi - lo)) (Some d)) → IsLess k d → k < suc n
-        → Sets b lo hi s is key value (by_turn b lo hi (behind n s) (turn_of (op_at s is) lo (free_from s (suc lo) (hi - lo)) (Some d))) (3 * k + 1)
-    by_due n k s is rest fits goes less low = fewer b lo hi key value s is (op_at s is ∷ []) None 1 (3 * k + 1) (ended_at b lo hi key value s is (op_at s is) goes) (omega arith)
-    by_due n k s is rest (asks w) goes less low = absurd less
-    by_due n k s is rest (granted w q i) goes less low =
-        one_turn n k (rank w) s is rest (turn_of (op_at s is) lo (free_from s (suc lo) (hi - lo)) (Some (granted w q i))) goes less (omega (arith, less, low))
+    -- the turn of what is due, where the leaf has no room
+    cut_due : (n k : ℕ) (s : State) (is : IsKept b lo hi s) → IsRest n → (d : Due) → GoesAt s is (rank_at s is d) (cut_turn lo (free_from s (suc lo) (hi - lo)) (Ok d)) → IsLess k d → k < suc n
+        → Sets b lo hi s is key value (by_turn b lo hi (behind n s) (cut_turn lo (free_from s (suc lo) (hi - lo)) (Ok d))) (3 * k + 1)
+    cut_due n k s is rest fits goes less low = fewer b lo hi key value s is [] (Some (BadMap lo)) 0 (3 * k + 1) (refused_at b lo hi key value s is (BadMap lo) goes) (omega arith)
+    cut_due n k s is rest (asks w) goes less low = absurd less
+    cut_due n k s is rest (granted w q i) goes less low =
+        one_turn n k (rank w) s is rest (cut_turn lo (free_from s (suc lo) (hi - lo)) (Ok (granted w q i))) goes less (omega (arith, less, low))
 
-    turn_at : (n most : ℕ) (s : State) (is : IsKept b lo hi s)
-        → Sets b lo hi s is key value (by_turn b lo hi (behind n s) (turn_of (op_at s is) lo (free_from s (suc lo) (hi - lo)) (Some (found_at s is).due))) most → Sets b lo hi s is key value (planned (suc n) s) most
-    turn_at n most s is sets =
-        subst (λ (r : Turn). Sets b lo hi s is key value (by_turn b lo hi (behind n s) r) most) (sym (turn_is searches changes reads b lo hi small admits s is key value pair)) sets
-
-    goes_at : (s : State) (is : IsKept b lo hi s) → GoesAt s is (rank_at s is (found_at s is).due) (turn_of (op_at s is) lo (free_from s (suc lo) (hi - lo)) (Some (found_at s is).due))
-    goes_at s is = due_turn searches changes reads b lo hi small admits s is key value pair (found_at s is).due (found_at s is).is
+    by_due : (n k : ℕ) (s : State) (is : IsKept b lo hi s) → IsRest n → IsLess k (found_at s is).due → k < suc n → Sets b lo hi s is key value (planned (suc n) s) (3 * k + 1)
+    by_due n k s is rest less low =
+        by_room searches changes reads b lo hi small admits s is key value pair (λ r. Sets b lo hi s is key value (by_turn b lo hi (behind n s) r) (3 * k + 1))
+        (λ roomy.
+        fewer b lo hi key value s is (op_at s is ∷ []) None 1 (3 * k + 1)
+        (ended_at b lo hi key value s is (op_at s is)
+        (puts_in searches changes reads b lo hi small admits s is key value pair (accepted searches changes reads b lo hi small admits s is key value pair roomy))) (omega arith))
+        (λ full.
+        cut_due n k s is rest (found_at s is).due (cut_goes searches changes reads b lo hi small admits s is key value pair (found_at s is).due (found_at s is).is full) less low)
 
     sets_from : (n : ℕ) → IsRest n
     sets_from zero k s is d comes less low = absurd (omega (arith, low))
     sets_from (suc n) k s is d comes less low =
         let here = found_at s is in
-        let same : d ≡ here.due = same_some d here.due (sym comes ∙ due_is searches changes reads b lo hi small admits s is key value pair) in
-        turn_at n (3 * k + 1) s is (by_due n k s is (sets_from n) here.due (goes_at s is) (subst (λ (d : Due). IsLess k d) same less) low)
+        let same : d ≡ here.due = same_some d here.due (sym comes ∙ due_root searches changes reads b lo hi small admits s is key value pair) in
+        by_due n k s is (sets_from n) (subst (λ (d : Due). IsLess k d) same less) low
 
     sets_pair : (s : State) (is : IsKept b lo hi s) → Sets b lo hi s is key value (set_plan b lo hi key value s) (6 * is.map.level + 7)
     sets_pair s is =
         let n : ℕ = 2 * is.map.level + 2 in
         let first = at_first searches changes reads b lo hi small admits s is key value pair in
         let here = found_at s is in
-        let free : List ℕ = free_from s (suc lo) (hi - lo) in
         let fuel : suc n ≡ 2 * level_in (bytes_at lo s lo) + 3 = omega (arith, top_level searches changes reads b lo hi small admits s is key value) in
         let bound : 3 * n + 1 ≡ 6 * is.map.level + 7 = omega arith in
         subst (λ (most : ℕ). Sets b lo hi s is key value (set_plan b lo hi key value s) most) bound
         (subst (λ (k : ℕ). Sets b lo hi s is key value (planned k s) (3 * n + 1)) fuel
-        (turn_at n (3 * n + 1) s is
-        (one_turn n n (rank_at s is here.due) s is (sets_from n) (turn_of (op_at s is) lo free (Some here.due)) (goes_at s is) (omega (arith, first)) (omega (arith, first)))))
+        (one_turn n n (rank_at s is here.due) s is (sets_from n) (set_turn b lo hi key value s) (set_goes searches changes reads b lo hi small admits s is key value pair) (omega (arith, first)) (omega (arith, first))))
 
   pub set_is_planned : (s : State) (is : IsKept b lo hi s) → Sets b lo hi s is key value (set_plan b lo hi key value s) (6 * is.map.level + 7)
   set_is_planned s is =
@@ -456,7 +495,7 @@ module _ (searches : Searches) (changes : Changes) (reads : ReadsCells) (b : Bou
         | false ↦ λ p.
             let fuel : suc (2 * level_in (bytes_at lo s lo) + 2) ≡ 2 * level_in (bytes_at lo s lo) + 3 = omega arith in
             let turn : refuses TooLong ≡ set_turn b lo hi key value s =
-            sym (ap (λ (q : Bool). if q then set_by b lo hi key value s (set_command lo hi s key value) else refuses TooLong) p) in
+            sym (ap (λ (q : Bool). if q then set_by b lo hi key value s (walk lo hi s key) else refuses TooLong) p) in
             let n : ℕ = 2 * level_in (bytes_at lo s lo) + 2 in
             subst (λ (k : ℕ). Sets b lo hi s is key value (set_from b lo hi key value k s) (6 * is.map.level + 7)) fuel
             (subst (λ (r : Turn). Sets b lo hi s is key value (by_turn b lo hi (λ ops. set_from b lo hi key value n (after_all (page_meaning b) s ops)) r) (6 * is.map.level + 7)) turn

@@ -3,6 +3,8 @@ pub mod Walk
 pub mod Plan
 pub mod Splits
 pub mod Sets
+pub mod Rows
+pub mod Cutting
 pub mod Reads
 pub mod Steps
 pub mod Ranges

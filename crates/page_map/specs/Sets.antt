@@ -1,6 +1,6 @@
 -- What a set does, one turn after the other: it ends with the command that puts the pair in, where the leaf has room for it;
 -- else a page is cut in two, and the call begins again.
-use Rattle.std.specs.Prelude.{◌≡◌, ◌⊎◌, ℕ, zero, suc, ◌+◌, ◌*◌, ◌-◌, ◌≤◌, ◌<◌, Bool, false, ◌&&◌, Option, None, Some, Result, Ok, Err, IsTrue, List, [], ◌∷◌, ◌++◌, take, length, nat_le, nat_lt, if◌then◌else◌}
+use Rattle.std.specs.Prelude.{◌≡◌, ◌⊎◌, ℕ, zero, suc, ◌+◌, ◌*◌, ◌-◌, ◌≤◌, ◌<◌, Bool, false, ◌&&◌, Option, None, Some, Result, Ok, Err, IsTrue, List, [], ◌∷◌, ◌++◌, take, length, nat_le, nat_lt, if◌then◌else◌, option_map}
 use Rattle.std.specs.List.{list_all}
 use Rattle.std.specs.FinMap.{insert}
 use Rattle.oper_core.specs.State.{State}
@@ -10,13 +10,14 @@ use Rattle.call_plans.specs.Free.{free_from}
 use Rattle.call_plans.specs.Laws.{AllAccepted, after_all}
 use Rattle.call_plans.specs.Plan.{Plan, one_command, refused_by}
 use Rattle.page_ops.specs.Page.{Cell}
-use Rattle.page_ops.specs.Reading.{level_in}
+use Rattle.page_ops.specs.Reading.{beside_of, level_in, seek, stands_at}
 use Rattle.page_ops.specs.Operation.{page_meaning}
 use Rattle.page_ops.specs.declared.page_op.PageOp.{PageOp}
 use Rattle.page_ops.specs.declared.page_op.PageOp.TheVariants.{Part, Keep, TurnTwo, Root}
 use Rattle.page_map.specs.Map.{Tree, Each, bytes_at, IsMap, content_of}
-use Rattle.page_map.specs.Plan.{set_command}
-use Rattle.page_map.specs.Splits.{Split, Due, fits, asks, granted, due_from}
+use Rattle.page_map.specs.Plan.{set_at}
+use Rattle.page_map.specs.Walk.{walk}
+use Rattle.page_map.specs.Splits.{Split, Due, fits, asks, granted, bad_from, cell_size, due_from}
 use Rattle.page_map.specs.declared.refusal.MapRefusal.{MapRefusal}
 use Rattle.page_map.specs.declared.refusal.MapRefusal.TheVariants.{BadMap, MapFull, NoKey, TooLong}
 
@@ -53,24 +54,48 @@ root_split w (left ∷ right ∷ free) =
     else refuses MapFull
 root_split w others = refuses MapFull
 
--- cells past the span go before a page is cut
-abbrev pub turn_of : PageOp → ℕ → List ℕ → Option Due → Turn
-turn_of op lo free None = refuses (BadMap lo)
-turn_of op lo free (Some fits) = ends op
-turn_of op lo free (Some (asks w)) = root_split w free
-turn_of op lo free (Some (granted w q i)) = if w.has_past then does (Keep w.object w.count ∷ []) else child_split w q i free
+-- Where the leaf has no room a page is cut, and before that cells past its span go. If a second reading of the leaf finds room
+-- there the range is no map.
+abbrev pub cut_turn : ℕ → List ℕ → Result Due ℕ → Turn
+cut_turn lo free (Err bad) = refuses (BadMap bad)
+cut_turn lo free (Ok fits) = refuses (BadMap lo)
+cut_turn lo free (Ok (asks w)) = root_split w free
+cut_turn lo free (Ok (granted w q i)) = if w.has_past then does (Keep w.object w.count ∷ []) else child_split w q i free
+
+-- what is due where no object on the way is bad
+abbrev pub unless_bad : ℕ → Option ℕ → Option Due → Result Due ℕ
+unless_bad lo (Some bad) due = Err bad
+unless_bad lo None None = Err lo
+unless_bad lo None (Some due) = Ok due
+
+-- how long a leaf becomes where a pair is put at the place of its key
+abbrev pub length_with : List ℕ → List ℕ → List ℕ → ℕ → ℕ
+length_with bytes key value i =
+    if stands_at bytes i key then length bytes - length (beside_of bytes i) + length value else length bytes + cell_size (key, value)
+
+-- a leaf has room for a pair; none where a cell that is asked does not fit
+abbrev pub room_in : ℕ → List ℕ → List ℕ → List ℕ → Option Bool
+room_in room bytes key value = option_map (λ i. nat_le (length_with bytes key value i) room) (seek bytes key)
 
 module _ (b : Bounds) (lo hi : ℕ) where
-  abbrev pub due_in : List ℕ → List ℕ → State → Option Due
-  due_in key value s = due_from (room_of b.cap) lo s key value (level_in (bytes_at lo s lo)) lo None
+  abbrev pub due_in : List ℕ → List ℕ → State → Result Due ℕ
+  due_in key value s =
+      unless_bad lo (bad_from lo hi s key (level_in (bytes_at lo s lo)) lo) (due_from (room_of b.cap) lo s key value (level_in (bytes_at lo s lo)) lo None)
 
-  abbrev pub set_by : List ℕ → List ℕ → State → Result PageOp ℕ → Turn
+  -- at the place of the key in its leaf: the command that puts the pair in, where it has room
+  abbrev pub put_turn : List ℕ → List ℕ → State → ℕ → Option ℕ → Turn
+  put_turn key value s x None = refuses (BadMap x)
+  put_turn key value s x (Some i) =
+      if nat_le (length_with (bytes_at lo s x) key value i) (room_of b.cap) then ends (set_at x (bytes_at lo s x) key value i)
+      else cut_turn lo (free_from s (suc lo) (hi - lo)) (due_in key value s)
+
+  abbrev pub set_by : List ℕ → List ℕ → State → Result ℕ ℕ → Turn
   set_by key value s (Err bad) = refuses (BadMap bad)
-  set_by key value s (Ok op) = turn_of op lo (free_from s (suc lo) (hi - lo)) (due_in key value s)
+  set_by key value s (Ok x) = put_turn key value s x (seek (bytes_at lo s x) key)
 
   -- what comes next in a set
   abbrev pub set_turn : List ℕ → List ℕ → State → Turn
-  set_turn key value s = if is_pair (room_of b.cap) (key, value) then set_by key value s (set_command lo hi s key value) else refuses TooLong
+  set_turn key value s = if is_pair (room_of b.cap) (key, value) then set_by key value s (walk lo hi s key) else refuses TooLong
 
   -- the commands of a turn, and then those of the turns behind it
   abbrev pub by_turn : (List PageOp → Plan PageOp MapRefusal) → Turn → Plan PageOp MapRefusal

@@ -1,19 +1,27 @@
 -- Where a page is cut in two, by which key the new page is named, and which page on the way to a leaf has to be cut first.
-use Rattle.std.specs.Prelude.{ℕ, zero, suc, ◌+◌, ◌*◌, ◌-◌, ◌==◌, Bool, Option, None, Some, List, [], ◌∷◌, length, map, nat_le, nat_lt, if◌then◌else◌, option_map}
-use Rattle.std.specs.List.{range_with_len}
+use Rattle.std.specs.Prelude.{ℕ, zero, suc, ◌+◌, ◌*◌, ◌-◌, ◌==◌, Bool, ◌&&◌, Option, None, Some, List, [], ◌∷◌, length, map, nat_le, nat_lt, if◌then◌else◌, option_map}
+use Rattle.std.specs.List.{list_all, range_with_len}
 use Rattle.std.specs.FinMap.Entries.{put}
 use Rattle.byteorder.specs.Endian.{little_number}
 use Rattle.oper_core.specs.State.{State}
 use Rattle.key_entries.specs.Entries.{byte_order}
 use Rattle.page_ops.specs.Page.{Cell, cell_code}
-use Rattle.page_ops.specs.Reading.{beside_of, count_in, key_of}
+use Rattle.page_ops.specs.Reading.{beside_of, count_in, has_cell, key_of}
 use Rattle.page_ops.specs.OnCells.{beside_at, key_at}
 use Rattle.page_ops.specs.Search.{last_under, place_for}
 use Rattle.page_map.specs.Map.{bytes_at, is_below}
+use Rattle.page_map.specs.Walk.{child_for, is_on}
 
 -- the cells of a page, as they read
 abbrev pub cells_read : List ℕ → List Cell
 cells_read bytes = map (λ i. (key_of bytes i, beside_of bytes i)) (range_with_len 0 (count_in bytes))
+
+-- the cells are all there, and the page is one of this level
+abbrev pub all_there : List ℕ → Bool
+all_there bytes = list_all (has_cell bytes) (range_with_len 0 (count_in bytes))
+
+abbrev pub reads_on : ℕ → List ℕ → Bool
+reads_on level bytes = is_on level bytes && all_there bytes
 
 -- those from the front whose keys are below the end of a span: the others are past it
 abbrev pub front_of : Option (List ℕ) → List Cell → List Cell
@@ -106,6 +114,20 @@ abbrev pub ask_above : ℕ → ℕ → ℕ → ℕ → Split → Due → Due
 ask_above room size x i own fits = fits
 ask_above room size x i own (asks child) = if has_room room size child.key then granted child x i else asks own
 ask_above room size x i own (granted split q j) = granted split q j
+
+-- the first bad object on a way that goes on from a child
+abbrev pub bad_behind : (ℕ → Option ℕ) → ℕ → Option ℕ → Option ℕ
+bad_behind bad x None = Some x
+bad_behind bad x (Some child) = bad child
+
+module _ (lo hi : ℕ) (s : State) (key : List ℕ) where
+  -- The search for the page that is cut reads all cells of the pages on its way. This is the first object on it that is no page of
+  -- its level, lacks a cell, or names no child in the range.
+  abbrev pub bad_from : ℕ → ℕ → Option ℕ
+  bad_from zero x = if reads_on 0 (bytes_at lo s x) then None else Some x
+  bad_from (suc level) x =
+      if reads_on (suc level) (bytes_at lo s x)
+      then bad_behind (bad_from level) x (child_for lo hi (bytes_at lo s x) (last_under key (cells_read (bytes_at lo s x)))) else Some x
 
 module _ (room lo : ℕ) (s : State) (key value : List ℕ) where
   -- what is due below the cell i of a page
