@@ -1,5 +1,5 @@
 -- The command of a call, from what it has found on its way.
-use Rattle.std.proofs.Common.{◌≡◌, ◌≤◌, ◌<◌, ◌^◌, refl, sym, ap, ◌∙◌, subst, ℕ, true, false, if◌then◌else◌, Option, None, Some, Result, Ok, Err, List, length}
+use Rattle.std.proofs.Common.{◌≡◌, ◌≤◌, ◌<◌, ◌^◌, refl, ap, ◌∙◌, subst, ℕ, true, false, if◌then◌else◌, Option, None, Some, Result, Ok, Err, List, length}
 use Rattle.std.specs.Prelude.{IfOk}
 use Rattle.formats.specs.declared.params.Params.{Params}
 use Rattle.oper_core.specs.State.{State}
@@ -11,13 +11,13 @@ use Rattle.page_ops.specs.declared.page_op.PageOp.{PageOp}
 use Rattle.page_ops.specs.declared.page_op.PageOp.TheVariants.{Delete}
 use Rattle.op_codec.specs.AllOps.{page}
 use Rattle.page_map.specs.Map.{bytes_at}
-use Rattle.page_map.specs.Plan.{at_leaf, at_place, delete_at, delete_command, delete_in, set_command, set_in}
+use Rattle.page_map.specs.Plan.{at_leaf, at_place, delete_at, delete_command, delete_in}
 use Rattle.page_map.specs.Walk.{is_on, walk, walk_from}
 use Rattle.range_calls.specs.Due.{IsDue}
 use Rattle.range_calls.specs.Store.{Command}
 use Rattle.map_client.specs.Answers.{MapErr, bad_map, cause_in, told}
-use Rattle.map_client.specs.Changing.{Due, delete_of, found, set_of}
-use Rattle.map_client.specs.Reading.{delete_on, set_on}
+use Rattle.map_client.specs.Changing.{Due, delete_of, found}
+use Rattle.map_client.specs.Reading.{delete_on}
 use Rattle.map_client.proofs.DueLemmas.{delete_due}
 use Rattle.map_client.proofs.OpenLemmas.{found_is}
 
@@ -33,21 +33,11 @@ module _ (lo hi : ℕ) (s : State) (key : List ℕ) where
   pub delete_is : (x : ℕ) → walk lo hi s key ≡ walk_from lo hi s key 0 x → delete_command lo hi s key ≡ delete_on x (at x) key
   delete_is x way = at_end (λ y. delete_in y (at y) key) x way
 
-  pub set_is : (value : List ℕ) (x : ℕ) → walk lo hi s key ≡ walk_from lo hi s key 0 x → set_command lo hi s key value ≡ set_on x (at x) key value
-  set_is value x way = at_end (λ y. set_in y (at y) key value) x way
-
   -- the way meets a bad object
   pub delete_bad : (e : MapErr) → told (walk lo hi s key) ≡ Err e → Err e ≡ found (delete_of (delete_command lo hi s key))
   delete_bad e is = by_way (walk lo hi s key) is
     where
       by_way : (w : Result ℕ ℕ) → told w ≡ Err e → Err e ≡ found (delete_of (at_leaf (λ y. delete_in y (at y) key) w))
-      by_way (Ok x) same = cc
-      by_way (Err bad) same = let error : e ≡ bad_map bad = cc same in ap (λ (o : MapErr). (let r : Result Command MapErr = Err o in r)) error
-
-  pub set_bad : (value : List ℕ) (e : MapErr) → told (walk lo hi s key) ≡ Err e → Err e ≡ found (set_of (set_command lo hi s key value))
-  set_bad value e is = by_way (walk lo hi s key) is
-    where
-      by_way : (w : Result ℕ ℕ) → told w ≡ Err e → Err e ≡ found (set_of (at_leaf (λ y. set_in y (at y) key value) w))
       by_way (Ok x) same = cc
       by_way (Err bad) same = let error : e ≡ bad_map bad = cc same in ap (λ (o : MapErr). (let r : Result Command MapErr = Err o in r)) error
 

@@ -1,27 +1,37 @@
 -- What the calls do to a map, from what its commands make.
-use Rattle.std.proofs.Common.{◌≡◌, ◌≤◌, ◌<◌, ◌^◌, refl, ap, ◌∙◌, subst, ℕ, zero, suc, ◌*◌, Bool, true, false, if◌then◌else◌, Option, None, Some, Result, Ok, Err, List, length, arith}
-use Rattle.std.specs.Prelude.{nat_le, nat_lt, is_some}
+use Rattle.std.proofs.Common.{◌≡◌, ◌≤◌, ◌<◌, ◌^◌, refl, ap, ◌∙◌, subst, ℕ, zero, suc, ◌+◌, ◌*◌, Bool, true, false, if◌then◌else◌, Option, None, Some, Result, Ok, Err, List, ◌++◌, length, map, take, arith}
+use Rattle.std.specs.Prelude.{nat_lt, is_some}
 use Rattle.std.specs.FinMap.{get}
-use Rattle.std.proofs.lemmas.Bool.{cond-true, leb-true, lt-ltb}
+use Rattle.std.proofs.lemmas.Bool.{cond-true, lt-ltb}
+use Rattle.std.proofs.lemmas.List.{take-map}
 use Rattle.oper_core.specs.State.{State}
 use Rattle.oper_core.specs.Meaning.{Accepts}
 use Rattle.oper_core.specs.declared.bounds.Bounds.{Bounds}
-use Rattle.key_entries.specs.EntryLaws.{both_true}
+use Rattle.formats.specs.Objects.{bounds_of}
+use Rattle.formats.specs.declared.params.Params.{Params}
+use Rattle.call_plans.specs.Laws.{after_all}
+use Rattle.call_plans.specs.Plan.{Plan}
+use Rattle.op_codec.specs.AllOps.{page}
 use Rattle.page_ops.specs.Operation.{page_meaning}
 use Rattle.page_ops.specs.Reading.{level_in, under}
 use Rattle.page_ops.specs.declared.page_op.PageOp.{PageOp}
 use Rattle.page_map.specs.Map.{bytes_at, content_of, IsMap}
-use Rattle.page_map.specs.Plan.{Admits, DeleteMakes, SetMakes, at_leaf, delete_command, delete_in, set_command}
-use Rattle.page_map.specs.Sets.{is_pair, is_short_key, is_short_pair, room_of}
+use Rattle.page_map.specs.Plan.{Admits, DeleteMakes, at_leaf, delete_command, delete_in}
+use Rattle.page_map.specs.Sets.{IsKept, Sets}
 use Rattle.page_map.specs.Walk.{child_for, get_answer, is_on, on_from, walk, walk_from}
 use Rattle.range_calls.specs.declared.call_err.CallErr.TheVariants.{Refused}
-use Rattle.map_client.specs.Answers.{get_told, told}
-use Rattle.map_client.specs.Changing.{Due, delete_of, set_of}
-use Rattle.map_client.specs.Laws.{DeleteActs, SetActs}
-use Rattle.map_client.specs.declared.call_refusal.CallRefusal.TheVariants.{NoKey, NoObject, TooLong}
+use Rattle.page_map.specs.declared.refusal.MapRefusal.TheVariants.{NoKey}
+use Rattle.range_calls.specs.ComesLaws.{state_behind}
+use Rattle.range_calls.specs.RoundLaws.{accepted_are_made}
+use Rattle.range_calls.specs.Store.{Command, meaning_in, state_of}
+use Rattle.map_client.specs.Answers.{MapErr, get_told, told}
+use Rattle.map_client.specs.Changing.{delete_of}
+use Rattle.map_client.specs.Laws.{DeleteActs, SetActs, plan}
+use Rattle.map_client.specs.declared.call_refusal.CallRefusal.TheVariants.{Map, NoObject}
 use Rattle.map_client.proofs.OpenLemmas.{due_in, is_open}
 use Rattle.map_client.proofs.CommandLemmas.{IsCell, cell_is}
 use Rattle.map_client.proofs.DueLemmas.{delete_accepted}
+use Rattle.map_client.proofs.SetLemmas.{accepted_pages, after_pages, open_comes}
 use Rattle.map_client.proofs.WalkLemmas.{child_within}
 
 pub get_is : (b : Bounds) (lo hi : ℕ) (s : State) (key : List ℕ) → hi < b.objects → {found : Option (List ℕ)} → get_answer lo hi s key ≡ Ok found → get_told b lo hi s key ≡ Ok found
@@ -78,7 +88,7 @@ module _ (b : Bounds) (lo hi : ℕ) (s : State) (is : IsMap lo hi s) (key : List
   has = is_some (get (content_of is) key)
 
   module _ (small : hi < 2 ^ 32) (admits : Admits b hi) (wide : 1024 ≤ b.cap) (fit : (x : ℕ) → length (s x) ≤ b.cap) (makes : DeleteMakes b lo hi s is key) where
-    by_has : (t : Bool) → delete_of (Ok (if t then Some makes.op else None)) ≡ (if t then Ok makes.op else Err NoKey)
+    by_has : (t : Bool) → delete_of (Ok (if t then Some makes.op else None)) ≡ (if t then Ok makes.op else Err (Map NoKey))
     by_has true = refl
     by_has false = refl
 
@@ -99,28 +109,18 @@ module _ (b : Bounds) (lo hi : ℕ) (s : State) (is : IsMap lo hi s) (key : List
       made = λ there. makes.makes there (accepted there);
     }
 
--- a pair that a map takes has a key and a value whose lengths fit two bytes
-pair_fits : (cap : ℕ) (key value : List ℕ) → is_pair (room_of cap) (key, value) ≡ true → (length key < 65536) × (length value < 65536)
-pair_fits cap key value is =
-    let both = both_true (is_short_pair (room_of cap) (key, value)) _ is in
-    let short = both_true (is_short_key (room_of cap) key) (nat_le (4 * length value) (room_of cap)) both.0 in
-    let long = both_true (nat_lt 0 (length key)) (nat_le (length key) 1023) both.1 in
-    let few = leb-true (length key) 1023 long.1 in
-    let values = leb-true (4 * length value) (room_of cap) short.1 in
-    let room = room_few (nat_le cap 65535) refl in
-    (omega (arith, few), omega (arith, values, room))
-  where
-    room_few : (t : Bool) → nat_le cap 65535 ≡ t → (if t then cap else 65535) ≤ 65535
-    room_few true e = leb-true cap 65535 e
-    room_few false e = omega arith
-
-module _ (b : Bounds) (lo hi : ℕ) (s : State) (is : IsMap lo hi s) (key value : List ℕ) where
-  pub set_acts : Admits b hi → 1024 ≤ b.cap → SetMakes b lo hi s is key value → SetActs b lo hi s is key value
-  set_acts admits wide makes = record {
-    op = makes.op;
-    due =
-        due_in b hi (if is_pair (room_of b.cap) (key, value) then set_of (set_command lo hi s key value) else Err TooLong) (is_open b hi admits.objects admits.more wide)
-        ∙ ap (λ (r : Result PageOp ℕ). (let due : Due = if is_pair (room_of b.cap) (key, value) then set_of r else Err TooLong in due)) makes.command;
-    made = makes.makes;
-    cause = λ pair. let fits = pair_fits b.cap key value pair in makes.causes fits.0 fits.1 admits;
-  }
+module _ (p : Params) (commands : List Command) (lo hi : ℕ) (is : IsKept (bounds_of p) lo hi (state_of p commands)) (key value : List ℕ) where
+  pub set_acts : Admits (bounds_of p) hi → 1024 ≤ p.cap → Sets (bounds_of p) lo hi (state_of p commands) is key value (plan p commands lo hi is key value) (6 * is.map.level + 7)
+      → SetActs p commands lo hi is key value
+  set_acts admits wide acts =
+      let s : State = state_of p commands in
+      let ops : List PageOp = (plan p commands lo hi is key value).commands in
+      let all = open_comes lo hi key value p commands (is_open (bounds_of p) hi admits.objects admits.more wide)
+      ∙ accepted_are_made p s (map page ops) _ (accepted_pages (bounds_of p) s ops acts.accepted) in
+      record {
+        acts = acts;
+        comes = all;
+        moments = λ k.
+            ap (λ (q : Plan Command MapErr). state_of p (commands ++ take k q.commands)) all
+            ∙ state_behind p commands (take k (map page ops)) ∙ ap (after_all (meaning_in p) s) (take-map page k ops) ∙ after_pages (bounds_of p) s (take k ops);
+      }

@@ -2,5 +2,6 @@ pub mod WalkLemmas
 pub mod DueLemmas
 pub mod OpenLemmas
 pub mod CommandLemmas
-pub mod RunLemmas
+pub mod SetLemmas
+pub mod CutLemmas
 pub mod LawLemmas

@@ -1,7 +1,7 @@
 -- Whether maps of a store can be changed, from what a call has found; and what is then due.
 use Rattle.std.proofs.Common.{◌≡◌, ◌≤◌, ◌<◌, refl, sym, ap, ◌∙◌, subst, ℕ, Bool, true, false, if◌then◌else◌, Option, None, Some, Ok, Err, List, []}
 use Rattle.std.specs.Prelude.{nat_le, nat_lt, option_map}
-use Rattle.std.proofs.lemmas.Bool.{cond-false, cond-true, leb-true, ltb-true, le-leb, lt-ltb}
+use Rattle.std.proofs.lemmas.Bool.{cond-true, leb-true, ltb-true, le-leb, lt-ltb}
 use Rattle.disk_model.specs.Disk.{Disk}
 use Rattle.formats.specs.Objects.{bounds_of}
 use Rattle.formats.specs.declared.params.Params.{Params}
@@ -9,19 +9,16 @@ use Rattle.explain_core.specs.World.{World}
 use Rattle.running_store.specs.Taking.Ending.{Done}
 use Rattle.store_engine.specs.Engine.{EngineView, params_of}
 use Rattle.store_engine.specs.Lists.{AddsFront, AreCalls, ending_of}
-use Rattle.oper_core.specs.State.{State}
 use Rattle.oper_core.specs.declared.bounds.Bounds.{Bounds}
 use Rattle.key_entries.specs.EntryLaws.{both_true, map_some, true_both}
 use Rattle.op_codec.specs.AllOps.{all_meaning, page}
-use Rattle.page_map.specs.Plan.{set_command}
-use Rattle.page_map.specs.Sets.{is_pair, room_of}
 use Rattle.page_ops.specs.declared.page_op.PageOp.{PageOp}
 use Rattle.range_calls.specs.Store.{Command, Holds}
 use Rattle.range_calls.specs.declared.call_err.CallErr.TheVariants.{Refused}
 use Rattle.map_client.specs.Answers.{MapErr, cause_of}
-use Rattle.map_client.specs.Changing.{Due, admits, closed_by, found, set_due, set_of, unless_closed}
+use Rattle.map_client.specs.Changing.{Due, admits, closed_by, found, unless_closed}
 use Rattle.map_client.specs.declared.call_refusal.CallRefusal.{CallRefusal}
-use Rattle.map_client.specs.declared.call_refusal.CallRefusal.TheVariants.{NoObject, NoPages, TooLong}
+use Rattle.map_client.specs.declared.call_refusal.CallRefusal.TheVariants.{NoObject, NoPages}
 
 module _ (b : Bounds) (hi : ℕ) where
   pub record IsOpen : Type 0 where
@@ -102,19 +99,3 @@ pub closed_adds : {old : Disk} {engine : EngineView} {b : Bounds} {hi : ℕ} {e 
 closed_adds {old} {engine} {p = p} {w = w} {commands = commands} closed ops none adds =
     subst (λ (x : MapErr). AddsFront all_meaning p old old engine engine w commands ops (ending_of (cause_of x))) closed.error
     (subst (λ (l : List Command). AddsFront all_meaning p old old engine engine w commands l Done) (sym none) adds)
-
-module _ (b : Bounds) (lo hi : ℕ) (s : State) (key value : List ℕ) where
-  abbrev set_here : Due
-  set_here = set_of (set_command lo hi s key value)
-
-  -- what is due of a set
-  pub set_closed : (refusal : CallRefusal) → closed_by b hi ≡ Some refusal → set_due b lo hi s key value ≡ Err refusal
-  set_closed refusal is = closed_due b hi (if is_pair (room_of b.cap) (key, value) then set_here else Err TooLong) refusal is
-
-  pub set_is_long : closed_by b hi ≡ None → is_pair (room_of b.cap) (key, value) ≡ false → set_due b lo hi s key value ≡ Err TooLong
-  set_is_long open_for_all long =
-      due_in b hi (if is_pair (room_of b.cap) (key, value) then set_here else Err TooLong) open_for_all ∙ cond-false (is_pair (room_of b.cap) (key, value)) set_here (Err TooLong) long
-
-  pub set_is_due : closed_by b hi ≡ None → is_pair (room_of b.cap) (key, value) ≡ true → set_due b lo hi s key value ≡ set_of (set_command lo hi s key value)
-  set_is_due open_for_all pair =
-      due_in b hi (if is_pair (room_of b.cap) (key, value) then set_here else Err TooLong) open_for_all ∙ cond-true (is_pair (room_of b.cap) (key, value)) set_here (Err TooLong) pair

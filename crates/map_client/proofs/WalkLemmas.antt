@@ -26,7 +26,7 @@ pub if_err_then : {X Y : Type 0} (r : Result X Y) (P Q : Y → Type 0) → ((y :
 if_err_then (Ok x) P Q goes holds = tt
 if_err_then (Err y) P Q goes holds = goes y holds
 
-none_opens : (bytes : List ℕ) → level_of bytes ≡ None → opens bytes ≡ false
+pub none_opens : (bytes : List ℕ) → level_of bytes ≡ None → opens bytes ≡ false
 none_opens bytes is = elim (opens bytes) as (λ t. (if t then Some (level_in bytes) else None) ≡ None → t ≡ false) [ true ↦ λ e. cc | false ↦ λ e. refl ] is
 
 module _ (lo hi : ℕ) (bytes : List ℕ) where

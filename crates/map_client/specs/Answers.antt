@@ -4,18 +4,19 @@ use Rattle.oper_core.specs.State.{State}
 use Rattle.oper_core.specs.declared.bounds.Bounds.{Bounds}
 use Rattle.execution.specs.declared.exec_err.ExecErr.{ExecErr}
 use Rattle.page_map.specs.Walk.{get_answer}
+use Rattle.page_map.specs.declared.refusal.MapRefusal.TheVariants.{BadMap}
 use Rattle.range_calls.specs.Answers as answers
 use Rattle.range_calls.specs.declared.call_err.CallErr.{CallErr}
 use Rattle.range_calls.specs.declared.call_err.CallErr.TheVariants.{Refused}
 use Rattle.map_client.specs.declared.call_refusal.CallRefusal.{CallRefusal}
-use Rattle.map_client.specs.declared.call_refusal.CallRefusal.TheVariants.{NoObject, BadMap}
+use Rattle.map_client.specs.declared.call_refusal.CallRefusal.TheVariants.{NoObject, Map}
 
 abbrev pub MapErr : Type 0
 MapErr = CallErr CallRefusal
 
 -- a bad object
 abbrev pub bad_map : ℕ → MapErr
-bad_map object = Refused (BadMap object)
+bad_map object = Refused (Map (BadMap object))
 
 -- what a way comes to, as a call answers it
 abbrev pub told : {T : Type 0} → Result T ℕ → Result T MapErr

@@ -1,31 +1,41 @@
 -- What the calls do to a map.
-use Rattle.std.specs.Prelude.{◌≡◌, ℕ, true, Some, Ok, Err, List, is_some, if◌then◌else◌}
-use Rattle.std.specs.FinMap.{get, insert, remove}
+use Rattle.std.specs.Prelude.{◌≡◌, ℕ, ◌+◌, ◌*◌, true, Ok, Err, List, ◌++◌, is_some, map, take, if◌then◌else◌, option_map}
+use Rattle.std.specs.FinMap.{get, remove}
 use Rattle.oper_core.specs.State.{State}
-use Rattle.oper_core.specs.Meaning.{Accepts, refusal_of}
+use Rattle.oper_core.specs.Meaning.{Accepts}
 use Rattle.oper_core.specs.declared.bounds.Bounds.{Bounds}
-use Rattle.oper_core.specs.declared.refusal.Refusal.{Refusal}
-use Rattle.oper_core.specs.declared.refusal.Refusal.TheVariants.{TooLarge}
+use Rattle.formats.specs.Objects.{bounds_of}
+use Rattle.formats.specs.declared.params.Params.{Params}
+use Rattle.call_plans.specs.Laws.{after_all}
+use Rattle.call_plans.specs.Plan.{Plan}
+use Rattle.op_codec.specs.AllOps.{page}
 use Rattle.page_ops.specs.Operation.{page_meaning}
 use Rattle.page_ops.specs.declared.page_op.PageOp.{PageOp}
 use Rattle.page_map.specs.Map.{IsMap, content_of}
 use Rattle.page_map.specs.Plan.{Makes}
-use Rattle.page_map.specs.Sets.{is_pair, room_of}
-use Rattle.map_client.specs.Changing.{delete_due, set_due}
-use Rattle.map_client.specs.declared.call_refusal.CallRefusal.TheVariants.{NoKey, TooLong}
+use Rattle.page_map.specs.Sets.{IsKept, Sets, set_plan}
+use Rattle.page_map.specs.declared.refusal.MapRefusal.{MapRefusal}
+use Rattle.page_map.specs.declared.refusal.MapRefusal.TheVariants.{NoKey}
+use Rattle.range_calls.specs.Store.{Command, state_of}
+use Rattle.range_calls.specs.declared.call_err.CallErr.TheVariants.{Refused}
+use Rattle.map_client.specs.Changing.{delete_due, set_comes}
+use Rattle.map_client.specs.declared.call_refusal.CallRefusal.TheVariants.{Map}
 
 module _ (b : Bounds) (lo hi : ℕ) (s : State) (is : IsMap lo hi s) where
   -- it is refused exactly where the map lacks the key; else its command is accepted, and makes the map without the key
   pub record DeleteActs (key : List ℕ) : Type 0 where
     pub op : PageOp
-    pub due : delete_due b lo hi s key ≡ (if is_some (get (content_of is) key) then Ok op else Err NoKey)
+    pub due : delete_due b lo hi s key ≡ (if is_some (get (content_of is) key) then Ok op else Err (Map NoKey))
     pub accepted : is_some (get (content_of is) key) ≡ true → Accepts (page_meaning b) s op
     pub made : is_some (get (content_of is) key) ≡ true → Makes b lo hi s is (λ m. remove m key) op
 
-  -- it is refused where the pair is too long; else its command makes the map with the pair, where it is accepted, and is refused
-  -- for no other cause than that the leaf would be too large
-  pub record SetActs (key value : List ℕ) : Type 0 where
-    pub op : PageOp
-    pub due : set_due b lo hi s key value ≡ (if is_pair (room_of b.cap) (key, value) then Ok op else Err TooLong)
-    pub made : Accepts (page_meaning b) s op → Makes b lo hi s is (λ m. insert m key value) op
-    pub cause : is_pair (room_of b.cap) (key, value) ≡ true → (r : Refusal) → refusal_of (page_meaning b) s op ≡ Some r → r ≡ TooLarge
+module _ (p : Params) (commands : List Command) (lo hi : ℕ) (is : IsKept (bounds_of p) lo hi (state_of p commands)) (key value : List ℕ) where
+  abbrev pub plan : Plan PageOp MapRefusal
+  plan = set_plan (bounds_of p) lo hi key value (state_of p commands)
+
+  -- Its commands are those of its plan, and all of them are accepted: the range is a map at each moment, with the old content before
+  -- the last command, and with the pair behind it; or the set is refused by its cause, and the range keeps its content.
+  pub record SetActs : Type 0 where
+    pub acts : Sets (bounds_of p) lo hi (state_of p commands) is key value plan (6 * is.map.level + 7)
+    pub comes : set_comes lo hi key value p commands ≡ record { commands = map page plan.commands; refusal = option_map Refused (option_map Map plan.refusal) }
+    pub moments : (k : ℕ) → state_of p (commands ++ take k (set_comes lo hi key value p commands).commands) ≡ after_all (page_meaning (bounds_of p)) (state_of p commands) (take k plan.commands)

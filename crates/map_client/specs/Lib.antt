@@ -1,5 +1,5 @@
 pub mod Answers
 pub mod Reading
-pub mod Running
+pub mod Turning
 pub mod Changing
 pub mod Laws

@@ -1,8 +1,9 @@
 -- What a call reads in one page.
-use Rattle.std.specs.Prelude.{ℕ, Option, None, Some, Result, Err, List, if◌then◌else◌}
+use Rattle.std.specs.Prelude.{ℕ, Bool, true, false, Option, None, Some, Result, Ok, Err, List, if◌then◌else◌}
 use Rattle.page_ops.specs.Reading.{level_in, opens, under, found_in}
 use Rattle.page_ops.specs.declared.page_op.PageOp.{PageOp}
 use Rattle.page_map.specs.Plan.{delete_in, set_in}
+use Rattle.page_map.specs.Sets.{room_in}
 use Rattle.page_map.specs.Walk.{is_on, child_for}
 
 -- the level of a page
@@ -23,3 +24,13 @@ delete_on x bytes key = if is_on 0 bytes then delete_in x bytes key else Err x
 
 abbrev pub set_on : ℕ → List ℕ → List ℕ → List ℕ → Result PageOp ℕ
 set_on x bytes key value = if is_on 0 bytes then set_in x bytes key value else Err x
+
+-- that of a set, where the leaf has room for the pair; or the object, where it is no leaf or a cell that is asked does not fit
+abbrev pub where_room : ℕ → Result PageOp ℕ → Option Bool → Result (Option PageOp) ℕ
+where_room x op None = Err x
+where_room x op (Some false) = Ok None
+where_room x (Ok op) (Some true) = Ok (Some op)
+where_room x (Err bad) (Some true) = Err bad
+
+abbrev pub put_on : ℕ → ℕ → List ℕ → List ℕ → List ℕ → Result (Option PageOp) ℕ
+put_on room x bytes key value = where_room x (set_on x bytes key value) (if is_on 0 bytes then room_in room bytes key value else None)

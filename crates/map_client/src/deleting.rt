@@ -22,7 +22,7 @@ use crate::opening::require_open;
 use crate::walking::walk;
 use disk_model::Machine;
 use op_codec::{AllOps, page_op};
-use page_map::{Map, delete_in, page_on};
+use page_map::{Map, MapRefusal, delete_in, page_on};
 use page_ops::PageOp;
 use range_calls::{CallErr, make, makes_go_on, reads_go_on, see};
 use store_engine::{Engine, nothing_is_made};
@@ -60,8 +60,8 @@ fn deletion_in<M: Machine>(
     }
     match delete_on(leaf, map.bytes(leaf, engine.get(leaf)), key) {
         Ok(Some(op)) => Ok(page_op(op)),
-        Ok(None) => Err(CallErr::Refused(CallRefusal::NoKey)),
-        Err(object) => Err(CallErr::Refused(CallRefusal::BadMap { object })),
+        Ok(None) => Err(CallErr::Refused(CallRefusal::Map(MapRefusal::NoKey))),
+        Err(object) => Err(CallErr::Refused(CallRefusal::Map(MapRefusal::BadMap { object }))),
     }
 }
 

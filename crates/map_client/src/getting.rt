@@ -17,7 +17,7 @@ use crate::map_err::MapErr;
 use crate::walking::walk;
 use disk_model::Machine;
 use op_codec::AllOps;
-use page_map::{Map, page_on, value_in};
+use page_map::{Map, MapRefusal, page_on, value_in};
 use range_calls::{CallErr, reads_go_on, reads_run_short, see};
 use std::alloc::Global;
 use store_engine::{Engine, nothing_is_made};
@@ -65,7 +65,7 @@ fn value_at<M: Machine>(
     }
     match found_on(map.bytes(leaf, engine.get(leaf)), key) {
         Some(found) => copied(alloc, found),
-        None => Err(CallErr::Refused(CallRefusal::BadMap { object: leaf })),
+        None => Err(CallErr::Refused(CallRefusal::Map(MapRefusal::BadMap { object: leaf }))),
     }
 }
 

@@ -1,21 +1,24 @@
-//! The calls of an ordered map of wide pages that stands in a range of a store's objects: `get`, `delete`, and `set` of a pair for
-//! which its leaf has room. No line of a script and no call of the library has them yet.
+//! The calls of an ordered map of wide pages that stands in a range of a store's objects: `get`, `set` and `delete`. No line of a
+//! script and no call of the library has them yet.
 //!
 //! The one contract: on an engine that stands for a list of commands each call answers what the definitions of `page_map` say on
-//! the map of these commands, whatever bytes the objects hold (`get_answer`, `delete_command`, `set_command`), and adds the one
-//! command that they name, or none where it is refused or the log, memory or the disk ends the call. Where the range is a map they
-//! act as on an ordered map (`calls_act_as_on_an_ordered_map`). Each page on the way is fetched once, and read where it is cached; of
-//! a get the value alone is copied. No page is cut yet, and none given back. What a call on another kind of range would do too is
-//! in `range_calls`.
+//! the map of these commands, whatever bytes the objects hold (`get_answer`, `delete_command`, `set_plan`), and adds the commands
+//! that they name, as far as the engine accepts each, or a beginning of them where the log, memory or the disk ends the call. Where
+//! the range is a map all are accepted, and the calls act as on an ordered map: whenever one is cut short, the range is a map with
+//! the old content or the new one (`calls_act_as_on_an_ordered_map`). A set goes by rounds: it ends with the command that puts the
+//! pair into its leaf, and where that has no room a page is cut first, and the way is gone again. A page is read where it is cached.
+//! No page is given back yet. What a call on another kind of range would do too is in `range_calls`.
 #![tactic(auto)]
 
 mod call_refusal;
+mod cutting;
 mod deleting;
 mod getting;
 mod laws;
 mod map_err;
 mod opening;
-mod running;
+mod pair;
+mod putting;
 mod setting;
 mod walking;
 

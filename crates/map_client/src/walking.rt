@@ -15,7 +15,7 @@ use crate::call_refusal::CallRefusal;
 use crate::map_err::MapErr;
 use disk_model::Machine;
 use op_codec::AllOps;
-use page_map::{Map, page_on};
+use page_map::{Map, MapRefusal, page_on};
 use page_ops::Page;
 use range_calls::{CallErr, reads_go_on, see};
 use store_engine::{Engine, nothing_is_made};
@@ -38,7 +38,7 @@ fn child_on(map: &Map, level: u8, bytes: &[u8], key: &[u8]) -> Option<u32>
 }
 
 /// The level of the root.
-fn root_level<M: Machine>(
+pub(crate) fn root_level<M: Machine>(
     map: &Map,
     engine: &mut Engine<AllOps>,
     machine: &mut M,
@@ -55,7 +55,7 @@ fn root_level<M: Machine>(
     }
     match level_of(map.bytes(root, engine.get(root))) {
         Some(level) => Ok(level),
-        None => Err(CallErr::Refused(CallRefusal::BadMap { object: root })),
+        None => Err(CallErr::Refused(CallRefusal::Map(MapRefusal::BadMap { object: root }))),
     }
 }
 
@@ -81,7 +81,7 @@ fn child_of<M: Machine>(
     }
     match child_on(map, level, map.bytes(object, engine.get(object)), key) {
         Some(child) => Ok(child),
-        None => Err(CallErr::Refused(CallRefusal::BadMap { object })),
+        None => Err(CallErr::Refused(CallRefusal::Map(MapRefusal::BadMap { object }))),
     }
 }
 

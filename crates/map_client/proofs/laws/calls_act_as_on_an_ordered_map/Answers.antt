@@ -1,3 +1,5 @@
+use Rattle.formats.specs.Objects.{bounds_of}
+use Rattle.range_calls.specs.Store.{state_of}
 use Rattle.map_client.proofs.LawLemmas.{delete_acts, get_is, set_acts}
 use Rattle.map_client.proofs.laws.calls_act_as_on_an_ordered_map.Goals as goal
 
@@ -7,5 +9,6 @@ returns c =
     record {
       get = λ b lo hi s key small within is. get_is b lo hi s key within (c.a_get_finds_what_the_map_has.ensures lo hi s key small is);
       delete = λ b lo hi s key small admits wide fit is. delete_acts b lo hi s is key small admits wide fit (changes.delete b lo hi s key small is);
-      set = λ b lo hi s key value small admits wide is. set_acts b lo hi s is key value admits wide (changes.set b lo hi s key value small is);
+      set = λ p commands lo hi key value small admits wide is.
+          set_acts p commands lo hi is key value admits wide (c.a_set_is_done_or_refused.ensures (bounds_of p) lo hi (state_of p commands) key value small admits is);
     }
