@@ -23,7 +23,7 @@ static int is_nearly_full(redo_t *db) {
            (stat.used > p.limit / 4 * 3 || stat.used + p.cap + 64 > p.limit);
 }
 /* What is due after a command, in pieces; and all of it where they leave the log nearly full, as where that has room for few values, or
- * where most commands join objects, so that each node is installed alone. */
+ * where most commands join objects, whose identity writes take room too. */
 static int32_t kept_up(redo_t *db, int32_t answer) {
     if (answer != REDO_OK || !db->upkeep_) return answer;
     redo_detail_t before = db->detail_;
