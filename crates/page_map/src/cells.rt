@@ -19,11 +19,9 @@ pub(crate) struct Cells<'p, 'a> {
 }
 
 impl<'p, 'a> Model for Cells<'p, 'a> {
-    ghost use Rattle.std.specs.Ordering.{is_eq, is_lt};
     ghost use Rattle.std.specs.Prelude.{◌≤◌, ◌<◌, ◌^◌, List, IsTrue, length, take};
     ghost use Rattle.page_ops.specs.Page.{Cell};
     ghost use Rattle.page_ops.specs.Reading.{count_in};
-    ghost use Rattle.page_map.specs.Steps.{one_before};
     ghost use Rattle.page_map.specs.Splits.{all_there, cells_read};
 
     ghost Value = { List Cell };

@@ -6,7 +6,7 @@ ghost use Rattle.page_ops.specs.Page.{Cell};
 ghost use Rattle.page_map.specs.Cutting as cutting;
 ghost use Rattle.page_map.specs.Cutting.{due_seen};
 ghost use Rattle.page_map.specs.Splits as splits;
-ghost use Rattle.page_map.specs.Splits.{asks, due_in_leaf, front_of, inner_split, leaf_split, middle_key};
+ghost use Rattle.page_map.specs.Splits.{asks, due_in_leaf, inner_split, leaf_split, middle_key};
 
 use crate::above::Above;
 use crate::cells::Cells;

@@ -44,7 +44,8 @@ impl Descent {
         }
     }
 
-    /// Looks at the page of these bytes, those of the object.
+    /// Looks at the page of the object, of which these are the bytes: it is bad, or the search goes on at a child, or it tells what is
+    /// due.
     pub fn step(
         self,
         alloc: Global,
