@@ -122,7 +122,7 @@ NoneIsEmpty zero leaf = ⊤
 NoneIsEmpty (suc zero) page = (length page.children ≤ 1) ⊎ Each (λ leaf. 0 < length leaf.cells) page.children
 NoneIsEmpty (suc (suc level)) page = Each (NoneIsEmpty (suc level)) page.children
 
--- a map whose leaves have cells
+-- a map whose leaves have cells, but for only children and a root
 pub record IsFull (b : Bounds) (lo hi : ℕ) (s : State) : Type 0 where
   pub kept : IsKept b lo hi s
   pub full : NoneIsEmpty kept.map.level kept.map.tree

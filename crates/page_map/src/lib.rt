@@ -16,9 +16,10 @@
 //! finds what the map has; the command of a set or a delete leaves a map with the change, and is refused only where the leaf would
 //! be too large; a set cuts pages until the pair has room, in commands each of which leaves a map with the old content, and the
 //! last with the pair; a delete takes the key out first, and then the leaf, where it has no cells left and its page another child,
-//! and leaves nothing to tidy; ranges, both ways, are those of the map, and so are the pairs beside a key, at either end and with a
-//! prefix. Pages that are not empty are not joined yet. The crate depends on page_ops for pages and operations, on key_entries for
-//! the order of keys, on call_plans for plans and free objects, on oper_core, and on byteorder for the numbers of children.
+//! and leaves nothing to tidy where no leaf but an only child was without cells before (that a set keeps this is no law yet);
+//! ranges, both ways, are those of the map, and so are the pairs beside a key, at either end and with a prefix. Pages that are not
+//! empty are not joined yet. The crate depends on page_ops for pages and operations, on key_entries for the order of keys, on
+//! call_plans for plans and free objects, on oper_core, and on byteorder for the numbers of children.
 #![tactic(auto)]
 
 mod above;
