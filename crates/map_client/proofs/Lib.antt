@@ -1,4 +1,5 @@
 pub mod WalkLemmas
+pub mod RangingLemmas
 pub mod DueLemmas
 pub mod OpenLemmas
 pub mod CommandLemmas

@@ -2,4 +2,5 @@ pub mod Answers
 pub mod Reading
 pub mod Turning
 pub mod Changing
+pub mod Ranging
 pub mod Laws

@@ -20,6 +20,8 @@ mod opening;
 mod pair;
 mod putting;
 mod setting;
+mod stepping;
+mod stop;
 mod walking;
 
 pub use call_refusal::CallRefusal;

@@ -1,0 +1,92 @@
+// The way to a leaf, with the end of the span of its keys.
+ghost use Rattle.std.specs.Prelude.{◌≡◌, ◌<◌, List, false, Some, None, IfErr, IfOk, option_map};
+ghost use Rattle.formats.specs.declared.params.Params.{Params};
+ghost use Rattle.page_map.specs.Map.{bytes_at};
+ghost use Rattle.page_map.specs.Steps.{Step as StepDown, ended, step_seen};
+ghost use Rattle.running_store.specs.Taking.Ending.{Done};
+ghost use Rattle.store_engine.specs.Lists.{ending_of};
+ghost use Rattle.range_calls.specs.Making.{Reads};
+ghost use Rattle.range_calls.specs.Store.{Command, Holds, state_of};
+ghost use Rattle.range_calls.specs.declared.call_err.CallErr.TheVariants.{Memory as OutOfMemory};
+ghost use Rattle.map_client.specs.Answers.{bad_map, cause_in, cause_of};
+ghost use Rattle.map_client.specs.Ranging as ranging;
+
+use crate::call_refusal::CallRefusal;
+use crate::map_err::MapErr;
+use crate::stop::Stop;
+use disk_model::Machine;
+use op_codec::AllOps;
+use page_map::{Map, MapRefusal, Step, page_on};
+use range_calls::{CallErr, reads_run_short, see};
+use std::alloc::Global;
+use store_engine::Engine;
+
+/// The bytes of an end, if there is one.
+pub(crate) fn end_bytes(end: &Option<Vec<u8>>) -> Option<&[u8]>
+    ensures { option_map (λ e. e.now) result ≡ option_map (λ e. e.items) end.now }
+{
+    match end {
+        Some(key) => Some(key.as_slice()),
+        None => None,
+    }
+}
+
+/// The step down from a page of this level to the child under which a key stands.
+fn step_on<'a>(map: &Map, level: u8, bytes: &'a [u8], to: Option<&[u8]>, key: &[u8]) -> Option<Step<'a>>
+    ensures { option_map step_seen result ≡ ranging.step_on map.now.lo map.now.hi level bytes.now (option_map (λ end. end.now) to.entry) key.now }
+{
+    let page = page_on(level, bytes)?;
+    map.step_under(&page, to, key)
+}
+
+/// The child of a step, and where its span ends.
+fn further(alloc: Global, step: Step, to: Option<Vec<u8>>) -> Result<Stop, MapErr>
+    ensures stop { IfOk result (λ stop. (stop.object ≡ (step_seen step.entry).object) × (option_map (λ v. v.items) stop.to ≡ ended (option_map (λ v. v.items) to) (step_seen step.entry).end)) }
+    ensures memory { IfErr result (λ e. e ≡ OutOfMemory) }
+{
+    match step.end {
+        Some(key) => {
+            let copy = key.to_vec(alloc)?;
+            Ok(Stop {
+                object: step.object,
+                to: Some(copy),
+            })
+        }
+        None => Ok(Stop {
+            object: step.object,
+            to,
+        }),
+    }
+}
+
+/// Goes from an inner page to the child under which a key stands.
+pub(crate) fn go_down<M: Machine>(
+    alloc: Global,
+    map: &Map,
+    engine: &mut Engine<AllOps>,
+    machine: &mut M,
+    at: Stop,
+    level: u8,
+    key: &[u8],
+) -> Result<Stop, MapErr>
+    requires unbroken { engine.old.broken ≡ false }
+    ensures reads { Reads (M.disk machine.old) (M.disk machine.new) engine.old engine.new (cause_in result) }
+    ensures found { (p : Params) (commands : List Command) → Holds p (M.disk machine.old) engine.old commands →
+        IfOk result (λ next. (step : StepDown)
+            × (ranging.step_on map.now.lo map.now.hi level (bytes_at map.now.lo (state_of p commands) at.object) (option_map (λ v. v.items) at.to) key.now ≡ Some step)
+            × (next.object ≡ step.object) × (option_map (λ v. v.items) next.to ≡ ended (option_map (λ v. v.items) at.to) step.end)) }
+    ensures bad { (p : Params) (commands : List Command) → Holds p (M.disk machine.old) engine.old commands → at.object < p.objects →
+        IfErr result (λ e. ending_of (cause_of e) ≡ Done →
+        (ranging.step_on map.now.lo map.now.hi level (bytes_at map.now.lo (state_of p commands) at.object) (option_map (λ v. v.items) at.to) key.now ≡ None) × (e ≡ bad_map at.object)) }
+{
+    reads_run_short::<M>();
+    let object = at.object;
+    let there = see(engine, machine, object)?;
+    if !there {
+        return Err(CallErr::Refused(CallRefusal::NoObject));
+    }
+    match step_on(map, level, map.bytes(object, engine.get(object)), end_bytes(&at.to), key) {
+        Some(step) => further(alloc, step, at.to),
+        None => Err(CallErr::Refused(CallRefusal::Map(MapRefusal::BadMap { object }))),
+    }
+}
