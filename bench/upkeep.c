@@ -1,7 +1,7 @@
 /* What upkeep and transactions cost: `upkeep redo|sqlite3|lmdb|file` in an empty folder. A line says a work, its seconds and how many
  * syncs it made, and of the work with calls how long the longest took, in milliseconds, and the longest but for one in a thousand.
  * bench/upkeep builds it with what is there of the three, and it calls their interfaces of C alone. `file` writes and syncs the same
- * bytes once. */
+ * bytes once, and makes the calls of a drain in rounds with nothing behind them. */
 #define _GNU_SOURCE
 #include <fcntl.h>
 #include <stdint.h>
@@ -253,6 +253,24 @@ static void write_once(void) {
     say("drain");
 }
 
+/* The same values into slots of a new objects file, in rounds: behind a closed gate, a sync, the gates, a sync. */
+static void write_slots(void) {
+    enum { SLOT = LENGTH + 13, ROUND = 1024 };
+    static uint8_t slot[SLOT];
+    int file = open("slots", O_CREAT | O_RDWR, 0666);
+    MUST("open", file >= 0 && ftruncate(file, (off_t)NODES * 2 * SLOT) == 0);
+    memset(slot, 1, sizeof slot);
+    start();
+    for (uint32_t from = 0; from < OBJECTS; from += ROUND) {
+        uint32_t to = from + ROUND < OBJECTS ? from + ROUND : OBJECTS;
+        for (uint32_t x = from; x < to; x++) MUST("write", pwrite(file, slot + 1, SLOT - 1, (off_t)x * 2 * SLOT + 1) == SLOT - 1);
+        MUST("sync", fdatasync(file) == 0);
+        for (uint32_t x = from; x < to; x++) MUST("write", pwrite(file, slot, 1, (off_t)x * 2 * SLOT) == 1);
+        MUST("sync", fdatasync(file) == 0);
+    }
+    say("slots");
+}
+
 int main(int argc, char **argv) {
     static const struct { const char *name; const peer_t *peer; } peers[] = {
 #ifdef WITH_REDO
@@ -269,7 +287,7 @@ int main(int argc, char **argv) {
     const char *slower = getenv("SYNC_MS");
     if (slower) more.tv_nsec = strtol(slower, 0, 10) % 1000 * 1000000;
     MUST("the name", argc > 1);
-    if (strcmp(argv[1], "file") == 0) return write_once(), 0;
+    if (strcmp(argv[1], "file") == 0) return write_once(), write_slots(), 0;
     for (size_t i = 0; i < sizeof peers / sizeof *peers; i++)
         if (strcmp(peers[i].name, argv[1]) == 0) peer = peers[i].peer;
     MUST("the name", peer);
