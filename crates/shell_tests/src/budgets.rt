@@ -1,9 +1,12 @@
 // What a restart keeps in memory: the least installs as it goes, and the answers are the same.
-use crate::running::{empty_folder, run, run_within};
-use disk_model::{Crash, GrowMem};
+use crate::running::{run, run_within};
+use disk_model::{Crash, GrowMem, MemMachine};
 use redo_shell::Budget;
 use std::alloc::{AllocError, Global};
 use std::test::Fail;
+
+// The files' lengths at most: 160 slots of 16,397 bytes, and two logs.
+const SIZES: [u64; 3] = [2_700_000, 65536, 65536];
 
 // A call, its input, and what it says.
 type Said<'a> = (&'static str, &'static [u8], &'a [u8]);
@@ -46,7 +49,7 @@ fn dump(alloc: Global) -> Result<Vec<u8>, AllocError> {
 // Whether a call with this budget says that on the store that the puts have left.
 fn says(alloc: Global, budget: Budget, puts: &[u8], call: Said<'_>) -> Result<bool, AllocError> {
     let (line, input, said) = call;
-    let mut machine = empty_folder(alloc)?;
+    let mut machine = MemMachine::new(alloc, SIZES, 1000, 65536, Vec::new(alloc))?;
     run(alloc, &mut machine, "redo init 80 16384 65536", b"");
     run(alloc, &mut machine, "redo run", puts);
     let mut machine = machine.crash(Crash::Old);
