@@ -15,7 +15,7 @@ extern "C" {
 #endif
 
 /* Of this header: greater where something was added, which never changes what was there. */
-#define REDO_VERSION 4
+#define REDO_VERSION 5
 uint32_t redo_version(void);            /* of the library that runs */
 size_t redo_handle_size(void);          /* sizeof(redo_t) in it, which is 128 in all versions */
 
@@ -69,6 +69,9 @@ enum {
     REDO_NOT_COPIED = 22,    /* redo_backup_finish: not all objects are copied; detail: how many are */
     REDO_IN_TXN = 23,        /* not within a transaction */
     REDO_NO_TXN = 24,        /* redo_txn_commit, redo_txn_abort: no transaction is open */
+    REDO_IN_SNAPSHOT = 25,   /* redo_snapshot_begin: a snapshot is open */
+    REDO_NO_SNAPSHOT = 26,   /* redo_snapshot_get, redo_snapshot_end: none is open */
+    REDO_GIVEN_UP = 27,      /* redo_snapshot_get: the snapshot was given up */
     REDO_NO_OBJECT = 32,     /* the store has no such object, or the range is none */
     REDO_SAME = 33,          /* the two objects are one */
     REDO_BAD_PLACE = 34,     /* redo_cut: the value is not that long */
@@ -161,6 +164,15 @@ int32_t redo_txn_commit(redo_t *db);            /* forces what was accepted befo
  * memory runs out within (REDO_MEMORY), all that is not forced is given up: then the store has what the last force left. */
 int32_t redo_txn_commit_lazily(redo_t *db);
 int32_t redo_txn_abort(redo_t *db);             /* drops what is staged, and so does redo_close */
+
+/* A snapshot: the values that all objects have as it begins, and keep for redo_snapshot_get while other calls change them. A value is
+ * copied as the first call since changes it, those of a whole range at the first change of a map or hash file there. Where memory is
+ * refused for that, and where the store goes back behind its beginning (redo_group_abort, a commit that is cut off), the snapshot is
+ * given up (REDO_GIVEN_UP), and the call is done as without it. What is staged is not seen. One snapshot is open at a time, also across
+ * groups and transactions; redo_close ends it. */
+int32_t redo_snapshot_begin(redo_t *db);
+int32_t redo_snapshot_get(redo_t *db, uint32_t object, void *into, size_t room, uint64_t *length);      /* as redo_get */
+int32_t redo_snapshot_end(redo_t *db);
 
 /* A backup: the store as it is at the finish, in another folder, which is there and has no store. Commands, installs and checks go
  * on meanwhile; redo_trim does not (REDO_IN_BACKUP), and nothing of a backup goes within a group. Its files are in memory until its

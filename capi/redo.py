@@ -24,6 +24,7 @@ any `with`).
 """
 from __future__ import annotations
 
+import builtins
 import ctypes
 import os
 import struct
@@ -38,7 +39,7 @@ from typing import Any, NamedTuple, NoReturn, Union
 
 __version__ = "0"       # in the wheel that of the program (build_wheel.py)
 
-__all__ = ["Backup", "Error", "Hash", "Params", "Stat", "Store", "Tree", "create", "open", "version"]
+__all__ = ["Backup", "Error", "Hash", "Params", "Snapshot", "Stat", "Store", "Tree", "create", "open", "version"]
 
 Bytes = Union[bytes, bytearray, memoryview]
 
@@ -123,6 +124,7 @@ _begin_room, _group_abort = _c("begin_room", _u64), _c("group_abort")
 _upkeep = _c("upkeep", ctypes.c_int32)
 _txn_begin, _txn_commit, _txn_abort = _c("txn_begin"), _c("txn_commit"), _c("txn_abort")
 _txn_commit_lazily = _c("txn_commit_lazily")
+_snapshot_begin, _snapshot_get, _snapshot_end = _c("snapshot_begin"), _c("snapshot_get", _u32, *_room), _c("snapshot_end")
 _backup_start, _backup_copy = _c("backup_start", _bytes), _c("backup_copy", _u32, _u64p)
 _backup_finish, _backup_give_up = _c("backup_finish", _u64p), _c("backup_give_up")
 _stat, _params = _c("stat", ctypes.POINTER(_Stat)), _c("params", ctypes.POINTER(_Params))
@@ -135,7 +137,7 @@ _app_run, _program_run = _c("app_run", _u32, _u64, _u64p), _c("program_run", *_o
 _program_exec, _program_read, _program_write = (_c("program_" + name, *_objects) for name in ("exec", "read", "write"))
 _lib.redo_strerror.restype, _lib.redo_strerror.argtypes = _bytes, [ctypes.c_int32]
 _lib.redo_version.restype, _lib.redo_handle_size.restype = _u32, _size
-if _lib.redo_version() < 4 or _lib.redo_handle_size() != ctypes.sizeof(_Handle):
+if _lib.redo_version() < 5 or _lib.redo_handle_size() != ctypes.sizeof(_Handle):
     raise ImportError("the library is none that this module knows")
 
 
@@ -176,6 +178,9 @@ class NoBackup(Error): code = 21
 class NotCopied(Error): code = 22
 class InTransaction(Error): code = 23
 class NoTransaction(Error): code = 24
+class InSnapshot(Error): code = 25
+class NoSnapshot(Error): code = 26
+class GivenUp(Error): code = 27
 class NoObject(Error, IndexError): code = 32
 class Same(Error): code = 33
 class BadPlace(Error): code = 34
@@ -377,6 +382,7 @@ class Store:
         self._task: object = None                   # whose it is
         self._undo: _Undoing | None = None          # what an exception undoes of it
         self._saving: Callable[[], object] | None = None        # of a backup that may be under way: None where its `with` is over
+        self._kept: Callable[[], object] | None = None          # the snapshot that may be open: None where it is gone
 
     def _do(self, work: Callable[..., Any], *words: object) -> Any:
         """Does work at this thread's turn. In the middle of other work of the thread, as in a signal handler, it is Busy."""
@@ -618,6 +624,25 @@ class Store:
         if self._saving is saving and _backup_give_up(self._handle) != InGroup.code:
             self._saving = None
 
+    def snapshot(self) -> Snapshot:
+        """For a `with`: the state that the store has as it begins, which stays while commands change the store. One at a time:
+        InSnapshot."""
+        return Snapshot(self)
+
+    def _begin_snapshot(self, snapshot: Snapshot) -> None:
+        if self._kept and self._kept() is None:     # that of a `with` that is over
+            _snapshot_end(self._handle)
+        self._made(_snapshot_begin)
+        self._kept = weakref.ref(snapshot)
+        stat = _Stat()
+        self._made(_stat, stat)
+        snapshot.commands = stat.accepted
+
+    def _end_snapshot(self, snapshot: Snapshot) -> None:
+        if self._kept and self._kept() is snapshot:
+            _snapshot_end(self._handle)
+            self._kept = None
+
     def stat(self) -> Stat:
         """What the store reports of itself."""
         stat = _Stat()
@@ -738,6 +763,64 @@ class Backup:
         """Copies so many objects more (below 2^32), fewer at the end. Answers how many are copied."""
         self.copied = self._store._number(_backup_copy, _count(count, 32))
         return self.copied
+
+
+class Snapshot:
+    """A state of a store, after `commands` commands: what each object held then, whatever was done since. Iteration is over the
+    values, from object 0 on.
+
+    A value is copied as it is first changed, and those of a range at the first change of a map or hash file there. GivenUp is raised
+    once memory was refused for that, or the store went back behind the beginning, as where a group is undone within which it
+    began; NoSnapshot, once the `with` is over."""
+
+    def __init__(self, store: Store) -> None:
+        self._store = store
+        self.commands = 0
+
+    def __enter__(self) -> Snapshot:
+        self._store._do(self._store._begin_snapshot, self)
+        return self
+
+    def __exit__(self, *_: object) -> None:
+        if self._store.is_open:
+            self._store._do(self._store._end_snapshot, self)
+
+    def _one(self, x: int) -> bytes:
+        store = self._store
+        if not (store._kept and store._kept() is self):
+            raise _error(NoSnapshot.code)
+        return store._copied(_snapshot_get, x)
+
+    def get(self, x: int) -> bytes:
+        """The value that object x had."""
+        value: bytes = self._store._do(self._one, _whole(x))
+        return value
+
+    def __getitem__(self, x: int) -> bytes:
+        return self.get(x)
+
+    def __len__(self) -> int:
+        return len(self._store)
+
+    def __iter__(self) -> Iterator[bytes]:
+        return self.values()
+
+    def values(self, low: int = 0, high: int | None = None) -> Iterator[bytes]:
+        """The values of the objects from low to high, that one too, or to the last."""
+        for x in range(_whole(low), len(self) if high is None else _whole(high) + 1):
+            yield self.get(x)
+
+    def dump(self, path: str | os.PathLike[str]) -> None:
+        """Writes it into a file that is not there yet (FileExistsError), as `redo dump` prints it."""
+        with builtins.open(path, "x", encoding="ascii", newline="\n") as file:
+            try:
+                for x, value in enumerate(self):
+                    if value:
+                        file.write(f"{x} {value.hex()}\n")
+                file.write(f"commands {self.commands}\n")
+            except BaseException:
+                os.unlink(path)
+                raise
 
 
 class _Map(MutableMapping[bytes, bytes]):

@@ -9,9 +9,12 @@
 #define MADE(name, ...) redo_report(db, redo_core_##name(&db->core_, __VA_ARGS__))
 #define REPORT(name, ...) REDO_CALL(MADE(name, __VA_ARGS__))
 #define REPORT_OF(name) REDO_CALL(redo_report(db, redo_core_##name(&db->core_)))
-/* The same of a command, after which the handle keeps up, where it is to. */
-#define COMMAND(name, ...) REDO_CALL(kept_up(db, MADE(name, __VA_ARGS__)))
+/* The same of a command, after which the handle keeps up, where it is to. Before it what the objects hold that it names is kept for the
+ * snapshot, if one is open: it writes no others. */
+#define COMMAND(one, other, name, ...) REDO_CALL((keep(db, one, other), kept_up(db, MADE(name, __VA_ARGS__))))
 #define COMMAND_OF(name) REDO_CALL(kept_up(db, redo_report(db, redo_core_##name(&db->core_))))
+/* The same of a command of a map or hash file, which writes none but those of its range. */
+#define CHANGE(name, range, ...) (keep_range(db, range), kept_up(db, MADE(name, &range, __VA_ARGS__)))
 /* The same, but where bytes that it names are nowhere. */
 #define UNLESS(nowhere, made) REDO_CALL((nowhere) ? redo_alone(db, REDO_NULL) : (made))
 
@@ -37,6 +40,23 @@ static int32_t kept_up(redo_t *db, int32_t answer) {
 }
 int32_t redo_upkeep(redo_t *db, int32_t on) { return REDO_CALL((db->upkeep_ = on != 0, REDO_OK)); }
 
+/* Where no snapshot is open nothing is done. One that does not keep what it has to is given up, and a disk fault is answered again by
+ * the command. */
+static void keep(redo_t *db, uint32_t one, uint32_t other) {
+    redo_core_snapshot_keep(&db->core_, (uint32_t[]){one, other}, 2);
+}
+static void keep_range(redo_t *db, redo_range_t range) {
+    redo_params_t p;
+    uint32_t objects[64] = {0};
+    if (redo_core_snapshot_keep(&db->core_, objects, 0) == REDO_NO_SNAPSHOT) return;
+    if (redo_core_params(&db->core_, &p) != REDO_OK || range.high >= p.objects) return;
+    for (uint32_t x = range.low; x <= range.high;) {
+        size_t count = 0;
+        while (count < 64 && x <= range.high) objects[count++] = x++;
+        redo_core_snapshot_keep(&db->core_, objects, count);
+    }
+}
+
 /* How much of a value is handed on, which the library copies before it asks for CAP: with one byte past it it is too large. */
 static size_t up_to_cap(redo_t *db, size_t length) {
     redo_params_t p;
@@ -50,13 +70,14 @@ static int32_t told(redo_t *db, int32_t answer, const void *into, size_t room, c
 #define VALUE(name, ...) told(db, MADE(name, __VA_ARGS__, INTO(into, room), length ? length : &unasked), into, room, &unasked)
 
 int32_t redo_put(redo_t *db, uint32_t object, const void *value, size_t length) {
-    return UNLESS(NOWHERE(value, length), kept_up(db, MADE(put, object, redo_some(value), up_to_cap(db, length))));
+    return UNLESS(NOWHERE(value, length),
+                  (keep(db, object, object), kept_up(db, MADE(put, object, redo_some(value), up_to_cap(db, length)))));
 }
-int32_t redo_copy(redo_t *db, uint32_t from, uint32_t to) { return COMMAND(copy, from, to); }
-int32_t redo_append(redo_t *db, uint32_t from, uint32_t to) { return COMMAND(append, from, to); }
-int32_t redo_cut(redo_t *db, uint32_t from, uint32_t to, uint32_t place) { return COMMAND(cut, from, to, place); }
-int32_t redo_sort(redo_t *db, uint32_t from, uint32_t to, uint32_t width) { return COMMAND(sort, from, to, width); }
-int32_t redo_swap(redo_t *db, uint32_t first, uint32_t second) { return COMMAND(swap, first, second); }
+int32_t redo_copy(redo_t *db, uint32_t from, uint32_t to) { return COMMAND(from, to, copy, from, to); }
+int32_t redo_append(redo_t *db, uint32_t from, uint32_t to) { return COMMAND(from, to, append, from, to); }
+int32_t redo_cut(redo_t *db, uint32_t from, uint32_t to, uint32_t place) { return COMMAND(from, to, cut, from, to, place); }
+int32_t redo_sort(redo_t *db, uint32_t from, uint32_t to, uint32_t width) { return COMMAND(from, to, sort, from, to, width); }
+int32_t redo_swap(redo_t *db, uint32_t first, uint32_t second) { return COMMAND(first, second, swap, first, second); }
 int32_t redo_get(redo_t *db, uint32_t object, void *into, size_t room, uint64_t *length) {
     uint64_t unasked = 0;
     return UNLESS(NOWHERE(into, room), VALUE(get, object));
@@ -91,19 +112,27 @@ static int32_t committed(redo_t *db, uint32_t answer) {
     return is_cut ? again(db, answer) : kept_up(db, redo_report(db, answer));
 }
 int32_t redo_txn_begin(redo_t *db) { return REPORT_OF(txn_begin); }
-int32_t redo_txn_commit(redo_t *db) { return REDO_CALL(committed(db, redo_core_txn_commit(&db->core_))); }
-int32_t redo_txn_commit_lazily(redo_t *db) { return REDO_CALL(committed(db, redo_core_txn_commit_lazily(&db->core_))); }
+#define COMMIT(name) REDO_CALL((redo_core_snapshot_keep_staged(&db->core_), committed(db, redo_core_##name(&db->core_))))
+int32_t redo_txn_commit(redo_t *db) { return COMMIT(txn_commit); }
+int32_t redo_txn_commit_lazily(redo_t *db) { return COMMIT(txn_commit_lazily); }
 int32_t redo_txn_abort(redo_t *db) { return REPORT_OF(txn_abort); }
+
+int32_t redo_snapshot_begin(redo_t *db) { return REPORT_OF(snapshot_begin); }
+int32_t redo_snapshot_get(redo_t *db, uint32_t object, void *into, size_t room, uint64_t *length) {
+    uint64_t unasked = 0;
+    return UNLESS(NOWHERE(into, room), VALUE(snapshot_get, object));
+}
+int32_t redo_snapshot_end(redo_t *db) { return REPORT_OF(snapshot_end); }
 
 int32_t redo_stat(redo_t *db, redo_stat_t *stat) { return REPORT(stat, stat ? stat : &(redo_stat_t){0}); }
 int32_t redo_params(redo_t *db, redo_params_t *params) { return REPORT(params, params ? params : &(redo_params_t){0}); }
 
 int32_t redo_tree_insert(redo_t *db, redo_range_t tree, const void *key, size_t key_length, const void *value, size_t length) {
     return UNLESS(NOWHERE(key, key_length) || NOWHERE(value, length),
-                  kept_up(db, MADE(tree_insert, &tree, redo_some(key), key_length, redo_some(value), length)));
+                  CHANGE(tree_insert, tree, redo_some(key), key_length, redo_some(value), length));
 }
 int32_t redo_tree_delete(redo_t *db, redo_range_t tree, const void *key, size_t key_length) {
-    return UNLESS(NOWHERE(key, key_length), kept_up(db, MADE(tree_delete, &tree, redo_some(key), key_length)));
+    return UNLESS(NOWHERE(key, key_length), CHANGE(tree_delete, tree, redo_some(key), key_length));
 }
 int32_t redo_tree_get(redo_t *db, redo_range_t tree, const void *key, size_t key_length, void *into, size_t room,
                       uint64_t *length) {
@@ -128,10 +157,10 @@ int32_t redo_tree_pair(redo_t *db, uint64_t pair, void *key, size_t key_room, vo
 }
 int32_t redo_hash_put(redo_t *db, redo_range_t hash, const void *key, size_t key_length, const void *value, size_t length) {
     return UNLESS(NOWHERE(key, key_length) || NOWHERE(value, length),
-                  kept_up(db, MADE(hash_put, &hash, redo_some(key), key_length, redo_some(value), length)));
+                  CHANGE(hash_put, hash, redo_some(key), key_length, redo_some(value), length));
 }
 int32_t redo_hash_delete(redo_t *db, redo_range_t hash, const void *key, size_t key_length) {
-    return UNLESS(NOWHERE(key, key_length), kept_up(db, MADE(hash_delete, &hash, redo_some(key), key_length)));
+    return UNLESS(NOWHERE(key, key_length), CHANGE(hash_delete, hash, redo_some(key), key_length));
 }
 int32_t redo_hash_get(redo_t *db, redo_range_t hash, const void *key, size_t key_length, void *into, size_t room,
                       uint64_t *length) {
@@ -139,15 +168,15 @@ int32_t redo_hash_get(redo_t *db, redo_range_t hash, const void *key, size_t key
     return UNLESS(NOWHERE(key, key_length) || NOWHERE(into, room), VALUE(hash_get, &hash, redo_some(key), key_length));
 }
 
-int32_t redo_app_exec(redo_t *db, uint32_t app) { return COMMAND(app_exec, app); }
-int32_t redo_app_read(redo_t *db, uint32_t app, uint32_t from) { return COMMAND(app_read, app, from); }
-int32_t redo_app_write(redo_t *db, uint32_t app, uint32_t to) { return COMMAND(app_write, app, to); }
+int32_t redo_app_exec(redo_t *db, uint32_t app) { return COMMAND(app, app, app_exec, app); }
+int32_t redo_app_read(redo_t *db, uint32_t app, uint32_t from) { return COMMAND(app, from, app_read, app, from); }
+int32_t redo_app_write(redo_t *db, uint32_t app, uint32_t to) { return COMMAND(app, to, app_write, app, to); }
 int32_t redo_app_run(redo_t *db, uint32_t app, uint64_t most, uint64_t *steps) {
-    return COMMAND(app_run, app, most, COUNT(steps));
+    return COMMAND(app, app, app_run, app, most, COUNT(steps));
 }
-int32_t redo_program_exec(redo_t *db, uint32_t app, uint32_t program) { return COMMAND(program_exec, app, program); }
-int32_t redo_program_read(redo_t *db, uint32_t app, uint32_t from) { return COMMAND(program_read, app, from); }
-int32_t redo_program_write(redo_t *db, uint32_t app, uint32_t to) { return COMMAND(program_write, app, to); }
+int32_t redo_program_exec(redo_t *db, uint32_t app, uint32_t program) { return COMMAND(app, program, program_exec, app, program); }
+int32_t redo_program_read(redo_t *db, uint32_t app, uint32_t from) { return COMMAND(app, from, program_read, app, from); }
+int32_t redo_program_write(redo_t *db, uint32_t app, uint32_t to) { return COMMAND(app, to, program_write, app, to); }
 int32_t redo_program_run(redo_t *db, uint32_t app, uint32_t program, uint64_t most, uint64_t *steps) {
-    return COMMAND(program_run, app, program, most, COUNT(steps));
+    return COMMAND(app, program, program_run, app, program, most, COUNT(steps));
 }

@@ -39,6 +39,13 @@ uint32_t redo_core_txn_begin(redo_core_t *);
 uint32_t redo_core_txn_commit(redo_core_t *);
 uint32_t redo_core_txn_commit_lazily(redo_core_t *);
 uint32_t redo_core_txn_abort(redo_core_t *);
+/* The values that objects have are kept for the snapshot, before a call that may change them: for it, or for those that are staged, before
+ * they are committed. One that is not kept gives the snapshot up. Where none is open it is REDO_NO_SNAPSHOT, and nothing is done. */
+uint32_t redo_core_snapshot_begin(redo_core_t *);
+uint32_t redo_core_snapshot_keep(redo_core_t *, const uint32_t *, size_t);
+uint32_t redo_core_snapshot_keep_staged(redo_core_t *);
+uint32_t redo_core_snapshot_get(redo_core_t *, uint32_t, uint8_t *, size_t, uint64_t *);
+uint32_t redo_core_snapshot_end(redo_core_t *);
 uint32_t redo_core_force(redo_core_t *, uint64_t *);
 uint32_t redo_core_install(redo_core_t *, uint64_t *);
 uint32_t redo_core_tend(redo_core_t *, size_t, uint64_t *);

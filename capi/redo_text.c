@@ -24,6 +24,9 @@ const char *redo_strerror(int32_t answer) {
     case REDO_NOT_COPIED: return "not all objects are copied";
     case REDO_IN_TXN: return "not within a transaction";
     case REDO_NO_TXN: return "no transaction is open";
+    case REDO_IN_SNAPSHOT: return "a snapshot is open";
+    case REDO_NO_SNAPSHOT: return "no snapshot is open";
+    case REDO_GIVEN_UP: return "the snapshot was given up";
     case REDO_NO_OBJECT: return "the store has no such object";
     case REDO_SAME: return "the two objects are one";
     case REDO_BAD_PLACE: return "the value is not that long";

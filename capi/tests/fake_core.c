@@ -17,14 +17,16 @@ typedef struct {
     bool in_group; uint64_t group;
     bool in_txn; uint64_t staged;               /* changes of a transaction are on the map, and wait in a block of their own */
     bytes_t before, staging;                    /* the map before a group or a transaction */
+    bool in_snapshot, is_given_up; uint64_t since;  /* the snapshot, and how many commands there were */
+    bytes_t *kept; bool *is_kept;                   /* for each object */
     bool in_backup, is_store; uint32_t copied;      /* of a backup: whether its folder has a store */
     waiting_t *first, **last;
     entry_t *pairs; size_t pair_count;
     redo_detail_t detail;
 } store_t;
 
-/* Where a test says so, no memory is left for an abort: the store is let go. */
-bool fake_aborts_fail;
+/* Where a test says so, no memory is left for an abort, and the store is let go; or for a snapshot. */
+bool fake_aborts_fail, fake_keeps_fail;
 
 static bytes_t dup_bytes(const void *at, size_t n) {
     bytes_t b = {malloc(n + 1), n};
@@ -124,12 +126,12 @@ static void force(store_t *s) {
     ask(s, REDO_CALL_SAY, 0, 0, "forced\n", 7);
     s->block.n = 0, s->forced = s->accepted;
 }
-static bytes_t whole(store_t *s) {
+static bytes_t whole_now(store_t *s) {
     bytes_t all = {0, 0};
-    if (s->in_txn) return dup_bytes(s->before.at, s->before.n);
     for (size_t i = 0; i < s->count; i++) log_change(&all, s->map[i].name, s->map[i].value, false);
     return all;
 }
+static bytes_t whole(store_t *s) { return s->in_txn ? dup_bytes(s->before.at, s->before.n) : whole_now(s); }
 static void trim(store_t *s) {
     bytes_t all = whole(s);
     s->epoch += NEXT_EPOCH, s->end = s->filled = 0, s->block.n = 0;
@@ -147,13 +149,18 @@ static void drop_pairs(store_t *s) {
     free(s->pairs);
     s->pairs = 0, s->pair_count = 0;
 }
+static void drop_kept(store_t *s) {
+    for (uint32_t x = 0; s->in_snapshot && x < s->numbers.objects; x++)
+        if (s->is_kept[x]) free(s->kept[x].at);
+    free(s->kept), free(s->is_kept), s->kept = 0, s->is_kept = 0, s->in_snapshot = false;
+}
 static void drop(store_t *s) {
     for (size_t i = 0; i < s->count; i++) free(s->map[i].name.at), free(s->map[i].value.at);
     while (s->first) {
         waiting_t *w = s->first;
         s->first = w->next, free(w->bytes), free(w);
     }
-    drop_pairs(s), free(s->map), free(s->block.at), free(s->before.at), free(s->staging.at), free(s);
+    drop_kept(s), drop_pairs(s), free(s->map), free(s->block.at), free(s->before.at), free(s->staging.at), free(s);
 }
 static void lay_out(store_t *s, bytes_t changes) {
     write_block(s, changes);
@@ -230,10 +237,11 @@ static uint32_t command(store_t *s, const step_t *steps, int count) {
 }
 /* The map is kept, and may be had again. */
 static void keep_map(store_t *s) { free(s->before.at), s->before = whole(s); }
-static void map_again(store_t *s) {
+static void map_is(store_t *s, bytes_t changes) {
     for (size_t i = 0; i < s->count; i++) free(s->map[i].name.at), free(s->map[i].value.at);
-    s->count = 0, redo_changes(s, s->before);
+    s->count = 0, redo_changes(s, changes);
 }
+static void map_again(store_t *s) { map_is(s, s->before); }
 /* The name of an object, of the input of an application, or of a key. */
 typedef struct { uint8_t at[64]; } name_t;
 static bytes_t named(name_t *n, char kind, uint32_t low, uint32_t high, redo_bytes_t key, size_t length) {
@@ -312,8 +320,48 @@ uint32_t redo_core_abort(redo_core_t *c) {
     if (!s->in_group) return refuse(s, REDO_NO_GROUP);
     if (fake_aborts_fail) return redo_core_close(c), REDO_DISK_FAULT;
     map_again(s), s->block.n = 0, s->accepted -= s->group, s->in_group = s->in_backup = false;
+    if (s->accepted < s->since) s->is_given_up = true;
     ask(s, REDO_CALL_SYNC, log_of(s->epoch), 0, 0, 0);
     return REDO_OK;
+}
+uint32_t redo_core_snapshot_begin(redo_core_t *c) {
+    STORE;
+    if (s->in_snapshot) return refuse(s, REDO_IN_SNAPSHOT);
+    s->kept = calloc(s->numbers.objects, sizeof *s->kept), s->is_kept = calloc(s->numbers.objects, 1);
+    return s->in_snapshot = true, s->is_given_up = false, s->since = s->accepted, REDO_OK;
+}
+uint32_t redo_core_snapshot_keep(redo_core_t *c, const uint32_t *objects, size_t count) {
+    STORE;
+    if (!s->in_snapshot) return refuse(s, REDO_NO_SNAPSHOT);
+    if (count && fake_keeps_fail) s->is_given_up = true;
+    for (size_t i = 0; i < count; i++) {
+        uint32_t x = objects[i];
+        if (s->in_txn || x >= s->numbers.objects || s->is_kept[x]) continue;
+        s->kept[x] = dup_bytes(object(s, x).at, object(s, x).n), s->is_kept[x] = true;
+    }
+    return REDO_OK;
+}
+/* (The map has what is staged: the map before it is what the objects have.) */
+uint32_t redo_core_snapshot_keep_staged(redo_core_t *c) {
+    STORE;
+    if (!s->in_txn) return refuse(s, REDO_NO_TXN);
+    if (!s->in_snapshot) return refuse(s, REDO_NO_SNAPSHOT);
+    bytes_t staged = whole_now(s);
+    map_again(s), s->in_txn = false;
+    for (uint32_t x = 0; x < s->numbers.objects; x++) redo_core_snapshot_keep(c, &x, 1);
+    s->in_txn = true, map_is(s, staged);
+    return free(staged.at), REDO_OK;
+}
+uint32_t redo_core_snapshot_get(redo_core_t *c, uint32_t x, uint8_t *into, size_t room, uint64_t *length) {
+    STORE;
+    if (!s->in_snapshot) return refuse(s, REDO_NO_SNAPSHOT);
+    if (s->is_given_up) return refuse(s, REDO_GIVEN_UP);
+    HAS(x); return give(into, room, length, s->is_kept[x] ? s->kept[x] : object(s, x));
+}
+uint32_t redo_core_snapshot_end(redo_core_t *c) {
+    STORE;
+    if (!s->in_snapshot) return refuse(s, REDO_NO_SNAPSHOT);
+    return drop_kept(s), REDO_OK;
 }
 uint32_t redo_core_txn_begin(redo_core_t *c) {
     STORE;

@@ -414,6 +414,76 @@ static void transactions(const char *folder) {
     is(0, "kept");
 }
 
+/* What a snapshot answers, and what the store does. */
+static void was(uint32_t x, const char *value) {
+    WANT(REDO_OK, redo_snapshot_get(&db, x, got, sizeof got, &n));
+    if (n != strlen(value) || memcmp(got, value, n)) fail("object %u had %d bytes: %.*s", x, (int)n, (int)n, (char *)got);
+}
+/* Whatever changes objects leaves what they were in the snapshot: the first value is in the same object each time. */
+static int32_t change(int which) {
+    redo_range_t r = range(0, 7);
+    switch (which) {
+    case 0: return redo_put(&db, 0, B("new"));
+    case 1: return redo_copy(&db, 1, 0);
+    case 2: return redo_append(&db, 1, 0);
+    case 3: return redo_cut(&db, 0, 2, 1);
+    case 4: return redo_cut(&db, 1, 0, 1);
+    case 5: return redo_sort(&db, 1, 0, 1);
+    case 6: return redo_swap(&db, 0, 1);
+    case 7: return redo_swap(&db, 1, 0);
+    case 8: return redo_app_read(&db, 0, 1);
+    case 9: return redo_txn_begin(&db) ?: redo_put(&db, 0, B("new")) ?: redo_txn_commit(&db);
+    case 10: return redo_txn_begin(&db) ?: redo_swap(&db, 1, 0) ?: redo_txn_commit_lazily(&db);
+    case 11: return redo_begin(&db) ?: redo_put(&db, 0, B("new")) ?: redo_group_abort(&db);
+    case 12: return redo_txn_begin(&db) ?: redo_put(&db, 0, B("new")) ?: redo_txn_abort(&db);
+    case 13: return redo_put(&db, 0, B("")) ?: redo_put(&db, 1, B("")) ?: redo_tree_insert(&db, r, B("k"), B("v"));
+    case 14: return redo_put(&db, 0, B("")) ?: redo_put(&db, 1, B("")) ?: redo_hash_put(&db, r, B("k"), B("v"));
+    default: return -1;
+    }
+}
+/* Where a test says so, no memory is left for a value that is to be kept. */
+extern bool fake_keeps_fail __attribute__((weak));
+static void drained(void) {
+    WANT(REDO_OK, redo_drain(&db));
+    WANT(REDO_OK, redo_trim(&db));
+}
+static void snapshots(void) {
+    for (uint32_t x = 0; x < 8; x++) put(x, "");
+    WANT(REDO_NO_SNAPSHOT, redo_snapshot_get(&db, 0, got, sizeof got, &n)), detail_is(0, 0);
+    WANT(REDO_NO_SNAPSHOT, redo_snapshot_end(&db));
+    for (int which = 0; which < 15; which++) {
+        for (uint32_t x = 2; x < 8; x++) put(x, "");
+        put(0, "old"), put(1, "one");
+        WANT(REDO_OK, redo_snapshot_begin(&db));
+        WANT(REDO_IN_SNAPSHOT, redo_snapshot_begin(&db));
+        int32_t rc = change(which);
+        if (rc != REDO_OK && rc != REDO_NOT_APP) fail("change %d: %s", which, redo_strerror(rc));
+        was(0, "old"), was(1, "one"), was(2, "");
+        put(0, "newer"), is(0, "newer"), was(0, "old");
+        WANT(REDO_NO_OBJECT, redo_snapshot_get(&db, 8, got, 1, &n));
+        WANT(REDO_NULL, redo_snapshot_get(&db, 0, 0, 1, &n));
+        WANT(REDO_NO_LENGTH, redo_snapshot_get(&db, 0, got, 1, 0));
+        WANT(REDO_OK, redo_snapshot_end(&db));
+        drained();
+    }
+    WANT(REDO_OK, redo_begin(&db));
+    put(0, "never");
+    WANT(REDO_OK, redo_snapshot_begin(&db));
+    WANT(REDO_OK, redo_group_abort(&db));
+    WANT(REDO_GIVEN_UP, redo_snapshot_get(&db, 0, got, sizeof got, &n)), detail_is(0, 0);
+    WANT(REDO_GIVEN_UP, redo_snapshot_get(&db, 1, got, sizeof got, &n));
+    WANT(REDO_OK, redo_snapshot_end(&db));
+    if (&fake_keeps_fail) {
+        WANT(REDO_OK, redo_snapshot_begin(&db));
+        fake_keeps_fail = true;
+        put(0, "done"), is(0, "done");
+        fake_keeps_fail = false;
+        WANT(REDO_GIVEN_UP, redo_snapshot_get(&db, 0, got, sizeof got, &n));
+        WANT(REDO_OK, redo_snapshot_end(&db));
+    }
+    put(0, "kept"), put(1, "too");
+}
+
 /* A child is killed within a group: what was forced is there, and of the group nothing. */
 static void killed(const char *folder) {
     WANT(REDO_OK, redo_close(&db));
@@ -455,7 +525,7 @@ static void closed_streams(const char *folder) {
 
 int main(int argc, char **argv) {
     const char *folder = argc > 1 ? argv[1] : ".";
-    closed(folder), made(folder), values(), nowhere(folder), groups(), upkeep(), backups(folder), maps(folder), applications(), given_up(folder), roomy(), lost(folder), upkept(), transactions(folder), killed(folder), threads();
+    closed(folder), made(folder), values(), nowhere(folder), groups(), upkeep(), backups(folder), maps(folder), applications(), given_up(folder), roomy(), lost(folder), upkept(), transactions(folder), snapshots(), killed(folder), threads();
     WANT(REDO_OK, redo_last_detail(&db, &(redo_detail_t){0, 0, 0}));
     closed_streams(folder);
     WANT(REDO_OK, redo_close(&db));

@@ -251,6 +251,50 @@ def maps(folder):
         assert len(s.tree(0, 63)) == 60 and s.hash(64, 127)[b"k34"] == b"vk34"
 
 
+def snapshots(folder):
+    with redo.open(folder) as s:
+        for x in range(8):
+            s.put(x, b"old %d" % x)
+        before = [s[x] for x in range(8)]
+        with s.snapshot() as old:
+            refused(redo.InSnapshot, s.snapshot().__enter__)
+            with s.transaction():
+                s.put(0, b"new")
+                s.swap(1, 2)
+            with s.group():
+                s.copy(0, 3)
+            s.put(4, b"")
+            assert old[0] == old.get(0) == b"old 0" and s[0] == b"new" and len(old) == 8
+            assert list(old) == before and list(old.values(2, 3)) == before[2:4]
+            refused(redo.NoObject, old.get, 8)
+            old.dump(folder + "/dump.txt")
+            try:
+                old.dump(folder + "/dump.txt")
+                raise AssertionError("it is written over")
+            except FileExistsError:
+                pass
+            with open(folder + "/dump.txt") as file:
+                lines = file.read().splitlines()
+            assert lines == [f"{x} {value.hex()}" for x, value in enumerate(before)] + [f"commands {old.commands}"], lines
+            os.unlink(folder + "/dump.txt")
+        refused(redo.NoSnapshot, old.get, 0)
+        try:
+            with s.group(undo=True):
+                s.put(0, b"never")
+                with s.snapshot() as never:
+                    assert never[0] == b"never"
+                    raise KeyError
+        except KeyError:
+            pass
+        with s.snapshot() as newer:
+            assert newer[0] == s[0] == b"new"
+            reader = threading.Thread(target=lambda: [s.put(0, b"%d" % i) for i in range(100)])
+            reader.start()
+            while reader.is_alive():
+                assert newer[0] == b"new"
+            assert newer[0] == b"new" and s[0] == b"99"
+
+
 def applications(folder):
     with redo.open(folder) as s:
         s.put(0, b"hello")
@@ -352,7 +396,7 @@ def faults(folder):
 
 def main():
     folder = sys.argv[1] if len(sys.argv) > 1 else "."
-    for test in (values, groups, undone, transactions, upkept, backups, maps, applications, forks_and_kills, threads, *([faults] if "REDO_CALLS" in os.environ else [])):
+    for test in (values, groups, undone, transactions, snapshots, upkept, backups, maps, applications, forks_and_kills, threads, *([faults] if "REDO_CALLS" in os.environ else [])):
         test(folder)
     print("test_redo.py: ok")
 

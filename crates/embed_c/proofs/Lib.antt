@@ -10,3 +10,4 @@ pub mod Telling
 pub mod Transacting
 pub mod Untaken
 pub mod Values
+mod Snapshotting

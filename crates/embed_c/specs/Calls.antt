@@ -43,6 +43,7 @@ module _ {R : Type 0} (told : R → Answer) (does : Store QueueMem → Store Que
     pub untaken : IsUntaken old.store.machine new.store.machine
     pub taken : new.taken ≡ old.taken
     pub pairs : new.pairs ≡ old.pairs
+    pub snapshot : new.snapshot ≡ old.snapshot
     pub staging : new.staging ≡ old.staging
 
 -- C is told this, and nothing is done
@@ -52,6 +53,7 @@ pub record DoesNothing (told : Answer) (old new : Session) (answer : ℕ) : Type
   pub store : new.store ≡ old.store
   pub taken : new.taken ≡ old.taken
   pub pairs : new.pairs ≡ old.pairs
+  pub snapshot : new.snapshot ≡ old.snapshot
   pub staging : new.staging ≡ old.staging
 
 -- a command was run

@@ -12,6 +12,8 @@ use Rattle.store_engine.specs.Store.{Stands}
 use Rattle.store_engine.specs.declared.work_err.WorkErr.{WorkErr}
 use Rattle.store_engine.specs.declared.work_err.WorkErr.TheVariants as work
 use Rattle.transactions.specs.Room.{HasRoomOf}
+use Rattle.transactions.specs.Snapshots.{IsSnapshot}
+use Rattle.transactions.specs.declared.snapshot.Snapshot.{Snapshot}
 use Rattle.write_queue.specs.Memory.{disk_of}
 use Rattle.write_queue.specs.declared.queue_mem.QueueMem.{QueueMem}
 use Rattle.embed.specs.Embedded.{IsStillBroken, SaysFull}
@@ -55,6 +57,13 @@ pub record DoesReopen (old new : Store QueueMem) : Type 0 where
   pub images : (p : Params) (commands : List AllOps) → Holds all_meaning p (disk_of old.machine) old.engine commands →
       LeavesOnly (disk_of old.machine) (disk_of new.machine) (IsSilent (λ files. Stands all_meaning p files (take (forced_in old.engine) commands)) (disk_of old.machine).said)
 
+-- A snapshot of a store that went back to first ones of its commands is one of the same state still, or it was given up.
+abbrev pub BringsBack : Store QueueMem → Option Snapshot → Option Snapshot → Type 0
+BringsBack store None after = after ≡ None
+BringsBack store (Some s) None = ⊥
+BringsBack store (Some s) (Some t) = (p : Params) (base commands : List AllOps) (n : ℕ) → IsSnapshot all_meaning p s base commands → Holds all_meaning p (disk_of store.machine) store.engine (take n commands) →
+    IsSnapshot all_meaning p t base (take n commands)
+
 -- a session whose store was given up so; no call is taken from its machine, and what else is kept for C is as it was
 pub record IsAgain (does : Store QueueMem → Store QueueMem → Type 0) (old new : Session) : Type 0 where
   pub store : does old.store new.store
@@ -63,6 +72,7 @@ pub record IsAgain (does : Store QueueMem → Store QueueMem → Type 0) (old ne
   pub taken : new.taken ≡ old.taken
   pub pairs : new.pairs ≡ old.pairs
   pub staging : new.staging ≡ old.staging
+  pub snapshot : BringsBack new.store old.snapshot new.snapshot
 
 abbrev pub IsGivenUp : Session → Session → Type 0
 IsGivenUp = IsAgain DoesAbort

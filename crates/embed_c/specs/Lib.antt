@@ -11,3 +11,4 @@ pub mod Ranges
 pub mod Staging
 pub mod Upkept
 pub mod Waiting
+pub mod Snapshots

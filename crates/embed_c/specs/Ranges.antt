@@ -127,6 +127,7 @@ module _ (low high : ℕ) (from to : List ℕ) (many : ℕ) (old new : Session) 
     pub untaken : IsUntaken old.store.machine new.store.machine
     pub taken : new.taken ≡ old.taken
     pub staging : new.staging ≡ old.staging
+    pub snapshot : new.snapshot ≡ old.snapshot
 
 -- as much of a value as there is room for was copied to the room's front
 abbrev pub CopiesFront : List ℕ → List ℕ → List ℕ → Type 0

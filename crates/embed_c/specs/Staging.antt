@@ -45,6 +45,7 @@ module _ {R : Type 0} (told : R → Answer) (does : Store QueueMem → Store Que
     pub untaken : IsUntaken old.store.machine new.store.machine
     pub taken : new.taken ≡ old.taken
     pub pairs : new.pairs ≡ old.pairs
+    pub snapshot : new.snapshot ≡ old.snapshot
 
 -- a command was staged, after the others
 pub record DoesStage (op : AllOps) (old new : Store QueueMem) (t u : Transaction AllOps) (made : Result (Unit {0}) ExecErr) : Type 0 where
@@ -105,6 +106,7 @@ pub record IsBegun (old new : Session) (answer : ℕ) : Type 0 where
   pub store : new.store ≡ old.store
   pub taken : new.taken ≡ old.taken
   pub pairs : new.pairs ≡ old.pairs
+  pub snapshot : new.snapshot ≡ old.snapshot
 
 -- why none was: one is open, or a group is, or memory ran out
 abbrev pub IsBarred : Session → Answer → Type 0
@@ -122,6 +124,7 @@ pub record IsDropped (old new : Session) (answer : ℕ) : Type 0 where
   pub store : new.store ≡ old.store
   pub taken : new.taken ≡ old.taken
   pub pairs : new.pairs ≡ old.pairs
+  pub snapshot : new.snapshot ≡ old.snapshot
 
 abbrev pub Drops : Session → Session → ℕ → Type 0
 Drops old new answer = IsDropped old new answer ⊎ ((old.staging ≡ None) × DoesNothing (alone 24) old new answer)
@@ -160,6 +163,7 @@ pub record IsCommittedBy (does : Store QueueMem → Store QueueMem → Transacti
   pub untaken : IsUntaken old.store.machine new.store.machine
   pub taken : new.taken ≡ old.taken
   pub pairs : new.pairs ≡ old.pairs
+  pub snapshot : new.snapshot ≡ old.snapshot
 
 abbrev pub IsCommitted : Transaction AllOps → Session → Session → ℕ → Type 0
 IsCommitted = IsCommittedBy DoesCommit

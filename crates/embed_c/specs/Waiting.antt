@@ -28,4 +28,5 @@ module _ (told : Call) (before after : List ℕ) (old new : Session) (answer : �
     pub store : KeepsStore old.store new.store
     pub detail : new.detail ≡ old.detail
     pub pairs : new.pairs ≡ old.pairs
+    pub snapshot : new.snapshot ≡ old.snapshot
     pub staging : new.staging ≡ old.staging

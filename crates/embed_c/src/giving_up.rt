@@ -2,14 +2,17 @@
 ghost use Rattle.std.specs.Prelude.{◌≡◌, false, None, IfNone, IfSome, IsSome};
 ghost use Rattle.embed_c.specs.Answers.{alone, of_work, told};
 ghost use Rattle.embed_c.specs.Calls.{DoesNothing, IsCalled};
-ghost use Rattle.embed_c.specs.GivenUp.{DoesBeginRoom, GivesUp, IsGivenUp, IsLost, PutsBack, no_group_in};
+ghost use Rattle.embed_c.specs.GivenUp.{BringsBack, DoesBeginRoom, GivesUp, IsGivenUp, IsLost, PutsBack, no_group_in};
 ghost use Rattle.embed_c.specs.Handles.{OnSession, session_of};
 ghost use Rattle.embed_c.specs.Staging.{Apart};
 
 use crate::answer::{Answer, work_answer};
 use crate::handle::Redo;
 use crate::session::Session;
+use embed::Store;
 use std::alloc::Global;
+use transactions::Snapshot;
+use write_queue::QueueMem;
 
 const NOT_OPEN: u32 = 64;
 
@@ -51,23 +54,41 @@ impl Session {
             detail: _,
             pairs,
             staging,
+            snapshot,
             pace,
         } = self;
         match store.abort() {
-            Ok(store) => boxed(Session {
-                alloc,
-                store,
-                taken,
-                detail: Answer::done().detail,
-                pairs,
-                staging,
-                pace,
-            }),
+            Ok(store) => {
+                let snapshot = brought_back(&store, snapshot);
+                boxed(Session {
+                    alloc,
+                    store,
+                    taken,
+                    detail: Answer::done().detail,
+                    pairs,
+                    staging,
+                    snapshot,
+                    pace,
+                })
+            }
             Err((_, machine)) => {
                 drop(machine);
                 None
             }
         }
+    }
+}
+
+// The snapshot, if there is one, of a store that went back to first ones of its commands.
+pub(crate) fn brought_back(store: &Store<QueueMem>, snapshot: Option<Snapshot>) -> Option<Snapshot>
+    ensures { BringsBack store.now snapshot result }
+{
+    match snapshot {
+        Some(mut snapshot) => {
+            store.bring_back(&mut snapshot);
+            Some(snapshot)
+        }
+        None => None,
     }
 }
 

@@ -4,7 +4,8 @@
 //! the last call here left it. A slice is a pointer and a length. What is answered is 0, or a number of specs/Answers.antt; 64 where
 //! the handle is closed. After each call C makes on its files the calls that [`redo_core_next`] tells, in order, before it reports
 //! the answer; no other call takes one from the queue. A backup stands behind a handle of its own, as the files that it is written
-//! to, and [`backing_up::redo_core_target_next`] tells the calls on these.
+//! to, and [`backing_up::redo_core_target_next`] tells the calls on these. Before each call that may change objects beside a snapshot
+//! C has them kept ([`snapshots::redo_core_snapshot_keep`]).
 #![tactic(auto)]
 
 ghost use Rattle.std.specs.Prelude.{◌≡◌, ◌⊎◌, ◌&&◌, None, Ok, Err, IfErr, drop, nat_le, nat_lt, false};
@@ -32,6 +33,7 @@ mod handle;
 mod maps;
 mod reopening;
 mod session;
+mod snapshots;
 mod staging;
 mod taken;
 mod target;

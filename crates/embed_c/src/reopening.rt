@@ -3,7 +3,7 @@ ghost use Rattle.std.specs.Prelude.{IfNone, IfSome};
 ghost use Rattle.embed_c.specs.GivenUp.{IsReopened, LosesUnforced};
 
 use crate::answer::Answer;
-use crate::giving_up::boxed;
+use crate::giving_up::{boxed, brought_back};
 use crate::session::Session;
 
 impl Session {
@@ -19,18 +19,23 @@ impl Session {
             detail: _,
             pairs,
             staging,
+            snapshot,
             pace,
         } = self;
         match store.reopen() {
-            Ok(store) => boxed(Session {
-                alloc,
-                store,
-                taken,
-                detail: Answer::done().detail,
-                pairs,
-                staging,
-                pace,
-            }),
+            Ok(store) => {
+                let snapshot = brought_back(&store, snapshot);
+                boxed(Session {
+                    alloc,
+                    store,
+                    taken,
+                    detail: Answer::done().detail,
+                    pairs,
+                    staging,
+                    snapshot,
+                    pace,
+                })
+            }
             Err((_, machine)) => {
                 drop(machine);
                 None

@@ -29,7 +29,7 @@ use op_meaning::PlainOp;
 use oper_core::ByteList;
 use std::alloc::Global;
 use store_engine::{ExecErr, Install, Pace, Stat, WorkErr, standing_files_meet_their_format};
-use transactions::Transaction;
+use transactions::{Snapshot, Transaction};
 use write_queue::{QueueMem, fronts_are_what_is_left};
 
 /// A store in use, as one value behind a handle.
@@ -43,6 +43,8 @@ pub struct Session {
     pub(crate) pairs: Vec<(Short, Short)>,
     // The transaction that is open.
     pub(crate) staging: Option<Transaction<AllOps>>,
+    // The snapshot that is open.
+    pub(crate) snapshot: Option<Snapshot>,
     // When upkeep is due.
     pub(crate) pace: Pace,
 }
@@ -126,6 +128,7 @@ impl Session {
                 detail: Answer::done().detail,
                 pairs: Vec::new(alloc),
                 staging: None,
+                snapshot: None,
                 pace: Pace::new(),
             }),
             Err((cause, _)) => Err(Answer::of_open(cause)),
@@ -182,6 +185,7 @@ impl Session {
         ensures detail { self.new.detail ≡ self.old.detail }
         ensures pairs { self.new.pairs ≡ self.old.pairs }
         ensures staging { self.new.staging ≡ self.old.staging }
+        ensures snapshot { self.new.snapshot ≡ self.old.snapshot }
     {
         if !self.taken.is_empty() {
             return;

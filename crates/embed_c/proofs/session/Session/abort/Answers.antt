@@ -23,6 +23,7 @@ returns-in-Ok-clause-some c =
       taken = refl;
       pairs = refl;
       staging = refl;
+      snapshot = c.brought_back-snapshot.ensures;
     })
 
 pub returns-in-Ok-clause-none : goal.returns-in-Ok-clause-none

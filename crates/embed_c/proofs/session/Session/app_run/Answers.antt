@@ -12,5 +12,6 @@ returns c = record {
   untaken = untaken c.app_run-made.ensures.time;
   taken = refl;
   pairs = refl;
+  snapshot = refl;
   staging = refl;
 }

@@ -14,5 +14,6 @@ returns c =
       untaken = untaken e.time;
       taken = refl;
       pairs = refl;
+      snapshot = refl;
       staging = refl;
     }

@@ -22,6 +22,7 @@ returns-in-Ok c = inl (record {
   store = refl;
   taken = refl;
   pairs = refl;
+  snapshot = refl;
 })
 
 pub returns-in-Err : goal.returns-in-Err

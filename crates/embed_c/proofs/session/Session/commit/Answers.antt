@@ -12,7 +12,7 @@ returns-in_default c =
     let none = sym c.replace.ensures.value ∙ c.in_default.is in
     let done = c.refuse.ensures in
     subst (λ (o : Option (Transaction AllOps)). CommitsFor o c.args.self.now c.refuse.new.self c.refuse.result) (sym none)
-    (record { number = done.number; detail = done.detail; store = done.store; taken = done.taken; pairs = done.pairs; staging = done.staging ∙ c.replace.ensures.after ∙ sym none })
+    (record { number = done.number; detail = done.detail; store = done.store; taken = done.taken; pairs = done.pairs; snapshot = done.snapshot; staging = done.staging ∙ c.replace.ensures.after ∙ sym none })
 
 pub returns : goal.returns
 returns c =
@@ -29,4 +29,5 @@ returns c =
       untaken = untaken e.time;
       taken = refl;
       pairs = refl;
+      snapshot = refl;
     })

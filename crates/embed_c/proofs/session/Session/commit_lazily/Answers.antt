@@ -12,7 +12,7 @@ returns-in_default c =
     let none = sym c.replace.ensures.value ∙ c.in_default.is in
     let done = c.refuse.ensures in
     subst (λ (o : Option (Transaction AllOps)). CommitsLazilyFor o c.args.self.now c.refuse.new.self c.refuse.result false) (sym none)
-    (record { number = done.number; detail = done.detail; store = done.store; taken = done.taken; pairs = done.pairs; staging = done.staging ∙ c.replace.ensures.after ∙ sym none }, refl)
+    (record { number = done.number; detail = done.detail; store = done.store; taken = done.taken; pairs = done.pairs; snapshot = done.snapshot; staging = done.staging ∙ c.replace.ensures.after ∙ sym none }, refl)
 
 pub returns : goal.returns
 returns c =
@@ -30,6 +30,7 @@ returns c =
         untaken = untaken e.time;
         taken = refl;
         pairs = refl;
+        snapshot = refl;
       };
       cut_off = c.is_cut-cut.ensures;
     })

@@ -32,6 +32,7 @@ returns c =
         untaken = either_way broken (λ works. untaken (e.read works).kept.time) (λ fails. unchanged (e.broken fails).0.same);
         taken = refl;
         pairs = refl;
+        snapshot = refl;
         staging = refl;
       };
       untaken = either_way broken (λ works. untaken (e.runs works).time) (λ fails. untouched (e.broken fails).1);

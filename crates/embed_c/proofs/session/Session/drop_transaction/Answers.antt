@@ -15,4 +15,5 @@ returns c = inl (record {
   store = refl;
   taken = refl;
   pairs = refl;
+  snapshot = refl;
 })

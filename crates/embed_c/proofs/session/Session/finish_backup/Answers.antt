@@ -38,6 +38,7 @@ returns c =
         untaken = either_way engine.broken (λ works. by_finish engine c.finish_backup-made.new.self.engine target target' (judge_finish engine) made (e.refused works) (e.forces works).0) (λ fails. unchanged (e.broken fails).0.same);
         taken = refl;
         pairs = refl;
+        snapshot = refl;
         staging = refl;
       };
       untaken = either_way engine.broken (λ works. untaken (e.quiet works).time) (λ fails. untouched (e.broken fails).1);

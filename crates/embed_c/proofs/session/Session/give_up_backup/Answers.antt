@@ -16,5 +16,6 @@ returns c =
       untaken = either_way store.engine.broken (λ works. by_give_up store c.give_up_backup.new.self c.give_up_backup.result (judge_copy store.engine) (e.refused works) (e.given_up works)) (λ fails. unchanged (e.broken fails).same);
       taken = refl;
       pairs = refl;
+      snapshot = refl;
       staging = refl;
     }

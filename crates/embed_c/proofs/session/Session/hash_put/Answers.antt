@@ -32,5 +32,6 @@ returns c =
       untaken = untaken c.hash_put.ensures.time;
       taken = refl;
       pairs = refl;
+      snapshot = refl;
       staging = refl;
     })

@@ -14,5 +14,6 @@ returns c =
       store = c.refill.ensures.store;
       detail = c.refill.ensures.detail;
       pairs = c.refill.ensures.pairs;
+      snapshot = c.refill.ensures.snapshot;
       staging = c.refill.ensures.staging;
     }

@@ -10,4 +10,4 @@ returns-in-Ok c = inl (subst (λ (op : AllOps). Runs op c.args.self.now c.exec.n
     (c.plain_op.ensures ∙ ap (λ (l : List ℕ). plain (Put c.args.object l)) (c.new.ensures ∙ c.in-Ok.ensures.items)) c.exec.ensures)
 
 pub returns-in-Err : goal.returns-in-Err
-returns-in-Err c = inr (record { number = refl; detail = ap (λ (a : Answer). a.detail) c.alone.ensures; store = refl; taken = refl; pairs = refl; staging = refl })
+returns-in-Err c = inr (record { number = refl; detail = ap (λ (a : Answer). a.detail) c.alone.ensures; store = refl; taken = refl; pairs = refl; snapshot = refl; staging = refl })

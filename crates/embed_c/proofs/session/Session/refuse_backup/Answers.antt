@@ -9,5 +9,6 @@ returns c = record {
   store = refl;
   taken = refl;
   pairs = refl;
+  snapshot = refl;
   staging = refl;
 }

@@ -20,4 +20,5 @@ returns c =
       untaken = untaken e.time;
       taken = refl;
       pairs = refl;
+      snapshot = refl;
     })

@@ -36,6 +36,7 @@ returns c =
         untaken = either_way engine.broken (λ works. by_start engine store'.engine target target' (judge_start engine) made (e.refused works) (e.forces works)) (λ fails. unchanged (e.broken fails).0.same);
         taken = refl;
         pairs = refl;
+        snapshot = refl;
         staging = refl;
       };
       untaken = either_way engine.broken (λ works. untaken (e.quiet works).time) (λ fails. untouched (e.broken fails).1);

@@ -12,5 +12,6 @@ returns c = record {
   untaken = untaken c.tend-made.ensures.time;
   taken = refl;
   pairs = refl;
+  snapshot = refl;
   staging = refl;
 }

@@ -32,5 +32,6 @@ returns c =
       untaken = untaken c.tree_delete.ensures.time;
       taken = refl;
       pairs = refl;
+      snapshot = refl;
       staging = refl;
     })

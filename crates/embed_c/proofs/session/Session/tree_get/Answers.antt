@@ -34,5 +34,6 @@ returns c =
       untaken = untaken c.tree_get-made.ensures.time;
       taken = refl;
       pairs = refl;
+      snapshot = refl;
       staging = refl;
     })

@@ -36,6 +36,7 @@ returns-in-Ok c =
           });
       count = omega (arith, c.len.ensures);
       pairs = refl;
+      snapshot = refl;
       staging = refl;
       number = refl;
       detail = ap (λ (a : Answer). a.detail) c.done.ensures;
@@ -59,6 +60,7 @@ returns-in-Err c =
           });
       count = tt;
       pairs = refl;
+      snapshot = refl;
       staging = refl;
       number = ap (λ (a : Answer). a.number) c.of_tree-answer.ensures;
       detail = ap (λ (a : Answer). a.detail) c.of_tree-answer.ensures;

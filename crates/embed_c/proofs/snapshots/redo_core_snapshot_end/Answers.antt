@@ -1,0 +1,9 @@
+use Rattle.embed_c.specs.Snapshots.{EndsSnapshot}
+use Rattle.embed_c.proofs.OnHandles.{was_closed, was_open}
+use Rattle.embed_c.proofs.snapshots.redo_core_snapshot_end.Goals as goal
+
+pub returns-in-None : goal.returns-in-None
+returns-in-None c = was_closed EndsSnapshot c.in-None.ensures.none c.in-None.ensures.left
+
+pub returns-in-Some : goal.returns-in-Some
+returns-in-Some c = was_open EndsSnapshot c.in-Some.ensures.some c.deref_mut.ensures.value c.put_back.ensures c.end_snapshot-answer.ensures
