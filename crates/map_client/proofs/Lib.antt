@@ -1,5 +1,7 @@
 pub mod WalkLemmas
 pub mod RangingLemmas
+pub mod RangingWayLemmas
+pub mod RangingCountLemmas
 pub mod DueLemmas
 pub mod OpenLemmas
 pub mod CommandLemmas

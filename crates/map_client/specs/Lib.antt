@@ -3,4 +3,5 @@ pub mod Reading
 pub mod Turning
 pub mod Changing
 pub mod Ranging
+pub mod RangingWay
 pub mod Laws

@@ -19,6 +19,8 @@ mod map_err;
 mod opening;
 mod pair;
 mod putting;
+mod ranging_count;
+mod ranging_leaf;
 mod setting;
 mod stepping;
 mod stop;

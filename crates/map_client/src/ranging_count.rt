@@ -1,0 +1,126 @@
+// How many pairs a leaf adds to a count of those in a span of keys.
+ghost use Rattle.std.specs.Prelude.{◌≡◌, ◌<◌, ◌^◌, List, false, IfErr, IfOk, IfSome, option_map};
+ghost use Rattle.formats.specs.declared.params.Params.{Params};
+ghost use Rattle.page_map.specs.Map as maps;
+ghost use Rattle.page_map.specs.Map.{bytes_at};
+ghost use Rattle.running_store.specs.Taking.Ending.{Done};
+ghost use Rattle.store_engine.specs.Engine.{params_of};
+ghost use Rattle.store_engine.specs.Lists.{ending_of};
+ghost use Rattle.range_calls.specs.Making.{Reads};
+ghost use Rattle.range_calls.specs.Store.{Command, Holds, state_of};
+ghost use Rattle.map_client.specs.Answers.{cause_in, cause_of, or_bad};
+ghost use Rattle.map_client.specs.Ranging as ranging;
+ghost use Rattle.map_client.specs.RangingWay.{CountGoesOn, CountIsBad};
+
+use crate::call_refusal::CallRefusal;
+use crate::map_err::MapErr;
+use crate::ranging_leaf::leaf_under;
+use crate::stepping::end_bytes;
+use disk_model::Machine;
+use op_codec::AllOps;
+use page_map::{Map, MapRefusal, page_on, places_in};
+use range_calls::{CallErr, reads_go_on, see};
+use std::alloc::Global;
+use std::cmp::Ordering;
+use store_engine::{Engine, nothing_is_made};
+
+/// What one leaf adds to a count, and the key at which the next leaf begins, if there is one.
+#[derive(Drop)]
+struct Counted {
+    count: usize,
+    next: Option<Vec<u8>>,
+}
+
+/// How many pairs of a leaf have keys from `from` on and below `to`, and below the end of the leaf's own span. None where a cell
+/// that is asked does not fit, or the bytes are no leaf.
+fn count_on(bytes: &[u8], from: &[u8], to: Option<&[u8]>, end: Option<&[u8]>) -> Option<usize>
+    ensures value { result ≡ ranging.count_on bytes.now (record { from = from.now; to = option_map (λ end. end.now) to.entry }) (option_map (λ end. end.now) end.entry) }
+    ensures few { IfSome result (λ count. count < 2 ^ 17) }
+{
+    let page = page_on(0, bytes)?;
+    let places = places_in(&page, from, to, end)?;
+    let _first = places.first();
+    Some(places.count())
+}
+
+/// How many they are in the leaf of an object.
+pub(crate) fn count_leaf<M: Machine>(
+    map: &Map,
+    engine: &mut Engine<AllOps>,
+    machine: &mut M,
+    object: u32,
+    from: &[u8],
+    to: Option<&[u8]>,
+    end: Option<&[u8]>,
+) -> Result<usize, MapErr>
+    requires unbroken { engine.old.broken ≡ false }
+    ensures reads { Reads (M.disk machine.old) (M.disk machine.new) engine.old engine.new (cause_in result) }
+    ensures few { IfOk result (λ count. count < 2 ^ 17) }
+    ensures answer { (p : Params) (commands : List Command) → Holds p (M.disk machine.old) engine.old commands → object < p.objects →
+        ending_of (cause_in result) ≡ Done →
+        result ≡ or_bad object (ranging.count_on (bytes_at map.now.lo (state_of p commands) object) (record { from = from.now; to = option_map (λ end. end.now) to.entry }) (option_map (λ end. end.now) end.entry)) }
+{
+    let there = see(engine, machine, object)?;
+    if !there {
+        return Err(CallErr::Refused(CallRefusal::NoObject));
+    }
+    match count_on(map.bytes(object, engine.get(object)), from, to, end) {
+        Some(count) => Ok(count),
+        None => Err(CallErr::Refused(CallRefusal::Map(MapRefusal::BadMap { object }))),
+    }
+}
+
+/// Whether a key is below an end.
+fn is_below(key: &[u8], end: Option<&[u8]>) -> bool
+    ensures { result ≡ maps.is_below key.now (option_map (λ end. end.now) end.entry) }
+{
+    match end {
+        None => true,
+        Some(end) => match key.cmp(end) {
+            Ordering::Less => true,
+            Ordering::Equal | Ordering::Greater => false,
+        },
+    }
+}
+
+/// Counts in the leaf of a key, from that key on, and finds where the next leaf begins, if there is one.
+fn count_turn<M: Machine>(
+    alloc: Global,
+    map: &Map,
+    engine: &mut Engine<AllOps>,
+    machine: &mut M,
+    from: &[u8],
+    to: Option<&[u8]>,
+) -> Result<Counted, MapErr>
+    requires unbroken { engine.old.broken ≡ false }
+    requires there { map.now.hi < (params_of engine.old).objects }
+    ensures reads { Reads (M.disk machine.old) (M.disk machine.new) engine.old engine.new (cause_in result) }
+    ensures few { IfOk result (λ turn. turn.count < 2 ^ 17) }
+    ensures found { (p : Params) (commands : List Command) → Holds p (M.disk machine.old) engine.old commands →
+        IfOk result (λ turn. CountGoesOn map.now.lo map.now.hi (state_of p commands) (record { from = from.now; to = option_map (λ end. end.now) to.entry }) turn.count (option_map (λ v. v.items) turn.next)) }
+    ensures bad { (p : Params) (commands : List Command) → Holds p (M.disk machine.old) engine.old commands →
+        IfErr result (λ e. ending_of (cause_of e) ≡ Done → CountIsBad map.now.lo map.now.hi (state_of p commands) (record { from = from.now; to = option_map (λ end. end.now) to.entry }) e) }
+{
+    nothing_is_made(machine, engine);
+    reads_go_on::<M>();
+    if !is_below(from, to) {
+        return Ok(Counted {
+            count: 0,
+            next: None,
+        });
+    }
+    let leaf = leaf_under(alloc, map, engine, machine, from)?;
+    let count = count_leaf(
+        map,
+        engine,
+        machine,
+        leaf.object,
+        from,
+        to,
+        end_bytes(&leaf.to),
+    )?;
+    Ok(Counted {
+        count,
+        next: leaf.to,
+    })
+}
