@@ -1,25 +1,17 @@
 -- The command of a call, from what it has found on its way.
-use Rattle.std.proofs.Common.{◌≡◌, ◌≤◌, ◌<◌, ◌^◌, refl, ap, ◌∙◌, subst, ℕ, true, false, if◌then◌else◌, Option, None, Some, Result, Ok, Err, List, length}
-use Rattle.std.specs.Prelude.{IfOk}
-use Rattle.formats.specs.declared.params.Params.{Params}
+use Rattle.std.proofs.Common.{◌≡◌, refl, ap, ◌∙◌, ℕ, true, false, if◌then◌else◌, Option, None, Some, Result, Ok, Err, List}
 use Rattle.oper_core.specs.State.{State}
 use Rattle.key_entries.specs.EntryLaws.{if_some, same_some}
-use Rattle.running_store.specs.Taking.Ending.{Done}
-use Rattle.store_engine.specs.Lists.{ending_of}
 use Rattle.page_ops.specs.Reading.{seek, stands_at}
 use Rattle.page_ops.specs.declared.page_op.PageOp.{PageOp}
 use Rattle.page_ops.specs.declared.page_op.PageOp.TheVariants.{Delete}
-use Rattle.op_codec.specs.AllOps.{page}
 use Rattle.page_map.specs.Map.{bytes_at}
 use Rattle.page_map.specs.Plan.{at_leaf, at_place, delete_at, delete_command, delete_in}
 use Rattle.page_map.specs.Walk.{is_on, walk, walk_from}
-use Rattle.range_calls.specs.Due.{IsDue}
 use Rattle.range_calls.specs.Store.{Command}
-use Rattle.map_client.specs.Answers.{MapErr, bad_map, cause_in, told}
-use Rattle.map_client.specs.Changing.{Due, delete_of, found}
+use Rattle.map_client.specs.Answers.{MapErr, bad_map, told}
+use Rattle.map_client.specs.Changing.{delete_of, found}
 use Rattle.map_client.specs.Reading.{delete_on}
-use Rattle.map_client.proofs.DueLemmas.{delete_due}
-use Rattle.map_client.proofs.OpenLemmas.{found_is}
 
 module _ (lo hi : ℕ) (s : State) (key : List ℕ) where
   abbrev at : ℕ → List ℕ
@@ -57,27 +49,3 @@ module _ (bytes key : List ℕ) (x : ℕ) (op : PageOp) where
           let made : (if stands_at bytes i key then Some (Delete x i) else None) ≡ Some op = cc e in
           let stands = if_some (stands_at bytes i key) (Some (Delete x i)) op made in
           record { place = i; is = same_some (Delete x i) op stands.1; stands = stands.0 }
-
-  -- it stands in a leaf
-  pub on_leaf : delete_on x bytes key ≡ Ok (Some op) → (is_on 0 bytes ≡ true) × IsCell
-  on_leaf is =
-      elim (is_on 0 bytes) as (λ t. (if t then delete_in x bytes key else Err x) ≡ Ok (Some op) → (t ≡ true) × IsCell) [
-        | true ↦ λ e. (refl, cell_is e)
-        | false ↦ λ e. cc
-      ] is
-
-due_delete : (d : Result (Option PageOp) ℕ) (op : PageOp) → delete_of d ≡ Ok op → d ≡ Ok (Some op)
-due_delete (Err bad) op is = cc
-due_delete (Ok None) op is = cc
-due_delete (Ok (Some other)) op is = cc is
-
--- so a delete that is found is due
-pub delete_is_due : (p : Params) (lo : ℕ) (s : State) (key : List ℕ) (x : ℕ) → p.more ≡ true → 1024 ≤ p.cap → x < p.objects → x < 2 ^ 32 → (r : Result Command MapErr)
-    → (ending_of (cause_in r) ≡ Done → r ≡ found (delete_of (delete_on x (bytes_at lo s x) key))) → IfOk r (λ op. length (s x) ≤ p.cap) → IfOk r (λ op. IsDue p s op)
-delete_is_due p lo s key x more wide below small (Err e) is fits = tt
-delete_is_due p lo s key x more wide below small (Ok command) is fits =
-    let due : Due = delete_of (delete_on x (bytes_at lo s x) key) in
-    let it = found_is due command (is refl) in
-    let found_in_leaf = on_leaf (bytes_at lo s x) key x it.op (due_delete (delete_on x (bytes_at lo s x) key) it.op it.is) in
-    let cell = found_in_leaf.1 in
-    subst (λ (o : Command). IsDue p s o) (ap page cell.is ∙ it.command_is) (delete_due p lo s x cell.place key more wide below small fits found_in_leaf.0 cell.stands)

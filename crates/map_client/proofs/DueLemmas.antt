@@ -5,8 +5,6 @@ use Rattle.std.specs.Ordering.{is_eq}
 use Rattle.std.specs.Result.{result_err}
 use Rattle.std.proofs.lemmas.Bool.{cond-true, cond-false, eqb-true, leb-true, ltb-true, le-leb, lt-ltb, le-ltb}
 use Rattle.byteorder.specs.Endian.{little_number}
-use Rattle.formats.specs.Objects.{bounds_of}
-use Rattle.formats.specs.declared.params.Params.{Params}
 use Rattle.oper_core.specs.State.{State}
 use Rattle.oper_core.specs.Meaning.{Accepts, or_else}
 use Rattle.oper_core.specs.declared.bounds.Bounds.{Bounds}
@@ -21,10 +19,8 @@ use Rattle.page_ops.specs.Layout.{Layout, numbers_in, part_of, size}
 use Rattle.page_ops.specs.Effects.{Made, delete_in, delete_made, is_short, to_fill, where_short}
 use Rattle.page_ops.specs.Operation.{fits_code, page_meaning}
 use Rattle.page_ops.specs.declared.page_op.PageOp.TheVariants.{Delete}
-use Rattle.op_codec.specs.AllOps.{page}
 use Rattle.page_map.specs.Map.{bytes_at}
 use Rattle.page_map.specs.Walk.{is_on}
-use Rattle.range_calls.specs.Due.{IsDue}
 
 numbers_few : (l : List ℕ) → 2 * length (numbers_in l) ≤ length l
 numbers_few [] = omega arith
@@ -141,11 +137,3 @@ module _ (b : Bounds) (lo : ℕ) (s : State) (x i : ℕ) (key : List ℕ) where
       ap (λ (t : Bool). if t then named b.objects (x ∷ []) (fits_code (Delete x i)) else Some NoPages) more
       ∙ named_by b.objects (x ∷ []) (fits_code (Delete x i)) (true_both (nat_lt x b.objects) true (lt-ltb x b.objects below) refl) refl code in
       ap (λ (o : Option Refusal). or_else o (result_err (where_short b.cap (delete_made i (s x))))) shape ∙ check
-
--- so it is due
-pub delete_due : (p : Params) (lo : ℕ) (s : State) (x i : ℕ) (key : List ℕ) → p.more ≡ true → 1024 ≤ p.cap → x < p.objects → x < 2 ^ 32 → length (s x) ≤ p.cap → is_on 0 (bytes_at lo s x) ≡ true
-    → stands_at (bytes_at lo s x) i key ≡ true → IsDue p s (page (Delete x i))
-delete_due p lo s x i key more wide below small fits leaf stands = record {
-  wide = λ at_least. delete_accepted (bounds_of p) lo s x i key more below small fits leaf stands;
-  narrow = λ narrow. absurd (omega (arith, wide, narrow));
-}

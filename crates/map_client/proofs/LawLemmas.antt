@@ -15,6 +15,7 @@ use Rattle.op_codec.specs.AllOps.{page}
 use Rattle.page_ops.specs.Operation.{page_meaning}
 use Rattle.page_ops.specs.Reading.{level_in, under}
 use Rattle.page_ops.specs.declared.page_op.PageOp.{PageOp}
+use Rattle.page_map.specs.Deletes.{Deletes}
 use Rattle.page_map.specs.Map.{bytes_at, content_of, IsMap}
 use Rattle.page_map.specs.Plan.{Admits, DeleteMakes, at_leaf, delete_command, delete_in}
 use Rattle.page_map.specs.Sets.{IsKept, Sets}
@@ -26,12 +27,13 @@ use Rattle.range_calls.specs.RoundLaws.{accepted_are_made}
 use Rattle.range_calls.specs.Store.{Command, meaning_in, state_of}
 use Rattle.map_client.specs.Answers.{MapErr, get_told, told}
 use Rattle.map_client.specs.Changing.{delete_of}
-use Rattle.map_client.specs.Laws.{DeleteActs, SetActs, plan}
+use Rattle.map_client.specs.Laws.{DeleteActs, SetActs, TakesOut, deletion, plan}
 use Rattle.map_client.specs.declared.call_refusal.CallRefusal.TheVariants.{Map, NoObject}
 use Rattle.map_client.proofs.OpenLemmas.{due_in, is_open}
 use Rattle.map_client.proofs.CommandLemmas.{IsCell, cell_is}
 use Rattle.map_client.proofs.DueLemmas.{delete_accepted}
 use Rattle.map_client.proofs.SetLemmas.{accepted_pages, after_pages, open_comes}
+use Rattle.map_client.proofs.TidyLemmas as TidyLemmas
 use Rattle.map_client.proofs.WalkLemmas.{child_within}
 
 pub get_is : (b : Bounds) (lo hi : ℕ) (s : State) (key : List ℕ) → hi < b.objects → {found : Option (List ℕ)} → get_answer lo hi s key ≡ Ok found → get_told b lo hi s key ≡ Ok found
@@ -83,6 +85,16 @@ module _ (lo hi : ℕ) (s : State) (key : List ℕ) where
       by_way (Err bad) way e = cc
       by_way (Ok x) way e = record { object = x; leaf = ends_at (level_in (at lo)) lo x order way; cell = cell_is (at x) key x op e }
 
+-- it is accepted, whatever the other bytes are
+pub first_accepted : (b : Bounds) (lo hi : ℕ) (s : State) (key : List ℕ) (op : PageOp) → lo ≤ hi → hi < 2 ^ 32 → Admits b hi → ((x : ℕ) → length (s x) ≤ b.cap) → delete_command lo hi s key ≡ Ok (Some op)
+    → Accepts (page_meaning b) s op
+first_accepted b lo hi s key op order small admits fit command =
+    let found = command_is lo hi s key op order command in
+    let within = found.leaf.within in
+    let objects = admits.objects in
+    subst (λ (o : PageOp). Accepts (page_meaning b) s o) found.cell.is
+    (delete_accepted b lo s found.object found.cell.place key admits.more (omega (arith, within, objects)) (omega (arith, within, small)) (fit found.object) found.leaf.leaf found.cell.stands)
+
 module _ (b : Bounds) (lo hi : ℕ) (s : State) (is : IsMap lo hi s) (key : List ℕ) where
   abbrev has : Bool
   has = is_some (get (content_of is) key)
@@ -95,14 +107,10 @@ module _ (b : Bounds) (lo hi : ℕ) (s : State) (is : IsMap lo hi s) (key : List
     accepted : has ≡ true → Accepts (page_meaning b) s makes.op
     accepted there =
         let command : delete_command lo hi s key ≡ Ok (Some makes.op) = makes.command ∙ ap (λ (t : Bool). (let r : Result (Option PageOp) ℕ = Ok (if t then Some makes.op else None) in r)) there in
-        let found = command_is lo hi s key makes.op is.order command in
-        let within = found.leaf.within in
-        let objects = admits.objects in
-        subst (λ (o : PageOp). Accepts (page_meaning b) s o) found.cell.is
-        (delete_accepted b lo s found.object found.cell.place key admits.more (omega (arith, within, objects)) (omega (arith, within, small)) (fit found.object) found.leaf.leaf found.cell.stands)
+        first_accepted b lo hi s key makes.op is.order small admits fit command
 
-    pub delete_acts : DeleteActs b lo hi s is key
-    delete_acts = record {
+    pub takes_out : TakesOut b lo hi s is key
+    takes_out = record {
       op = makes.op;
       due = due_in b hi (delete_of (delete_command lo hi s key)) (is_open b hi admits.objects admits.more wide) ∙ ap delete_of makes.command ∙ by_has has;
       accepted = accepted;
@@ -116,6 +124,21 @@ module _ (p : Params) (commands : List Command) (lo hi : ℕ) (is : IsKept (boun
       let s : State = state_of p commands in
       let ops : List PageOp = (plan p commands lo hi is key value).commands in
       let all = open_comes lo hi key value p commands (is_open (bounds_of p) hi admits.objects admits.more wide)
+      ∙ accepted_are_made p s (map page ops) _ (accepted_pages (bounds_of p) s ops acts.accepted) in
+      record {
+        acts = acts;
+        comes = all;
+        moments = λ k.
+            ap (λ (q : Plan Command MapErr). state_of p (commands ++ take k q.commands)) all
+            ∙ state_behind p commands (take k (map page ops)) ∙ ap (after_all (meaning_in p) s) (take-map page k ops) ∙ after_pages (bounds_of p) s (take k ops);
+      }
+
+module _ (p : Params) (commands : List Command) (lo hi : ℕ) (is : IsKept (bounds_of p) lo hi (state_of p commands)) (key : List ℕ) where
+  pub delete_acts : Admits (bounds_of p) hi → 1024 ≤ p.cap → Deletes (bounds_of p) lo hi (state_of p commands) is key (deletion p commands lo hi is key) → DeleteActs p commands lo hi is key
+  delete_acts admits wide acts =
+      let s : State = state_of p commands in
+      let ops : List PageOp = (deletion p commands lo hi is key).commands in
+      let all = TidyLemmas.open_comes lo hi key p commands (is_open (bounds_of p) hi admits.objects admits.more wide)
       ∙ accepted_are_made p s (map page ops) _ (accepted_pages (bounds_of p) s ops acts.accepted) in
       record {
         acts = acts;

@@ -6,5 +6,6 @@ pub mod DueLemmas
 pub mod OpenLemmas
 pub mod CommandLemmas
 pub mod SetLemmas
+pub mod TidyLemmas
 pub mod CutLemmas
 pub mod LawLemmas

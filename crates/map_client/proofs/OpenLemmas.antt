@@ -79,9 +79,6 @@ found_is (Err refusal) command is = cc
 pub due_in : (b : Bounds) (hi : ℕ) (due : Due) → closed_by b hi ≡ None → unless_closed (closed_by b hi) due ≡ due
 due_in b hi due is = ap (λ (o : Option CallRefusal). unless_closed o due) is
 
-pub closed_due : (b : Bounds) (hi : ℕ) (due : Due) (refusal : CallRefusal) → closed_by b hi ≡ Some refusal → unless_closed (closed_by b hi) due ≡ Err refusal
-closed_due b hi due refusal is = ap (λ (o : Option CallRefusal). unless_closed o due) is
-
 module _ {old : Disk} {engine : EngineView} {p : Params} {commands : List Command} (holds : Holds p old engine commands) (hi : ℕ) where
   -- the store that the engine shows is open, or closed
   pub open_in : None ≡ option_map Refused (closed_by (bounds_of (params_of engine)) hi) → IsOpen (bounds_of p) hi

@@ -8,6 +8,7 @@ use Rattle.formats.specs.declared.params.Params.{Params}
 use Rattle.call_plans.specs.Plan.{Plan, refused_by}
 use Rattle.op_codec.specs.AllOps.{page}
 use Rattle.page_ops.specs.declared.page_op.PageOp.{PageOp}
+use Rattle.page_map.specs.Deletes.{delete_plan, tidy_plan}
 use Rattle.page_map.specs.Plan.{delete_command}
 use Rattle.page_map.specs.Sets.{set_plan}
 use Rattle.page_map.specs.declared.refusal.MapRefusal.{MapRefusal}
@@ -49,13 +50,10 @@ abbrev pub found : Due → Result Command MapErr
 found (Ok op) = Ok (page op)
 found (Err refusal) = Err (Refused refusal)
 
--- what is added, and how the call is refused
+-- what is added
 abbrev pub commands_in : Due → List Command
 commands_in (Ok op) = page op ∷ []
 commands_in (Err refusal) = []
-
-abbrev pub refused_in : Due → Option MapErr
-refused_in due = option_map Refused (result_err due)
 
 -- a plan of operations on pages, as one of the store
 abbrev pub in_store : Plan PageOp MapRefusal → Plan Command CallRefusal
@@ -72,3 +70,21 @@ made_unless (Some refusal) made = refused_by (Refused refusal)
 -- what a set comes to
 abbrev pub set_comes : ℕ → ℕ → List ℕ → List ℕ → Params → List Command → Plan Command MapErr
 set_comes lo hi key value p commands = made_unless (closed_by (bounds_of p) hi) (set_made lo hi key value p commands)
+
+-- the command that takes a key out, and what comes of it
+abbrev pub out_plan : Due → Plan Command CallRefusal
+out_plan due = record { commands = commands_in due; refusal = result_err due }
+
+abbrev pub out_made : ℕ → ℕ → List ℕ → Params → List Command → Plan Command MapErr
+out_made lo hi key p commands = tried p (state_of p commands) (out_plan (delete_of (delete_command lo hi (state_of p commands) key)))
+
+-- what a delete comes to where the store admits changes, and else
+abbrev pub delete_made : ℕ → ℕ → List ℕ → Params → List Command → Plan Command MapErr
+delete_made lo hi key p commands = tried p (state_of p commands) (in_store (delete_plan (bounds_of p) lo hi key (state_of p commands)))
+
+abbrev pub delete_comes : ℕ → ℕ → List ℕ → Params → List Command → Plan Command MapErr
+delete_comes lo hi key p commands = made_unless (closed_by (bounds_of p) hi) (delete_made lo hi key p commands)
+
+-- what comes of tidying the way to a key
+abbrev pub tidy_made : ℕ → ℕ → List ℕ → Params → List Command → Plan Command MapErr
+tidy_made lo hi key p commands = tried p (state_of p commands) (in_store (tidy_plan (bounds_of p) lo hi key (state_of p commands)))

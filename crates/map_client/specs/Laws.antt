@@ -11,6 +11,7 @@ use Rattle.call_plans.specs.Plan.{Plan}
 use Rattle.op_codec.specs.AllOps.{page}
 use Rattle.page_ops.specs.Operation.{page_meaning}
 use Rattle.page_ops.specs.declared.page_op.PageOp.{PageOp}
+use Rattle.page_map.specs.Deletes.{Deletes, delete_plan}
 use Rattle.page_map.specs.Map.{IsMap, content_of}
 use Rattle.page_map.specs.Plan.{Makes}
 use Rattle.page_map.specs.Sets.{IsKept, Sets, set_plan}
@@ -18,12 +19,12 @@ use Rattle.page_map.specs.declared.refusal.MapRefusal.{MapRefusal}
 use Rattle.page_map.specs.declared.refusal.MapRefusal.TheVariants.{NoKey}
 use Rattle.range_calls.specs.Store.{Command, state_of}
 use Rattle.range_calls.specs.declared.call_err.CallErr.TheVariants.{Refused}
-use Rattle.map_client.specs.Changing.{delete_due, set_comes}
+use Rattle.map_client.specs.Changing.{delete_comes, delete_due, set_comes}
 use Rattle.map_client.specs.declared.call_refusal.CallRefusal.TheVariants.{Map}
 
 module _ (b : Bounds) (lo hi : ℕ) (s : State) (is : IsMap lo hi s) where
-  -- it is refused exactly where the map lacks the key; else its command is accepted, and makes the map without the key
-  pub record DeleteActs (key : List ℕ) : Type 0 where
+  -- the command that takes a key out is refused exactly where the map lacks the key; else it is accepted, and makes the map without it
+  pub record TakesOut (key : List ℕ) : Type 0 where
     pub op : PageOp
     pub due : delete_due b lo hi s key ≡ (if is_some (get (content_of is) key) then Ok op else Err (Map NoKey))
     pub accepted : is_some (get (content_of is) key) ≡ true → Accepts (page_meaning b) s op
@@ -39,3 +40,14 @@ module _ (p : Params) (commands : List Command) (lo hi : ℕ) (is : IsKept (boun
     pub acts : Sets (bounds_of p) lo hi (state_of p commands) is key value plan (6 * is.map.level + 7)
     pub comes : set_comes lo hi key value p commands ≡ record { commands = map page plan.commands; refusal = option_map Refused (option_map Map plan.refusal) }
     pub moments : (k : ℕ) → state_of p (commands ++ take k (set_comes lo hi key value p commands).commands) ≡ after_all (page_meaning (bounds_of p)) (state_of p commands) (take k plan.commands)
+
+module _ (p : Params) (commands : List Command) (lo hi : ℕ) (is : IsKept (bounds_of p) lo hi (state_of p commands)) (key : List ℕ) where
+  abbrev pub deletion : Plan PageOp MapRefusal
+  deletion = delete_plan (bounds_of p) lo hi key (state_of p commands)
+
+  -- Its commands are those of its plan, and all of them are accepted: the range is a map at each moment, with the old content before
+  -- the first command, and without the key behind it; or the delete is refused, exactly where the map lacks the key.
+  pub record DeleteActs : Type 0 where
+    pub acts : Deletes (bounds_of p) lo hi (state_of p commands) is key deletion
+    pub comes : delete_comes lo hi key p commands ≡ record { commands = map page deletion.commands; refusal = option_map Refused (option_map Map deletion.refusal) }
+    pub moments : (k : ℕ) → state_of p (commands ++ take k (delete_comes lo hi key p commands).commands) ≡ after_all (page_meaning (bounds_of p)) (state_of p commands) (take k deletion.commands)

@@ -1,6 +1,7 @@
 pub mod Answers
 pub mod Reading
 pub mod Turning
+pub mod Tidying
 pub mod Changing
 pub mod Ranging
 pub mod RangingWay

@@ -35,3 +35,8 @@ abbrev pub GoesDown : ℕ → Descent → Further → Type 0
 GoesDown hi d Bad = ⊤
 GoesDown hi d (On next) = (d.level ≡ suc next.level) × (next.object ≤ hi)
 GoesDown hi d (Found due) = ⊤
+
+-- what tidies, as a round: behind one without commands nothing is left to tidy
+abbrev pub tidy_round : Result (List PageOp) ℕ → Result Round CallRefusal
+tidy_round (Ok ops) = Ok (record { ops = map page ops; last = false })
+tidy_round (Err bad) = Err (Map (BadMap bad))

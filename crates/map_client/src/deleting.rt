@@ -1,30 +1,34 @@
 // A key is deleted.
-ghost use Rattle.std.specs.Prelude.{◌≡◌, ◌<◌, ◌≤◌, ◌^◌, List, true, false, IfOk, length};
+ghost use Rattle.std.specs.Prelude.{◌≡◌, ◌<◌, List, false};
 ghost use Rattle.std.specs.Result.{result_err};
-ghost use Rattle.formats.specs.Objects.{bounds_of};
 ghost use Rattle.formats.specs.declared.params.Params.{Params};
 ghost use Rattle.op_codec.specs.AllOps.{all_meaning};
 ghost use Rattle.running_store.specs.Taking.Ending.{Done};
 ghost use Rattle.store_engine.specs.Engine.{params_of};
 ghost use Rattle.store_engine.specs.Lists.{AddsFront, AreCalls, ending_of};
+ghost use Rattle.page_map.specs.Deletes.{tidy_turn};
 ghost use Rattle.page_map.specs.Map.{bytes_at};
 ghost use Rattle.page_map.specs.Plan.{delete_command};
-ghost use Rattle.range_calls.specs.Due.{IsDue};
 ghost use Rattle.range_calls.specs.Making.{Reads};
+ghost use Rattle.range_calls.specs.Rounds.{Comes};
 ghost use Rattle.range_calls.specs.Store.{Command, Holds, state_of};
 ghost use Rattle.map_client.specs.Answers.{cause_in};
-ghost use Rattle.map_client.specs.Changing.{commands_in, delete_due, delete_of, found, refused_in};
+ghost use Rattle.map_client.specs.Changing.{delete_comes, delete_made, delete_of, found, out_made, tidy_made};
 ghost use Rattle.map_client.specs.Reading as reading;
+ghost use Rattle.map_client.specs.Turning.{tidy_round};
 
 use crate::call_refusal::CallRefusal;
+use crate::giving::{leaf_goes, root_goes};
 use crate::map_err::MapErr;
 use crate::opening::require_open;
-use crate::walking::walk;
+use crate::walking::{root_level, walk};
+use crate::way::Way;
 use disk_model::Machine;
 use op_codec::{AllOps, page_op};
 use page_map::{Map, MapRefusal, delete_in, page_on};
 use page_ops::PageOp;
-use range_calls::{CallErr, make, makes_go_on, reads_go_on, see};
+use range_calls::{CallErr, Few, Round, Rounds, makes_go_on, reads_go_on, run, see, take_rounds};
+use std::alloc::Global;
 use store_engine::{Engine, nothing_is_made};
 
 /// The command that deletes a key of a leaf, where it is there. It is the object that is answered where a cell that is asked does
@@ -50,9 +54,6 @@ fn deletion_in<M: Machine>(
     ensures reads { Reads (M.disk machine.old) (M.disk machine.new) engine.old engine.new (cause_in result) }
     ensures answer { (p : Params) (commands : List Command) → Holds p (M.disk machine.old) engine.old commands → leaf < p.objects → ending_of (cause_in result) ≡ Done →
         result ≡ found (delete_of (reading.delete_on leaf (bytes_at map.now.lo (state_of p commands) leaf) key.now)) }
-    ensures short { (p : Params) (commands : List Command) → Holds p (M.disk machine.old) engine.old commands →
-        IfOk result (λ op. length (state_of p commands leaf) ≤ p.cap) }
-    ensures small { leaf < 2 ^ 32 }
 {
     let there = see(engine, machine, leaf)?;
     if !there {
@@ -77,20 +78,100 @@ fn deletion<M: Machine>(
     ensures reads { Reads (M.disk machine.old) (M.disk machine.new) engine.old engine.new (cause_in result) }
     ensures answer { (p : Params) (commands : List Command) → Holds p (M.disk machine.old) engine.old commands → ending_of (cause_in result) ≡ Done →
         result ≡ found (delete_of (delete_command map.now.lo map.now.hi (state_of p commands) key.now)) }
-    ensures due { (p : Params) (commands : List Command) → Holds p (M.disk machine.old) engine.old commands → p.more ≡ true → 1024 ≤ p.cap →
-        IfOk result (λ op. IsDue p (state_of p commands) op) }
 {
     reads_go_on::<M>();
     let leaf = walk(map, engine, machine, key)?;
     deletion_in(map, engine, machine, leaf, key)
 }
 
-/// Deletes a key and its value, by one command.
+impl<'a> Rounds for Way<'a> {
+    type Refusal = CallRefusal;
+
+    ghost next = { λ way b s. tidy_round (tidy_turn way.map.now.lo way.map.now.hi s way.key.now) };
+
+    ghost is_there = { λ way p. way.map.now.hi < p.objects };
+
+    /// Finds what is tidied next: a leaf without cells, or else a root with one child.
+    fn next_round<M: Machine>(
+        &self,
+        engine: &mut Engine<AllOps>,
+        machine: &mut M,
+    ) -> Result<Round, MapErr> {
+        reads_go_on::<M>();
+        let _last = self.map.last();
+        let level = root_level(self.map, engine, machine)?;
+        if level == 0 {
+            return Ok(Round {
+                ops: Few::new(None, None, None),
+                last: false,
+            });
+        }
+        let leaf = leaf_goes(self, engine, machine, level)?;
+        if !leaf.is_empty() {
+            return Ok(Round {
+                ops: leaf,
+                last: false,
+            });
+        }
+        let root = root_goes(self, engine, machine, level)?;
+        Ok(Round {
+            ops: root,
+            last: false,
+        })
+    }
+}
+
+/// Tidies the way to a key.
+fn tidy<M: Machine>(way: &Way, engine: &mut Engine<AllOps>, machine: &mut M) -> Result<(), MapErr>
+    requires unbroken { engine.old.broken ≡ false }
+    requires there { way.now.map.now.hi < (params_of engine.old).objects }
+    ensures { Comes (M.disk machine.old) (M.disk machine.new) engine.old engine.new (tidy_made way.now.map.now.lo way.now.map.now.hi way.now.key.now) result }
+{
+    reads_go_on::<M>();
+    let _last = way.map.last();
+    let level = root_level(way.map, engine, machine)?;
+    take_rounds(way, engine, machine, level as u64 + 2)
+}
+
+/// Makes the command that deletes a key.
+fn take_out<M: Machine>(
+    way: &Way,
+    engine: &mut Engine<AllOps>,
+    machine: &mut M,
+) -> Result<(), MapErr>
+    requires unbroken { engine.old.broken ≡ false }
+    requires there { way.now.map.now.hi < (params_of engine.old).objects }
+    ensures { Comes (M.disk machine.old) (M.disk machine.new) engine.old engine.new (out_made way.now.map.now.lo way.now.map.now.hi way.now.key.now) result }
+{
+    reads_go_on::<M>();
+    let op = deletion(way.map, engine, machine, way.key)?;
+    run(engine, machine, op)
+}
+
+/// Makes the commands of a delete.
+fn delete_and_tidy<M: Machine>(
+    way: &Way,
+    engine: &mut Engine<AllOps>,
+    machine: &mut M,
+) -> Result<(), MapErr>
+    requires unbroken { engine.old.broken ≡ false }
+    requires there { way.now.map.now.hi < (params_of engine.old).objects }
+    ensures { Comes (M.disk machine.old) (M.disk machine.new) engine.old engine.new (delete_made way.now.map.now.lo way.now.map.now.hi way.now.key.now) result }
+{
+    makes_go_on::<M>();
+    take_out(way, engine, machine)?;
+    tidy(way, engine, machine)
+}
+
+/// Deletes a key and its value.
 ///
-/// It answers `NoObject` exactly where the range ends past the last object, else `NoPages` exactly where the store admits no
-/// changes of maps, else `BadMap` exactly where the way to the key meets a bad object, the one met first, `NoKey` exactly where
-/// the key is not there, and `Exec` with what the engine answered to a fetch or to the command, of which nothing is refused.
+/// The first command takes the key out. Those behind it tidy the way to it: a leaf that has no cells left gives way to the one
+/// beside it, and a root with one child becomes it, each by commands behind which the range holds the same. It answers `NoObject`
+/// exactly where the range ends past the last object, else `NoPages` exactly where the store admits no changes of maps, else
+/// `NoKey` exactly where the key is not there, `BadMap` with the first bad object that is met, also where the key has gone already,
+/// and `Exec` with what the engine answered to a fetch or to a command, of which on a map none is refused.
 pub fn delete<M: Machine>(
+    alloc: Global,
     map: &Map,
     engine: &mut Engine<AllOps>,
     machine: &mut M,
@@ -100,13 +181,12 @@ pub fn delete<M: Machine>(
     ensures calls { AreCalls all_meaning (M.disk machine.old) (M.disk machine.new) engine.old engine.new (cause_in result) }
     ensures adds { (p : Params) (commands : List Command) → (holds : Holds p (M.disk machine.old) engine.old commands) →
         AddsFront all_meaning p (M.disk machine.old) (M.disk machine.new) engine.old engine.new holds.world commands
-        (commands_in (delete_due (bounds_of p) map.now.lo map.now.hi (state_of p commands) key.now)) (ending_of (cause_in result)) }
+        (delete_comes map.now.lo map.now.hi key.now p commands).commands (ending_of (cause_in result)) }
     ensures answer { (p : Params) (commands : List Command) → Holds p (M.disk machine.old) engine.old commands → ending_of (cause_in result) ≡ Done →
-        result_err result ≡ refused_in (delete_due (bounds_of p) map.now.lo map.now.hi (state_of p commands) key.now) }
+        result_err result ≡ (delete_comes map.now.lo map.now.hi key.now p commands).refusal }
 {
     nothing_is_made(machine, engine);
-    makes_go_on::<M>();
     require_open(map, engine)?;
-    let op = deletion(map, engine, machine, key)?;
-    make(engine, machine, op)
+    let way = Way { alloc, map, key };
+    delete_and_tidy(&way, engine, machine)
 }

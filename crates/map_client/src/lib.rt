@@ -2,18 +2,21 @@
 //! script and no call of the library has them yet.
 //!
 //! The one contract: on an engine that stands for a list of commands each call answers what the definitions of `page_map` say on
-//! the map of these commands, whatever bytes the objects hold (`get_answer`, `delete_command`, `set_plan`), and adds the commands
+//! the map of these commands, whatever bytes the objects hold (`get_answer`, `delete_plan`, `set_plan`), and adds the commands
 //! that they name, as far as the engine accepts each, or a beginning of them where the log, memory or the disk ends the call. Where
 //! the range is a map all are accepted, and the calls act as on an ordered map: whenever one is cut short, the range is a map with
 //! the old content or the new one (`calls_act_as_on_an_ordered_map`). A set goes by rounds: it ends with the command that puts the
-//! pair into its leaf, and where that has no room a page is cut first, and the way is gone again. A page is read where it is cached.
-//! No page is given back yet. What a call on another kind of range would do too is in `range_calls`.
+//! pair into its leaf, and where that has no room a page is cut first, and the way is gone again. A delete takes the key out first,
+//! and then tidies by rounds: a leaf that has no cells left gives way to the one beside it, and a root with one child becomes it. A
+//! page is read where it is cached. What a call on another kind of range would do too is in `range_calls`.
 #![tactic(auto)]
 
 mod call_refusal;
 mod cutting;
 mod deleting;
+mod emptied;
 mod getting;
+mod giving;
 mod laws;
 mod map_err;
 mod opening;
@@ -24,7 +27,9 @@ mod ranging_leaf;
 mod setting;
 mod stepping;
 mod stop;
+mod tidying;
 mod walking;
+mod way;
 
 pub use call_refusal::CallRefusal;
 pub use deleting::delete;

@@ -32,7 +32,13 @@ pub(crate) fn end_bytes(end: &Option<Vec<u8>>) -> Option<&[u8]>
 }
 
 /// The step down from a page of this level to the child under which a key stands.
-fn step_on<'a>(map: &Map, level: u8, bytes: &'a [u8], to: Option<&[u8]>, key: &[u8]) -> Option<Step<'a>>
+fn step_on<'a>(
+    map: &Map,
+    level: u8,
+    bytes: &'a [u8],
+    to: Option<&[u8]>,
+    key: &[u8],
+) -> Option<Step<'a>>
     ensures { option_map step_seen result ≡ ranging.step_on map.now.lo map.now.hi level bytes.now (option_map (λ end. end.now) to.entry) key.now }
 {
     let page = page_on(level, bytes)?;
@@ -40,7 +46,7 @@ fn step_on<'a>(map: &Map, level: u8, bytes: &'a [u8], to: Option<&[u8]>, key: &[
 }
 
 /// The child of a step, and where its span ends.
-fn further(alloc: Global, step: Step, to: Option<Vec<u8>>) -> Result<Stop, MapErr>
+pub(crate) fn further(alloc: Global, step: Step, to: Option<Vec<u8>>) -> Result<Stop, MapErr>
     ensures stop { IfOk result (λ stop. (stop.object ≡ (step_seen step.entry).object) × (option_map (λ v. v.items) stop.to ≡ ended (option_map (λ v. v.items) to) (step_seen step.entry).end)) }
     ensures memory { IfErr result (λ e. e ≡ OutOfMemory) }
 {
@@ -73,8 +79,8 @@ pub(crate) fn go_down<M: Machine>(
     ensures reads { Reads (M.disk machine.old) (M.disk machine.new) engine.old engine.new (cause_in result) }
     ensures found { (p : Params) (commands : List Command) → Holds p (M.disk machine.old) engine.old commands →
         IfOk result (λ next. (step : StepDown)
-            × (ranging.step_on map.now.lo map.now.hi level (bytes_at map.now.lo (state_of p commands) at.object) (option_map (λ v. v.items) at.to) key.now ≡ Some step)
-            × (next.object ≡ step.object) × (option_map (λ v. v.items) next.to ≡ ended (option_map (λ v. v.items) at.to) step.end)) }
+        × (ranging.step_on map.now.lo map.now.hi level (bytes_at map.now.lo (state_of p commands) at.object) (option_map (λ v. v.items) at.to) key.now ≡ Some step)
+        × (next.object ≡ step.object) × (option_map (λ v. v.items) next.to ≡ ended (option_map (λ v. v.items) at.to) step.end)) }
     ensures bad { (p : Params) (commands : List Command) → Holds p (M.disk machine.old) engine.old commands → at.object < p.objects →
         IfErr result (λ e. ending_of (cause_of e) ≡ Done →
         (ranging.step_on map.now.lo map.now.hi level (bytes_at map.now.lo (state_of p commands) at.object) (option_map (λ v. v.items) at.to) key.now ≡ None) × (e ≡ bad_map at.object)) }
@@ -85,7 +91,13 @@ pub(crate) fn go_down<M: Machine>(
     if !there {
         return Err(CallErr::Refused(CallRefusal::NoObject));
     }
-    match step_on(map, level, map.bytes(object, engine.get(object)), end_bytes(&at.to), key) {
+    match step_on(
+        map,
+        level,
+        map.bytes(object, engine.get(object)),
+        end_bytes(&at.to),
+        key,
+    ) {
         Some(step) => further(alloc, step, at.to),
         None => Err(CallErr::Refused(CallRefusal::Map(MapRefusal::BadMap { object }))),
     }

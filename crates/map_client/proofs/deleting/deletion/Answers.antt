@@ -2,12 +2,11 @@ use Rattle.std.proofs.Common.{◌<◌, sym, ap, ◌∙◌, ℕ, Option, Result, 
 use Rattle.formats.specs.declared.params.Params.{Params}
 use Rattle.page_ops.specs.declared.page_op.PageOp.{PageOp}
 use Rattle.page_map.specs.Plan.{delete_command}
-use Rattle.range_calls.specs.Due.{IsDue}
 use Rattle.range_calls.specs.JoinLaws.{holds_behind}
-use Rattle.range_calls.specs.ReadLaws.{answers_passed, nothing_passed, passed}
+use Rattle.range_calls.specs.ReadLaws.{answers_passed, passed}
 use Rattle.range_calls.specs.Store.{state_of}
 use Rattle.map_client.specs.Changing.{delete_of, found}
-use Rattle.map_client.proofs.CommandLemmas.{delete_bad, delete_is, delete_is_due}
+use Rattle.map_client.proofs.CommandLemmas.{delete_bad, delete_is}
 use Rattle.map_client.proofs.deleting.deletion.Goals as goal
 
 pub returns-in_err-leaf-clause-answer : goal.returns-in_err-leaf-clause-answer
@@ -18,10 +17,6 @@ returns-in_err-leaf-clause-answer g c = λ p commands holds.
     answers_passed c.from_residual.result c.in_err-leaf.field-0.0 (found (delete_of (delete_command lo hi s c.args.key.now)))
     (passed c.from_residual.result c.in_err-leaf.field-0.0 c.from_residual.ensures.1)
     (λ done. delete_bad lo hi s c.args.key.now c.in_err-leaf.field-0.0 (c.in_err-leaf.ensures.bad p commands holds done))
-
-pub returns-in_err-leaf-clause-due : goal.returns-in_err-leaf-clause-due
-returns-in_err-leaf-clause-due g c = λ p commands holds more wide.
-    nothing_passed c.from_residual.result c.in_err-leaf.field-0.0 (λ op. IsDue p (state_of p commands) op) (passed c.from_residual.result c.in_err-leaf.field-0.0 c.from_residual.ensures.1)
 
 pub returns-clause-reads : goal.returns-clause-reads
 returns-clause-reads g c =
@@ -36,11 +31,3 @@ returns-clause-answer g c = λ p commands holds done.
     let below : c.in_ok-leaf.leaf < p.objects = omega (arith, c.in_ok-leaf.ensures.within, c.requires.there, fits) in
     c.deletion_in.ensures.answer p commands (holds_behind c.in_ok-leaf.ensures.reads holds) below done
     ∙ sym (ap (λ (r : Result (Option PageOp) ℕ). found (delete_of r)) (delete_is lo hi s c.args.key.now c.in_ok-leaf.leaf (c.in_ok-leaf.ensures.leaf p commands holds)))
-
-pub returns-clause-due : goal.returns-clause-due
-returns-clause-due g c = λ p commands holds more wide.
-    let fits = ap (λ (q : Params). q.objects) holds.shows.shows.store.params in
-    let below : c.in_ok-leaf.leaf < p.objects = omega (arith, c.in_ok-leaf.ensures.within, c.requires.there, fits) in
-    let mid = holds_behind c.in_ok-leaf.ensures.reads holds in
-    delete_is_due p c.args.map.now.lo (state_of p commands) c.args.key.now c.in_ok-leaf.leaf more wide below c.deletion_in.ensures.small c.deletion_in.result
-    (λ done. c.deletion_in.ensures.answer p commands mid below done) (c.deletion_in.ensures.short p commands mid)

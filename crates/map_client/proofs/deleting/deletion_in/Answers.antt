@@ -1,10 +1,8 @@
-use Rattle.std.proofs.Common.{◌≡◌, ◌≤◌, ap, ◌∙◌, sym, subst, ℕ, Ok, Option, Result, List, [], length}
-use Rattle.formats.specs.declared.params.Params.{Params}
-use Rattle.store_engine.specs.Engine.{params_of}
+use Rattle.std.proofs.Common.{◌≡◌, ap, ◌∙◌, sym, ℕ, Ok, Option, Result, List, []}
 use Rattle.page_ops.specs.declared.page_op.PageOp.{PageOp}
 use Rattle.page_map.specs.Map.{bytes_at}
-use Rattle.range_calls.specs.JoinLaws.{object_is_there, params_after}
-use Rattle.range_calls.specs.ReadLaws.{answers_passed, nothing_passed, passed}
+use Rattle.range_calls.specs.JoinLaws.{object_is_there}
+use Rattle.range_calls.specs.ReadLaws.{answers_passed, passed}
 use Rattle.range_calls.specs.Store.{Command, state_of}
 use Rattle.map_client.specs.Answers.{MapErr}
 use Rattle.map_client.specs.Changing.{delete_of, found}
@@ -20,23 +18,12 @@ pub returns-then-not-there-clause-answer : goal.returns-then-not-there-clause-an
 returns-then-not-there-clause-answer g c = λ p commands holds below done.
     absurd (object_is_there c.args.leaf holds below (sym c.if-not-there.true ∙ c.in_ok-there.ensures.there))
 
-pub returns-in_err-there-clause-short : goal.returns-in_err-there-clause-short
-returns-in_err-there-clause-short g c = λ p commands holds.
-    nothing_passed c.from_residual.result c.in_err-there.field-0.0 (λ op. length (state_of p commands c.args.leaf) ≤ p.cap) (passed c.from_residual.result c.in_err-there.field-0.0 c.from_residual.ensures.1)
-
 -- what the leaf's bytes say
 pub returns-in-Ok-Some-clause-answer : goal.returns-in-Ok-Some-clause-answer
 returns-in-Ok-Some-clause-answer g c = λ p commands holds below done.
     let value : c.get.result.now ≡ state_of p commands c.args.leaf = c.get.ensures.value [] ∙ c.in_ok-there.ensures.value p commands holds c.if-not-there.false [] in
     let bytes : c.bytes.result.now ≡ bytes_at c.args.map.now.lo (state_of p commands) c.args.leaf = c.bytes.ensures (state_of p commands) (sym value) in
     ap (λ (o : Command). (let r : Result Command MapErr = Ok o in r)) c.page_op.ensures ∙ ap (λ (r : Result (Option PageOp) ℕ). found (delete_of r)) (ap (λ (o : Option PageOp). (let r : Result (Option PageOp) ℕ = Ok o in r)) (sym c.in-Ok-Some.field-0-is) ∙ c.in-Ok-Some.ensures ∙ ap (λ (l : List ℕ). delete_on c.args.leaf l c.args.key.now) bytes)
-
-pub returns-in-Ok-Some-clause-short : goal.returns-in-Ok-Some-clause-short
-returns-in-Ok-Some-clause-short g c = λ p commands holds.
-    let value : c.get.result.now ≡ state_of p commands c.args.leaf = c.get.ensures.value [] ∙ c.in_ok-there.ensures.value p commands holds c.if-not-there.false [] in
-    let params : params_of c.see.new.engine ≡ p = params_after c.in_ok-there.ensures.reads.calls ∙ holds.shows.shows.store.params in
-    subst (λ (n : ℕ). length (state_of p commands c.args.leaf) ≤ n) (ap (λ (q : Params). q.cap) params)
-    (subst (λ (l : List ℕ). length l ≤ (params_of c.see.new.engine).cap) value c.get.ensures.short)
 
 pub returns-in-Ok-None-clause-answer : goal.returns-in-Ok-None-clause-answer
 returns-in-Ok-None-clause-answer g c = λ p commands holds below done.

@@ -1,0 +1,53 @@
+use Rattle.std.proofs.Common.{◌≡◌, ap, ◌∙◌, sym, List, ℕ, ◌-◌, [], Some, Result, Ok, map}
+use Rattle.page_map.specs.Deletes.{gives_way, listed}
+use Rattle.page_map.specs.Map.{bytes_at}
+use Rattle.page_map.specs.declared.beside.Beside.TheVariants.{Before}
+use Rattle.range_calls.specs.JoinLaws.{object_is_there}
+use Rattle.range_calls.specs.ReadLaws.{answers_passed, passed}
+use Rattle.range_calls.specs.Store.{Command, state_of}
+use Rattle.map_client.specs.Answers.{MapErr}
+use Rattle.map_client.specs.Tidying.{leaf_at, stored, takes_on}
+use Rattle.map_client.proofs.TidyLemmas.{other_is, stored_at}
+use Rattle.map_client.proofs.giving.other_takes.Goals as goal
+
+pub returns-in_err-there-clause-answer : goal.returns-in_err-there-clause-answer
+returns-in_err-there-clause-answer g c = λ p commands holds below.
+    let way = c.args.way.now in
+    let found = c.args.found.now in
+    let e = c.in_err-there.field-0.0 in
+    answers_passed c.from_residual.result e
+    (stored (gives_way way.map.now.lo way.map.now.hi (state_of p commands) found.above (leaf_at found.place found.leaf.object found.from.items) (Before c.args.other)))
+    (passed c.from_residual.result e c.from_residual.ensures.1) (λ done. absurd (c.in_err-there.ensures.failed done))
+
+pub returns-then-not-there-clause-answer : goal.returns-then-not-there-clause-answer
+returns-then-not-there-clause-answer g c = λ p commands holds below done.
+    absurd (object_is_there c.args.other holds below (sym c.if-not-there.true ∙ c.in_ok-there.ensures.there))
+
+-- what the other leaf's bytes say
+pub returns-in-Some-clause-answer : goal.returns-in-Some-clause-answer
+returns-in-Some-clause-answer g c = λ p commands holds below done.
+    let way = c.args.way.now in
+    let lo = way.map.now.lo in
+    let hi = way.map.now.hi in
+    let s = state_of p commands in
+    let found = c.args.found.now in
+    let x : ℕ = c.args.other in
+    let value : c.get.result.now ≡ s x = c.get.ensures.value [] ∙ c.in_ok-there.ensures.value p commands holds c.if-not-there.false [] in
+    let bytes : c.bytes-bytes.result.now ≡ bytes_at lo s x = c.bytes-bytes.ensures s (sym value) in
+    let is : Some (listed c.in-Some.ops) ≡ takes_on found.above (found.place - 1) x found.leaf.object (bytes_at lo s x) found.from.items =
+    c.in-Some.ensures ∙ (λ k. takes_on found.above (c.saturating_sub-place.ensures k) x found.leaf.object (bytes k) (c.as_slice.ensures.value k)) in
+    ap (λ (l : List Command). (let r : Result (List Command) MapErr = Ok l in r)) c.both_stored.ensures
+    ∙ ap (stored_at lo hi s x) is ∙ sym (other_is lo hi s found.above found.place found.leaf.object x found.from.items)
+
+pub returns-in-None-clause-answer : goal.returns-in-None-clause-answer
+returns-in-None-clause-answer g c = λ p commands holds below done.
+    let way = c.args.way.now in
+    let lo = way.map.now.lo in
+    let hi = way.map.now.hi in
+    let s = state_of p commands in
+    let found = c.args.found.now in
+    let x : ℕ = c.args.other in
+    let value : c.get.result.now ≡ s x = c.get.ensures.value [] ∙ c.in_ok-there.ensures.value p commands holds c.if-not-there.false [] in
+    let bytes : c.bytes-bytes.result.now ≡ bytes_at lo s x = c.bytes-bytes.ensures s (sym value) in
+    ap (stored_at lo hi s x) (c.in-None.ensures ∙ (λ k. takes_on found.above (c.saturating_sub-place.ensures k) x found.leaf.object (bytes k) (c.as_slice.ensures.value k)))
+    ∙ sym (other_is lo hi s found.above found.place found.leaf.object x found.from.items)
