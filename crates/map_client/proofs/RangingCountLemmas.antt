@@ -94,11 +94,6 @@ module _ (lo hi : ℕ) (s : State) (to : Option (List ℕ)) (all : Result ℕ �
     pub next_counted : 0 < left → (count : ℕ) (next : Option (List ℕ)) → CountGoesOn lo hi s here count next → all ≡ and_count (total + count) (from_end 0 (count_from lo hi s (left - 1)) here next)
     next_counted some count next goes = one_more some ∙ ap (and_count total) (goes (left - 1)) ∙ both_counts total count (from_end 0 (count_from lo hi s (left - 1)) here next)
 
-    pub last_counted : 0 < left → (count : ℕ) (next : Option (List ℕ)) → next ≡ None → CountGoesOn lo hi s here count next → all ≡ Ok (total + count)
-    last_counted some count next none goes =
-        let same : total + count + 0 ≡ total + count = omega arith in
-        next_counted some count next goes ∙ ap (λ (o : Option (List ℕ)). and_count (total + count) (from_end 0 (count_from lo hi s (left - 1)) here o)) none ∙ ap (λ (k : ℕ). (let r : Result ℕ ℕ = Ok k in r)) same
-
     pub count_is_bad : 0 < left → (e : MapErr) → CountIsBad lo hi s here e → told all ≡ Err e
     count_is_bad some e bad = ap told (one_more some) ∙ by_rest (rest (suc (left - 1))) (bad (left - 1))
       where
@@ -106,10 +101,25 @@ module _ (lo hi : ℕ) (s : State) (to : Option (List ℕ)) (all : Result ℕ �
         by_rest (Ok n) same = cc
         by_rest (Err x) same = same
 
-    pub none_left : left ≡ 0 → all ≡ Ok total
-    none_left none =
-        let same : total + 0 ≡ total = omega arith in
-        so_far ∙ ap (λ (n : ℕ). and_count total (rest n)) none ∙ ap (λ (k : ℕ). (let r : Result ℕ ℕ = Ok k in r)) same
+-- where it goes on depends on the end of the span alone
+pub same_end : {A : Type 0} (none : A) (on : Span → Result A ℕ) (one two : List ℕ) (to end : Option (List ℕ)) → from_end none on (record { from = one; to = to }) end ≡ from_end none on (record { from = two; to = to }) end
+same_end none on one two to None = refl
+same_end none on one two to (Some key) = refl
+
+-- where no leaf is left, or none may be looked at, it is all
+module _ (lo hi : ℕ) (s : State) (span : Span) (all : Result ℕ ℕ) (total : ℕ) where
+  only_total : all ≡ and_count total (Ok 0) → all ≡ Ok total
+  only_total is = let same : total + 0 ≡ total = omega arith in is ∙ ap (λ (k : ℕ). (let r : Result ℕ ℕ = Ok k in r)) same
+
+  pub no_next : (left : ℕ) (next : Option (List ℕ)) → next ≡ None → all ≡ and_count total (from_end 0 (count_from lo hi s left) span next) → all ≡ Ok total
+  no_next left next none is = only_total (is ∙ ap (λ (o : Option (List ℕ)). and_count total (from_end 0 (count_from lo hi s left) span o)) none)
+
+  pub none_left : (left : ℕ) (next : Option (List ℕ)) → left ≡ 0 → all ≡ and_count total (from_end 0 (count_from lo hi s left) span next) → all ≡ Ok total
+  none_left left next none is = only_total (is ∙ ap (λ (n : ℕ). and_count total (from_end 0 (count_from lo hi s n) span next)) none ∙ ap (and_count total) (nothing next))
+    where
+      nothing : (o : Option (List ℕ)) → from_end 0 (count_from lo hi s 0) span o ≡ Ok 0
+      nothing None = refl
+      nothing (Some key) = refl
 
 -- ---- what the call answers
 

@@ -6,18 +6,20 @@ ghost use Rattle.oper_core.specs.State.{State};
 ghost use Rattle.oper_core.specs.declared.bounds.Bounds.{Bounds};
 ghost use Rattle.formats.specs.Objects.{bounds_of};
 ghost use Rattle.formats.specs.declared.params.Params.{Params};
-ghost use Rattle.page_map.specs.Map.{IsMap, content_of};
+ghost use Rattle.page_map.specs.Map.{IsMap, Span, content_of};
 ghost use Rattle.page_map.specs.Plan.{Admits, delete_command};
 ghost use Rattle.page_ops.specs.Operation.{page_meaning};
 ghost use Rattle.page_ops.specs.declared.page_op.PageOp.{PageOp};
 ghost use Rattle.page_map.specs.Sets.{IsKept};
+ghost use Rattle.page_map.specs.Reads.{count_of};
 ghost use Rattle.range_calls.specs.Store.{Command, state_of};
 ghost use Rattle.map_client.specs.Answers.{get_told};
 ghost use Rattle.map_client.specs.Laws.{DeleteActs, SetActs, TakesOut};
+ghost use Rattle.map_client.specs.Ranging.{count_told};
 
 use page_map::{
     a_delete_is_done_or_refused, a_get_finds_what_the_map_has, a_set_is_done_or_refused,
-    changes_are_those_of_the_map,
+    changes_are_those_of_the_map, ranges_are_read_from_leaves,
 };
 
 /// Where the range is a map a get answers what the map has at the key. A delete is refused exactly where the map lacks the key;
@@ -39,4 +41,11 @@ pub fn calls_act_as_on_an_ordered_map()
     changes_are_those_of_the_map();
     a_set_is_done_or_refused();
     a_delete_is_done_or_refused();
+}
+
+/// Where the range is a map a count answers how many pairs of the map have keys in the span.
+pub fn reads_of_ranges_are_those_of_the_map()
+    ensures { (b : Bounds) (lo hi : ℕ) (s : State) (span : Span) → hi < 2 ^ 32 → hi < b.objects → (is : IsMap lo hi s) → count_told b lo hi s span ≡ Ok (count_of (content_of is) span) }
+{
+    ranges_are_read_from_leaves();
 }

@@ -9,6 +9,9 @@
 //! pair into its leaf, and where that has no room a page is cut first, and the way is gone again. A delete takes the key out first,
 //! and then tidies by rounds: a leaf that has no cells left gives way to the one beside it, and a root with one child becomes it. A
 //! page is read where it is cached. What a call on another kind of range would do too is in `range_calls`.
+//!
+//! `count` tells how many pairs have keys in a span, from leaf to leaf: each is found from the root, with the key at which the next
+//! one begins. On a map it is that of the map (`reads_of_ranges_are_those_of_the_map`). The pairs of a span are not read yet.
 #![tactic(auto)]
 
 mod call_refusal;
@@ -34,6 +37,7 @@ mod way;
 pub use call_refusal::CallRefusal;
 pub use deleting::delete;
 pub use getting::get;
-pub use laws::calls_act_as_on_an_ordered_map;
+pub use laws::{calls_act_as_on_an_ordered_map, reads_of_ranges_are_those_of_the_map};
 pub use map_err::MapErr;
+pub use ranging_count::count;
 pub use setting::set;

@@ -1,15 +1,20 @@
-// How many pairs a leaf adds to a count of those in a span of keys.
-ghost use Rattle.std.specs.Prelude.{◌≡◌, ◌<◌, ◌^◌, List, false, IfErr, IfOk, IfSome, option_map};
+// How many pairs stand in a span of keys.
+ghost use Rattle.std.specs.Prelude.{◌≡◌, ◌<◌, ◌^◌, [], List, false, Ok, Err, IfErr, IfOk, IfSome, option_map};
+ghost use Rattle.formats.specs.Objects.{bounds_of};
 ghost use Rattle.formats.specs.declared.params.Params.{Params};
+ghost use Rattle.op_codec.specs.AllOps.{all_meaning};
 ghost use Rattle.page_map.specs.Map as maps;
 ghost use Rattle.page_map.specs.Map.{bytes_at};
+ghost use Rattle.page_map.specs.Ranges.{count_answer};
 ghost use Rattle.running_store.specs.Taking.Ending.{Done};
 ghost use Rattle.store_engine.specs.Engine.{params_of};
-ghost use Rattle.store_engine.specs.Lists.{ending_of};
+ghost use Rattle.store_engine.specs.Lists.{AddsFront, AreCalls, ending_of};
 ghost use Rattle.range_calls.specs.Making.{Reads};
 ghost use Rattle.range_calls.specs.Store.{Command, Holds, state_of};
-ghost use Rattle.map_client.specs.Answers.{cause_in, cause_of, or_bad};
+ghost use Rattle.range_calls.specs.declared.call_err.CallErr.TheVariants.{Memory as OutOfMemory};
+ghost use Rattle.map_client.specs.Answers.{cause_in, cause_of, or_bad, told};
 ghost use Rattle.map_client.specs.Ranging as ranging;
+ghost use Rattle.map_client.specs.Ranging.{count_told};
 ghost use Rattle.map_client.specs.RangingWay.{CountGoesOn, CountIsBad};
 
 use crate::call_refusal::CallRefusal;
@@ -19,7 +24,7 @@ use crate::stepping::end_bytes;
 use disk_model::Machine;
 use op_codec::AllOps;
 use page_map::{Map, MapRefusal, page_on, places_in};
-use range_calls::{CallErr, reads_go_on, see};
+use range_calls::{CallErr, reads_go_on, reads_run_short, see};
 use std::alloc::Global;
 use std::cmp::Ordering;
 use store_engine::{Engine, nothing_is_made};
@@ -123,4 +128,79 @@ fn count_turn<M: Machine>(
         count,
         next: leaf.to,
     })
+}
+
+/// A copy of a key.
+fn copy(alloc: Global, key: &[u8]) -> Result<Vec<u8>, MapErr>
+    ensures key { IfOk result (λ copy. copy.items ≡ key.now) }
+    ensures memory { IfErr result (λ e. e ≡ OutOfMemory) }
+{
+    Ok(key.to_vec(alloc)?)
+}
+
+/// Counts leaf by leaf. There are no more leaves than objects in the range.
+fn count_leaves<M: Machine>(
+    alloc: Global,
+    map: &Map,
+    engine: &mut Engine<AllOps>,
+    machine: &mut M,
+    from: &[u8],
+    to: Option<&[u8]>,
+) -> Result<u64, MapErr>
+    requires unbroken { engine.old.broken ≡ false }
+    requires there { map.now.hi < (params_of engine.old).objects }
+    ensures reads { Reads (M.disk machine.old) (M.disk machine.new) engine.old engine.new (cause_in result) }
+    ensures found { (p : Params) (commands : List Command) → Holds p (M.disk machine.old) engine.old commands →
+        IfOk result (λ count. count_answer map.now.lo map.now.hi (state_of p commands) (record { from = from.now; to = option_map (λ end. end.now) to.entry }) ≡ Ok count) }
+    ensures bad { (p : Params) (commands : List Command) → Holds p (M.disk machine.old) engine.old commands →
+        IfErr result (λ e. ending_of (cause_of e) ≡ Done → told (count_answer map.now.lo map.now.hi (state_of p commands) (record { from = from.now; to = option_map (λ end. end.now) to.entry })) ≡ Err e) }
+{
+    nothing_is_made(machine, engine);
+    reads_go_on::<M>();
+    reads_run_short::<M>();
+    let last = map.last();
+    let mut left = (last - map.root()) as u64 + 1;
+    let mut total = 0;
+    let mut next = Some(copy(alloc, from)?);
+    while left > 0 {
+        left -= 1;
+        match end_bytes(&next) {
+            Some(at) => {
+                let turn = count_turn(alloc, map, engine, machine, at, to)?;
+                total += turn.count as u64;
+                next = turn.next;
+            }
+            None => return Ok(total),
+        }
+    }
+    Ok(total)
+}
+
+/// How many pairs have keys from `from` on and below `to`. No command is added.
+///
+/// It answers `NoObject` exactly where the range ends past the last object, `BadMap` exactly where it meets a bad object on the way
+/// from leaf to leaf, the one met first, `Exec` with what the engine answered to a fetch, and `Memory`, where a key that is carried
+/// along can't be copied.
+pub fn count<M: Machine>(
+    alloc: Global,
+    map: &Map,
+    engine: &mut Engine<AllOps>,
+    machine: &mut M,
+    from: &[u8],
+    to: Option<&[u8]>,
+) -> Result<u64, MapErr>
+    requires unbroken { engine.old.broken ≡ false }
+    ensures calls { AreCalls all_meaning (M.disk machine.old) (M.disk machine.new) engine.old engine.new (cause_in result) }
+    ensures adds { (p : Params) (commands : List Command) → (holds : Holds p (M.disk machine.old) engine.old commands) →
+        AddsFront all_meaning p (M.disk machine.old) (M.disk machine.new) engine.old engine.new holds.world commands [] (ending_of (cause_in result)) }
+    ensures found { (p : Params) (commands : List Command) → Holds p (M.disk machine.old) engine.old commands →
+        IfOk result (λ count. count_told (bounds_of p) map.now.lo map.now.hi (state_of p commands) (record { from = from.now; to = option_map (λ end. end.now) to.entry }) ≡ Ok count) }
+    ensures refused { (p : Params) (commands : List Command) → Holds p (M.disk machine.old) engine.old commands →
+        IfErr result (λ e. ending_of (cause_of e) ≡ Done → count_told (bounds_of p) map.now.lo map.now.hi (state_of p commands) (record { from = from.now; to = option_map (λ end. end.now) to.entry }) ≡ Err e) }
+{
+    nothing_is_made(machine, engine);
+    if map.last() >= engine.params().objects {
+        return Err(CallErr::Refused(CallRefusal::NoObject));
+    }
+    count_leaves(alloc, map, engine, machine, from, to)
 }
