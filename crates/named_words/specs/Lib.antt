@@ -1,0 +1,12 @@
+pub mod Numbers
+pub mod Ranges
+pub mod Verbs
+pub mod Refusals
+pub mod Forms
+pub mod Requests
+pub mod Reading
+pub mod Patterns
+pub mod Tokens
+pub mod Effects
+pub mod Scans
+pub mod Worked
