@@ -8,8 +8,10 @@
 //! A scan answers each name that is there all along ([`a_scan_finds_each_name`]).
 //!
 //! It is as in Redis, but for this. Values do not expire, and SET takes no option that says when one would; COPY takes no database.
-//! An empty name fits a pattern of stars, and bytes of a class are compared without a sign. A command that there is not is answered
-//! with its whole words where Redis stops at a byte 0.
+//! A name that is too long is answered as a value is. The COUNT of a SCAN counts places of names, of which two may share one. An
+//! MSET whose last name has no value is refused as one with too few words, and SELECT has one text for all numbers but 0. An empty
+//! name fits a pattern of stars, and bytes of a class are compared without a sign. A command that there is not is answered with its
+//! whole words where Redis stops at a byte 0.
 #![tactic(auto)]
 
 mod forms;
