@@ -6,13 +6,13 @@ use Rattle.std.proofs.lemmas.List.{get_or-set_other, length-set}
 use Rattle.oper_core.specs.State.{is_among}
 use Rattle.install_order.specs.Digraph.{AreNodes}
 use Rattle.install_order.specs.MergeLaws.{walk-levels}
-use Rattle.number_lists.specs.Lists.{Lists, list_at, IsFree, IsWider}
+use Rattle.number_lists.specs.Lists.{Lists, list_at, IsFree, IsWider, AreAdded}
 use Rattle.graph_nodes.specs.Arcs.{arc_at, node_at, held_at, IsArc}
 use Rattle.graph_nodes.specs.Into.{AreLost, AreCleared}
 use Rattle.graph_nodes.specs.Merge.{gathered, AreMoved}
 use Rattle.graph_nodes.specs.Removed.{AreReleased, AreAlone}
 use Rattle.graph_nodes.specs.Named.{Naming}
-use Rattle.graph_nodes.specs.Kept.{AreJoined, AreOnWay, AreItemsAdded, IsKept, no_arcs}
+use Rattle.graph_nodes.specs.Kept.{AreJoined, AreOnWay, IsKept, no_arcs}
 use Rattle.graph_nodes.specs.Levels.{AreLevelled, AreLinked, AreReady, AreStillLevelled, HaveLevels, HasLevelRoom, IsLinkable, level_at}
 use Rattle.graph_nodes.proofs.Options.{none-some}
 use Rattle.graph_nodes.proofs.Cleared.{arc-was}
@@ -223,7 +223,7 @@ have-inserted arcs old new held name names ma mb ia ib level raised near na nb n
     }
 
 -- one more slot, whose node is at the lowest level
-pub have-slot : (arcs more : List (Option ℕ)) (node : List ℕ) (held : List Bool) (level : List ℕ) (na nb nc : Lists) → HaveLevels arcs node held level na → length held ≡ length node → length arcs ≡ 8 * length node → more ≡ arcs ++ no_arcs 8 → IsWider na nb → AreItemsAdded 8 nb nc → HaveLevels more (node ++ length node ∷ []) (held ++ true ∷ []) level nc
+pub have-slot : (arcs more : List (Option ℕ)) (node : List ℕ) (held : List Bool) (level : List ℕ) (na nb nc : Lists) → HaveLevels arcs node held level na → length held ≡ length node → length arcs ≡ 8 * length node → more ≡ arcs ++ no_arcs 8 → IsWider na nb → AreAdded 8 nb nc → HaveLevels more (node ++ length node ∷ []) (held ++ true ∷ []) level nc
 have-slot arcs more node held level na nb nc have holds size e wide add =
     let n = length node in
     let arc : (c : ℕ) → arc_at more c ≡ arc_at arcs c = λ c. ap (λ (xs : List (Option ℕ)). arc_at xs c) e ∙ arc-same arcs 8 c in

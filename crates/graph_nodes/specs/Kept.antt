@@ -127,11 +127,3 @@ pub record AreCellsAdded (n : ℕ) (old new : List (Option ℕ)) (old_into new_i
   pub items : new_into.items ≡ old_into.items + n
   pub list_room : new_into.list_room ≡ old_into.list_room
   pub item_room : old_into.item_room ≤ new_into.item_room + n
-
--- so many more cells, which are in no list
-pub record AreItemsAdded (n : ℕ) (old new : Lists) : Type 0 where
-  pub here : (j : ℕ) → list_at new.lists j ≡ list_at old.lists j
-  pub lists : length new.lists ≡ length old.lists
-  pub items : new.items ≡ old.items + n
-  pub list_room : new.list_room ≡ old.list_room
-  pub item_room : old.item_room ≤ new.item_room + n

@@ -7,7 +7,7 @@ ghost use Rattle.graph_nodes.specs.Arcs.{IsArc, arc_at, node_at, held_at};
 ghost use Rattle.graph_nodes.specs.Named.{IsMinimal, IsName, NamesMinimal, IsLeast};
 ghost use Rattle.number_lists.specs.Marks.{IsCount};
 ghost use Rattle.graph_nodes.specs.Removed.{IsRemoved};
-ghost use Rattle.graph_nodes.specs.Kept.{IsSlotAdded, AreCellsAdded, AreItemsAdded};
+ghost use Rattle.graph_nodes.specs.Kept.{IsSlotAdded, AreCellsAdded};
 
 use crate::clearing::clear_slots;
 use crate::levels::Levels;
@@ -119,22 +119,23 @@ impl SlotGraph {
         self.node[slot as usize]
     }
 
-    /// Takes the memory that the next `add_slot` needs. Nothing else changes, also where it is out of memory.
-    pub fn make_room(&mut self) -> Result<(), Memory>
+    /// Takes the memory that so many calls of `add_slot` need. Nothing else changes, also where it is out of memory.
+    pub fn make_room(&mut self, count: usize) -> Result<(), Memory>
+        requires few { count ≤ 2 ^ 28 }
         ensures arcs { self.new.arcs ≡ self.old.arcs }
         ensures node { self.new.node ≡ self.old.node }
         ensures held { self.new.held ≡ self.old.held }
-        ensures room { OnOk result (0 < self.new.room) }
+        ensures room { OnOk result (count ≤ self.new.room) }
     {
-        self.arcs.reserve(8)?;
-        self.node.reserve(1)?;
-        self.held.reserve(1)?;
-        self.names.make_room()?;
-        self.members.make_room(1, 1)?;
-        self.into.make_room(1, 8)?;
-        self.searches.make_room(self.arcs.len() + 8)?;
-        self.levels.make_room(self.node.len() + 1)?;
-        self.room = 1;
+        self.arcs.reserve(8 * count)?;
+        self.node.reserve(count)?;
+        self.held.reserve(count)?;
+        self.names.make_room(count)?;
+        self.members.make_room(count, count)?;
+        self.into.make_room(count, 8 * count)?;
+        self.searches.make_room(self.arcs.len() + 8 * count, count)?;
+        self.levels.make_room(self.node.len() + count, count)?;
+        self.room = count;
         Ok(())
     }
 
@@ -157,7 +158,7 @@ impl SlotGraph {
         self.searches.found.add_number();
         self.searches.ahead.add_number();
         self.levels.near.add_list();
-        add_items(&mut self.levels.near);
+        self.levels.near.add_items(8);
         self.room -= 1;
     }
 
@@ -288,16 +289,6 @@ fn add_cells(arcs: &mut Vec<PackedOption>, into: &mut SparseChains)
 {
     for i in 0..8u32 {
         push_in_room(arcs, PackedOption::none());
-        into.add_item();
     }
-}
-
-/// Adds eight cells, which are in no list.
-fn add_items(lists: &mut SparseChains)
-    requires { 8 ≤ lists.old.item_room }
-    ensures { AreItemsAdded 8 lists.old lists.new }
-{
-    for i in 0..8u32 {
-        lists.add_item();
-    }
+    into.add_items(8);
 }

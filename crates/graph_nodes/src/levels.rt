@@ -1,4 +1,4 @@
-ghost use Rattle.std.specs.Prelude.{◌≡◌, ℕ, ◌<◌, ◌≤◌, [], OnOk, length};
+ghost use Rattle.std.specs.Prelude.{◌≡◌, ℕ, ◌<◌, ◌≤◌, ◌*◌, ◌^◌, [], OnOk, length};
 ghost use Rattle.std.specs.Vec.{vec_capacity};
 ghost use Rattle.graph_nodes.specs.Levels.{level_at};
 
@@ -47,19 +47,20 @@ impl Levels {
         level_of(n, self.level.as_slice())
     }
 
-    /// Takes the memory for so many nodes, and for one more list of cells. Nothing else changes, also where it is out of memory.
-    pub(crate) fn make_room(&mut self, nodes: usize) -> Result<(), Memory>
+    /// Takes the memory for so many nodes, and for so many more lists of cells. Nothing else changes, also where it is out of memory.
+    pub(crate) fn make_room(&mut self, nodes: usize, count: usize) -> Result<(), Memory>
+        requires few { count ≤ 2 ^ 28 }
         ensures level { self.new.level.items ≡ self.old.level.items }
         ensures capacity { vec_capacity self.old.level ≤ vec_capacity self.new.level }
         ensures lists { self.new.near.lists ≡ self.old.near.lists }
         ensures items { self.new.near.items ≡ self.old.near.items }
         ensures list_room { self.old.near.list_room ≤ self.new.near.list_room }
         ensures item_room { self.old.near.item_room ≤ self.new.near.item_room }
-        ensures room { OnOk result ((nodes ≤ vec_capacity self.new.level) × (1 ≤ self.new.near.list_room) × (8 ≤ self.new.near.item_room)) }
+        ensures room { OnOk result ((nodes ≤ vec_capacity self.new.level) × (count ≤ self.new.near.list_room) × (8 * count ≤ self.new.near.item_room)) }
     {
         let more = nodes.saturating_sub(self.level.len());
         self.level.reserve(more)?;
-        self.near.make_room(1, 8)?;
+        self.near.make_room(count, 8 * count)?;
         Ok(())
     }
 

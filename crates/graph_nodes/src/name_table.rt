@@ -61,14 +61,15 @@ impl NameTable {
         }
     }
 
-    /// Takes the memory for one more name. Nothing else changes, also where it is out of memory.
-    pub(crate) fn make_room(&mut self) -> Result<(), Memory>
+    /// Takes the memory for so many more names. Nothing else changes, also where it is out of memory.
+    pub(crate) fn make_room(&mut self, count: usize) -> Result<(), Memory>
+        requires few { count ≤ 2 ^ 32 }
         ensures items { self.new.items ≡ self.old.items }
-        ensures room { OnOk result (0 < self.new.room) }
+        ensures room { OnOk result (count ≤ self.new.room) }
         ensures kept { self.old.room ≤ self.new.room }
     {
-        self.first.reserve(self.count + 1 - self.first.len())?;
-        self.room = self.room.max(1);
+        self.first.reserve(self.count + count - self.first.len())?;
+        self.room = self.room.max(count);
         Ok(())
     }
 

@@ -61,17 +61,18 @@ impl Names {
         self.minimal.next(from)
     }
 
-    /// Takes the memory that the next `add` needs. Nothing else changes, also where it is out of memory.
-    pub(crate) fn make_room(&mut self) -> Result<(), Memory>
+    /// Takes the memory that so many calls of `add` need. Nothing else changes, also where it is out of memory.
+    pub(crate) fn make_room(&mut self, count: usize) -> Result<(), Memory>
+        requires few { count ≤ 2 ^ 32 }
         ensures name { self.new.name ≡ self.old.name }
         ensures names { self.new.names ≡ self.old.names }
         ensures minimal { self.new.minimal ≡ self.old.minimal }
-        ensures room { OnOk result (0 < self.new.room) }
+        ensures room { OnOk result (count ≤ self.new.room) }
         ensures kept { self.old.room ≤ self.new.room }
     {
-        self.name.make_room()?;
-        self.names.make_room()?;
-        self.minimal.make_room()?;
+        self.name.make_room(count)?;
+        self.names.make_room(count)?;
+        self.minimal.make_room(count)?;
         Ok(())
     }
 

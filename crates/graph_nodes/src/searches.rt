@@ -1,4 +1,4 @@
-ghost use Rattle.std.specs.Prelude.{◌≡◌, ◌<◌, ◌≤◌, OnOk};
+ghost use Rattle.std.specs.Prelude.{◌≡◌, ◌≤◌, ◌^◌, OnOk};
 ghost use Rattle.std.specs.Vec.{vec_capacity};
 ghost use Rattle.graph_nodes.specs.Kept.{IsWide};
 
@@ -34,15 +34,16 @@ impl Searches {
         }
     }
 
-    /// Takes the memory that searches among one node more need, where no node has more cells than so many.
-    pub(crate) fn make_room(&mut self, cells: usize) -> Result<(), Memory>
+    /// Takes the memory that searches among so many nodes more need, where no node has more cells than so many.
+    pub(crate) fn make_room(&mut self, cells: usize, count: usize) -> Result<(), Memory>
+        requires few { count ≤ 2 ^ 32 }
         ensures found { IsWide self.old.found self.new.found }
         ensures ahead { IsWide self.old.ahead self.new.ahead }
         ensures capacity { vec_capacity self.old.cells ≤ vec_capacity self.new.cells }
-        ensures room { OnOk result ((0 < self.new.found.room) × (0 < self.new.ahead.room) × (cells ≤ vec_capacity self.new.cells)) }
+        ensures room { OnOk result ((count ≤ self.new.found.room) × (count ≤ self.new.ahead.room) × (cells ≤ vec_capacity self.new.cells)) }
     {
-        self.found.make_room()?;
-        self.ahead.make_room()?;
+        self.found.make_room(count)?;
+        self.ahead.make_room(count)?;
         self.cells.clear();
         self.cells.reserve(cells)?;
         Ok(())

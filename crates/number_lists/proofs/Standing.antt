@@ -7,7 +7,7 @@ use Rattle.std.proofs.lemmas.List.{get_or-set_same, get_or-set_other, length-map
 use Rattle.std.proofs.lemmas.Map.Keys.{IsDistinct-cons, IsDistinct-from_apart}
 use Rattle.std.proofs.lemmas.Map.Steps.{length-le_from_distinct_below}
 use Rattle.oper_core.specs.State.{is_among}
-use Rattle.number_lists.specs.Lists.{Lists, list_at, AreAsMany, IsFree, IsPushed, IsPopped, IsEmptied, IsCleared, IsPoured, IsWider, IsLonger}
+use Rattle.number_lists.specs.Lists.{Lists, list_at, AreAsMany, IsFree, IsPushed, IsPopped, IsEmptied, IsCleared, IsPoured, IsWider, IsLonger, AreAdded}
 use Rattle.number_lists.specs.Sparse.{listed, seen, AreStanding, IsStood, IsBegun}
 use Rattle.number_lists.proofs.Links.{all-apart, first-apart}
 use Rattle.number_lists.proofs.Placed.{among-more, among-place, distinct-push, read-last}
@@ -415,9 +415,9 @@ same-standing old new numbers items e f are =
       few = omega (arith, ap length e, are.few);
     }
 
--- one number more
-pub longer-standing : (places : Lists) (numbers : List ℕ) (items : ℕ) → AreStanding places numbers items → AreStanding places numbers (items + 1)
-longer-standing places numbers items are = record {
+-- so many numbers more
+pub added-standing : (places : Lists) (numbers : List ℕ) (items count : ℕ) → AreStanding places numbers items → AreStanding places numbers (items + count)
+added-standing places numbers items count are = record {
   below = are.below;
   apart = are.apart;
   placed = are.placed;
@@ -428,10 +428,10 @@ longer-standing places numbers items are = record {
   few = are.few;
 }
 
-pub longer-seen : (places : Lists) (numbers : List ℕ) (items room less : ℕ) → room ≡ less + 1 → AreStanding places numbers items → IsLonger (seen places numbers items room) (seen places numbers (items + 1) less)
-longer-seen places numbers items room less e are = record {
+pub added-seen : (places : Lists) (numbers : List ℕ) (items count room less : ℕ) → room ≡ less + count → AreStanding places numbers items → AreAdded count (seen places numbers items room) (seen places numbers (items + count) less)
+added-seen places numbers items count room less e are = record {
   here = λ j. refl;
-  free = λ i t. let p = stands numbers places.lists i items t in omega (arith, are.small i p.0 p.1, p.2);
+  free = λ k le i t. let p = stands numbers places.lists i k t in omega (arith, are.small i p.0 p.1, p.2, le);
   lists = refl;
   items = refl;
   list_room = refl;

@@ -78,6 +78,15 @@ pub record IsWider (old new : Lists) : Type 0 where
   pub list_room : old.list_room ≤ new.list_room + 1
   pub item_room : new.item_room ≡ old.item_room
 
+-- so many numbers more, which are in no list
+pub record AreAdded (count : ℕ) (old new : Lists) : Type 0 where
+  pub here : (j : ℕ) → list_at new.lists j ≡ list_at old.lists j
+  pub free : (k : ℕ) → old.items ≤ k → IsFree new.lists k
+  pub lists : length new.lists ≡ length old.lists
+  pub items : new.items ≡ old.items + count
+  pub list_room : new.list_room ≡ old.list_room
+  pub item_room : old.item_room ≤ new.item_room + count
+
 -- one number more, which is in no list
 pub record IsLonger (old new : Lists) : Type 0 where
   pub here : (j : ℕ) → list_at new.lists j ≡ list_at old.lists j

@@ -103,14 +103,14 @@ impl Level {
         self.counts[n / ROW] > 0
     }
 
-    /// Takes the memory for one more number. Nothing else changes, also where it is out of memory.
-    pub(crate) fn make_room(&mut self) -> Result<(), Memory>
+    /// Takes the memory for so many more numbers. Nothing else changes, also where it is out of memory.
+    pub(crate) fn make_room(&mut self, count: usize) -> Result<(), Memory>
         ensures marks { self.new.marks ≡ self.old.marks }
-        ensures room { OnOk result (0 < self.new.room) }
+        ensures room { OnOk result (count ≤ self.new.room) }
         ensures kept { self.old.room ≤ self.new.room }
     {
-        self.marks.reserve(1)?;
-        self.counts.reserve(1)?;
+        self.marks.reserve(count)?;
+        self.counts.reserve(count)?;
         Ok(())
     }
 

@@ -117,17 +117,18 @@ impl NumberSet {
         self.insert(n);
     }
 
-    /// Makes room for the end to rise by one. Nothing else changes, also where it is out of memory.
-    pub fn make_room(&mut self) -> Result<(), Memory>
+    /// Makes room for the end to rise by so many. Nothing else changes, also where it is out of memory.
+    pub fn make_room(&mut self, count: usize) -> Result<(), Memory>
+        requires few { count ≤ 2 ^ 32 }
         ensures members { self.new.members ≡ self.old.members }
         ensures end { self.new.end ≡ self.old.end }
-        ensures room { OnOk result (0 < self.new.room) }
+        ensures room { OnOk result (count ≤ self.new.room) }
         ensures kept { self.old.room ≤ self.new.room }
     {
-        let end = self.end + 1;
+        let end = self.end + count;
         self.members.reserve(end - self.members.len())?;
         self.place.reserve(end - self.place.len())?;
-        self.room = self.room.max(1);
+        self.room = self.room.max(count);
         Ok(())
     }
 

@@ -152,20 +152,20 @@ impl NumberTree {
         Some(found as u32)
     }
 
-    /// Makes room for the end to rise by one. Nothing else changes, also where it is out of memory.
-    pub fn make_room(&mut self) -> Result<(), Memory>
+    /// Makes room for the end to rise by so many. Nothing else changes, also where it is out of memory.
+    pub fn make_room(&mut self, count: usize) -> Result<(), Memory>
         ensures marks { self.new.marks ≡ self.old.marks }
-        ensures room { OnOk result (0 < self.new.room) }
+        ensures room { OnOk result (count ≤ self.new.room) }
         ensures kept { self.old.room ≤ self.new.room }
     {
-        if self.room > 0 {
+        if self.room >= count {
             return Ok(());
         }
-        self.low.make_room()?;
-        self.mid.make_room()?;
-        self.high.make_room()?;
-        self.top.make_room()?;
-        self.room = 1;
+        self.low.make_room(count)?;
+        self.mid.make_room(count)?;
+        self.high.make_room(count)?;
+        self.top.make_room(count)?;
+        self.room = count;
         Ok(())
     }
 

@@ -2,7 +2,7 @@ ghost use Rattle.std.specs.Prelude.{◌≡◌, ℕ, ◌<◌, ◌≤◌, ◌+◌,
 ghost use Rattle.std.specs.List.{IsDistinct};
 ghost use Rattle.std.specs.Vec.{vec_capacity};
 ghost use Rattle.oper_core.specs.State.{is_among};
-ghost use Rattle.number_lists.specs.Lists.{list_at, IsFree, IsCleared, IsEmptied, IsPushed, IsPopped, IsPoured, IsWider, IsLonger};
+ghost use Rattle.number_lists.specs.Lists.{list_at, IsFree, IsCleared, IsEmptied, IsPushed, IsPopped, IsPoured, IsWider, AreAdded};
 ghost use Rattle.number_lists.specs.Sparse.{IsBegun, IsStood};
 
 use crate::chains::Chains;
@@ -168,13 +168,13 @@ impl SparseChains {
         self.places.add_list();
     }
 
-    /// One more number, which is in no list.
-    pub fn add_item(&mut self)
-        requires { 0 < self.old.item_room }
-        ensures { IsLonger self.old self.new }
+    /// So many more numbers, which are in no list.
+    pub fn add_items(&mut self, count: usize)
+        requires { count ≤ self.old.item_room }
+        ensures { AreAdded count self.old self.new }
     {
-        self.items += 1;
-        self.room -= 1;
+        self.items += count;
+        self.room -= count;
     }
 }
 

@@ -5,10 +5,10 @@ use Rattle.std.specs.List.{position, position_or_len, list_any}
 use Rattle.std.proofs.lemmas.Bool.{cases_lt, both_ways, lt-ltb, le-ltb, cond-true, cond-false}
 use Rattle.std.proofs.lemmas.List.{get_or-set_same, get_or-set_other}
 use Rattle.oper_core.specs.State.{is_among}
-use Rattle.number_lists.specs.Lists.{Lists, list_at, IsEmptied, IsPopped, IsPushed, IsWider}
+use Rattle.number_lists.specs.Lists.{Lists, list_at, IsEmptied, IsPopped, IsPushed, IsWider, AreAdded}
 use Rattle.indexmap.specs.IndexSet.{insert_key}
 use Rattle.write_graph.specs.Places.{place_in}
-use Rattle.write_graph.specs.Rows.{Rows, waiting_of, IsLastSet, IsWaiting, IsTaken}
+use Rattle.write_graph.specs.Rows.{Rows, waiting_of, IsLastSet, IsWaiting, IsTaken, AreCellsAdded}
 use Rattle.write_graph.specs.RowTables.{rows_of, AreTables, IsRow}
 use Rattle.write_graph.proofs.Place.{place-is, place-here, place-le, place-one, place-among, place-none, place-left, place-right, read-past, read-more, list-past, index-left, index-last}
 
@@ -146,10 +146,12 @@ row-made keys more last last_more waiting wider room room_more x row are none e 
       cell_room = wide.item_room;
     })
 
--- so many numbers more, which are in no list
-pub record AreLonger (n : ℕ) (old new : Lists) : Type 0 where
-  pub here : (j : ℕ) → list_at new.lists j ≡ list_at old.lists j
-  pub lists : length new.lists ≡ length old.lists
-  pub items : new.items ≡ old.items + n
-  pub list_room : new.list_room ≡ old.list_room
-  pub item_room : old.item_room ≤ new.item_room + n
+-- eight cells more
+pub cells-added : (objects : List ℕ) (last : List (Option ℕ)) (old new : Lists) (room : ℕ) → AreAdded 8 old new → AreCellsAdded (rows_of objects last old room) (rows_of objects last new room)
+cells-added objects last old new room is = record {
+  last = λ x. refl;
+  waiting = λ x. is.here (place_in x objects);
+  cells = is.items;
+  row_room = ap (λ (n : ℕ). min (2 ^ 32 - length objects) (min room n)) is.list_room;
+  cell_room = is.item_room;
+}

@@ -1,5 +1,5 @@
 -- What the graph of slots and the rows by object keep.
-use Rattle.std.specs.Prelude.{◌≡◌, ℕ, ◌*◌, ◌/◌, ◌-◌, ◌^◌, ◌≤◌, ◌<◌, min, Bool, IsTrue, List, length, Option, Some, MatchOption}
+use Rattle.std.specs.Prelude.{◌≡◌, ℕ, ◌+◌, ◌*◌, ◌/◌, ◌-◌, ◌^◌, ◌≤◌, ◌<◌, min, Bool, IsTrue, List, length, Option, Some, MatchOption}
 use Rattle.oper_core.specs.State.{is_among}
 use Rattle.install_order.specs.declared.entry.Entry.{Entry}
 use Rattle.install_order.specs.Order.{Access, IsLastWriter}
@@ -39,6 +39,14 @@ pub record AreLinked (entries : List Entry) (graph : Graph) (rows : Rows) : Type
   pub nodes : AreNodes (IsArc graph.arcs) (node_at graph.node)
   pub arcs : AreArcs (slot_access entries graph.held) entries graph.arcs
   pub rows_are : AreRows (slot_access entries graph.held) entries graph.held rows
+
+-- there is memory for so many more entries: for their links, in the table of entries, in that of first writers, of which each has four at most,
+-- and for all slots of a node
+pub record HasRoom (room slots links entries firsts members : ℕ) : Type 0 where
+  pub links : room ≤ links
+  pub entries : room ≤ entries
+  pub firsts : 4 * room ≤ firsts
+  pub members : slots + room ≤ members
 
 -- for so many entries there is memory
 abbrev pub links_room : Graph → Rows → ℕ

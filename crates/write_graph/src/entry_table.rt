@@ -141,14 +141,15 @@ impl Entries {
         }
     }
 
-    /// Takes the memory for one more entry. Nothing else changes, also where it is out of memory.
-    pub(crate) fn make_room(&mut self) -> Result<(), Memory>
+    /// Takes the memory for so many more entries. Nothing else changes, also where it is out of memory.
+    pub(crate) fn make_room(&mut self, count: usize) -> Result<(), Memory>
+        requires few { count ≤ 2 ^ 28 }
         ensures items { self.new.items ≡ self.old.items }
-        ensures room { OnOk result (0 < self.new.room) }
+        ensures room { OnOk result (count ≤ self.new.room) }
     {
-        self.lsns.reserve(1)?;
-        self.heads.make_room()?;
-        self.objects.reserve(OBJECTS)?;
+        self.lsns.reserve(count)?;
+        self.heads.make_room(count)?;
+        self.objects.reserve(OBJECTS * count)?;
         Ok(())
     }
 
@@ -167,7 +168,8 @@ impl Entries {
     pub(crate) fn push(&mut self, entry: &Entry)
         requires room { 0 < self.old.room }
         requires small { length self.old.items < 2 ^ 28 }
-        ensures { self.new.items ≡ self.old.items ++ entry.now ∷ [] }
+        ensures items { self.new.items ≡ self.old.items ++ entry.now ∷ [] }
+        ensures room { self.old.room ≤ self.new.room + 1 }
     {
         let reads = entry.reads.as_slice();
         let writes = entry.writes.as_slice();

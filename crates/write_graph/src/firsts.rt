@@ -18,7 +18,8 @@ use std::alloc::Global;
 /// Notes the slot as the first writer of those of the objects that have none.
 pub(crate) fn note_writes(slot: u32, objects: &[u32], firsts: &mut IndexMap<u32, u32>)
     requires { length objects.now ≤ spare firsts.old }
-    ensures { (x : ℕ) → get nat_eq firsts.new x ≡ noted objects.now slot (get nat_eq firsts.old) x }
+    ensures noted { (x : ℕ) → get nat_eq firsts.new x ≡ noted objects.now slot (get nat_eq firsts.old) x }
+    ensures room { spare firsts.old ≤ spare firsts.new + length objects.now }
 {
     for x in objects {
         note_write(slot, *x, firsts);

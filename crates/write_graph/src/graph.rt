@@ -22,6 +22,9 @@ use std::mem;
 /// How many more slots may be left of entries that were taken out than there are held ones.
 const SPARE: usize = 16;
 
+/// For how many entries memory is taken at a time.
+const BATCH: usize = 16;
+
 /// How many objects an entry writes at most.
 const WRITES: usize = 4;
 
@@ -41,15 +44,17 @@ pub struct WriteGraph {
     held: usize,
     /// The slots of a node that is taken out.
     members: Vec<u32>,
+    /// For how many more entries there is memory.
+    room: usize,
 }
 
 impl Model for WriteGraph {
-    ghost use Rattle.std.specs.Prelude.{◌≡◌, ◌-◌, ◌/◌, ◌≤◌, nat_eq, min, length};
+    ghost use Rattle.std.specs.Prelude.{◌≡◌, nat_eq, length};
     ghost use Rattle.std.specs.Vec.{vec_capacity};
     ghost use Rattle.indexmap.specs.IndexMap.{get, spare};
     ghost use Rattle.write_graph.specs.Graph.{Graph, lsns};
     ghost use Rattle.write_graph.specs.Cells.{slot_access, held_entries};
-    ghost use Rattle.write_graph.specs.Linked.{AreLinked, links_room};
+    ghost use Rattle.write_graph.specs.Linked.{AreLinked, HasRoom, links_room};
     ghost use Rattle.write_graph.specs.Firsts.{AreFirsts};
     ghost use Rattle.write_graph.specs.Naming.{AreClimbing};
 
@@ -57,12 +62,12 @@ impl Model for WriteGraph {
 
     ghost view = { λ g. record {
       entries = held_entries g.links.graph.held g.entries.items;
-      room = min (min (links_room g.links.graph g.links.rows) (spare g.firsts / 4)) (min g.entries.room (vec_capacity g.members - length g.entries.items));
+      room = g.room;
     } };
 
     ghost invariant = { λ g. AreClimbing g.links.graph.held (lsns g.entries.items) × AreLinked g.entries.items g.links.graph g.links.rows ×
-        (g.held ≡ length (held_entries g.links.graph.held g.entries.items)) × (length g.entries.items ≤ vec_capacity g.members) ×
-        AreFirsts (slot_access g.entries.items g.links.graph.held) (get nat_eq g.firsts) };
+        (g.held ≡ length (held_entries g.links.graph.held g.entries.items)) ×
+        HasRoom g.room (length g.entries.items) (links_room g.links.graph g.links.rows) g.entries.room (spare g.firsts) (vec_capacity g.members) × AreFirsts (slot_access g.entries.items g.links.graph.held) (get nat_eq g.firsts) };
 }
 
 impl WriteGraph {
@@ -77,6 +82,7 @@ impl WriteGraph {
             firsts: IndexMap::new(alloc),
             held: 0,
             members: Vec::new(alloc),
+            room: 0,
         })
     }
 
@@ -112,17 +118,22 @@ impl WriteGraph {
         Ok(())
     }
 
-    /// Takes the memory for one more slot. Nothing else changes, also where it is out of memory.
+    /// Takes the memory for some more slots, where there is none for one. Nothing else changes, also where it is out of memory.
     pub(crate) fn reserve(&mut self) -> Result<(), Memory>
         ensures room { OnOk result (0 < self.new.room) }
         ensures same { self.new.entries ≡ self.old.entries }
     {
-        let count = self.entries.len() + 1;
-        self.entries.make_room()?;
+        if self.room > 0 {
+            return Ok(());
+        }
+        let count = self.entries.len() + BATCH;
+        self.entries.make_room(BATCH)?;
         self.members.clear();
         self.members.reserve(count)?;
-        self.firsts.reserve(WRITES)?;
-        self.links.make_room(&self.entries)
+        self.firsts.reserve(WRITES * BATCH)?;
+        self.links.make_room(BATCH, &self.entries)?;
+        self.room = BATCH;
+        Ok(())
     }
 
     /// Adds an entry, whose LSN is above all others.
@@ -137,6 +148,7 @@ impl WriteGraph {
         note_writes(slot, entry.writes.as_slice(), &mut self.firsts);
         self.entries.push(&entry);
         self.held += 1;
+        self.room -= 1;
     }
 
     /// The minimal node with the least name. None exactly where there is no entry.

@@ -1,4 +1,4 @@
-ghost use Rattle.std.specs.Prelude.{◌≡◌, ◌<◌, ◌≤◌, ◌++◌, ◌∷◌, [], ◌%◌, ◌/◌, OnOk, length, slice_index_or, nat_le};
+ghost use Rattle.std.specs.Prelude.{◌≡◌, ◌<◌, ◌≤◌, ◌+◌, ◌++◌, ◌∷◌, [], ◌%◌, ◌/◌, OnOk, length, slice_index_or, nat_le};
 
 use crate::head::Head;
 use number_lists::push_in_room;
@@ -58,14 +58,14 @@ impl Heads {
         }
     }
 
-    /// Takes the memory for one more head. Nothing else changes, also where it is out of memory.
-    pub(crate) fn make_room(&mut self) -> Result<(), Memory>
+    /// Takes the memory for so many more heads. Nothing else changes, also where it is out of memory.
+    pub(crate) fn make_room(&mut self, count: usize) -> Result<(), Memory>
         ensures items { self.new.items ≡ self.old.items }
-        ensures room { OnOk result (0 < self.new.room) }
+        ensures room { OnOk result (count ≤ self.new.room) }
         ensures kept { self.old.room ≤ self.new.room }
     {
-        self.starts.reserve(1)?;
-        self.codes.reserve(1)?;
+        self.starts.reserve(count)?;
+        self.codes.reserve(count)?;
         Ok(())
     }
 
@@ -74,7 +74,8 @@ impl Heads {
         requires room { 0 < self.old.room }
         requires reads { head.reads ≤ 4 }
         requires writes { head.writes ≤ 4 }
-        ensures { self.new.items ≡ self.old.items ++ head ∷ [] }
+        ensures items { self.new.items ≡ self.old.items ++ head ∷ [] }
+        ensures room { self.old.room ≤ self.new.room + 1 }
     {
         push_in_room(&mut self.starts, head.start);
         push_in_room(&mut self.codes, code_of(head));

@@ -1,4 +1,4 @@
-ghost use Rattle.std.specs.Prelude.{◌≡◌, ℕ, ◌<◌, ◌+◌, ◌++◌, ◌∷◌, [], true, Some, IsTrue, OnOk, IfOk, length};
+ghost use Rattle.std.specs.Prelude.{◌≡◌, ℕ, ◌<◌, ◌≤◌, ◌+◌, ◌^◌, ◌++◌, ◌∷◌, [], true, Some, IsTrue, OnOk, IfOk, length};
 ghost use Rattle.std.specs.List.{filter};
 ghost use Rattle.graph_nodes.specs.Arcs.{held_at, node_at};
 ghost use Rattle.graph_nodes.specs.Named.{IsMinimal};
@@ -41,18 +41,19 @@ impl Links {
         }
     }
 
-    /// Takes the memory for one more entry. Nothing else changes, also where it is out of memory.
-    pub(crate) fn make_room(&mut self, entries: &Entries) -> Result<(), Memory>
+    /// Takes the memory for so many more entries. Nothing else changes, also where it is out of memory.
+    pub(crate) fn make_room(&mut self, count: usize, entries: &Entries) -> Result<(), Memory>
+        requires few { count ≤ 2 ^ 28 }
         requires linked { AreLinked entries.now.items self.old.graph self.old.rows }
         ensures linked { AreLinked entries.now.items self.new.graph self.new.rows }
         ensures held { self.new.graph.held ≡ self.old.graph.held }
-        ensures room { OnOk result (0 < links_room self.new.graph self.new.rows) }
+        ensures room { OnOk result (count ≤ links_room self.new.graph self.new.rows) }
     {
-        if self.graph.len() >= MOST {
+        if self.graph.len() > MOST - count {
             return Err(Memory);
         }
-        self.graph.make_room()?;
-        self.rows.make_room()?;
+        self.graph.make_room(count)?;
+        self.rows.make_room(count)?;
         Ok(())
     }
 
@@ -62,6 +63,7 @@ impl Links {
         requires room { 0 < links_room self.old.graph self.old.rows }
         ensures linked { AreLinked (earlier.now.items ++ entry.now ∷ []) self.new.graph self.new.rows }
         ensures held { self.new.graph.held ≡ self.old.graph.held ++ true ∷ [] }
+        ensures room { links_room self.old.graph self.old.rows ≤ links_room self.new.graph self.new.rows + 1 }
     {
         arcs_of_one_more();
         let slot = self.graph.len() as u32;

@@ -1,4 +1,4 @@
-ghost use Rattle.std.specs.Prelude.{◌≡◌, ℕ, ◌<◌, ◌≤◌, [], length, IsTrue, OnOk, MatchOption};
+ghost use Rattle.std.specs.Prelude.{◌≡◌, ℕ, ◌<◌, ◌≤◌, ◌*◌, ◌^◌, [], length, IsTrue, OnOk, MatchOption};
 ghost use Rattle.oper_core.specs.State.{is_among};
 ghost use Rattle.write_graph.specs.Places.{place_in};
 ghost use Rattle.write_graph.specs.RowTables.{IsRow};
@@ -47,20 +47,22 @@ impl Rows {
         }
     }
 
-    /// Makes room for eight more objects and cells. Nothing else changes, also where it is out of memory.
-    pub(crate) fn make_room(&mut self) -> Result<(), Memory>
+    /// Makes room for so many times eight more objects and cells. Nothing else changes, also where it is out of memory.
+    pub(crate) fn make_room(&mut self, count: usize) -> Result<(), Memory>
+        requires few { count ≤ 2 ^ 28 }
         ensures last { AreSameLast self.old self.new }
         ensures waiting { AreSameWaiting self.old self.new }
         ensures cells { self.new.cells ≡ self.old.cells }
-        ensures row_room { OnOk result (8 ≤ self.new.row_room) }
-        ensures cell_room { OnOk result (8 ≤ self.new.cell_room) }
+        ensures row_room { OnOk result (8 * count ≤ self.new.row_room) }
+        ensures cell_room { OnOk result (8 * count ≤ self.new.cell_room) }
     {
-        if self.last.len() > MOST - 8 {
+        let more = 8 * count;
+        if self.last.len() > MOST - more {
             return Err(Memory);
         }
-        self.objects.reserve(8)?;
-        self.last.reserve(8)?;
-        self.waiting.make_room(8, 8)?;
+        self.objects.reserve(more)?;
+        self.last.reserve(more)?;
+        self.waiting.make_room(more, more)?;
         Ok(())
     }
 
@@ -69,9 +71,7 @@ impl Rows {
         requires { 8 ≤ self.old.cell_room }
         ensures { AreCellsAdded self.old self.new }
     {
-        for i in 0..8u32 {
-            self.waiting.add_item();
-        }
+        self.waiting.add_items(8);
     }
 
     /// The cell of the last write of the object.

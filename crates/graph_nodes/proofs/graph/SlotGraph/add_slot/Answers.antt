@@ -50,8 +50,8 @@ invariant_of-self c =
         ahead = omega (arith, some, was.ahead, c.add_number-2.ensures.room);
       },
       marked-as (nodes ++ n ∷ []) c.push_in_room.new.items.items (held ++ true ∷ []) c.push_in_room-2.new.items.items c.add_cells.new.into c.add_cells.new.into c.add.new.self c.add.new.self now c.push_in_room-2.ensures.items refl refl refl refl marks,
-      have-as c.add_cells.new.arcs.items c.add_cells.new.arcs.items (nodes ++ n ∷ []) c.push_in_room.new.items.items (held ++ true ∷ []) c.push_in_room-2.new.items.items c.self.inside.levels.level.items c.self.inside.levels.level.items c.add_items.new.lists c.add_items.new.lists
-          (have-slot c.self.inside.arcs.items c.add_cells.new.arcs.items nodes held c.self.inside.levels.level.items c.self.inside.levels.near c.add_list-3.new.self c.add_items.new.lists c.self.invariant.5 c.self.invariant.0.range.holds c.self.invariant.0.range.cells c.add_cells.ensures.added.arcs c.add_list-3.ensures c.add_items.ensures)
+      have-as c.add_cells.new.arcs.items c.add_cells.new.arcs.items (nodes ++ n ∷ []) c.push_in_room.new.items.items (held ++ true ∷ []) c.push_in_room-2.new.items.items c.self.inside.levels.level.items c.self.inside.levels.level.items c.add_items.new.self c.add_items.new.self
+          (have-slot c.self.inside.arcs.items c.add_cells.new.arcs.items nodes held c.self.inside.levels.level.items c.self.inside.levels.near c.add_list-3.new.self c.add_items.new.self c.self.invariant.5 c.self.invariant.0.range.holds c.self.invariant.0.range.cells c.add_cells.ensures.added.arcs c.add_list-3.ensures c.add_items.ensures)
           refl now c.push_in_room-2.ensures.items refl refl refl,
       record {
         level = omega (arith, size, some, c.self.invariant.6.level);

@@ -1,6 +1,12 @@
-use Rattle.std.proofs.Common.{arith}
+use Rattle.std.proofs.Common.{◌+◌, ◌<◌, ◌^◌, arith}
+use Rattle.std.proofs.Math.Facts.{Fits-of_lt}
 use Rattle.number_lists.proofs.Placed.{few-all}
 use Rattle.number_lists.proofs.number_set.NumberSet.make_room.Goals as goal
+
+pub overflow_add-end : goal.overflow_add-end
+overflow_add-end c =
+    let lt : c.self.inside.end + c.args.count < 2 ^ 64 = omega (arith, c.self.invariant.2, c.requires) in
+    Fits-of_lt lt
 
 pub overflow_sub-end : goal.overflow_sub-end
 overflow_sub-end c =

@@ -1,4 +1,4 @@
-use Rattle.std.proofs.Common.{◌≡◌, ◌∙◌, ap, sym, subst, ℕ, List, [], ◌∷◌, length, length-append, arith, inl, inr}
+use Rattle.std.proofs.Common.{◌≡◌, ◌∙◌, ap, sym, subst, ℕ, ◌+◌, ◌≤◌, List, [], ◌∷◌, length, length-append, arith, inl, inr}
 use Rattle.std.specs.Prelude.{IsTrue}
 use Rattle.oper_core.specs.State.{is_among}
 use Rattle.write_graph.specs.Rows.{its_slot}
@@ -50,3 +50,12 @@ returns-clause-linked c =
       answered = subst (λ (n : ℕ). AreAnswered e.writes e.writes n c.lead_writers.new.graph c.wait_all.new.rows c.answer_all.new.graph c.answer_all.new.rows) len (subst (λ (xs : List ℕ). AreAnswered xs xs c.len-slot.result c.lead_writers.new.graph c.wait_all.new.rows c.answer_all.new.graph c.answer_all.new.rows) c.as_slice-writes.ensures.value c.answer_all.ensures);
       arcs = λ o p. (c.arcs_of_one_more.ensures _ _ (length earlier) o p is).0;
     }
+
+pub returns-clause-room : goal.returns-clause-room
+returns-clause-room c =
+    let reads = ap length c.as_slice.ensures.value in
+    let writes = ap length c.as_slice-writes.ensures.value in
+    let slots = length-append c.args.self.now.graph.node (length c.args.self.now.graph.node ∷ []) in
+    let rows : c.args.self.now.rows.row_room ≤ c.answer_all.new.rows.row_room + 8 = omega (arith, c.add_cells.ensures.row_room, c.wait_all.ensures.row_room, c.answer_all.ensures.row_room, reads, writes, c.as_slice.ensures.few, c.as_slice-writes.ensures.few) in
+    let cells : c.args.self.now.rows.cell_room ≤ c.answer_all.new.rows.cell_room + 8 = omega (arith, c.add_cells.ensures.cell_room, c.wait_all.ensures.cell_room, c.answer_all.ensures.cell_room) in
+    omega (arith, rows, cells, c.add_slot.ensures.added.room, c.lead_writers.ensures.grown.room, c.answer_all.ensures.led.grown.room, c.lead_writers.ensures.grown.slots, c.answer_all.ensures.led.grown.slots, ap length c.add_slot.ensures.added.node, slots)
