@@ -33,7 +33,7 @@ fn a_number_is_a_member(rt: HostRuntime) -> Result<(), Fail> {
 /// Whether a number is a member once it is put in, and not before or after the set is cleared.
 fn member(alloc: Global) -> Result<bool, Memory> {
     let mut set = NumberSet::new(alloc);
-    set.make_room()?;
+    set.make_room(1)?;
     set.add_number();
     let before = set.contains(0);
     set.add(0);
@@ -52,7 +52,7 @@ fn a_number_is_next(rt: HostRuntime) -> Result<(), Fail> {
 /// The next member before a number is put in, while it is in, and once it is taken out.
 fn next(alloc: Global) -> Result<[Option<u32>; 3], Memory> {
     let mut tree = NumberTree::new(alloc);
-    tree.make_room()?;
+    tree.make_room(1)?;
     tree.add_number();
     let before = tree.next(0);
     tree.insert(0);

@@ -128,7 +128,7 @@ fn with_slots(alloc: Global, slots: u32) -> Result<SlotGraph, Memory> {
 
 /// Adds a slot.
 fn add(graph: &mut SlotGraph) -> Result<(), Memory> {
-    graph.make_room()?;
+    graph.make_room(1)?;
     if graph.len() < MOST {
         graph.add_slot();
     }

@@ -16,7 +16,7 @@ pub fn empty_objects(alloc: Global, slots: &Slots) -> Result<NumberTree, Memory>
 {
     let mut empties = NumberTree::new(alloc);
     for object in 0..slots.params().objects {
-        empties.make_room()?;
+        empties.make_room(1)?;
         empties.add_number();
         empties.set(object, slots.length(object) == 0);
     }
