@@ -42,11 +42,11 @@ pub record AreLinked (entries : List Entry) (graph : Graph) (rows : Rows) : Type
 
 -- there is memory for so many more entries: for their links, in the table of entries, in that of first writers, of which each has four at most,
 -- and for all slots of a node
-pub record HasRoom (room slots links entries firsts members : ℕ) : Type 0 where
-  pub links : room ≤ links
-  pub entries : room ≤ entries
-  pub firsts : 4 * room ≤ firsts
-  pub members : slots + room ≤ members
+pub record HasRoom (room slots link_room entry_room first_room member_cap : ℕ) : Type 0 where
+  pub links : room ≤ link_room
+  pub entries : room ≤ entry_room
+  pub firsts : 4 * room ≤ first_room
+  pub members : slots + room ≤ member_cap
 
 -- for so many entries there is memory
 abbrev pub links_room : Graph → Rows → ℕ

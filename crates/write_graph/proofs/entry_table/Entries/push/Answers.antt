@@ -1,4 +1,4 @@
-use Rattle.std.proofs.Common.{◌≡◌, ◌∙◌, ap, sym, subst, ℕ, List, [], ◌∷◌, ◌++◌, ◌<◌, ◌^◌, length, length-append, arith}
+use Rattle.std.proofs.Common.{◌≡◌, ◌∙◌, ap, sym, subst, ℕ, List, [], ◌∷◌, ◌++◌, ◌<◌, ◌≤◌, ◌^◌, length, length-append, arith}
 use Rattle.std.proofs.lemmas.List.{length_push}
 use Rattle.std.proofs.Math.Facts.{Fits-of_lt}
 use Rattle.write_graph.specs.declared.head.Head.{Head}
@@ -40,6 +40,20 @@ returns-clause-room c =
     let reads = c.as_slice-reads.result.now in
     let writes = c.as_slice-writes.result.now in
     let os : c.push_all-2.new.numbers.items ≡ (objects ++ reads) ++ writes = c.push_all-2.ensures.items ∙ ap (λ (xs : List ℕ). xs ++ writes) c.push_all.ensures.items in
-    let few = (ap length c.as_slice-reads.ensures.value, c.as_slice-reads.ensures.few, ap length c.as_slice-writes.ensures.value, c.as_slice-writes.ensures.few) in
-    omega (arith, ap (λ (v : Entries). v.room) c.self.view_is, c.push_in_room.ensures.capacity, ap length c.push_in_room.ensures.items, length_push c.self.inside.lsns.items c.args.entry.now.lsn, c.push.ensures.room,
-    c.push_all.ensures.capacity, c.push_all-2.ensures.capacity, ap length os, length-append (objects ++ reads) writes, length-append objects reads, few.0, few.1, few.2, few.3)
+    let few_reads : length reads ≤ 4 = omega (arith, ap length c.as_slice-reads.ensures.value, c.as_slice-reads.ensures.few) in
+    let few_writes : length writes ≤ 4 = omega (arith, ap length c.as_slice-writes.ensures.value, c.as_slice-writes.ensures.few) in
+    omega (
+      arith,
+      ap (λ (v : Entries). v.room) c.self.view_is,
+      c.push_in_room.ensures.capacity,
+      ap length c.push_in_room.ensures.items,
+      length_push c.self.inside.lsns.items c.args.entry.now.lsn,
+      c.push.ensures.room,
+      c.push_all.ensures.capacity,
+      c.push_all-2.ensures.capacity,
+      ap length os,
+      length-append (objects ++ reads) writes,
+      length-append objects reads,
+      few_reads,
+      few_writes,
+    )

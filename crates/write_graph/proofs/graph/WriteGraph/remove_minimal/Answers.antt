@@ -86,13 +86,18 @@ invariant_of-self c =
     let among : IsTrue (is_among i c.as_slice.result.now) = subst (λ (ys : List ℕ). IsTrue (is_among i ys)) (sym c.as_slice.ensures.value) ((c.members.ensures.members i).1 e) in
     subst (λ (k : ℕ). IsOutside g.links.graph k (get nat_eq c.pass_over.new.firsts x)) node (c.pass_over.ensures.outside x (i, among, there)) in
     let firsts = firsts-left g.entries.items g.links.graph c.remove.new.self.graph m c.remove.ensures.removed (get nat_eq c.pass_over.new.firsts) passed outside in
-    let count = left-count g.entries.items g.links.graph c.remove.new.self.graph c.slot_of-slot.result xs c.remove.ensures.removed c.members.ensures.distinct c.members.ensures.members found.held in
-    (climbing-left g.links.graph c.remove.new.self.graph (node_at g.links.graph.node c.slot_of-slot.result) (lsns g.entries.items) c.remove.ensures.removed c.self.invariant.0, c.remove.ensures.linked, omega (arith, count, c.len.ensures, c.self.invariant.2), record {
-      links = omega (arith, c.self.invariant.3.links, c.remove.ensures.room);
-      entries = c.self.invariant.3.entries;
-      firsts = omega (arith, c.self.invariant.3.firsts, c.pass_over.ensures.room);
-      members = omega (arith, c.self.invariant.3.members, c.members.ensures.capacity);
-    }, firsts)
+    let count = left-count g.entries.items g.links.graph c.remove.new.self.graph c.slot_of-slot.result xs c.remove.ensures.removed c.members.ensures.distinct c.members.ensures.members found.held in (
+      climbing-left g.links.graph c.remove.new.self.graph (node_at g.links.graph.node c.slot_of-slot.result) (lsns g.entries.items) c.remove.ensures.removed c.self.invariant.0,
+      c.remove.ensures.linked,
+      omega (arith, count, c.len.ensures, c.self.invariant.2),
+      record {
+        links = omega (arith, c.self.invariant.3.links, c.remove.ensures.room);
+        entries = c.self.invariant.3.entries;
+        firsts = omega (arith, c.self.invariant.3.firsts, c.pass_over.ensures.room);
+        members = omega (arith, c.self.invariant.3.members, c.members.ensures.capacity);
+      },
+      firsts,
+    )
 
 pub returns-clause-entries : goal.returns-clause-entries
 returns-clause-entries c node named =
