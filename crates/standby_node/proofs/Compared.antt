@@ -6,17 +6,15 @@ use Rattle.std.proofs.Math.Seq.{drop-append_seam, take-append_seam, take-length}
 use Rattle.std.proofs.lemmas.Bool.{cond_both}
 use Rattle.std.proofs.lemmas.List.{append-nil, append_cancel_left, drop-drop}
 use Rattle.oper_core.specs.Meaning.{Meaning}
-use Rattle.formats.specs.Log.{IsPayload}
-use Rattle.formats.specs.Records.{payload_of, record_code, records_of}
+use Rattle.formats.specs.Records.{payload_of, record_code}
 use Rattle.formats.specs.declared.record.Record.{Record}
-use Rattle.frame_stream.specs.Frames.{frame, frames}
 use Rattle.log_records.specs.Codec.{StartsWithRecord}
 use Rattle.log_records.specs.RecordLaws.{payload_push}
 use Rattle.execution.specs.Following.{HasLsn}
 use Rattle.standby_node.specs.Feeding.{BeginsNoRecord}
 use Rattle.standby_node.specs.Same.{AreSame, IsCompared, IsPayloadCompared, IsSame, IsUnlike, IsUnlikeWithin, Unlike, lsn_in, with_all, with_code}
 use Rattle.standby_node.specs.Same.Unlike.{other, gone}
-use Rattle.standby_node.specs.Standby.{IsFrameOf, MayBeShipped}
+use Rattle.standby_node.specs.Standby.{MayBeShipped}
 use Rattle.standby_node.specs.declared.compare_err.CompareErr.{CompareErr}
 use Rattle.standby_node.specs.declared.compare_err.CompareErr.TheVariants.{Differs, Unknown, Memory}
 use Rattle.standby_node.proofs.AllOf.{all_append}

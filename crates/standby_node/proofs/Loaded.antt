@@ -17,7 +17,6 @@ use Rattle.formats.specs.declared.params.Params.{Params}
 use Rattle.formats.specs.declared.record.Record.{Record}
 use Rattle.formats.specs.declared.record.Record.TheVariants.{Command as Logged_command, Identity as Logged_identity, Checkpoint as Logged_checkpoint}
 use Rattle.frame_stream.specs.Frames.{Splits, frame, frames}
-use Rattle.frame_stream.specs.FrameBuffer.{HasPassed}
 use Rattle.frame_stream.specs.Laws.{frame_cancel}
 use Rattle.log_records.specs.BlockReader.{blocks_from, payloads_from}
 use Rattle.log_records.specs.Codec.{StartsWithRecord}
@@ -29,7 +28,6 @@ use Rattle.running_store.specs.Laid.{IsLaidOn}
 use Rattle.store_engine.specs.Engine.{EngineView, IsAttached, IsEngineRead, ShowsIn}
 use Rattle.store_engine.specs.Shipping.{AreFramesFrom, base_of}
 use Rattle.store_engine.specs.Store.{meaning_in}
-use Rattle.standby_node.specs.OnePrimary.{stable_in}
 use Rattle.standby_node.specs.Same.{AreAllSame, AreCodesIn, AreSame, BeginsNoFrame, HasCompared, IsSame, IsUnlikeIn, IsUnlikeWithin, MirrorView, Unlike, ends_at, lsn_in, with_all, with_code}
 use Rattle.standby_node.specs.Standby.{AreFramesOf, IsFrameOf, MayBeShipped}
 use Rattle.standby_node.proofs.AllOf.{all_append}

@@ -115,10 +115,11 @@ impl<O: Oper> Engine<O> {
         Ok(cache_manager::drain(&mut self.store, machine, copied)?)
     }
 
-    /// One turn of upkeep: where the minimal node of the least name has one object to flush, that and others like it are
-    /// installed together, so many at most (of 0 it is one) and with four syncs at most for all of them; else it is installed
-    /// as by [`install_one`](Self::install_one), and then, for which nothing is synced, those that have no object to flush while
-    /// the minimal node of the least name is such a one, so many together at most. It answers how many nodes were installed: none
+    /// One turn of upkeep: where the minimal node of the least name may not be finished yet, the identity writes of it and of others
+    /// like it, so many at most (of 0 it is one), are logged together. Where that node has one object to flush then, it and others
+    /// like it are installed together, so many at most and with four syncs at most for all of them; else it is installed as by
+    /// [`install_one`](Self::install_one), and then, for which nothing is synced, those that have no object to flush while the
+    /// minimal node of the least name is such a one, so many together at most. It answers how many nodes were installed: none
     /// exactly where none was left, and then nothing was done. In a group it answers `InGroup`.
     pub fn tend<M: Machine>(&mut self, machine: &mut M, most: usize) -> Result<u64, WorkErr>
         requires unbroken { self.old.broken ≡ false }
