@@ -22,3 +22,4 @@ pub mod NameTables
 pub mod Least
 pub mod Pruned
 pub mod Levelled
+pub mod Paged

@@ -42,9 +42,9 @@ pub record IsMarked (node : List ℕ) (held : List Bool) (into : Lists) (n : Nam
   pub names : (k : ℕ) → IsTrue (mark_at n.names k) ↔ (IsTrue (held_at held k) × (name_at n.name (node_at node k) ≡ k))
   pub told : (k : ℕ) → IsTrue (mark_at n.minimal k) ↔ (IsTrue (mark_at n.names k) × (list_at into.lists (node_at node k) ≡ []))
 
--- with so many slots, there is memory for so many more: these are the capacities
-pub record HasRoom (room slots arc_cap node_cap held_cap scratch_cap : ℕ) (name_room : Naming) (member_room into_room : Lists) (found_room ahead_room : Members) : Type 0 where
-  pub arcs : 8 * (slots + room) ≤ arc_cap
+-- with so many slots, there is memory for so many more: these are the capacities, and the room of what tells its own
+pub record HasRoom (room slots arc_room node_cap held_cap scratch_cap : ℕ) (name_room : Naming) (member_room into_room : Lists) (found_room ahead_room : Members) : Type 0 where
+  pub arcs : room ≤ arc_room
   pub node : slots + room ≤ node_cap
   pub held : slots + room ≤ held_cap
   pub name : room ≤ name_room.room

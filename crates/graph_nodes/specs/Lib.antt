@@ -8,3 +8,4 @@ pub mod Ahead
 pub mod Named
 pub mod Removed
 pub mod Kept
+pub mod ArcPages

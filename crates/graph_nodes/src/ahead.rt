@@ -2,7 +2,7 @@ ghost use Rattle.std.specs.Prelude.{◌≡◌, ℕ, ◌<◌, ◌≤◌, ◌+◌,
 ghost use Rattle.std.specs.Vec.{vec_capacity};
 ghost use Rattle.oper_core.specs.State.{is_among};
 ghost use Rattle.graph_nodes.specs.Arcs.{AreEnds};
-ghost use Rattle.graph_nodes.specs.Ahead.{AreAhead, AreFollowed, IsGoingOn};
+ghost use Rattle.graph_nodes.specs.Ahead.{AreAhead, AreFollowed};
 ghost use Rattle.graph_nodes.specs.Levels.{level_at};
 ghost use Rattle.graph_nodes.specs.Kept.{IsWide};
 ghost use Rattle.graph_nodes.specs.Merge.{IsFiled};
@@ -23,11 +23,11 @@ pub(crate) fn find_low(
     requires start { w < ahead.old.end }
     requires low { level_at level.now w < l }
     requires filed { IsFiled nodes.now.node.now nodes.now.members.now }
-    requires size { length nodes.now.arcs.now ≡ 8 * length nodes.now.node.now }
-    requires ends { AreEnds nodes.now.arcs.now nodes.now.node.now ahead.old.end }
+    requires size { length nodes.now.arcs.now.cells ≡ 8 * length nodes.now.node.now }
+    requires ends { AreEnds nodes.now.arcs.now.cells nodes.now.node.now ahead.old.end }
     requires lists { ahead.old.end ≤ length nodes.now.members.now.lists }
     requires room { nodes.now.members.now.items ≤ vec_capacity slots.old }
-    ensures found { AreAhead nodes.now.arcs.now nodes.now.node.now level.now l w ahead.new.members }
+    ensures found { AreAhead nodes.now.arcs.now.cells nodes.now.node.now level.now l w ahead.new.members }
     ensures wide { IsWide ahead.old ahead.new }
     ensures capacity { vec_capacity slots.old ≤ vec_capacity slots.new }
 {
@@ -48,9 +48,9 @@ pub(crate) fn find_low(
 /// Finds the nodes below the level to which arcs from the slots lead.
 fn follow_slots(slots: &[u32], l: u32, nodes: &Nodes, level: &[u32], ahead: &mut NumberSet)
     requires slots { (i : ℕ) → IsTrue (is_among i slots.now) → i < length nodes.now.node.now }
-    requires size { length nodes.now.arcs.now ≡ 8 * length nodes.now.node.now }
-    requires ends { AreEnds nodes.now.arcs.now nodes.now.node.now ahead.old.end }
-    ensures { AreFollowed (λ c. IsTrue (is_among (c / 8) slots.now)) nodes.now.arcs.now nodes.now.node.now level.now l ahead.old ahead.new }
+    requires size { length nodes.now.arcs.now.cells ≡ 8 * length nodes.now.node.now }
+    requires ends { AreEnds nodes.now.arcs.now.cells nodes.now.node.now ahead.old.end }
+    ensures { AreFollowed (λ c. IsTrue (is_among (c / 8) slots.now)) nodes.now.arcs.now.cells nodes.now.node.now level.now l ahead.old ahead.new }
 {
     for s in slots {
         follow_slot(*s, l, nodes, level, ahead);
@@ -59,9 +59,9 @@ fn follow_slots(slots: &[u32], l: u32, nodes: &Nodes, level: &[u32], ahead: &mut
 
 /// Finds the nodes below the level to which arcs from the slot lead.
 fn follow_slot(slot: u32, l: u32, nodes: &Nodes, level: &[u32], ahead: &mut NumberSet)
-    requires cells { 8 * slot + 8 ≤ length nodes.now.arcs.now }
-    requires ends { AreEnds nodes.now.arcs.now nodes.now.node.now ahead.old.end }
-    ensures { AreFollowed (λ c. c / 8 ≡ slot) nodes.now.arcs.now nodes.now.node.now level.now l ahead.old ahead.new }
+    requires cells { 8 * slot + 8 ≤ length nodes.now.arcs.now.cells }
+    requires ends { AreEnds nodes.now.arcs.now.cells nodes.now.node.now ahead.old.end }
+    ensures { AreFollowed (λ c. c / 8 ≡ slot) nodes.now.arcs.now.cells nodes.now.node.now level.now l ahead.old ahead.new }
 {
     for i in 0..8usize {
         follow_arc(8 * slot as usize + i, l, nodes, level, ahead);
@@ -70,13 +70,13 @@ fn follow_slot(slot: u32, l: u32, nodes: &Nodes, level: &[u32], ahead: &mut Numb
 
 /// Finds the node to which the cell's arc leads, where it has one and the node is below the level.
 fn follow_arc(cell: usize, l: u32, nodes: &Nodes, level: &[u32], ahead: &mut NumberSet)
-    requires cell { cell < length nodes.now.arcs.now }
-    requires ends { AreEnds nodes.now.arcs.now nodes.now.node.now ahead.old.end }
-    ensures { AreFollowed (λ c. c ≡ cell) nodes.now.arcs.now nodes.now.node.now level.now l ahead.old ahead.new }
+    requires cell { cell < length nodes.now.arcs.now.cells }
+    requires ends { AreEnds nodes.now.arcs.now.cells nodes.now.node.now ahead.old.end }
+    ensures { AreFollowed (λ c. c ≡ cell) nodes.now.arcs.now.cells nodes.now.node.now level.now l ahead.old ahead.new }
 {
     let arcs = nodes.arcs;
     let node = nodes.node;
-    let Some(to) = arcs[cell].get() else {
+    let Some(to) = arcs.get(cell) else {
         return;
     };
     let n = node[to as usize];

@@ -4,6 +4,7 @@ ghost use Rattle.graph_nodes.specs.Into.{AreCleared};
 ghost use Rattle.graph_nodes.specs.Named.{AreNamesSame};
 ghost use Rattle.graph_nodes.specs.Removed.{IsInOrder};
 
+use crate::arcs::Arcs;
 use crate::names::Names;
 use crate::settling::settle;
 use number_lists::{PackedOption, SparseChains};
@@ -11,15 +12,16 @@ use number_lists::{PackedOption, SparseChains};
 /// Takes away the arcs of the slots' cells.
 pub(crate) fn clear_slots(
     slots: &[u32],
-    arcs: &mut [PackedOption],
+    arcs: &mut Arcs,
     node: &[u32],
     into: &mut SparseChains,
     names: &mut Names,
 )
     requires slots { (i : ℕ) → IsTrue (is_among i slots.now) → i < length node.now }
-    requires order { IsInOrder arcs.old node.now into.old names.old }
-    ensures cleared { AreCleared (λ c. IsTrue (is_among (c / 8) slots.now)) arcs.old arcs.new into.old into.new }
-    ensures order { IsInOrder arcs.new node.now into.new names.new }
+    requires order { IsInOrder arcs.old.cells node.now into.old names.old }
+    ensures cleared { AreCleared (λ c. IsTrue (is_among (c / 8) slots.now)) arcs.old.cells arcs.new.cells into.old into.new }
+    ensures order { IsInOrder arcs.new.cells node.now into.new names.new }
+    ensures room { arcs.new.room ≡ arcs.old.room }
     ensures same { AreNamesSame names.old names.new }
 {
     for s in slots {
@@ -28,17 +30,12 @@ pub(crate) fn clear_slots(
 }
 
 /// Takes away the arcs of the slot's eight cells.
-fn clear_slot(
-    slot: u32,
-    arcs: &mut [PackedOption],
-    node: &[u32],
-    into: &mut SparseChains,
-    names: &mut Names,
-)
+fn clear_slot(slot: u32, arcs: &mut Arcs, node: &[u32], into: &mut SparseChains, names: &mut Names)
     requires slot { slot < length node.now }
-    requires order { IsInOrder arcs.old node.now into.old names.old }
-    ensures cleared { AreCleared (λ c. c / 8 ≡ slot) arcs.old arcs.new into.old into.new }
-    ensures order { IsInOrder arcs.new node.now into.new names.new }
+    requires order { IsInOrder arcs.old.cells node.now into.old names.old }
+    ensures cleared { AreCleared (λ c. c / 8 ≡ slot) arcs.old.cells arcs.new.cells into.old into.new }
+    ensures order { IsInOrder arcs.new.cells node.now into.new names.new }
+    ensures room { arcs.new.room ≡ arcs.old.room }
     ensures same { AreNamesSame names.old names.new }
 {
     for i in 0..8usize {
@@ -47,23 +44,18 @@ fn clear_slot(
 }
 
 /// Takes away the arc of the cell, if it has one.
-fn clear_arc(
-    cell: usize,
-    arcs: &mut [PackedOption],
-    node: &[u32],
-    into: &mut SparseChains,
-    names: &mut Names,
-)
-    requires cell { cell < length arcs.old }
-    requires order { IsInOrder arcs.old node.now into.old names.old }
-    ensures cleared { AreCleared (λ c. c ≡ cell) arcs.old arcs.new into.old into.new }
-    ensures order { IsInOrder arcs.new node.now into.new names.new }
+fn clear_arc(cell: usize, arcs: &mut Arcs, node: &[u32], into: &mut SparseChains, names: &mut Names)
+    requires cell { cell < length arcs.old.cells }
+    requires order { IsInOrder arcs.old.cells node.now into.old names.old }
+    ensures cleared { AreCleared (λ c. c ≡ cell) arcs.old.cells arcs.new.cells into.old into.new }
+    ensures order { IsInOrder arcs.new.cells node.now into.new names.new }
+    ensures room { arcs.new.room ≡ arcs.old.room }
     ensures same { AreNamesSame names.old names.new }
 {
-    let Some(to) = arcs[cell].get() else {
+    let Some(to) = arcs.get(cell) else {
         return;
     };
-    arcs[cell] = PackedOption::none();
+    arcs.set(cell, PackedOption::none());
     let end = node[to as usize];
     settle(end, arcs, node, into);
     names.tell(end, into.count(end) == 0);

@@ -1,6 +1,6 @@
 ghost use Rattle.std.specs.Prelude.{◌≡◌, ℕ, ◌<◌, ◌≤◌, ◌+◌, ◌*◌, ◌/◌, ◌^◌, [], None, Some, ◌↔◌, IsTrue, IfSome, IfNone, length, nat_eq, slice_set, OnOk};
 ghost use Rattle.std.specs.List.{IsDistinct};
-ghost use Rattle.std.specs.Vec.{vec_len, vec_capacity};
+ghost use Rattle.std.specs.Vec.{vec_capacity};
 ghost use Rattle.oper_core.specs.State.{is_among};
 ghost use Rattle.install_order.specs.Digraph.{AreNodes};
 ghost use Rattle.graph_nodes.specs.Arcs.{IsArc, arc_at, node_at, held_at};
@@ -9,6 +9,7 @@ ghost use Rattle.number_lists.specs.Marks.{IsCount};
 ghost use Rattle.graph_nodes.specs.Removed.{IsRemoved};
 ghost use Rattle.graph_nodes.specs.Kept.{IsSlotAdded, AreCellsAdded};
 
+use crate::arcs::Arcs;
 use crate::clearing::clear_slots;
 use crate::levels::Levels;
 use crate::linking::link_cell;
@@ -28,7 +29,7 @@ use std::marker::Model;
 #[derive(Drop)]
 pub struct SlotGraph {
     /// Where the arc of each cell leads; a slot has eight cells.
-    arcs: Vec<PackedOption>,
+    arcs: Arcs,
     /// The slot that stands for the node of each slot.
     node: Vec<u32>,
     /// Whether each slot is held, that is, not removed.
@@ -54,11 +55,11 @@ impl Model for SlotGraph {
 
     ghost Value = { Graph };
 
-    ghost view = { λ g. record { arcs = g.arcs.items; node = g.node.items; held = g.held.items; room = g.room } };
+    ghost view = { λ g. record { arcs = g.arcs.cells; node = g.node.items; held = g.held.items; room = g.room } };
 
-    ghost invariant = { λ g. IsKept g.arcs.items g.node.items g.held.items g.names.name g.members g.into × (g.searches.found.end ≡ length g.node.items) × (g.searches.ahead.end ≡ length g.node.items) ×
-        HasRoom g.room (length g.node.items) (vec_capacity g.arcs) (vec_capacity g.node) (vec_capacity g.held) (vec_capacity g.searches.cells) g.names g.members g.into g.searches.found g.searches.ahead × IsMarked g.node.items g.held.items g.into g.names ×
-        HaveLevels g.arcs.items g.node.items g.held.items g.levels.level.items g.levels.near × HasLevelRoom g.room (length g.node.items) (vec_capacity g.levels.level) g.levels.near };
+    ghost invariant = { λ g. IsKept g.arcs.cells g.node.items g.held.items g.names.name g.members g.into × (g.searches.found.end ≡ length g.node.items) × (g.searches.ahead.end ≡ length g.node.items) ×
+        HasRoom g.room (length g.node.items) g.arcs.room (vec_capacity g.node) (vec_capacity g.held) (vec_capacity g.searches.cells) g.names g.members g.into g.searches.found g.searches.ahead × IsMarked g.node.items g.held.items g.into g.names ×
+        HaveLevels g.arcs.cells g.node.items g.held.items g.levels.level.items g.levels.near × HasLevelRoom g.room (length g.node.items) (vec_capacity g.levels.level) g.levels.near };
 }
 
 impl SlotGraph {
@@ -69,7 +70,7 @@ impl SlotGraph {
         ensures held { result.held ≡ [] }
     {
         SlotGraph {
-            arcs: Vec::new(alloc),
+            arcs: Arcs::new(alloc),
             node: Vec::new(alloc),
             held: Vec::new(alloc),
             names: Names::new(alloc),
@@ -97,7 +98,7 @@ impl SlotGraph {
         requires { cell < length self.now.arcs }
         ensures { result ≡ arc_at self.now.arcs cell }
     {
-        self.arcs[cell as usize].get()
+        self.arcs.get(cell as usize)
     }
 
     /// Whether the slot is held: it is until it is removed.
@@ -127,7 +128,7 @@ impl SlotGraph {
         ensures held { self.new.held ≡ self.old.held }
         ensures room { OnOk result (count ≤ self.new.room) }
     {
-        self.arcs.reserve(8 * count)?;
+        self.arcs.make_room(count)?;
         self.node.reserve(count)?;
         self.held.reserve(count)?;
         self.names.make_room(count)?;
@@ -178,7 +179,7 @@ impl SlotGraph {
             self.node[cell as usize / 8],
             self.node[to as usize],
             &Nodes {
-                arcs: self.arcs.as_slice(),
+                arcs: &self.arcs,
                 node: self.node.as_slice(),
                 members: &self.members,
             },
@@ -194,12 +195,12 @@ impl SlotGraph {
             &mut self.into,
             &mut self.searches.cells,
         );
-        self.arcs[cell as usize] = PackedOption::some(to);
+        self.arcs.set(cell as usize, PackedOption::some(to));
         let n = self.node[to as usize];
         self.into.push(n, cell);
         tidy(
             n,
-            self.arcs.as_slice(),
+            &self.arcs,
             self.node.as_slice(),
             &mut self.into,
             &mut self.searches.cells,
@@ -210,7 +211,7 @@ impl SlotGraph {
         link_cell(
             cell,
             &Nodes {
-                arcs: self.arcs.as_slice(),
+                arcs: &self.arcs,
                 node: self.node.as_slice(),
                 members: &self.members,
             },
@@ -231,7 +232,7 @@ impl SlotGraph {
         release(self.searches.cells.as_slice(), self.held.as_mut_slice());
         clear_slots(
             self.searches.cells.as_slice(),
-            self.arcs.as_mut_slice(),
+            &mut self.arcs,
             self.node.as_slice(),
             &mut self.into,
             &mut self.names,
@@ -281,14 +282,12 @@ impl SlotGraph {
 }
 
 /// Adds eight cells without arcs.
-fn add_cells(arcs: &mut Vec<PackedOption>, into: &mut SparseChains)
-    requires arcs { vec_len arcs.old + 8 ≤ vec_capacity arcs.old }
+fn add_cells(arcs: &mut Arcs, into: &mut SparseChains)
+    requires arcs { 0 < arcs.old.room }
     requires into { 8 ≤ into.old.item_room }
-    ensures added { AreCellsAdded 8 arcs.old.items arcs.new.items into.old into.new }
-    ensures capacity { vec_capacity arcs.old ≤ vec_capacity arcs.new }
+    ensures added { AreCellsAdded 8 arcs.old.cells arcs.new.cells into.old into.new }
+    ensures room { arcs.old.room ≡ arcs.new.room + 1 }
 {
-    for i in 0..8u32 {
-        push_in_room(arcs, PackedOption::none());
-    }
+    arcs.add_slot();
     into.add_items(8);
 }

@@ -6,6 +6,7 @@
 
 mod ahead;
 mod apart;
+mod arcs;
 mod clearing;
 mod front;
 mod graph;

@@ -18,11 +18,11 @@ pub(crate) fn link_all(
     near: &mut SparseChains,
     slots: &mut Vec<u32>,
 )
-    requires ready { IsLinkable nodes.now.arcs.now nodes.now.node.now nodes.now.members.now near.old }
+    requires ready { IsLinkable nodes.now.arcs.now.cells nodes.now.node.now nodes.now.members.now near.old }
     requires room { nodes.now.members.now.items ≤ vec_capacity slots.old }
     requires ahead { ahead.now.end ≤ length nodes.now.node.now }
-    requires free { (c j : ℕ) → IsTrue (is_among (node_at nodes.now.node.now (c / 8)) ahead.now.members) → arc_at nodes.now.arcs.now c ≡ Some j → IsFree near.old.lists c }
-    ensures linked { AreLinked (λ c. IsTrue (is_among (node_at nodes.now.node.now (c / 8)) ahead.now.members)) nodes.now.arcs.now nodes.now.node.now level.now near.old near.new }
+    requires free { (c j : ℕ) → IsTrue (is_among (node_at nodes.now.node.now (c / 8)) ahead.now.members) → arc_at nodes.now.arcs.now.cells c ≡ Some j → IsFree near.old.lists c }
+    ensures linked { AreLinked (λ c. IsTrue (is_among (node_at nodes.now.node.now (c / 8)) ahead.now.members)) nodes.now.arcs.now.cells nodes.now.node.now level.now near.old near.new }
     ensures capacity { vec_capacity slots.old ≤ vec_capacity slots.new }
 {
     for i in 0..ahead.len() {
@@ -33,10 +33,10 @@ pub(crate) fn link_all(
 /// Puts the cells of the node that have arcs to other nodes of its level into the lists of these.
 fn link_node(n: u32, nodes: &Nodes, level: &[u32], near: &mut SparseChains, slots: &mut Vec<u32>)
     requires n { n < length nodes.now.node.now }
-    requires ready { IsLinkable nodes.now.arcs.now nodes.now.node.now nodes.now.members.now near.old }
+    requires ready { IsLinkable nodes.now.arcs.now.cells nodes.now.node.now nodes.now.members.now near.old }
     requires room { nodes.now.members.now.items ≤ vec_capacity slots.old }
-    requires free { (c j : ℕ) → node_at nodes.now.node.now (c / 8) ≡ n → arc_at nodes.now.arcs.now c ≡ Some j → IsFree near.old.lists c }
-    ensures linked { AreLinked (λ c. node_at nodes.now.node.now (c / 8) ≡ n) nodes.now.arcs.now nodes.now.node.now level.now near.old near.new }
+    requires free { (c j : ℕ) → node_at nodes.now.node.now (c / 8) ≡ n → arc_at nodes.now.arcs.now.cells c ≡ Some j → IsFree near.old.lists c }
+    ensures linked { AreLinked (λ c. node_at nodes.now.node.now (c / 8) ≡ n) nodes.now.arcs.now.cells nodes.now.node.now level.now near.old near.new }
     ensures capacity { vec_capacity slots.old ≤ vec_capacity slots.new }
 {
     nodes.members.copy_to(n, slots);
@@ -47,9 +47,9 @@ fn link_node(n: u32, nodes: &Nodes, level: &[u32], near: &mut SparseChains, slot
 fn link_slots(slots: &[u32], nodes: &Nodes, level: &[u32], near: &mut SparseChains)
     requires slots { (i : ℕ) → IsTrue (is_among i slots.now) → i < length nodes.now.node.now }
     requires distinct { IsDistinct nat_eq slots.now }
-    requires ready { IsLinkable nodes.now.arcs.now nodes.now.node.now nodes.now.members.now near.old }
-    requires free { (c j : ℕ) → IsTrue (is_among (c / 8) slots.now) → arc_at nodes.now.arcs.now c ≡ Some j → IsFree near.old.lists c }
-    ensures { AreLinked (λ c. IsTrue (is_among (c / 8) slots.now)) nodes.now.arcs.now nodes.now.node.now level.now near.old near.new }
+    requires ready { IsLinkable nodes.now.arcs.now.cells nodes.now.node.now nodes.now.members.now near.old }
+    requires free { (c j : ℕ) → IsTrue (is_among (c / 8) slots.now) → arc_at nodes.now.arcs.now.cells c ≡ Some j → IsFree near.old.lists c }
+    ensures { AreLinked (λ c. IsTrue (is_among (c / 8) slots.now)) nodes.now.arcs.now.cells nodes.now.node.now level.now near.old near.new }
 {
     for s in slots {
         link_slot(*s, nodes, level, near);
@@ -59,9 +59,9 @@ fn link_slots(slots: &[u32], nodes: &Nodes, level: &[u32], near: &mut SparseChai
 /// Puts the cells of the slot that have arcs to other nodes of one level into the lists of these.
 fn link_slot(slot: u32, nodes: &Nodes, level: &[u32], near: &mut SparseChains)
     requires slot { slot < length nodes.now.node.now }
-    requires ready { IsLinkable nodes.now.arcs.now nodes.now.node.now nodes.now.members.now near.old }
-    requires free { (c j : ℕ) → c / 8 ≡ slot → arc_at nodes.now.arcs.now c ≡ Some j → IsFree near.old.lists c }
-    ensures { AreLinked (λ c. c / 8 ≡ slot) nodes.now.arcs.now nodes.now.node.now level.now near.old near.new }
+    requires ready { IsLinkable nodes.now.arcs.now.cells nodes.now.node.now nodes.now.members.now near.old }
+    requires free { (c j : ℕ) → c / 8 ≡ slot → arc_at nodes.now.arcs.now.cells c ≡ Some j → IsFree near.old.lists c }
+    ensures { AreLinked (λ c. c / 8 ≡ slot) nodes.now.arcs.now.cells nodes.now.node.now level.now near.old near.new }
 {
     for i in 0..8u32 {
         link_cell(8 * slot + i, nodes, level, near);
@@ -70,14 +70,14 @@ fn link_slot(slot: u32, nodes: &Nodes, level: &[u32], near: &mut SparseChains)
 
 /// Puts the cell into the list of the node to which its arc leads, if that is another one and both are of one level.
 pub(crate) fn link_cell(cell: u32, nodes: &Nodes, level: &[u32], near: &mut SparseChains)
-    requires cell { cell < length nodes.now.arcs.now }
-    requires ready { IsLinkable nodes.now.arcs.now nodes.now.node.now nodes.now.members.now near.old }
-    requires free { (j : ℕ) → arc_at nodes.now.arcs.now cell ≡ Some j → IsFree near.old.lists cell }
-    ensures { AreLinked (λ c. c ≡ cell) nodes.now.arcs.now nodes.now.node.now level.now near.old near.new }
+    requires cell { cell < length nodes.now.arcs.now.cells }
+    requires ready { IsLinkable nodes.now.arcs.now.cells nodes.now.node.now nodes.now.members.now near.old }
+    requires free { (j : ℕ) → arc_at nodes.now.arcs.now.cells cell ≡ Some j → IsFree near.old.lists cell }
+    ensures { AreLinked (λ c. c ≡ cell) nodes.now.arcs.now.cells nodes.now.node.now level.now near.old near.new }
 {
     let arcs = nodes.arcs;
     let node = nodes.node;
-    let Some(to) = arcs[cell as usize].get() else {
+    let Some(to) = arcs.get(cell as usize) else {
         return;
     };
     let n = node[to as usize];

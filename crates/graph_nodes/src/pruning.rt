@@ -8,9 +8,10 @@ ghost use Rattle.graph_nodes.specs.Into.{IsSettled, IsPutBack, ArePutBack};
 ghost use Rattle.graph_nodes.specs.Kept.{IsSearchable};
 ghost use Rattle.graph_nodes.specs.Levels.{ArePruned};
 
+use crate::arcs::Arcs;
 use crate::nodes::Nodes;
 use crate::settling::{is_from_outside, settle};
-use number_lists::{NumberSet, PackedOption, SparseChains};
+use number_lists::{NumberSet, SparseChains};
 
 /// How many arcs have to be inserted for each cell that is looked at: a look is dear where there are many slots, since it
 /// waits for memory.
@@ -23,17 +24,17 @@ const SHORT: usize = 8;
 /// saved up, else those in front. So the lists stay short, at a cost of a look for every few calls.
 pub(crate) fn tidy(
     n: u32,
-    arcs: &[PackedOption],
+    arcs: &Arcs,
     node: &[u32],
     into: &mut SparseChains,
     cells: &mut Vec<u32>,
     saved: &mut u64,
 )
     requires list { n < length into.old.lists }
-    requires cells { AreCells arcs.now node.now (list_at into.old.lists n) }
-    requires items { length arcs.now ≤ into.old.items }
+    requires cells { AreCells arcs.now.cells node.now (list_at into.old.lists n) }
+    requires items { length arcs.now.cells ≤ into.old.items }
     requires room { into.old.items ≤ vec_capacity cells.old }
-    ensures settled { IsSettled arcs.now node.now n into.old into.new }
+    ensures settled { IsSettled arcs.now.cells node.now n into.old into.new }
     ensures capacity { vec_capacity cells.old ≤ vec_capacity cells.new }
 {
     *saved = saved.saturating_add(1);
@@ -57,9 +58,9 @@ pub(crate) fn prune_found(
     cells: &mut Vec<u32>,
     found: &NumberSet,
 )
-    requires ready { IsSearchable nodes.now.arcs.now nodes.now.node.now near.old found.now.end (vec_capacity cells.old) }
-    requires items { length nodes.now.arcs.now ≤ near.old.items }
-    ensures pruned { ArePruned nodes.now.arcs.now nodes.now.node.now near.old near.new }
+    requires ready { IsSearchable nodes.now.arcs.now.cells nodes.now.node.now near.old found.now.end (vec_capacity cells.old) }
+    requires items { length nodes.now.arcs.now.cells ≤ near.old.items }
+    ensures pruned { ArePruned nodes.now.arcs.now.cells nodes.now.node.now near.old near.new }
     ensures capacity { vec_capacity cells.old ≤ vec_capacity cells.new }
 {
     for i in 0..found.len() {
@@ -74,12 +75,12 @@ pub(crate) fn prune_found(
 }
 
 /// Drops all cells without an arc from another node from the node's list.
-fn prune(n: u32, arcs: &[PackedOption], node: &[u32], into: &mut SparseChains, cells: &mut Vec<u32>)
+fn prune(n: u32, arcs: &Arcs, node: &[u32], into: &mut SparseChains, cells: &mut Vec<u32>)
     requires list { n < length into.old.lists }
-    requires cells { AreCells arcs.now node.now (list_at into.old.lists n) }
-    requires items { length arcs.now ≤ into.old.items }
+    requires cells { AreCells arcs.now.cells node.now (list_at into.old.lists n) }
+    requires items { length arcs.now.cells ≤ into.old.items }
     requires room { into.old.items ≤ vec_capacity cells.old }
-    ensures settled { IsSettled arcs.now node.now n into.old into.new }
+    ensures settled { IsSettled arcs.now.cells node.now n into.old into.new }
     ensures capacity { vec_capacity cells.old ≤ vec_capacity cells.new }
 {
     into.copy_to(n, cells);
@@ -88,14 +89,14 @@ fn prune(n: u32, arcs: &[PackedOption], node: &[u32], into: &mut SparseChains, c
 }
 
 /// Puts those of the cells into the node's empty list that have an arc from another node.
-fn put_back(cells: &[u32], n: u32, arcs: &[PackedOption], node: &[u32], into: &mut SparseChains)
+fn put_back(cells: &[u32], n: u32, arcs: &Arcs, node: &[u32], into: &mut SparseChains)
     requires list { n < length into.old.lists }
-    requires cells { AreCells arcs.now node.now cells.now }
+    requires cells { AreCells arcs.now.cells node.now cells.now }
     requires distinct { IsDistinct nat_eq cells.now }
     requires items { (c : ℕ) → IsTrue (is_among c cells.now) → c < into.old.items }
     requires free { (c : ℕ) → IsTrue (is_among c cells.now) → IsFree into.old.lists c }
     requires empty { list_at into.old.lists n ≡ [] }
-    ensures { ArePutBack arcs.now node.now n cells.now into.old into.new }
+    ensures { ArePutBack arcs.now.cells node.now n cells.now into.old into.new }
 {
     for c in cells {
         push_if_outside(*c, n, arcs, node, into);
@@ -103,13 +104,13 @@ fn put_back(cells: &[u32], n: u32, arcs: &[PackedOption], node: &[u32], into: &m
 }
 
 /// Puts the cell into the node's list, if it has an arc from another node.
-fn push_if_outside(cell: u32, n: u32, arcs: &[PackedOption], node: &[u32], into: &mut SparseChains)
+fn push_if_outside(cell: u32, n: u32, arcs: &Arcs, node: &[u32], into: &mut SparseChains)
     requires list { n < length into.old.lists }
-    requires cell { cell < length arcs.now }
+    requires cell { cell < length arcs.now.cells }
     requires slot { cell / 8 < length node.now }
     requires item { cell < into.old.items }
     requires free { IsFree into.old.lists cell }
-    ensures { IsPutBack arcs.now node.now cell n into.old into.new }
+    ensures { IsPutBack arcs.now.cells node.now cell n into.old into.new }
 {
     if is_from_outside(cell, n, arcs, node) {
         into.push(n, cell);

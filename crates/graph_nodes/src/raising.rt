@@ -20,9 +20,9 @@ pub(crate) fn raise(
 ) -> u64
     requires start { w < length nodes.now.node.now }
     requires end { ahead.old.end ≡ length nodes.now.node.now }
-    requires ready { AreReady nodes.now.arcs.now nodes.now.node.now nodes.now.members.now levels.old.level.items levels.old.near (vec_capacity slots.old) (vec_capacity levels.old.level) }
+    requires ready { AreReady nodes.now.arcs.now.cells nodes.now.node.now nodes.now.members.now levels.old.level.items levels.old.near (vec_capacity slots.old) (vec_capacity levels.old.level) }
     ensures raised { IsRaisedTo w l levels.old.level.items levels.new.level.items }
-    ensures still { AreStillLevelled nodes.now.arcs.now nodes.now.node.now levels.old.level.items levels.new.level.items levels.old.near levels.new.near }
+    ensures still { AreStillLevelled nodes.now.arcs.now.cells nodes.now.node.now levels.old.level.items levels.new.level.items levels.old.near levels.new.near }
     ensures level { vec_capacity levels.old.level ≤ vec_capacity levels.new.level }
     ensures wide { IsWide ahead.old ahead.new }
     ensures capacity { vec_capacity slots.old ≤ vec_capacity slots.new }

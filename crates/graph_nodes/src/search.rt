@@ -1,14 +1,15 @@
-ghost use Rattle.std.specs.Prelude.{◌≡◌, ℕ, ◌<◌, ◌≤◌, ◌/◌, length};
+ghost use Rattle.std.specs.Prelude.{◌≡◌, ◌<◌, ◌≤◌, ◌/◌, length};
 ghost use Rattle.std.specs.Vec.{vec_capacity};
 ghost use Rattle.number_lists.specs.Lists.{list_at};
 ghost use Rattle.graph_nodes.specs.Arcs.{AreCells, AreBelow};
 ghost use Rattle.graph_nodes.specs.Search.{IsLookedBack, AreLookedBack, IsExpanded, IsSearching, IsStepBack};
 ghost use Rattle.graph_nodes.specs.Kept.{IsSearchable, IsWide};
 
+use crate::arcs::Arcs;
 use crate::front::Front;
 use crate::nodes::Nodes;
 use crate::searches::Searches;
-use number_lists::{NumberSet, PackedOption, SparseChains};
+use number_lists::{NumberSet, SparseChains};
 
 /// Searches from v against the arcs of the cells in the lists, until the search is over or has looked at more cells than
 /// so many.
@@ -21,8 +22,8 @@ pub(crate) fn look(
     searches: &mut Searches,
 )
     requires start { v < searches.old.found.end }
-    requires ready { IsSearchable nodes.now.arcs.now nodes.now.node.now near.now searches.old.found.end (vec_capacity searches.old.cells) }
-    ensures against { IsSearching nodes.now.arcs.now nodes.now.node.now near.now v stop searches.new.back.next searches.new.found.members }
+    requires ready { IsSearchable nodes.now.arcs.now.cells nodes.now.node.now near.now searches.old.found.end (vec_capacity searches.old.cells) }
+    ensures against { IsSearching nodes.now.arcs.now.cells nodes.now.node.now near.now v stop searches.new.back.next searches.new.found.members }
     ensures found { IsWide searches.old.found searches.new.found }
     ensures ahead { searches.new.ahead ≡ searches.old.ahead }
     ensures capacity { vec_capacity searches.old.cells ≤ vec_capacity searches.new.cells }
@@ -55,8 +56,8 @@ pub(crate) fn look_all(
     searches: &mut Searches,
 )
     requires start { v < searches.old.found.end }
-    requires ready { IsSearchable nodes.now.arcs.now nodes.now.node.now near.now searches.old.found.end (vec_capacity searches.old.cells) }
-    ensures against { IsSearching nodes.now.arcs.now nodes.now.node.now near.now v stop searches.new.back.next searches.new.found.members }
+    requires ready { IsSearchable nodes.now.arcs.now.cells nodes.now.node.now near.now searches.old.found.end (vec_capacity searches.old.cells) }
+    ensures against { IsSearching nodes.now.arcs.now.cells nodes.now.node.now near.now v stop searches.new.back.next searches.new.found.members }
     ensures over { length searches.new.found.members ≤ searches.new.back.next }
     ensures found { IsWide searches.old.found searches.new.found }
     ensures ahead { searches.new.ahead ≡ searches.old.ahead }
@@ -88,8 +89,8 @@ fn step_back(
     back: &mut Front,
 )
     requires next { back.old.next < length found.old.members }
-    requires ready { IsSearchable nodes.now.arcs.now nodes.now.node.now near.now found.old.end (vec_capacity cells.old) }
-    ensures step { IsStepBack nodes.now.arcs.now nodes.now.node.now near.now stop back.old.next back.new.next found.old found.new }
+    requires ready { IsSearchable nodes.now.arcs.now.cells nodes.now.node.now near.now found.old.end (vec_capacity cells.old) }
+    ensures step { IsStepBack nodes.now.arcs.now.cells nodes.now.node.now near.now stop back.old.next back.new.next found.old found.new }
     ensures capacity { vec_capacity cells.old ≤ vec_capacity cells.new }
 {
     let _ = found.len();
@@ -105,17 +106,17 @@ fn step_back(
 fn expand(
     n: u32,
     stop: u32,
-    arcs: &[PackedOption],
+    arcs: &Arcs,
     node: &[u32],
     into: &SparseChains,
     cells: &mut Vec<u32>,
     found: &mut NumberSet,
 )
     requires list { n < length into.now.lists }
-    requires cells { AreCells arcs.now node.now (list_at into.now.lists n) }
+    requires cells { AreCells arcs.now.cells node.now (list_at into.now.lists n) }
     requires below { AreBelow node.now found.old.end }
     requires room { into.now.items ≤ vec_capacity cells.old }
-    ensures found { IsExpanded arcs.now node.now into.now n stop found.old found.new }
+    ensures found { IsExpanded arcs.now.cells node.now into.now n stop found.old found.new }
     ensures capacity { vec_capacity cells.old ≤ vec_capacity cells.new }
 {
     if n == stop {
@@ -126,10 +127,10 @@ fn expand(
 }
 
 /// Finds the nodes from which the cells' arcs lead.
-fn look_back_all(cells: &[u32], arcs: &[PackedOption], node: &[u32], found: &mut NumberSet)
-    requires cells { AreCells arcs.now node.now cells.now }
+fn look_back_all(cells: &[u32], arcs: &Arcs, node: &[u32], found: &mut NumberSet)
+    requires cells { AreCells arcs.now.cells node.now cells.now }
     requires below { AreBelow node.now found.old.end }
-    ensures { AreLookedBack arcs.now node.now cells.now found.old found.new }
+    ensures { AreLookedBack arcs.now.cells node.now cells.now found.old found.new }
 {
     for c in cells {
         look_back(*c, arcs, node, found);
@@ -137,13 +138,13 @@ fn look_back_all(cells: &[u32], arcs: &[PackedOption], node: &[u32], found: &mut
 }
 
 /// Finds the node from which the cell's arc leads, where it has one.
-fn look_back(cell: u32, arcs: &[PackedOption], node: &[u32], found: &mut NumberSet)
-    requires cell { cell < length arcs.now }
+fn look_back(cell: u32, arcs: &Arcs, node: &[u32], found: &mut NumberSet)
+    requires cell { cell < length arcs.now.cells }
     requires slot { cell / 8 < length node.now }
     requires below { AreBelow node.now found.old.end }
-    ensures { IsLookedBack arcs.now node.now cell found.old found.new }
+    ensures { IsLookedBack arcs.now.cells node.now cell found.old found.new }
 {
-    if arcs[cell as usize].get().is_none() {
+    if arcs.get(cell as usize).is_none() {
         return;
     }
     found.add(node[cell as usize / 8]);

@@ -28,15 +28,15 @@ pub(crate) fn find_way(
     levels: &mut Levels,
     searches: &mut Searches,
 )
-    requires v { IsOwn nodes.now.arcs.now nodes.now.node.now v }
-    requires w { IsOwn nodes.now.arcs.now nodes.now.node.now w }
+    requires v { IsOwn nodes.now.arcs.now.cells nodes.now.node.now v }
+    requires w { IsOwn nodes.now.arcs.now.cells nodes.now.node.now w }
     requires found_end { searches.old.found.end ≡ length nodes.now.node.now }
     requires ahead_end { searches.old.ahead.end ≡ length nodes.now.node.now }
-    requires ready { AreReady nodes.now.arcs.now nodes.now.node.now nodes.now.members.now levels.old.level.items levels.old.near (vec_capacity searches.old.cells) (vec_capacity levels.old.level) }
-    requires into { AreInto nodes.now.arcs.now nodes.now.node.now into.now × (length into.now.lists ≡ length nodes.now.node.now) }
-    ensures way { AreOnWay nodes.now.arcs.now nodes.now.node.now v w searches.new.found.members }
+    requires ready { AreReady nodes.now.arcs.now.cells nodes.now.node.now nodes.now.members.now levels.old.level.items levels.old.near (vec_capacity searches.old.cells) (vec_capacity levels.old.level) }
+    requires into { AreInto nodes.now.arcs.now.cells nodes.now.node.now into.now × (length into.now.lists ≡ length nodes.now.node.now) }
+    ensures way { AreOnWay nodes.now.arcs.now.cells nodes.now.node.now v w searches.new.found.members }
     ensures fits { (v ≡ w) ⊎ (level_at levels.new.level.items v ≤ level_at levels.new.level.items w) }
-    ensures still { AreStillLevelled nodes.now.arcs.now nodes.now.node.now levels.old.level.items levels.new.level.items levels.old.near levels.new.near }
+    ensures still { AreStillLevelled nodes.now.arcs.now.cells nodes.now.node.now levels.old.level.items levels.new.level.items levels.old.near levels.new.near }
     ensures level { vec_capacity levels.old.level ≤ vec_capacity levels.new.level }
     ensures wide { AreAsWide searches.old.found searches.old.ahead searches.new.found searches.new.ahead }
     ensures capacity { vec_capacity searches.old.cells ≤ vec_capacity searches.new.cells }
@@ -95,15 +95,15 @@ fn keep_way(reaches: bool, searches: &mut Searches)
 /// The search goes from v against the arcs within its level. Where it takes too many looks it is given up, and w and all
 /// that it reaches are raised above v.
 fn search(v: u32, w: u32, nodes: &Nodes, levels: &mut Levels, searches: &mut Searches) -> bool
-    requires v { IsOwn nodes.now.arcs.now nodes.now.node.now v }
-    requires w { IsOwn nodes.now.arcs.now nodes.now.node.now w }
+    requires v { IsOwn nodes.now.arcs.now.cells nodes.now.node.now v }
+    requires w { IsOwn nodes.now.arcs.now.cells nodes.now.node.now w }
     requires fits { level_at levels.old.level.items v ≤ level_at levels.old.level.items w }
     requires found_end { searches.old.found.end ≡ length nodes.now.node.now }
     requires ahead_end { searches.old.ahead.end ≡ length nodes.now.node.now }
-    requires ready { AreReady nodes.now.arcs.now nodes.now.node.now nodes.now.members.now levels.old.level.items levels.old.near (vec_capacity searches.old.cells) (vec_capacity levels.old.level) }
-    ensures way { IsToldWay nodes.now.arcs.now nodes.now.node.now v w searches.new.ahead.members result }
+    requires ready { AreReady nodes.now.arcs.now.cells nodes.now.node.now nodes.now.members.now levels.old.level.items levels.old.near (vec_capacity searches.old.cells) (vec_capacity levels.old.level) }
+    ensures way { IsToldWay nodes.now.arcs.now.cells nodes.now.node.now v w searches.new.ahead.members result }
     ensures fits { level_at levels.new.level.items v ≤ level_at levels.new.level.items w }
-    ensures still { AreStillLevelled nodes.now.arcs.now nodes.now.node.now levels.old.level.items levels.new.level.items levels.old.near levels.new.near }
+    ensures still { AreStillLevelled nodes.now.arcs.now.cells nodes.now.node.now levels.old.level.items levels.new.level.items levels.old.near levels.new.near }
     ensures level { vec_capacity levels.old.level ≤ vec_capacity levels.new.level }
     ensures found { IsWide searches.old.found searches.new.found }
     ensures ahead { IsWide searches.old.ahead searches.new.ahead }
@@ -129,9 +129,9 @@ fn give_up(v: u32, w: u32, nodes: &Nodes, levels: &mut Levels, searches: &mut Se
     requires v { v < length nodes.now.node.now }
     requires w { w < length nodes.now.node.now }
     requires ahead_end { searches.old.ahead.end ≡ length nodes.now.node.now }
-    requires ready { AreReady nodes.now.arcs.now nodes.now.node.now nodes.now.members.now levels.old.level.items levels.old.near (vec_capacity searches.old.cells) (vec_capacity levels.old.level) }
+    requires ready { AreReady nodes.now.arcs.now.cells nodes.now.node.now nodes.now.members.now levels.old.level.items levels.old.near (vec_capacity searches.old.cells) (vec_capacity levels.old.level) }
     ensures fits { level_at levels.new.level.items v ≤ level_at levels.new.level.items w }
-    ensures still { AreStillLevelled nodes.now.arcs.now nodes.now.node.now levels.old.level.items levels.new.level.items levels.old.near levels.new.near }
+    ensures still { AreStillLevelled nodes.now.arcs.now.cells nodes.now.node.now levels.old.level.items levels.new.level.items levels.old.near levels.new.near }
     ensures level { vec_capacity levels.old.level ≤ vec_capacity levels.new.level }
     ensures found { searches.new.found ≡ searches.old.found }
     ensures ahead { IsWide searches.old.ahead searches.new.ahead }
@@ -159,14 +159,14 @@ fn next_level(l: u32) -> u32
 
 /// Whether a search against the arcs from v, which is over, has found w: then it takes the nodes on the way.
 fn take_way(v: u32, w: u32, nodes: &Nodes, levels: &Levels, searches: &mut Searches) -> bool
-    requires v { IsOwn nodes.now.arcs.now nodes.now.node.now v }
-    requires w { IsOwn nodes.now.arcs.now nodes.now.node.now w }
+    requires v { IsOwn nodes.now.arcs.now.cells nodes.now.node.now v }
+    requires w { IsOwn nodes.now.arcs.now.cells nodes.now.node.now w }
     requires fits { level_at levels.now.level.items v ≤ level_at levels.now.level.items w }
     requires found_end { searches.old.found.end ≡ length nodes.now.node.now }
     requires ahead_end { searches.old.ahead.end ≡ length nodes.now.node.now }
-    requires ready { AreReady nodes.now.arcs.now nodes.now.node.now nodes.now.members.now levels.now.level.items levels.now.near (vec_capacity searches.old.cells) (vec_capacity levels.now.level) }
-    requires over { IsSearched nodes.now.arcs.now nodes.now.node.now levels.now.near v w searches.old.found.members }
-    ensures way { IsToldWay nodes.now.arcs.now nodes.now.node.now v w searches.new.ahead.members result }
+    requires ready { AreReady nodes.now.arcs.now.cells nodes.now.node.now nodes.now.members.now levels.now.level.items levels.now.near (vec_capacity searches.old.cells) (vec_capacity levels.now.level) }
+    requires over { IsSearched nodes.now.arcs.now.cells nodes.now.node.now levels.now.near v w searches.old.found.members }
+    ensures way { IsToldWay nodes.now.arcs.now.cells nodes.now.node.now v w searches.new.ahead.members result }
     ensures found { searches.new.found ≡ searches.old.found }
     ensures ahead { IsWide searches.old.ahead searches.new.ahead }
     ensures capacity { vec_capacity searches.old.cells ≤ vec_capacity searches.new.cells }

@@ -24,7 +24,7 @@ link_slots-requires-clause-free c k j t arc =
 pub returns-clause-linked : goal.returns-clause-linked
 returns-clause-linked c =
     let node = c.args.nodes.now.node.now in
-    let arcs = c.args.nodes.now.arcs.now in
+    let arcs = c.args.nodes.now.arcs.now.cells in
     let n = c.args.n in
     let slots = c.as_slice.result.now in
     let ready = c.requires.ready in

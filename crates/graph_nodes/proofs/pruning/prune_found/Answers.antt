@@ -3,7 +3,7 @@ use Rattle.graph_nodes.proofs.Raised.{pruned-none}
 use Rattle.graph_nodes.proofs.pruning.prune_found.Goals as goal
 
 pub loop-i-init : goal.loop-i-init
-loop-i-init c = (pruned-none c.args.nodes.now.arcs.now c.args.nodes.now.node.now c.args.near.now, omega arith)
+loop-i-init c = (pruned-none c.args.nodes.now.arcs.now.cells c.args.nodes.now.node.now c.args.near.now, omega arith)
 
 pub prune-requires-clause-list : goal.prune-requires-clause-list
 prune-requires-clause-list c = omega (arith, c.get-n.ensures.below, c.requires.ready.lists, c.loop-i.invariant.0.same.lists)

@@ -7,8 +7,8 @@ pub loop-before-preserved : goal.loop-before-preserved
 loop-before-preserved c =
     let was = c.loop-before.invariant in
     let is = c.take_round.ensures.taken in
-    let on = spread-on (IsBehind c.args.nodes.now.arcs.now c.args.nodes.now.node.now c.args.into.now) c.args.w c.args.found.now.members c.loop-before.before c.loop-before.taken c.take_round.new.taken was.0 is in (
-      subst (λ (n : ℕ). IsSpreading (IsBehind c.args.nodes.now.arcs.now c.args.nodes.now.node.now c.args.into.now) c.args.w c.args.found.now.members n c.take_round.new.taken.members) (sym c.len-before.ensures.count) on,
+    let on = spread-on (IsBehind c.args.nodes.now.arcs.now.cells c.args.nodes.now.node.now c.args.into.now) c.args.w c.args.found.now.members c.loop-before.before c.loop-before.taken c.take_round.new.taken was.0 is in (
+      subst (λ (n : ℕ). IsSpreading (IsBehind c.args.nodes.now.arcs.now.cells c.args.nodes.now.node.now c.args.into.now) c.args.w c.args.found.now.members n c.take_round.new.taken.members) (sym c.len-before.ensures.count) on,
       is.same.end ∙ was.1,
       omega (arith, is.same.room, was.2),
       omega (arith, c.take_round.ensures.capacity, was.3),

@@ -10,7 +10,7 @@ returns-then-l-at-clause-way c =
     let nodes = c.args.nodes.now in
     let levels = c.args.levels.now in
     let ready = c.requires.ready in
-    inl (below-apart nodes.arcs.now nodes.node.now levels.level.items levels.near ready.nodes ready.levelled c.args.v c.args.w (omega (arith, c.if-l-at.true, c.at-l.ensures, c.at.ensures)), c.clear.ensures.members)
+    inl (below-apart nodes.arcs.now.cells nodes.node.now levels.level.items levels.near ready.nodes ready.levelled c.args.v c.args.w (omega (arith, c.if-l-at.true, c.at-l.ensures, c.at.ensures)), c.clear.ensures.members)
 
 pub is_led_from-requires-clause-list : goal.is_led_from-requires-clause-list
 is_led_from-requires-clause-list c = omega (arith, c.requires.into.1, c.requires.w.slot)
@@ -23,23 +23,23 @@ returns-then-is_led_from-clause-way c =
     let nodes = c.args.nodes.now in
     let levels = c.args.levels.now in
     let ready = c.requires.ready in
-    inl (led-apart nodes.arcs.now nodes.node.now levels.level.items levels.near ready.nodes ready.levelled c.args.into.now c.args.v c.args.w c.requires.into.0 (c.is_led_from.ensures c.if-is_led_from.true), c.clear.ensures.members)
+    inl (led-apart nodes.arcs.now.cells nodes.node.now levels.level.items levels.near ready.nodes ready.levelled c.args.into.now c.args.v c.args.w c.requires.into.0 (c.is_led_from.ensures c.if-is_led_from.true), c.clear.ensures.members)
 
 pub returns-then-is_led_from-clause-fits : goal.returns-then-is_led_from-clause-fits
 returns-then-is_led_from-clause-fits c =
     let nodes = c.args.nodes.now in
     let levels = c.args.levels.now in
     let ready = c.requires.ready in
-    inr (led-fits nodes.arcs.now nodes.node.now levels.level.items levels.near ready.nodes ready.levelled c.args.into.now c.args.v c.args.w c.requires.into.0 (c.is_led_from.ensures c.if-is_led_from.true))
+    inr (led-fits nodes.arcs.now.cells nodes.node.now levels.level.items levels.near ready.nodes ready.levelled c.args.into.now c.args.v c.args.w c.requires.into.0 (c.is_led_from.ensures c.if-is_led_from.true))
 
 pub returns-then-is_bare-clause-way : goal.returns-then-is_bare-clause-way
 returns-then-is_bare-clause-way c =
     let nodes = c.args.nodes.now in
-    inl (bare-apart nodes.arcs.now nodes.node.now nodes.members.now c.args.v c.args.w c.requires.ready.linkable.filed c.requires.w (c.is_bare.ensures c.if-is_bare.true), c.clear.ensures.members)
+    inl (bare-apart nodes.arcs.now.cells nodes.node.now nodes.members.now c.args.v c.args.w c.requires.ready.linkable.filed c.requires.w (c.is_bare.ensures c.if-is_bare.true), c.clear.ensures.members)
 
 pub returns-clause-still : goal.returns-clause-still
 returns-clause-still c =
-    let arcs = c.args.nodes.now.arcs.now in
+    let arcs = c.args.nodes.now.arcs.now.cells in
     let node = c.args.nodes.now.node.now in
     let was = c.args.levels.now in
     let raised = c.raise-looks.new.levels in

@@ -5,7 +5,7 @@ use Rattle.graph_nodes.proofs.Told.{marked-none}
 use Rattle.graph_nodes.proofs.graph.SlotGraph.new.Goals as goal
 
 pub invariant_of-result : goal.invariant_of-result
-invariant_of-result c = rw (c.new.ensures.items, c.new-2.ensures.items, c.new-3.ensures.items) (
+invariant_of-result c = rw (c.new.ensures, c.new-2.ensures.items, c.new-3.ensures.items) (
   kept-none c.new-4.result.name c.new-5.result c.new-6.result c.new-4.ensures.name c.new-5.ensures.lists c.new-6.ensures.lists c.new-5.ensures.items c.new-6.ensures.items,
   c.new-7.ensures.found,
   c.new-7.ensures.ahead,
