@@ -1,6 +1,6 @@
 -- Cells that are cut in two: a key between two others, the middle, sizes, and the order of both parts.
-use Rattle.std.proofs.Common.{◌≡◌, ℕ, zero, suc, ◌+◌, ◌*◌, ◌<◌, ◌≤◌, ◌==◌, Bool, true, false, not, if◌then◌else◌, Option, List, [], ◌∷◌, ◌++◌, T, map, length, take, drop, Ordering, Less, Equal, Greater, is_lt, nat_cmp, refl, sym, ap, ◌∙◌, subst, arith, true≢false, length-append, append_assoc, take-append-drop, slice_index_or}
-use Rattle.std.specs.Prelude.{IsTrue, nat_le, flat_map}
+use Rattle.std.proofs.Common.{◌≡◌, ℕ, zero, suc, ◌+◌, ◌-◌, ◌*◌, ◌<◌, ◌≤◌, ◌==◌, Bool, true, false, not, ◌&&◌, if◌then◌else◌, Option, List, [], ◌∷◌, ◌++◌, T, map, length, take, drop, Ordering, Less, Equal, Greater, is_lt, nat_cmp, refl, sym, ap, ◌∙◌, subst, arith, true≢false, length-append, append_assoc, take-append-drop, slice_index_or}
+use Rattle.std.specs.Prelude.{IsTrue, is_none, nat_le, flat_map}
 use Rattle.std.specs.List.{list_all, range_with_len}
 use Rattle.std.specs.Ordering.{ordering_then}
 use Rattle.std.specs.Cmp.{nat_cmp_total, tied_itself}
@@ -19,7 +19,7 @@ use Rattle.page_ops.specs.Layout.{Layout, cells_of, count_of, no_cells, places_o
 use Rattle.page_ops.specs.OperationLaws.{built_length}
 use Rattle.page_ops.specs.Search.{place_for}
 use Rattle.page_map.specs.Map.{is_below}
-use Rattle.page_map.specs.Splits.{cells_read, front_of, separator, cell_size, size_of, middle_from, middle}
+use Rattle.page_map.specs.Splits.{cells_read, cut_at, front_of, separator, cell_size, size_of, middle_from, middle}
 use Rattle.page_map.proofs.MapLemmas.{below_both, not_true, true_not}
 
 -- ---- a key between two others
@@ -123,6 +123,13 @@ pub middle_inside : (cells : List Cell) → 0 < length cells → middle cells < 
 middle_inside [] some = absurd (omega (arith, some))
 middle_inside (c ∷ cells) some = middle_ends (size_of (c ∷ cells)) c cells 0 (omega arith)
 
+pub cut_inside : (to : Option (List ℕ)) (i : ℕ) (cells : List Cell) → 0 < length cells → cut_at to i cells < length cells
+cut_inside to i cells some =
+    elim (is_none to && (suc i == length cells)) as (λ t. (is_none to && (suc i == length cells)) ≡ t → (if t then i - 1 else middle cells) < length cells) [
+      | true ↦ λ e. omega (arith, eqb-true (suc i) (length cells) (both_true (is_none to) (suc i == length cells) e).1)
+      | false ↦ λ e. middle_inside cells some
+    ] refl
+
 -- of at least two cells one stands before it
 middle_begins : (all : ℕ) (c : Cell) (cells : List Cell) → cell_size c < all → 0 < middle_from all 0 (c ∷ cells)
 middle_begins all c cells more =
@@ -195,6 +202,28 @@ middle_is most (c ∷ cells) small more =
       before = omega (arith, middle_low all most (c ∷ cells) 0 small (omega arith));
       behind = omega (arith, high, both);
     }
+
+-- ---- the last cells
+
+pub size_at : (most : ℕ) (cells : List Cell) (i : ℕ) → IsTrue (all_sizes most cells) → i < length cells → cell_size (slice_index_or cells i ([], [])) ≤ most
+size_at most [] i small inside = absurd (omega (arith, inside))
+size_at most (c ∷ cells) zero small inside = leb-true (cell_size c) most (both_true (nat_le (cell_size c) most) (all_sizes most cells) small).0
+size_at most (c ∷ cells) (suc i) small inside = size_at most cells i (both_true (nat_le (cell_size c) most) (all_sizes most cells) small).1 (omega (arith, inside))
+
+-- cells of which no two have all bytes are three at least
+pub three_there : (most : ℕ) (cells : List Cell) → IsTrue (all_sizes most cells) → 2 * most < size_of cells → 2 < length cells
+three_there most [] small more = absurd (omega (arith, more))
+three_there most (c ∷ []) small more = absurd (omega (arith, more, size_at most (c ∷ []) 0 small (omega arith)))
+three_there most (c ∷ d ∷ []) small more = absurd (omega (arith, more, size_at most (c ∷ d ∷ []) 0 small (omega arith), size_at most (c ∷ d ∷ []) 1 small (omega arith)))
+three_there most (c ∷ d ∷ e ∷ cells) small more = omega arith
+
+pub last_two : (cells : List Cell) (j : ℕ) → suc (suc j) ≡ length cells
+    → size_of (drop j cells) ≡ cell_size (slice_index_or cells j ([], [])) + cell_size (slice_index_or cells (suc j) ([], []))
+last_two [] j e = absurd (omega (arith, e))
+last_two (c ∷ []) j e = absurd (omega (arith, e))
+last_two (c ∷ d ∷ []) zero e = omega arith
+last_two (c ∷ d ∷ x ∷ cells) zero e = absurd (omega (arith, e))
+last_two (c ∷ d ∷ cells) (suc j) e = last_two (d ∷ cells) j (omega (arith, e))
 
 -- ---- parts of lists
 

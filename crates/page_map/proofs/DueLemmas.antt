@@ -1,11 +1,11 @@
 -- Which page is cut first: it can be cut, and the page above it has room for the name of the new one.
-use Rattle.std.proofs.Common.{◌≡◌, ℕ, zero, suc, ◌+◌, ◌-◌, ◌*◌, ◌/◌, ◌^◌, ◌<◌, ◌≤◌, Bool, true, false, if◌then◌else◌, Some, Ok, Err, Result, List, [], ◌∷◌, ◌++◌, T, map, length, take, drop, Less, Equal, Greater, is_lt, refl, sym, ap, ◌∙◌, subst, arith, option_map, length-append}
-use Rattle.std.specs.Prelude.{IsTrue, nat_lt, nat_le}
+use Rattle.std.proofs.Common.{◌≡◌, ℕ, zero, suc, ◌+◌, ◌-◌, ◌*◌, ◌/◌, ◌^◌, ◌<◌, ◌≤◌, ◌==◌, Bool, true, false, ◌&&◌, if◌then◌else◌, Some, Ok, Err, Result, List, [], ◌∷◌, ◌++◌, T, map, length, take, drop, Less, Equal, Greater, is_lt, refl, sym, ap, ◌∙◌, subst, arith, option_map, length-append, slice_index_or}
+use Rattle.std.specs.Prelude.{IsTrue, is_none, nat_lt, nat_le}
 use Rattle.std.specs.List.{list_all}
 use Rattle.std.specs.Cmp.Lexicographic.{nat_list_cmp_total}
 use Rattle.std.specs.FinMap.Entries.{by_order, put, is_sorted, is_sorted-put}
 use Rattle.std.proofs.lemmas.List.{append-nil, length-map}
-use Rattle.std.proofs.lemmas.Bool.{leb-true, leb-false, le-leb, ltb-false}
+use Rattle.std.proofs.lemmas.Bool.{eqb-true, leb-true, leb-false, le-leb, ltb-false}
 use Rattle.oper_core.specs.LittleEndian.{length-little_bytes}
 use Rattle.oper_core.specs.State.{State}
 use Rattle.key_entries.specs.Entries.{byte_order}
@@ -17,10 +17,11 @@ use Rattle.page_ops.specs.OnCells.{key_at}
 use Rattle.page_ops.specs.Search.{last_under, place_for}
 use Rattle.page_map.specs.Map.{Span, is_below, is_within, Tree, Leaf, root_of, pairs_in, cells_in, IsHeld, bytes_at, Holds, all_within, Share, StandIn}
 use Rattle.page_map.specs.Walk.{child_for, on_from, walk_from}
-use Rattle.page_map.specs.Splits.{Split, Due, fits, asks, granted, ask_above, cell_size, cells_read, due_from, due_in_leaf, front_of, has_room, inner_split, leaf_split, middle, middle_key, size_of}
+use Rattle.page_map.specs.Splits.{Split, Due, fits, asks, granted, ask_above, cell_size, cells_read, cut_at, due_from, due_in_leaf, front_of, has_room, inner_split, key_before, leaf_key, leaf_split, middle, size_of}
 use Rattle.page_map.specs.Sets.{AreShortPairs, is_short_key, is_short_pair}
 use Rattle.page_map.proofs.MapLemmas.{Searches, within_parts, IsAt, each_at, span_of, child_found, child_named, on_level, pairs_within}
-use Rattle.page_map.proofs.CutLemmas.{ReadsCells, all_at, all_sizes, all_weaker, front_is, middle_inside, middle_is, next_above, page_size, pair_size, size_put, separator_above, separator_reached, separator_short}
+use Rattle.page_map.proofs.CutLemmas.{ReadsCells, all_at, all_sizes, all_weaker, cut_inside, front_is, last_two, middle_inside, middle_is, next_above, page_size, pair_size, size_at, size_put, size_taken, separator_above, separator_reached, separator_short, three_there}
+use Rattle.page_map.proofs.CellLemmas.{put_here}
 use Rattle.page_map.proofs.ChangeLemmas.{all_put}
 use Rattle.page_map.proofs.TreeLemmas.{HoldsChild, IsCut, live_in, past_in, whole_is, leaf_cut, inner_cut}
 use Rattle.page_map.proofs.TwoLemmas.{at_inside}
@@ -67,9 +68,16 @@ put_some key value (c ∷ cells) =
     elim (byte_order key c.0) as (λ o. 0 < length (by_order o ((key, value) ∷ c ∷ cells) ((c.0, value) ∷ cells) (c ∷ put byte_order key value cells))) [ Less ↦ omega arith | Equal ↦ omega arith | Greater ↦ omega arith ]
 
 -- where the pair is not alone others are there
-others_there : (key value : List ℕ) (cells : List Cell) → 0 < middle (put byte_order key value cells) → middle (put byte_order key value cells) < length (put byte_order key value cells) → 0 < length cells
-others_there key value [] some inside = absurd (omega (arith, some, inside))
-others_there key value (c ∷ cells) some inside = omega arith
+others_there : (key value : List ℕ) (cells : List Cell) (m : ℕ) → 0 < m → m < length (put byte_order key value cells) → 0 < length cells
+others_there key value [] m some inside = absurd (omega (arith, some, inside))
+others_there key value (c ∷ cells) m some inside = omega arith
+
+-- a place parts cells, and a page has room for each part
+record IsParted (room : ℕ) (cells : List Cell) (m : ℕ) : Type 0 where
+  some : 0 < m
+  inside : m < length cells
+  before : 4 + size_of (take m cells) ≤ room
+  behind : 4 + size_of (drop m cells) ≤ room
 
 shorter_key : (room : ℕ) (key other : List ℕ) → length key ≤ length other → IsTrue (is_short_key room other) → IsTrue (is_short_key room key)
 shorter_key room key other less short = le-leb (8 * (length key + 8)) room (omega (arith, less, leb-true (8 * (length other + 8)) room short))
@@ -107,9 +115,9 @@ module _ (lo hi : ℕ) (s : State) (room : ℕ) (key value : List ℕ) where
   Halves (suc l) t w = AreHalves l t w
 
   -- the key of a cut, by the cells that count
-  abbrev pub name_of : (level : ℕ) → Tree level → List ℕ
-  name_of zero t = middle_key (put byte_order key value t.cells)
-  name_of (suc level) t = key_at (live_in (suc level) t) (middle (live_in (suc level) t))
+  abbrev pub name_of : (level : ℕ) → Span → Tree level → List ℕ
+  name_of zero span t = leaf_key span.to key value t.cells
+  name_of (suc level) span t = key_at (live_in (suc level) t) (middle (live_in (suc level) t))
 
   pub record IsAsked (level : ℕ) (span : Span) (t : Tree level) (w : Split) : Type 0 where
     pub object : w.object ≡ root_of level t
@@ -121,7 +129,7 @@ module _ (lo hi : ℕ) (s : State) (room : ℕ) (key value : List ℕ) where
     pub some : w.has_past ≡ false → 0 < length (live_in level t)
     pub why : Why level span t
     pub halves : w.has_past ≡ false → Halves level t w
-    pub name_is : w.key ≡ name_of level t
+    pub name_is : w.key ≡ name_of level span t
 
 module _ (lo hi : ℕ) (s : State) (room : ℕ) (key value : List ℕ) (pair : IsTrue (is_short_pair room (key, value))) where
   key_part : IsTrue (is_short_key room key)
@@ -137,11 +145,17 @@ module _ (lo hi : ℕ) (s : State) (room : ℕ) (key value : List ℕ) (pair : I
     abbrev want : List Cell
     want = put byte_order key value t.cells
 
+    abbrev pair_at : ℕ
+    pair_at = place_for key t.cells
+
     abbrev m : ℕ
-    m = middle want
+    m = cut_at span.to pair_at want
+
+    abbrev cut_key : List ℕ
+    cut_key = key_before want m
 
     m_inside : m < length want
-    m_inside = middle_inside want (put_some key value t.cells)
+    m_inside = cut_inside span.to pair_at want (put_some key value t.cells)
 
     pairs_short : IsTrue (list_all (is_short_pair room) want)
     pairs_short = all_put (is_short_pair room) key value t.cells pair short
@@ -156,81 +170,85 @@ module _ (lo hi : ℕ) (s : State) (room : ℕ) (key value : List ℕ) (pair : I
         let parts = both_true (is_short_key room c.0) (nat_le (4 * length c.1) room) e in
         le-leb (cell_size c) (3 * room / 8) (omega (arith, leb-true (8 * (length c.0 + 8)) room parts.0, leb-true (4 * length c.1) room parts.1, pair_size c))) want pairs_short
 
-    leaf_part : t.past ≡ [] → IsCut 0 span t (leaf_split t.object key value (t.cells ++ t.past) t.cells).place (middle_key want)
+    -- the place of the cut parts the cells, and both parts fit
+    parted : t.past ≡ [] → IsParted room want m
+    parted none =
+        let alone : t.cells ++ t.past ≡ t.cells = ap (λ (l : List Cell). t.cells ++ l) none ∙ append-nil t.cells in
+        let more : room < 4 + size_of want = omega (arith, full, ap (λ (l : List Cell). size_of (put byte_order key value l)) alone) in
+        let all : size_of want ≤ size_of t.cells + cell_size (key, value) = size_put key value t.cells in
+        let pair_parts = both_true (is_short_key room key) (nat_le (4 * length value) room) pair in
+        let one : 8 * (length key + 8) ≤ room = leb-true (8 * (length key + 8)) room pair_parts.0 in
+        let two : 4 * length value ≤ room = leb-true (4 * length value) room pair_parts.1 in
+        let fits : 4 + size_of t.cells ≤ room = omega (arith, fit, ap size_of alone) in
+        elim (is_none span.to && (suc pair_at == length want)) as (λ b. (is_none span.to && (suc pair_at == length want)) ≡ b → IsParted room want (if b then pair_at - 1 else middle want)) [
+          | true ↦ λ e.
+              let last : suc pair_at ≡ length want = eqb-true (suc pair_at) (length want) (both_true (is_none span.to) (suc pair_at == length want) e).1 in
+              let three : 2 < length want = three_there (3 * room / 8) want sizes (omega (arith, more, roomy)) in
+              let j : ℕ = pair_at - 1 in
+              let next : suc j ≡ pair_at = omega (arith, last, three) in
+              let both : size_of (drop j want) ≡ cell_size (slice_index_or want j ([], [])) + cell_size (key, value) =
+              last_two want j (omega (arith, last, next))
+              ∙ ap (λ (n : ℕ). cell_size (slice_index_or want j ([], [])) + cell_size (slice_index_or want n ([], []))) next
+              ∙ ap (λ (c : Cell). cell_size (slice_index_or want j ([], [])) + cell_size c) (put_here key value t.cells) in
+              record {
+                some = omega (arith, last, three);
+                inside = omega (arith, last);
+                before = omega (arith, size_taken j want, both, all, fits);
+                behind = omega (arith, both, size_at (3 * room / 8) want j sizes (omega (arith, last, next)), one, two, pair_size (key, value), roomy);
+              }
+          | false ↦ λ e.
+              let mid = middle_is (3 * room / 8) want sizes (omega (arith, more, roomy)) in
+              record {
+                some = mid.some;
+                inside = mid.inside;
+                before = omega (arith, mid.before, all, one, two, pair_size (key, value), fits, roomy);
+                behind = omega (arith, mid.behind, all, one, two, pair_size (key, value), fits, roomy);
+              }
+        ] refl
+
+    leaf_part : t.past ≡ [] → IsCut 0 span t (leaf_split t.object span.to key value (t.cells ++ t.past) t.cells).place cut_key
     leaf_part none =
         let alone : t.cells ++ t.past ≡ t.cells = ap (λ (l : List Cell). t.cells ++ l) none ∙ append-nil t.cells in
         let sorted : T (is_sorted byte_order t.cells) = subst (λ (l : List Cell). T (is_sorted byte_order l)) alone rise in
-        let more : room < 4 + size_of want = omega (arith, full, ap (λ (l : List Cell). size_of (put byte_order key value l)) alone) in
-        let mid = middle_is (3 * room / 8) want sizes (omega (arith, more, roomy)) in
+        let mid = parted none in
         let before : suc (m - 1) ≡ m = omega (arith, mid.some) in
         let low : List ℕ = key_at want (m - 1) in
         let high : List ℕ = key_at want m in
         let all : IsTrue (list_all (λ c. is_within span c.0) want) = all_put (λ c. is_within span c.0) key value t.cells inside within in
         let less : byte_order low high ≡ Less =
         ap (λ (i : ℕ). byte_order low (key_at want i)) (sym before) ∙ next_above want (m - 1) (is_sorted-put byte_order nat_list_cmp_total key value t.cells sorted) (omega (arith, before, mid.inside)) in
-        leaf_cut span t (middle_key want) within sorted
-        (above_from span.from low (middle_key want) (within_parts span low (all_at (is_within span) want (m - 1) all (omega (arith, mid.inside)))).0 (separator_above low high less))
-        (ends_with (middle_key want) high span.to (separator_reached low high) (within_parts span high (all_at (is_within span) want m all m_inside)).1)
+        leaf_cut span t cut_key within sorted
+        (above_from span.from low cut_key (within_parts span low (all_at (is_within span) want (m - 1) all (omega (arith, mid.inside)))).0 (separator_above low high less))
+        (ends_with cut_key high span.to (separator_reached low high) (within_parts span high (all_at (is_within span) want m all m_inside)).1)
 
     leaf_some : t.past ≡ [] → 0 < length t.cells
-    leaf_some none =
-        let alone : t.cells ++ t.past ≡ t.cells = ap (λ (l : List Cell). t.cells ++ l) none ∙ append-nil t.cells in
-        let more : room < 4 + size_of want = omega (arith, full, ap (λ (l : List Cell). size_of (put byte_order key value l)) alone) in
-        let mid = middle_is (3 * room / 8) want sizes (omega (arith, more, roomy)) in
-        others_there key value t.cells mid.some mid.inside
+    leaf_some none = others_there key value t.cells m (parted none).some (parted none).inside
 
-    leaf_halves : t.past ≡ [] → Halves lo hi s room key value 0 t (leaf_split t.object key value (t.cells ++ t.past) t.cells)
+    leaf_halves : t.past ≡ [] → Halves lo hi s room key value 0 t (leaf_split t.object span.to key value (t.cells ++ t.past) t.cells)
     leaf_halves none =
         let alone : t.cells ++ t.past ≡ t.cells = ap (λ (l : List Cell). t.cells ++ l) none ∙ append-nil t.cells in
         let sorted : T (is_sorted byte_order t.cells) = subst (λ (l : List Cell). T (is_sorted byte_order l)) alone rise in
-        let more : room < 4 + size_of want = omega (arith, full, ap (λ (l : List Cell). size_of (put byte_order key value l)) alone) in
-        let mid = middle_is (3 * room / 8) want sizes (omega (arith, more, roomy)) in
+        let mid = parted none in
         let before : suc (m - 1) ≡ m = omega (arith, mid.some) in
-        let cut : List ℕ = middle_key want in
+        let cut : List ℕ = cut_key in
         let low : List ℕ = key_at want (m - 1) in
         let high : List ℕ = key_at want m in
         let rises : T (is_sorted byte_order want) = is_sorted-put byte_order nat_list_cmp_total key value t.cells sorted in
         let less : byte_order low high ≡ Less = ap (λ (i : ℕ). byte_order low (key_at want i)) (sym before) ∙ next_above want (m - 1) rises (omega (arith, before, mid.inside)) in
         let place : place_for cut want ≡ m =
-        place_is cut want (m - 1) rises (omega (arith, before, mid.inside)) (separator_above low high less) (ap (λ (i : ℕ). is_lt (byte_order (key_at want i) cut)) before ∙ separator_reached low high) ∙ before in
-        let all : size_of want ≤ size_of t.cells + cell_size (key, value) = size_put key value t.cells in
-        let pair_parts = both_true (is_short_key room key) (nat_le (4 * length value) room) pair in
-        let one : 8 * (length key + 8) ≤ room = leb-true (8 * (length key + 8)) room pair_parts.0 in
-        let two : 4 * length value ≤ room = leb-true (4 * length value) room pair_parts.1 in (
-          λ e. omega (
-            arith,
-            ap size_of (put_low cut key value t.cells e ∙ ap (λ (n : ℕ). take n want) place),
-            mid.before,
-            all,
-            one,
-            two,
-            pair_size (key, value),
-            fit,
-            ap size_of alone,
-            roomy,
-          ),
-          λ e. omega (
-            arith,
-            ap size_of (put_high cut key value t.cells e ∙ ap (λ (n : ℕ). drop n want) place),
-            mid.behind,
-            all,
-            one,
-            two,
-            pair_size (key, value),
-            fit,
-            ap size_of alone,
-            roomy,
-          ),
+        place_is cut want (m - 1) rises (omega (arith, before, mid.inside)) (separator_above low high less) (ap (λ (i : ℕ). is_lt (byte_order (key_at want i) cut)) before ∙ separator_reached low high) ∙ before in (
+          λ e. omega (arith, ap size_of (put_low cut key value t.cells e ∙ ap (λ (n : ℕ). take n want) place), mid.before),
+          λ e. omega (arith, ap size_of (put_high cut key value t.cells e ∙ ap (λ (n : ℕ). drop n want) place), mid.behind),
         )
 
-    pub leaf_asked : IsAsked lo hi s room key value 0 span t (leaf_split t.object key value (t.cells ++ t.past) t.cells)
+    pub leaf_asked : IsAsked lo hi s room key value 0 span t (leaf_split t.object span.to key value (t.cells ++ t.past) t.cells)
     leaf_asked = record {
       object = refl;
       level_is = refl;
       count = refl;
       past_is = refl;
       key_short =
-          shorter_key room (middle_key want) (key_at want m) (separator_short (key_at want (m - 1)) (key_at want m)) (all_at (is_short_key room) want m keys_short m_inside);
+          shorter_key room cut_key (key_at want m) (separator_short (key_at want (m - 1)) (key_at want m)) (all_at (is_short_key room) want m keys_short m_inside);
       cut = λ e. leaf_part (none_past 0 t e);
       some = λ e. leaf_some (none_past 0 t e);
       why = full;
@@ -332,13 +350,13 @@ module _ (reads : ReadsCells) (lo hi : ℕ) (small : hi < 2 ^ 32) (s : State) (r
         let same : size_of (put byte_order key value (cells_read (bytes_at lo s leaf))) ≡ size_of (put byte_order key value all) =
         ap (λ (x : ℕ). size_of (put byte_order key value (cells_read (bytes_at lo s x)))) (sym here) ∙ ap (λ (l : List Cell). size_of (put byte_order key value l)) cells in
         let size : ℕ = 4 + size_of (put byte_order key value all) in
-        let comes : due_from room lo s key value 0 t.object span.to ≡ Some (if nat_le size room then fits else asks (leaf_split t.object key value all t.cells)) =
+        let comes : due_from room lo s key value 0 t.object span.to ≡ Some (if nat_le size room then fits else asks (leaf_split t.object span.to key value all t.cells)) =
         ap (λ (l : List Cell). Some (due_in_leaf room t.object key value span.to l)) cells
-        ∙ ap (λ (l : List Cell). Some (if nat_le size room then fits else asks (leaf_split t.object key value all l))) front in
-        elim (nat_le size room) as (λ b. nat_le size room ≡ b → due_from room lo s key value 0 t.object span.to ≡ Some (if b then fits else asks (leaf_split t.object key value all t.cells)) → DueFound 0 span t) [
+        ∙ ap (λ (l : List Cell). Some (if nat_le size room then fits else asks (leaf_split t.object span.to key value all l))) front in
+        elim (nat_le size room) as (λ b. nat_le size room ≡ b → due_from room lo s key value 0 t.object span.to ≡ Some (if b then fits else asks (leaf_split t.object span.to key value all t.cells)) → DueFound 0 span t) [
           | true ↦ λ e comes. record { due = fits; comes = comes; is = omega (arith, leb-true size room e, same) }
           | false ↦ λ e comes. record {
-            due = asks (leaf_split t.object key value all t.cells);
+            due = asks (leaf_split t.object span.to key value all t.cells);
             comes = comes;
             is = leaf_asked lo hi s room key value pair span t stand.0 within holds.rise short (leb-false size room e) (fit t.object 0 all holds);
           }

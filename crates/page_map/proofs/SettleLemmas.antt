@@ -62,7 +62,7 @@ module _ (reads : ReadsCells) (lo hi : ℕ) (small : hi < 2 ^ 32) (room : ℕ) (
     due = fits;
     comes =
         ap (λ (c : List Cell). Some (due_in_leaf room x key value to c)) (page_cells reads lo hi small room key value new 0 x cells held)
-        ∙ ap (λ (t : Bool). Some (if t then fits else asks (leaf_split x key value cells (front_of to cells)))) (le-leb (4 + size_of (put byte_order key value cells)) room roomy);
+        ∙ ap (λ (t : Bool). Some (if t then fits else asks (leaf_split x to key value cells (front_of to cells)))) (le-leb (4 + size_of (put byte_order key value cells)) room roomy);
     less = tt;
   }
 
@@ -174,10 +174,10 @@ module _ (reads : ReadsCells) (lo hi : ℕ) (small : hi < 2 ^ 32) (room : ℕ) (
       let front : front_of span.to cells ≡ cells =
       ap (front_of span.to) (sym (append-nil cells))
       ∙ front_is span.to cells [] (all_weaker (λ c. is_within span c.0) (λ c. is_below c.0 span.to) (λ c e. (within_parts span c.0 e).1) cells stand.0) refl in
-      let again : Split = leaf_split x key value cells cells in
+      let again : Split = leaf_split x span.to key value cells cells in
       let comes : due_at reads lo hi small room key value new 0 x span.to ≡ Some (if nat_le size room then fits else asks again) =
       ap (λ (c : List Cell). Some (due_in_leaf room x key value span.to c)) (page_cells reads lo hi small room key value new 0 x cells held)
-      ∙ ap (λ (c : List Cell). Some (if nat_le size room then fits else asks (leaf_split x key value cells c))) front in
+      ∙ ap (λ (c : List Cell). Some (if nat_le size room then fits else asks (leaf_split x span.to key value cells c))) front in
       let ranks : rank w ≡ 2 * w.level + 1 = ap (λ (t : Bool). 2 * w.level + (if t then 1 else 0)) has in
       elim (nat_le size room) as (λ t. due_at reads lo hi small room key value new 0 x span.to ≡ Some (if t then fits else asks again) → IsBareDue (rank w) 0 x span.to w.key) [
         | true ↦ λ is. record { due = fits; comes = is; goes = λ size q i own roomy. tt }

@@ -1,5 +1,5 @@
 -- Where a page is cut in two, by which key the new page is named, and which page on the way to a leaf has to be cut first.
-use Rattle.std.specs.Prelude.{ℕ, zero, suc, ◌+◌, ◌*◌, ◌-◌, ◌==◌, Bool, ◌&&◌, Option, None, Some, List, [], ◌∷◌, length, map, nat_le, nat_lt, if◌then◌else◌, option_map}
+use Rattle.std.specs.Prelude.{ℕ, zero, suc, ◌+◌, ◌*◌, ◌-◌, ◌==◌, Bool, ◌&&◌, Option, None, Some, List, [], ◌∷◌, is_none, length, map, nat_le, nat_lt, if◌then◌else◌, option_map}
 use Rattle.std.specs.List.{list_all, range_with_len}
 use Rattle.std.specs.FinMap.Entries.{put}
 use Rattle.byteorder.specs.Endian.{little_number}
@@ -72,19 +72,28 @@ inner_split x level cells front = record {
   key = key_at front (middle front);
 }
 
--- the shortest key that parts cells in the middle
-abbrev pub middle_key : List Cell → List ℕ
-middle_key cells = separator (key_at cells (middle cells - 1)) (key_at cells (middle cells))
+-- Where a leaf is cut that has these cells, the new pair among them at a place: in the middle, but with one cell before a pair
+-- behind which no other stands in the map, so that keys that rise leave full leaves behind.
+abbrev pub cut_at : Option (List ℕ) → ℕ → List Cell → ℕ
+cut_at to i cells = if is_none to && (suc i == length cells) then i - 1 else middle cells
 
--- a leaf is cut in the middle of what it would be with the pair
-abbrev pub leaf_split : ℕ → List ℕ → List ℕ → List Cell → List Cell → Split
-leaf_split x key value cells front = record {
+-- the shortest key that parts cells at a place
+abbrev pub key_before : List Cell → ℕ → List ℕ
+key_before cells i = separator (key_at cells (i - 1)) (key_at cells i)
+
+-- the key that parts the cells of a leaf with the pair, whose span has this end
+abbrev pub leaf_key : Option (List ℕ) → List ℕ → List ℕ → List Cell → List ℕ
+leaf_key to key value front = key_before (put byte_order key value front) (cut_at to (place_for key front) (put byte_order key value front))
+
+-- a leaf is cut as it would be with the pair
+abbrev pub leaf_split : ℕ → Option (List ℕ) → List ℕ → List ℕ → List Cell → List Cell → Split
+leaf_split x to key value cells front = record {
   object = x;
   level = 0;
-  place = place_for (middle_key (put byte_order key value front)) front;
+  place = place_for (leaf_key to key value front) front;
   count = length front;
   has_past = nat_lt (length front) (length cells);
-  key = middle_key (put byte_order key value front);
+  key = leaf_key to key value front;
 }
 
 -- The leaf has room for the pair; or a page asks the one above it to name a new page; or the page above, with its cell, has room
@@ -96,7 +105,7 @@ pub data Due : Type 0 where
 
 abbrev pub due_in_leaf : ℕ → ℕ → List ℕ → List ℕ → Option (List ℕ) → List Cell → Due
 due_in_leaf room x key value to cells =
-    if nat_le (4 + size_of (put byte_order key value cells)) room then fits else asks (leaf_split x key value cells (front_of to cells))
+    if nat_le (4 + size_of (put byte_order key value cells)) room then fits else asks (leaf_split x to key value cells (front_of to cells))
 
 -- where the span of a child ends: at the next key, or where that of its page does
 abbrev pub end_of : List Cell → ℕ → Option (List ℕ) → Option (List ℕ)

@@ -6,7 +6,7 @@ ghost use Rattle.page_ops.specs.Page.{Cell};
 ghost use Rattle.page_map.specs.Cutting as cutting;
 ghost use Rattle.page_map.specs.Cutting.{due_seen};
 ghost use Rattle.page_map.specs.Splits as splits;
-ghost use Rattle.page_map.specs.Splits.{asks, due_in_leaf, inner_split, leaf_split, middle_key};
+ghost use Rattle.page_map.specs.Splits.{asks, cut_at, due_in_leaf, inner_split, leaf_key, leaf_split};
 
 use crate::above::Above;
 use crate::cells::Cells;
@@ -80,15 +80,32 @@ pub(crate) fn inner_cut(
     })
 }
 
+/// Where a leaf is cut, whose span ends there, with the pair at its place.
+fn leaf_place(row: &Row, pair_at: usize, end: &Option<Text>) -> usize
+    ensures { result ≡ cut_at end.now pair_at row.now }
+{
+    if end.is_none() && pair_at.saturating_add(1) == row.count() {
+        return pair_at.saturating_sub(1);
+    }
+    row.middle()
+}
+
 /// The key by which the new page of a leaf is named.
-fn middle_name(alloc: Global, front: &Cells, key: &Text, value: &Text) -> Result<Text, Memory>
-    ensures { IfOk result (λ name. name ≡ middle_key (put byte_order key.now value.now front.now)) }
+fn leaf_name(
+    alloc: Global,
+    front: &Cells,
+    end: &Option<Text>,
+    key: &Text,
+    value: &Text,
+) -> Result<Text, Memory>
+    ensures { IfOk result (λ name. name ≡ leaf_key end.now key.now value.now front.now) }
 {
     let row = Row::with(front, key, value);
-    let middle = row.middle();
+    let pair_at = front.place_for(key.as_slice());
+    let place = leaf_place(&row, pair_at, end);
     copied(
         alloc,
-        separator(row.key(middle.saturating_sub(1)), row.key(middle)),
+        separator(row.key(place.saturating_sub(1)), row.key(place)),
     )
 }
 
@@ -98,12 +115,13 @@ fn leaf_cut(
     object: u32,
     count: usize,
     front: &Cells,
+    end: &Option<Text>,
     key: &Text,
     value: &Text,
 ) -> Result<Cut, Memory>
-    ensures { (cells : List Cell) → length cells ≡ count → IfOk result (λ cut. cut ≡ leaf_split object key.now value.now cells front.now) }
+    ensures { (cells : List Cell) → length cells ≡ count → IfOk result (λ cut. cut ≡ leaf_split object end.now key.now value.now cells front.now) }
 {
-    let name = middle_name(alloc, front, key, value)?;
+    let name = leaf_name(alloc, front, end, key, value)?;
     let within = front.count();
     let place = front.place_for(name.as_slice());
     Ok(Cut {
@@ -132,7 +150,8 @@ pub(crate) fn leaf_due(
         return Ok(Due::Fits);
     }
     let front = cells.within(end);
-    Ok(Due::Asks(leaf_cut(alloc, object, cells.count(), &front, key, value)?))
+    let cut = leaf_cut(alloc, object, cells.count(), &front, end, key, value)?;
+    Ok(Due::Asks(cut))
 }
 
 /// Where the span of a child ends.
