@@ -1,7 +1,8 @@
 //! What is done to the pairs of a leaf.
 
-ghost use Rattle.std.specs.Prelude.{◌≡◌, IfSome, T, option_map};
+ghost use Rattle.std.specs.Prelude.{◌≡◌, ℕ, List, IfSome, T, option_map};
 ghost use Rattle.std.specs.FinMap.Entries.{is_sorted};
+ghost use Rattle.std.specs.Result.{result_err};
 ghost use Rattle.key_entries.specs.Entries.{byte_order, listed};
 ghost use Rattle.btree_ops.specs.Node.{node_in};
 ghost use Rattle.btree_ops.specs.Effects as effects;
@@ -9,7 +10,7 @@ ghost use Rattle.btree_ops.specs.Effects.{put_made, delete_made};
 
 use crate::{Made, Node};
 use arrayvec::ArrayVec;
-use key_entries::{Pairs, Short, with_pair, without_pair};
+use key_entries::{Pairs, Short, has_key, with_pair, without_pair};
 use oper_core::Refusal;
 
 /// Puts a pair into the leaf that a value is. The empty value counts as a leaf without pairs.
@@ -23,6 +24,19 @@ pub(crate) fn put(value: &[u8], key: Short, new: Short) -> Result<Made, Refusal>
         Some(pairs) => Ok(Made::One(Node::Leaf(pairs))),
         None => Err(Refusal::NodeFull),
     }
+}
+
+/// Why a pair can't be put into the leaf that a value is, whatever stands beside its key. Nothing is made.
+pub(crate) fn may_put(value: &[u8], key: Short) -> Result<(), Refusal>
+    ensures { (new : List ℕ) → result_err result ≡ result_err (put_made key new (effects.pairs_to_fill value.now)) }
+{
+    let Some(pairs) = pairs_to_fill(value) else {
+        return Err(Refusal::NotNode);
+    };
+    if has_key(pairs.as_slice(), key) || !pairs.is_full() {
+        return Ok(());
+    }
+    Err(Refusal::NodeFull)
 }
 
 /// Deletes a key's pair from the leaf that a value is.

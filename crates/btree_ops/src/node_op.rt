@@ -1,4 +1,5 @@
 ghost use Rattle.std.specs.Prelude.{◌≡◌, length};
+ghost use Rattle.std.specs.Result.{result_err};
 ghost use Rattle.key_entries.specs.Objects.{where_roomy};
 ghost use Rattle.btree_ops.specs.Effects.{made_by};
 ghost use Rattle.btree_ops.specs.Operation.{read_by};
@@ -70,6 +71,18 @@ impl NodeOp {
             ),
         }
     }
+
+    /// Why it makes nothing of the values that it reads, whatever the length of values may be.
+    fn may_make(&self, values: &Values) -> Result<(), Refusal>
+        requires { length values.now ≡ length (read_by self.now) }
+        ensures { result_err result ≡ result_err (made_by self.now values.now) }
+    {
+        if let NodeOp::Put { key, .. } = self {
+            return leaf::may_put(values.get(0), *key);
+        }
+        let _made = self.made_of(values)?;
+        Ok(())
+    }
 }
 
 impl Oper for NodeOp {
@@ -123,7 +136,10 @@ impl Oper for NodeOp {
     }
 
     fn check(&self, b: Bounds, values: &Values) -> Result<(), Refusal> {
-        let _made = self.outcome(b, values)?;
+        self.may_make(values)?;
+        if b.cap < LEAST_CAP {
+            return Err(Refusal::TooLarge);
+        }
         Ok(())
     }
 
