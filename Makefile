@@ -11,6 +11,7 @@ completions = $(DESTDIR)$(PREFIX)/share/bash-completion/completions
 libdir = $(PREFIX)/lib
 lib = $(DESTDIR)$(libdir)
 include = $(DESTDIR)$(PREFIX)/include
+static = $(wildcard release/libredo-x86_64-linux.a)
 version = $(shell sed -n 's/^version=//p' release/start)
 
 .PHONY: all install uninstall dist deb
@@ -33,6 +34,7 @@ install:
 	install -m 644 release/completion_look.bash $(completions)/redo_check
 	install -m 644 release/libredo-x86_64-linux.so $(lib)/libredo.so.1
 	ln -sf libredo.so.1 $(lib)/libredo.so
+	for file in $(static); do install -m 644 $$file $(lib)/libredo.a || exit; done
 	install -m 644 capi/redo.h $(include)/redo.h
 	sed 's|@PREFIX@|$(PREFIX)|; s|@LIBDIR@|$(libdir)|; s|@VERSION@|$(version)|' capi/redo.pc.in >$(lib)/pkgconfig/redo.pc
 	chmod 644 $(lib)/pkgconfig/redo.pc
@@ -45,7 +47,7 @@ uninstall:
 	rm -f $(bin)/redo $(bin)/redo_log $(bin)/redo_check $(man)/redo.1 $(man)/redo_log.1 $(man)/redo_check.1
 	rm -f $(completions)/redo $(completions)/redo_log $(completions)/redo_check
 	rm -f $(libexec)/redo $(libexec)/redo_log $(libexec)/redo_check
-	rm -f $(lib)/libredo.so $(lib)/libredo.so.1 $(lib)/pkgconfig/redo.pc $(include)/redo.h
+	rm -f $(lib)/libredo.so $(lib)/libredo.so.1 $(lib)/libredo.a $(lib)/pkgconfig/redo.pc $(include)/redo.h
 	rm -f $(doc)/LICENSE-MIT $(doc)/LICENSE-APACHE $(doc)/THIRD-PARTY
 	rm -rf $(libexec)/python
 	-rmdir $(libexec) $(doc)
@@ -54,7 +56,8 @@ uninstall:
 dist:
 	tar -czf redo-$(version)-x86_64-linux.tar.gz --transform 's|^|redo-$(version)/|' \
 	  README.md CHANGELOG.md LICENSE-MIT LICENSE-APACHE THIRD-PARTY Makefile docs release/redo-x86_64-linux release/redo_log-x86_64-linux \
-	  release/redo_check-x86_64-linux release/start release/look release/deb release/completion.bash release/completion_look.bash release/libredo-x86_64-linux.so \
+	  release/redo_check-x86_64-linux release/start release/look release/deb release/completion.bash release/completion_look.bash \
+	  release/libredo-x86_64-linux.so $(static) \
 	  capi/redo.h capi/redo.pc.in capi/redo.py capi/redo_shell.py capi/shell capi/pyproject.toml capi/build_wheel.py
 
 # a package for Debian and Ubuntu: `apt install ./redo_*_amd64.deb`

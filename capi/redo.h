@@ -15,8 +15,10 @@ extern "C" {
 #endif
 
 /* Of this header: greater where something was added, which never changes what was there. */
-#define REDO_VERSION 5
+#define REDO_VERSION 6
+#define REDO_VERSION_STRING "0.10.0"    /* of the release */
 uint32_t redo_version(void);            /* of the library that runs */
+const char *redo_version_string(void);
 size_t redo_handle_size(void);          /* sizeof(redo_t) in it, which is 128 in all versions */
 
 /* Numbers beside an answer. */
@@ -27,7 +29,8 @@ typedef struct redo_detail { uint64_t first, second, third; } redo_detail_t;
 typedef struct redo_core { uint8_t opened_; void *at_; } redo_core_t;
 typedef struct redo_files { int32_t folder_, file_[3]; } redo_files_t;
 typedef struct redo {
-    int32_t state_, busy_;
+    int32_t state_;
+    uint8_t busy_, reads_, upkeep_, unused_;
     redo_files_t files_;
     redo_core_t core_;
     uint8_t *buffer_;
@@ -36,7 +39,8 @@ typedef struct redo {
     redo_files_t copy_;
     redo_core_t target_;
     const struct redo *self_;
-    uint32_t forks_, upkeep_;
+    uint32_t forks_;
+    int32_t answer_;
 } redo_t;
 #ifdef __cplusplus
 #define REDO_CLOSED {}
@@ -56,7 +60,8 @@ enum {
     REDO_NOT_A_STORE = 3,    /* redo_open: the folder has none */
     REDO_DAMAGED = 4,        /* a file is damaged, or a redo_create was cut short; detail: the file (0 objects, 1 log A, 2 log B) and
                               * the place */
-    REDO_DISK_FAULT = 5,     /* a file could not be read, written or synced, or there was no memory to do so; detail: errno, or 0 */
+    REDO_DISK_FAULT = 5,     /* a file could not be opened, read, written or synced, or memory was refused in the middle of a call;
+                              * detail: errno; the file (3 the folder); what failed, below, which is 0 where memory was refused */
     REDO_ALREADY_STORE = 6,  /* the folder in which a store is to be made has one */
     REDO_MEMORY = 8,         /* out of memory */
     REDO_BACKUP_FAULT = 11,  /* as REDO_DISK_FAULT, of a backup's files: the backup is given up, and the store goes on */
@@ -99,9 +104,16 @@ enum {
     REDO_LOCKED = 71,        /* another handle, or another process, has the store */
     REDO_NO_FOLDER = 72,     /* the folder is not there, or cannot be locked; detail: errno */
     REDO_OLD_LOG = 73,       /* the folder in which a store is to be made has none, but the log of one: see docs/SCRIPT.md */
-    REDO_NO_LENGTH = 74      /* a value is longer than the room, and `length` is null; the room has the beginning of it */
+    REDO_NO_LENGTH = 74,     /* a value is longer than the room, and `length` is null; the room has the beginning of it */
+    REDO_READ_ONLY = 75,     /* the handle only reads */
+    REDO_BAD_WAY = 76        /* redo_open_with: no such way to open a store */
 };
+enum { REDO_FAILED_OPEN = 1, REDO_FAILED_READ = 2, REDO_FAILED_WRITE = 3, REDO_FAILED_SYNC = 4 };
 const char *redo_strerror(int32_t answer);      /* a constant text for each number */
+/* What the last answer of this handle that was not 0, and not REDO_BUSY, says in words: the numbers beside it, and of a fault the file,
+ * what failed and the system's reason. It is put into the room, where 160 bytes are enough, and `into` is the answer; where there is
+ * no room, the constant text is. After redo_close there was none. */
+const char *redo_last_error(const redo_t *db, char *into, size_t room);
 /* What the last answer of this handle that was not 0 says beside its number; zeros where it says nothing. */
 int32_t redo_last_detail(const redo_t *db, redo_detail_t *detail);
 
@@ -110,8 +122,17 @@ int32_t redo_last_detail(const redo_t *db, redo_detail_t *detail);
  * to 536870912). One that was cut short has made no store: redo_open says REDO_NOT_A_STORE or REDO_DAMAGED, and redo_create makes one
  * (after REDO_OLD_LOG once the log files are removed). Opening a store reads its files into memory, and takes twice their length
  * while it does. */
+typedef struct redo_params { uint32_t objects, cap, limit; } redo_params_t;
 int32_t redo_create(redo_t *db, const char *folder, uint32_t objects, uint32_t cap, uint32_t limit);
 int32_t redo_open(redo_t *db, const char *folder);
+/* redo_open, but in this way: 0, or one of these. The lock is waited for, so many milliseconds at most: then it is REDO_LOCKED.
+ * REDO_OR_CREATE: where the folder has no store, one is made with these numbers, which else are not looked at. What redo_open calls
+ * damaged is so here.
+ * REDO_TO_READ: nothing is written, and no restart is logged. Many handles may read one store, in one process or several, and none
+ * changes it meanwhile (REDO_LOCKED, on either side). The folder and its files have to be readable, no more. Every call that does
+ * not only read is REDO_READ_ONLY. */
+enum { REDO_OR_CREATE = 1, REDO_TO_READ = 2 };
+int32_t redo_open_with(redo_t *db, const char *folder, uint32_t how, uint32_t wait, const redo_params_t *numbers);
 int32_t redo_close(redo_t *db);                 /* forces nothing; in a child it lets the child's copy of the handle go */
 
 /* Commands on values. With REDO_OK a command is accepted, and redo_get sees it; it is durable once redo_force says so. Bytes are
@@ -189,7 +210,6 @@ typedef struct redo_stat {
     uint64_t used, identities;              /* bytes of the log in use, identity writes logged since the store was opened */
 } redo_stat_t;
 int32_t redo_stat(redo_t *db, redo_stat_t *stat);
-typedef struct redo_params { uint32_t objects, cap, limit; } redo_params_t;
 int32_t redo_params(redo_t *db, redo_params_t *params);
 
 /* The objects low to high of a map, in which nothing else is put. Keys and values of a map have 1 to 32 bytes, and its store a cap

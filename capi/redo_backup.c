@@ -1,7 +1,6 @@
 /* The calls on a backup: the files of the store come first, and then those of the backup, which have a folder and a lock of their
  * own. Where one of these fails the backup is given up, and the store goes on. This page is trusted as redo.c is. */
 #include "redo_files.h"
-#include <errno.h>
 #include <stdlib.h>
 
 void redo_end_backup(redo_t *db) {
@@ -14,7 +13,7 @@ void redo_end_backup(redo_t *db) {
 static int32_t report(redo_t *db, uint32_t core_answer) {
     int32_t answer = redo_report(db, core_answer);
     if (db->target_.opened_ && !redo_make_calls(db, &db->copy_, redo_core_target_next, &db->target_)) {
-        answer = redo_because(db, REDO_BACKUP_FAULT);
+        answer = REDO_BACKUP_FAULT;
         redo_core_backup_give_up(&db->core_);
     }
     if (answer == REDO_BACKUP_FAULT) redo_end_backup(db);
@@ -25,7 +24,7 @@ static int32_t report(redo_t *db, uint32_t core_answer) {
 static int32_t open_target(redo_t *db, const char *folder, bool *has_log) {
     bytes_t bytes[3] = {{0, 0}, {0, 0}, {0, 0}};
     db->detail_ = (redo_detail_t){0, 0, 0};
-    int32_t answer = redo_open_files(db, &db->copy_, folder, bytes);
+    int32_t answer = redo_open_files(db, &db->copy_, folder, 0, bytes);
     if (answer == REDO_DISK_FAULT) answer = REDO_BACKUP_FAULT;
     if (answer == REDO_OK) answer = (int32_t)redo_core_target_open(&db->target_, FILES(bytes));
     if (answer != REDO_OK) redo_close_files(db, &db->copy_);

@@ -9,6 +9,8 @@
 #define MADE(name, ...) redo_report(db, redo_core_##name(&db->core_, __VA_ARGS__))
 #define REPORT(name, ...) REDO_CALL(MADE(name, __VA_ARGS__))
 #define REPORT_OF(name) REDO_CALL(redo_report(db, redo_core_##name(&db->core_)))
+#define READ(name, ...) REDO_READING(MADE(name, __VA_ARGS__))
+#define READ_OF(name) REDO_READING(redo_report(db, redo_core_##name(&db->core_)))
 /* The same of a command, after which the handle keeps up, where it is to. Before it what the objects hold that it names is kept for the
  * snapshot, if one is open: it writes no others. */
 #define COMMAND(one, other, name, ...) REDO_CALL((keep(db, one, other), kept_up(db, MADE(name, __VA_ARGS__))))
@@ -17,6 +19,7 @@
 #define CHANGE(name, range, ...) (keep_range(db, range), kept_up(db, MADE(name, &range, __VA_ARGS__)))
 /* The same, but where bytes that it names are nowhere. */
 #define UNLESS(nowhere, made) REDO_CALL((nowhere) ? redo_alone(db, REDO_NULL) : (made))
+#define READ_UNLESS(nowhere, made) REDO_READING((nowhere) ? redo_alone(db, REDO_NULL) : (made))
 
 /* Whether the log is past three quarters of its limit, or has no room for another value. */
 static int is_nearly_full(redo_t *db) {
@@ -80,7 +83,7 @@ int32_t redo_sort(redo_t *db, uint32_t from, uint32_t to, uint32_t width) { retu
 int32_t redo_swap(redo_t *db, uint32_t first, uint32_t second) { return COMMAND(first, second, swap, first, second); }
 int32_t redo_get(redo_t *db, uint32_t object, void *into, size_t room, uint64_t *length) {
     uint64_t unasked = 0;
-    return UNLESS(NOWHERE(into, room), VALUE(get, object));
+    return READ_UNLESS(NOWHERE(into, room), VALUE(get, object));
 }
 
 int32_t redo_force(redo_t *db, uint64_t *commands) { return REPORT(force, COUNT(commands)); }
@@ -117,15 +120,15 @@ int32_t redo_txn_commit(redo_t *db) { return COMMIT(txn_commit); }
 int32_t redo_txn_commit_lazily(redo_t *db) { return COMMIT(txn_commit_lazily); }
 int32_t redo_txn_abort(redo_t *db) { return REPORT_OF(txn_abort); }
 
-int32_t redo_snapshot_begin(redo_t *db) { return REPORT_OF(snapshot_begin); }
+int32_t redo_snapshot_begin(redo_t *db) { return READ_OF(snapshot_begin); }
 int32_t redo_snapshot_get(redo_t *db, uint32_t object, void *into, size_t room, uint64_t *length) {
     uint64_t unasked = 0;
-    return UNLESS(NOWHERE(into, room), VALUE(snapshot_get, object));
+    return READ_UNLESS(NOWHERE(into, room), VALUE(snapshot_get, object));
 }
-int32_t redo_snapshot_end(redo_t *db) { return REPORT_OF(snapshot_end); }
+int32_t redo_snapshot_end(redo_t *db) { return READ_OF(snapshot_end); }
 
-int32_t redo_stat(redo_t *db, redo_stat_t *stat) { return REPORT(stat, stat ? stat : &(redo_stat_t){0}); }
-int32_t redo_params(redo_t *db, redo_params_t *params) { return REPORT(params, params ? params : &(redo_params_t){0}); }
+int32_t redo_stat(redo_t *db, redo_stat_t *stat) { return READ(stat, stat ? stat : &(redo_stat_t){0}); }
+int32_t redo_params(redo_t *db, redo_params_t *params) { return READ(params, params ? params : &(redo_params_t){0}); }
 
 int32_t redo_tree_insert(redo_t *db, redo_range_t tree, const void *key, size_t key_length, const void *value, size_t length) {
     return UNLESS(NOWHERE(key, key_length) || NOWHERE(value, length),
@@ -137,12 +140,12 @@ int32_t redo_tree_delete(redo_t *db, redo_range_t tree, const void *key, size_t 
 int32_t redo_tree_get(redo_t *db, redo_range_t tree, const void *key, size_t key_length, void *into, size_t room,
                       uint64_t *length) {
     uint64_t unasked = 0;
-    return UNLESS(NOWHERE(key, key_length) || NOWHERE(into, room), VALUE(tree_get, &tree, redo_some(key), key_length));
+    return READ_UNLESS(NOWHERE(key, key_length) || NOWHERE(into, room), VALUE(tree_get, &tree, redo_some(key), key_length));
 }
 int32_t redo_tree_range(redo_t *db, redo_range_t tree, const void *from, size_t from_length, const void *to, size_t to_length,
                         uint64_t *count) {
-    return UNLESS(NOWHERE(from, from_length) || NOWHERE(to, to_length),
-                  MADE(tree_range, &tree, redo_some(from), from_length, redo_some(to), to_length, COUNT(count)));
+    return READ_UNLESS(NOWHERE(from, from_length) || NOWHERE(to, to_length),
+                       MADE(tree_range, &tree, redo_some(from), from_length, redo_some(to), to_length, COUNT(count)));
 }
 /* (Where there is no such pair, the library's detail is that of the call before.) */
 static int32_t tree_pair(redo_t *db, uint64_t pair, void *key, size_t key_room, void *value, size_t room, redo_lengths_t *lengths) {
@@ -153,7 +156,7 @@ static int32_t tree_pair(redo_t *db, uint64_t pair, void *key, size_t key_room, 
 }
 int32_t redo_tree_pair(redo_t *db, uint64_t pair, void *key, size_t key_room, void *value, size_t room,
                        redo_lengths_t *lengths) {
-    return UNLESS(NOWHERE(key, key_room) || NOWHERE(value, room), tree_pair(db, pair, key, key_room, value, room, lengths));
+    return READ_UNLESS(NOWHERE(key, key_room) || NOWHERE(value, room), tree_pair(db, pair, key, key_room, value, room, lengths));
 }
 int32_t redo_hash_put(redo_t *db, redo_range_t hash, const void *key, size_t key_length, const void *value, size_t length) {
     return UNLESS(NOWHERE(key, key_length) || NOWHERE(value, length),
@@ -165,7 +168,7 @@ int32_t redo_hash_delete(redo_t *db, redo_range_t hash, const void *key, size_t 
 int32_t redo_hash_get(redo_t *db, redo_range_t hash, const void *key, size_t key_length, void *into, size_t room,
                       uint64_t *length) {
     uint64_t unasked = 0;
-    return UNLESS(NOWHERE(key, key_length) || NOWHERE(into, room), VALUE(hash_get, &hash, redo_some(key), key_length));
+    return READ_UNLESS(NOWHERE(key, key_length) || NOWHERE(into, room), VALUE(hash_get, &hash, redo_some(key), key_length));
 }
 
 int32_t redo_app_exec(redo_t *db, uint32_t app) { return COMMAND(app, app, app_exec, app); }

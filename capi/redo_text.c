@@ -1,7 +1,11 @@
 /* What the answers are called, and which library this is. */
-#include "redo.h"
+#define _POSIX_C_SOURCE 200809L                 /* for the strerror_r that has the same form in each C library */
+#include "redo_files.h"
+#include <stdio.h>
+#include <string.h>
 
 uint32_t redo_version(void) { return REDO_VERSION; }
+const char *redo_version_string(void) { return REDO_VERSION_STRING; }
 
 size_t redo_handle_size(void) { return sizeof(redo_t); }
 
@@ -11,10 +15,10 @@ const char *redo_strerror(int32_t answer) {
     case REDO_BAD_PARAMS: return "no store may have these numbers";
     case REDO_NOT_A_STORE: return "the folder has no store";
     case REDO_DAMAGED: return "a file of the store is damaged";
-    case REDO_DISK_FAULT: return "a file of the store could not be read, written or synced, or there was no memory to do so";
+    case REDO_DISK_FAULT: return "a file of the store could not be read, written or synced, or memory was refused";
     case REDO_ALREADY_STORE: return "the folder has a store already";
     case REDO_MEMORY: return "out of memory";
-    case REDO_BACKUP_FAULT: return "a file of the backup could not be read, written or synced";
+    case REDO_BACKUP_FAULT: return "a file of the backup could not be read, written or synced, or memory was refused";
     case REDO_LOG_FULL: return "the log is full";
     case REDO_EXHAUSTED: return "no number is left for a command";
     case REDO_IN_GROUP: return "not within a group";
@@ -55,6 +59,42 @@ const char *redo_strerror(int32_t answer) {
     case REDO_NO_FOLDER: return "the folder is not there, or cannot be locked";
     case REDO_OLD_LOG: return "the folder has no store, but the log of one";
     case REDO_NO_LENGTH: return "the value is longer than the room, and its length is not asked for";
+    case REDO_READ_ONLY: return "the handle only reads";
+    case REDO_BAD_WAY: return "no such way to open a store";
     default: return "no answer of this library";
     }
+}
+
+/* (The reason may be 0: a file that ends before its length.) */
+static const char *reason_of(uint64_t number, char room[80]) {
+    if (number == 0 || strerror_r((int)number, room, 80) != 0) snprintf(room, 80, number ? "error %d" : "it is too short", (int)number);
+    return room;
+}
+static const char *name_of(uint64_t file) { return redo_file_names[file < REDO_FOLDER ? file : REDO_FOLDER]; }
+static const char *done_of(uint64_t what) {
+    return what == REDO_FAILED_OPEN ? "opened" : what == REDO_FAILED_READ ? "read" : what == REDO_FAILED_WRITE ? "written" : "synced";
+}
+
+#define SAY(...) snprintf(into, room, __VA_ARGS__)
+const char *redo_last_error(const redo_t *db, char *into, size_t room) {
+    const char *text = redo_strerror(db->answer_), *whose = db->answer_ == REDO_BACKUP_FAULT ? "backup" : "store";
+    unsigned long long first = db->detail_.first, second = db->detail_.second, third = db->detail_.third;
+    char reason[80];
+    if (!into || room == 0) return text;
+    switch (db->answer_) {
+    case REDO_DISK_FAULT: case REDO_BACKUP_FAULT:
+        if (third == 0) SAY("memory was refused in the middle of a call on the %s", whose);
+        else SAY("%s of the %s could not be %s: %s", name_of(second), whose, done_of(third), reason_of(first, reason));
+        break;
+    case REDO_NO_FOLDER: SAY("%s: %s", text, reason_of(first, reason)); break;
+    case REDO_DAMAGED: SAY("%s is damaged at byte %llu", name_of(first), second); break;
+    case REDO_LOG_FULL: SAY("%s: %llu bytes are used and %llu needed, of %llu", text, first, second, third); break;
+    case REDO_IN_GROUP: SAY("%s (commands in it: %llu)", text, first); break;
+    case REDO_IN_BACKUP: case REDO_NOT_COPIED: SAY("%s (copied: %llu)", text, first); break;
+    case REDO_BAD_TREE: case REDO_BAD_HASH: case REDO_HASH_FULL: SAY("%s: object %llu", text, first); break;
+    case REDO_TREE_FULL: SAY("%s: %llu more are needed, %llu are empty", text, first, second); break;
+    case REDO_NO_ROOM: SAY("%s: %llu are empty", text, first); break;
+    default: SAY("%s", text);
+    }
+    return into;
 }

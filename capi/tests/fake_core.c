@@ -196,6 +196,7 @@ uint32_t redo_core_open(redo_core_t *c, redo_bytes_t o, size_t n, redo_bytes_t a
     while (block_at(log, s->end, head, &changes) && head[0] == s->epoch)
         redo_changes(s, changes), s->accepted = s->forced = head[1], s->end += HEAD + changes.n;
     s->filled = log.n;
+    if (s->accepted) ask(s, REDO_CALL_WRITE, 0, 1, &s->numbers, sizeof s->numbers);         /* a restart writes */
     return opened(c, s);
 }
 uint32_t redo_core_close(redo_core_t *c) {

@@ -331,7 +331,7 @@ static void lost(const char *folder) {
         WANT(REDO_OK, in_txn ? redo_txn_begin(&db) : redo_begin(&db));
         put(0, "lost");
         fake_aborts_fail = true;
-        WANT(REDO_DISK_FAULT, in_txn ? redo_txn_commit(&db) : redo_group_abort(&db)), detail_is(0, 0);
+        WANT(REDO_DISK_FAULT, in_txn ? redo_txn_commit(&db) : redo_group_abort(&db)), detail_is(ENOMEM, 0);
         fake_aborts_fail = false;
         WANT(REDO_DISK_FAULT, redo_get(&db, 0, got, sizeof got, &n));
         WANT(REDO_OK, redo_close(&db));
