@@ -1,6 +1,6 @@
 # Installs the programs and the library, without the toolchain and without proving anything: release/ holds them, built (Linux on
 # x86-64).
-#   make install [PREFIX=/usr/local] [DESTDIR=..]      make uninstall      make dist      make deb
+#   make install [PREFIX=/usr/local] [DESTDIR=..]      make uninstall      make dist      make deb      make wheel
 PREFIX = /usr/local
 override PREFIX := $(abspath $(PREFIX))
 bin = $(DESTDIR)$(PREFIX)/bin
@@ -14,7 +14,7 @@ include = $(DESTDIR)$(PREFIX)/include
 static = $(wildcard release/libredo-x86_64-linux.a)
 version = $(shell sed -n 's/^version=//p' release/start)
 
-.PHONY: all install uninstall dist deb
+.PHONY: all install uninstall dist deb wheel
 all:
 	@echo "Nothing is to be made: ./redo starts the program. 'make install PREFIX=..' installs it."
 
@@ -38,10 +38,11 @@ install:
 	install -m 644 capi/redo.h $(include)/redo.h
 	sed 's|@PREFIX@|$(PREFIX)|; s|@LIBDIR@|$(libdir)|; s|@VERSION@|$(version)|' capi/redo.pc.in >$(lib)/pkgconfig/redo.pc
 	chmod 644 $(lib)/pkgconfig/redo.pc
-	install -d $(libexec)/python/shell
-	install -m 644 capi/redo.py capi/redo_shell.py $(libexec)/python
-	install -m 644 capi/shell/*.py $(libexec)/python/shell
-	ln -sfr $(lib)/libredo.so.1 $(libexec)/python/libredo.so.1
+	install -d $(libexec)/python/redo/shell
+	install -m 644 capi/redo_shell.py $(libexec)/python
+	install -m 644 capi/redo/*.py capi/redo/py.typed $(libexec)/python/redo
+	install -m 644 capi/redo/shell/*.py $(libexec)/python/redo/shell
+	ln -sfr $(lib)/libredo.so.1 $(libexec)/python/redo/libredo.so.1
 
 uninstall:
 	rm -f $(bin)/redo $(bin)/redo_log $(bin)/redo_check $(man)/redo.1 $(man)/redo_log.1 $(man)/redo_check.1
@@ -58,8 +59,12 @@ dist:
 	  README.md CHANGELOG.md LICENSE-MIT LICENSE-APACHE THIRD-PARTY Makefile docs release/redo-x86_64-linux release/redo_log-x86_64-linux \
 	  release/redo_check-x86_64-linux release/start release/look release/deb release/completion.bash release/completion_look.bash \
 	  release/libredo-x86_64-linux.so $(static) \
-	  capi/redo.h capi/redo.pc.in capi/redo.py capi/redo_shell.py capi/shell capi/pyproject.toml capi/build_wheel.py
+	  capi/redo.h capi/redo.pc.in capi/redo capi/redo_shell.py capi/pyproject.toml capi/build_wheel.py
 
 # a package for Debian and Ubuntu: `apt install ./redo_*_amd64.deb`
 deb:
 	release/deb
+
+# a package for Python, with the library in it: `pip install ./redo_store-*.whl`
+wheel:
+	python3 capi/build_wheel.py

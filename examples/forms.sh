@@ -15,7 +15,7 @@ cells Line >lines
 "$top/docs/forms" --check
 redo run --help | sed -n '/^Lines:/,/^$/s/^  \([a-z].*[^ ]\)   *[^ ].*/\1/p' >lines.help
 alike "lines of the help" SCRIPT lines --help lines.help
-sed -n 's/^    Form("\([a-z][^"]*\)".*/\1/p' "$top/capi/shell/forms.py" >lines.shell
+sed -n 's/^    Form("\([a-z][^"]*\)".*/\1/p' "$top/capi/redo/shell/forms.py" >lines.shell
 alike "lines of the shell" SCRIPT lines shell/forms.py lines.shell
 sed -n 's/.*text: "\([^"]*\)".*/\1/p' "$top/crates/script_lines/src/forms.rt" >lines.table
 alike "lines of the program's table" SCRIPT lines forms.rt lines.table

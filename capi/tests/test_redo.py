@@ -377,7 +377,7 @@ with redo.open(sys.argv[1]) as s: s.put(0, b"two"), s.force()
     done = subprocess.run([sys.executable, "-B", "-c", script, folder], capture_output=True, text=True, env={
         **os.environ, "LD_PRELOAD": os.environ["REDO_CALLS"],
         "REDO_FAIL": "" if is_open else words, "REDO_FAIL_OPEN": words if is_open else "",
-        "PYTHONPATH": os.path.dirname(os.path.abspath(redo.__file__))})
+        "PYTHONPATH": os.path.dirname(os.path.dirname(os.path.abspath(redo.__file__)))})
     return done.stdout.splitlines() or [line.split(":")[0] for line in done.stderr.splitlines()[-1:]]
 
 

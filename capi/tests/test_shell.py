@@ -20,8 +20,8 @@ sys.dont_write_bytecode = True
 CAPI = os.path.join(os.path.dirname(os.path.abspath(__file__)), os.pardir)
 sys.path.insert(0, CAPI)
 import redo  # noqa: E402
-from shell import forms, lines, notation, reading, terminal  # noqa: E402
-from shell import main as shell_main  # noqa: E402
+from redo.shell import forms, lines, notation, reading, terminal  # noqa: E402
+from redo.shell import main as shell_main  # noqa: E402
 
 COMMAND = [sys.executable, "-B", os.path.join(CAPI, "redo_shell.py")]
 PROGRAM = os.path.join(CAPI, os.pardir, "release", "redo-x86_64-linux")

@@ -46,8 +46,9 @@ Bytes = Union[bytes, bytearray, memoryview]
 
 def _load() -> ctypes.CDLL:
     here = os.path.dirname(os.path.abspath(__file__))
-    for path in (os.environ.get("LIBREDO"), os.path.join(here, "libredo.so.1"), os.path.join(here, "build", "libredo.so.1"),
-                 os.path.join(here, os.pardir, "release", "libredo-x86_64-linux.so")):
+    capi = os.path.dirname(here)
+    for path in (os.environ.get("LIBREDO"), os.path.join(here, "libredo.so.1"), os.path.join(capi, "build", "libredo.so.1"),
+                 os.path.join(capi, os.pardir, "release", "libredo-x86_64-linux.so")):
         if path and os.path.exists(path):
             return ctypes.CDLL(path)
     return ctypes.CDLL("libredo.so.1")
@@ -356,7 +357,7 @@ class _Undoing:
     def _leave(self, error: object, *_: object) -> None:
         self.store._do(self.store._end_undoing, self, error)
 
-    __exit__ = _Left()
+    __exit__: Any = _Left()
 
 
 class Store:
@@ -992,8 +993,3 @@ def create(path: str | os.PathLike[str], objects: int, cap: int, limit: int, upk
     and Locked."""
     return _opened(upkeep, _create, _path(path), *(_whole(n, BadParams) for n in (objects, cap, limit)))
 
-
-if __name__ == "__main__":      # python3 -m redo DIR: the shell, docs/SHELL.md
-    from shell.main import main
-
-    sys.exit(main())
