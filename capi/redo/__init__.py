@@ -16,7 +16,14 @@
         tree[b"ann"] = b"100"
         print(dict(tree.range(b"a", b"b")))
 
-`force` alone makes commands durable. The end of a `with` closes the store and forces nothing, as a kill would.
+`force` alone makes commands durable. The end of a `with` closes the store and forces nothing, as a kill would. A force is a sync of
+the disk, which threads share: of eight that put and force, most find their command durable when their turn comes.
+
+Limits (docs/LIMITS.md has all): 65,535 objects of at most 1 MiB; keys of maps, and their values, of 1 to 32 bytes, in a store with
+`cap` 1,024 or more; a hash file of 448 pairs at most, and often half of that. A tree whose keys rise and whose oldest are deleted
+wears its range out: TreeFull after some 2.25 inserts an object. A store is read into memory whole as it is opened, and commands
+that are not installed stay there: `drain`, or `upkeep=True`.
+
 A store may be used by several threads, one call, or one group, after the other. A call in the middle of another one of the same
 thread, as in a signal handler, or of a task within the group of another one, is Busy. After a fork the child has no store.
 What the `with` of a group or a backup has begun ends with it, whatever interrupts it (from Python 3.10 on; 3.9 may lose the end of
@@ -26,10 +33,12 @@ from __future__ import annotations
 
 import builtins
 import ctypes
+import errno
 import os
 import struct
 import sys
 import threading
+import time
 import weakref
 from collections.abc import Callable, Iterator, MutableMapping
 from contextlib import AbstractContextManager
@@ -39,7 +48,7 @@ from typing import Any, NamedTuple, NoReturn, Union
 
 __version__ = "0"       # in the wheel that of the program (build_wheel.py)
 
-__all__ = ["Backup", "Error", "Hash", "Params", "Snapshot", "Stat", "Store", "Tree", "create", "open", "version"]
+__all__ = ["Backup", "Error", "Hash", "MemoryFault", "Params", "Snapshot", "Stat", "Store", "Tree", "create", "open", "version"]
 
 Bytes = Union[bytes, bytearray, memoryview]
 
@@ -115,8 +124,9 @@ def _c(name: str, *types: type) -> Callable[..., int]:
     return call
 
 
-_create, _open, _close = _c("create", _bytes, _u32, _u32, _u32), _c("open", _bytes), _c("close")
+_create, _open_with, _close = _c("create", _bytes, _u32, _u32, _u32), _c("open_with", _bytes, _u32, _u32, _into), _c("close")
 _last_detail = _c("last_detail", ctypes.POINTER(_Detail))
+_lib.redo_last_error.restype, _lib.redo_last_error.argtypes = _bytes, [ctypes.POINTER(_Handle), _into, _size]
 _put, _get, _copy, _append = _c("put", _u32, *_pair), _c("get", _u32, *_room), _c("copy", *_objects), _c("append", *_objects)
 _cut, _sort, _swap = _c("cut", *_objects, _u32), _c("sort", *_objects, _u32), _c("swap", *_objects)
 _force, _install, _tend, _drain = _c("force", _u64p), _c("install", _u64p), _c("tend", _u64, _u64p), _c("drain")
@@ -138,7 +148,7 @@ _app_run, _program_run = _c("app_run", _u32, _u64, _u64p), _c("program_run", *_o
 _program_exec, _program_read, _program_write = (_c("program_" + name, *_objects) for name in ("exec", "read", "write"))
 _lib.redo_strerror.restype, _lib.redo_strerror.argtypes = _bytes, [ctypes.c_int32]
 _lib.redo_version.restype, _lib.redo_handle_size.restype = _u32, _size
-if _lib.redo_version() < 5 or _lib.redo_handle_size() != ctypes.sizeof(_Handle):
+if _lib.redo_version() < 6 or _lib.redo_handle_size() != ctypes.sizeof(_Handle):
     raise ImportError("the library is none that this module knows")
 
 
@@ -148,15 +158,34 @@ def version() -> int:
     return number
 
 
+# What the numbers beside an error are called. `file` is 0 for the objects, 1 and 2 for the logs, 3 for the folder; `what` could not be
+# done with it is 1 open, 2 read, 3 write, 4 sync, or 0 where memory was refused and no file failed.
+# fmt: off
+class Numbers(NamedTuple): first: int; second: int; third: int
+class OfFault(NamedTuple): errno: int; file: int; what: int
+class OfFolder(NamedTuple): errno: int; second: int; third: int
+class OfDamage(NamedTuple): file: int; place: int; third: int
+class OfLog(NamedTuple): used: int; needed: int; limit: int
+class OfLast(NamedTuple): last: int; second: int; third: int
+class OfGroup(NamedTuple): commands: int; second: int; third: int
+class OfCopy(NamedTuple): copied: int; second: int; third: int
+class OfObject(NamedTuple): object: int; second: int; third: int
+class OfTree(NamedTuple): needed: int; empty: int; third: int
+class OfRoom(NamedTuple): empty: int; second: int; third: int
+# fmt: on
+
+
 class Error(Exception):
-    """Why a call was not done: `code` is the number of redo.h, `detail` are the numbers that it says beside it."""
+    """Why a call was not done: `code` is the number of redo.h, `detail` are the numbers that it says beside it, three of them, with
+    names where they say something: `error.detail.used` of LogFull."""
 
     code: int = -1
-    detail: tuple[int, int, int]
+    detail: tuple[int, int, int] = Numbers(0, 0, 0)
 
     def __init__(self, text: str = "", detail: tuple[int, int, int] = (0, 0, 0)) -> None:
         super().__init__(text)
-        self.detail = detail
+        named: Any = type(self.detail)
+        self.detail = named(*detail)
 
     def __str__(self) -> str:
         return Exception.__str__(self)
@@ -165,18 +194,18 @@ class Error(Exception):
 # fmt: off
 class BadParams(Error): code = 2
 class NotAStore(Error): code = 3
-class Damaged(Error): code = 4
-class DiskFault(Error): code = 5
+class Damaged(Error): code = 4; detail: OfDamage = OfDamage(0, 0, 0)
+class DiskFault(Error): code = 5; detail: OfFault = OfFault(0, 0, 0)
 class AlreadyStore(Error): code = 6
 class OutOfMemory(Error, MemoryError): code = 8
-class BackupFault(Error): code = 11
-class LogFull(Error): code = 16
-class Exhausted(Error): code = 17
-class InGroup(Error): code = 18
+class BackupFault(Error): code = 11; detail: OfFault = OfFault(0, 0, 0)
+class LogFull(Error): code = 16; detail: OfLog = OfLog(0, 0, 0)
+class Exhausted(Error): code = 17; detail: OfLast = OfLast(0, 0, 0)
+class InGroup(Error): code = 18; detail: OfGroup = OfGroup(0, 0, 0)
 class NoGroup(Error): code = 19
-class InBackup(Error): code = 20
+class InBackup(Error): code = 20; detail: OfCopy = OfCopy(0, 0, 0)
 class NoBackup(Error): code = 21
-class NotCopied(Error): code = 22
+class NotCopied(Error): code = 22; detail: OfCopy = OfCopy(0, 0, 0)
 class InTransaction(Error): code = 23
 class NoTransaction(Error): code = 24
 class InSnapshot(Error): code = 25
@@ -194,12 +223,12 @@ class NodeFull(Error): code = 40
 class TooLarge(Error): code = 41
 class NotCode(Error): code = 42
 class Halted(Error): code = 43
-class BadTree(Error): code = 44
-class TreeFull(Error): code = 45
-class BadHash(Error): code = 46
-class HashFull(Error): code = 47
-class NoRoom(Error): code = 48
-class BadKey(Error): code = 49
+class BadTree(Error): code = 44; detail: OfObject = OfObject(0, 0, 0)
+class TreeFull(Error): code = 45; detail: OfTree = OfTree(0, 0, 0)
+class BadHash(Error): code = 46; detail: OfObject = OfObject(0, 0, 0)
+class HashFull(Error): code = 47; detail: OfObject = OfObject(0, 0, 0)
+class NoRoom(Error): code = 48; detail: OfRoom = OfRoom(0, 0, 0)
+class BadKey(Error, KeyError, ValueError): code = 49
 class NotOpen(Error): code = 64
 class AlreadyOpen(Error): code = 65
 class Busy(Error): code = 66
@@ -207,9 +236,11 @@ class Copied(Error): code = 67
 class Forked(Error): code = 68
 class Null(Error): code = 69
 class Locked(Error): code = 71
-class NoFolder(Error): code = 72
+class NoFolder(Error): code = 72; detail: OfFolder = OfFolder(0, 0, 0)
 class OldLog(Error): code = 73
 class NoLength(Error): code = 74
+class ReadOnly(Error): code = 75
+class BadWay(Error): code = 76
 # fmt: on
 
 
@@ -219,15 +250,18 @@ for _code, _class in _ERRORS.items():
 __all__ += [error.__name__ for error in _ERRORS.values()]
 
 
-def _error(code: int, detail: tuple[int, int, int] = (0, 0, 0)) -> Error:
-    text = _lib.redo_strerror(code).decode()
-    if code in (5, 11, 72) and detail[0]:
-        text += f": {os.strerror(detail[0])}"
-    elif code == BadTree.code:
-        text += f": object {detail[0]}"
-    elif any(detail):
-        text += f" {detail}"
-    return _ERRORS.get(code, Error)(text, detail)
+class MemoryFault(DiskFault, MemoryError):
+    """memory was refused in the middle of a call, after which the store answers nothing else: no file has failed"""
+
+
+def _error(code: int, detail: tuple[int, int, int] = (0, 0, 0), text: str = "") -> Error:
+    text = text or _lib.redo_strerror(code).decode()
+    is_memory = code == DiskFault.code and detail[0] == errno.ENOMEM and detail[2] == 0
+    return (MemoryFault if is_memory else _ERRORS.get(code, Error))(text, detail)
+
+
+def _bad_hash(x: int) -> Error:
+    return _error(BadHash.code, (x, 0, 0), f"{BadHash.__doc__}: object {x}")
 
 
 def _path(path: str | os.PathLike[str]) -> bytes:
@@ -413,9 +447,12 @@ class Store:
             self._saving = None
 
     def _failure(self, code: int) -> Error:
-        detail = _Detail()
+        if code == Busy.code:
+            return _error(code)
+        detail, text = _Detail(), ctypes.create_string_buffer(160)
         _last_detail(self._handle, detail)
-        return _error(code, (detail.first, detail.second, detail.third))
+        _lib.redo_last_error(self._handle, text, len(text))
+        return _error(code, (detail.first, detail.second, detail.third), text.value.decode(errors="replace"))
 
     def _raise(self, code: int) -> NoReturn:
         raise self._failure(code)
@@ -825,9 +862,11 @@ class Snapshot:
 
 
 class _Map(MutableMapping[bytes, bytes]):
-    """A map of bytes in a range of objects. A key, and the value of a key, has 1 to 32 bytes: BadKey is raised at others.
+    """A map of bytes in a range of objects. A key, and the value of a key, has 1 to 32 bytes: at others BadKey is raised, which is a
+    KeyError and a ValueError.
 
-    Iteration is over the keys of the moment at which it begins. That, as `len` and `bool`, reads the whole map."""
+    Iteration is over the keys of the moment at which it begins. That, as `len` and `bool`, reads the whole map. Each change is a
+    command of its own, or several: what is to be whole in a crash goes into a group."""
 
     _set: Callable[..., int]
     _get: Callable[..., int]
@@ -835,6 +874,9 @@ class _Map(MutableMapping[bytes, bytes]):
 
     def __init__(self, store: Store, low: int, high: int) -> None:
         self._store, self._range = store, _Range(_whole(low), _whole(high))
+
+    def __repr__(self) -> str:
+        return f"{type(self).__name__}({self._range.low}, {self._range.high})"
 
     def __getitem__(self, key: Bytes) -> bytes:
         key = _of(key)
@@ -865,6 +907,13 @@ class _Map(MutableMapping[bytes, bytes]):
             return False
         return True
 
+    def popitem(self) -> tuple[bytes, bytes]:
+        """Takes a pair out, of a tree that of the greatest key. KeyError where there is none."""
+        key = next(reversed(list(self)), None)
+        if key is None:
+            raise KeyError("the map is empty")
+        return key, self.pop(key)
+
     def clear(self) -> None:
         """All keys leave the map."""
         for key in list(self):
@@ -891,11 +940,11 @@ class Hash(_Map):
         if not directory:
             return []
         if len(directory) < 6 or directory[0] != 3 or len(directory) != 2 + (4 << directory[1]):
-            raise _error(BadHash.code, (low, 0, 0))
+            raise _bad_hash(low)
         keys: list[bytes] = []
         for bucket in dict.fromkeys(struct.unpack_from(f"<{1 << directory[1]}I", directory, 2)):
             if not low < bucket <= high:
-                raise _error(BadHash.code, (low, 0, 0))
+                raise _bad_hash(low)
             keys += self._keys_in(bucket)
         return keys
 
@@ -909,7 +958,7 @@ class Hash(_Map):
         except IndexError:
             at = 0
         if at != len(bucket) or bucket[:1] != b"\x04":
-            raise _error(BadHash.code, (x, 0, 0))
+            raise _bad_hash(x)
         return keys
 
 
@@ -926,6 +975,9 @@ class Tree(_Map):
 
     def __iter__(self) -> Iterator[bytes]:
         return (key for key, _ in self.range())
+
+    def __reversed__(self) -> Iterator[bytes]:
+        return reversed(list(self))
 
     def __len__(self) -> int:
         return int(self._store._do(self._size))
@@ -967,10 +1019,19 @@ def _leave_to_parent() -> None:
 os.register_at_fork(after_in_child=_leave_to_parent)
 
 
-def _opened(upkeep: bool, function: Callable[..., int], *words: object) -> Store:
+def _opened(upkeep: bool, wait: float, function: Callable[..., int], path: bytes, *words: object) -> Store:
+    """Waits in short pieces, between which a signal is handled."""
     store = Store()
+    end = time.monotonic() + wait
     try:
-        store._call(function, *words)
+        while True:
+            try:
+                store._call(function, path, *words)
+                break
+            except Locked:
+                if not time.monotonic() < end:
+                    raise
+                time.sleep(min(0.02, max(0.0, end - time.monotonic())))
         if upkeep:
             store._call(_upkeep, 1)
         return store
@@ -979,17 +1040,26 @@ def _opened(upkeep: bool, function: Callable[..., int], *words: object) -> Store
         raise
 
 
-def open(path: str | os.PathLike[str], upkeep: bool = False) -> Store:
+def open(path: str | os.PathLike[str], upkeep: bool = False, *, create: Params | tuple[int, int, int] | None = None,
+         wait: float = 0, readonly: bool = False) -> Store:
     """Opens the store in this folder, and reads its files into memory. Raises NotAStore, Damaged, NoFolder and Locked.
 
     With `upkeep` no `drain` and no `trim` is needed: after a command outside a group and a transaction, and after the end of either,
-    the store takes a small piece of them, where one is due, and all of it where the log stays nearly full."""
-    return _opened(upkeep, _open, _path(path))
+    the store takes a small piece of them, where one is due, and all of it where the log stays nearly full.
+
+    With `create`, the numbers (objects, cap, limit) of `create`, a store is made where the folder has none. With `wait` the store is
+    waited for so many seconds, where another process has it: `math.inf` for good. With `readonly` nothing is written, many may read
+    a store at once while none changes it, and what does not only read is ReadOnly."""
+    if readonly and (upkeep or create is not None):
+        raise ValueError("a store that only reads is not made, and needs no upkeep")
+    if not wait >= 0:
+        raise ValueError("the wait is less than nothing")
+    numbers = None if create is None else _Params(*(_whole(n, BadParams) for n in Params(*create)))
+    return _opened(upkeep, wait, _open_with, _path(path), 1 if numbers else 2 if readonly else 0, 0, numbers and ctypes.byref(numbers))
 
 
 def create(path: str | os.PathLike[str], objects: int, cap: int, limit: int, upkeep: bool = False) -> Store:
     """Makes a store in this folder, which is there, and opens it: 1 to 65,535 objects of at most `cap` bytes (16 to 1,048,576), and
     a log of at most `limit` bytes (2 cap + 4,096 to 536,870,912). Raises BadParams at other numbers, AlreadyStore, OldLog, NoFolder
     and Locked."""
-    return _opened(upkeep, _create, _path(path), *(_whole(n, BadParams) for n in (objects, cap, limit)))
-
+    return _opened(upkeep, 0, _create, _path(path), *(_whole(n, BadParams) for n in (objects, cap, limit)))
