@@ -99,7 +99,8 @@ enum {
     REDO_ALREADY_OPEN = 65,  /* the handle is open */
     REDO_BUSY = 66,          /* another call with this handle is under way: one that a signal has interrupted, or another thread's */
     REDO_COPIED = 67,        /* the handle is a copy of an open one, or was moved since it was opened */
-    REDO_FORKED = 68,        /* the handle is the parent's: this process may close it, and nothing else */
+    REDO_FORKED = 68,        /* the handle is the parent's: this process may close it, and nothing else. (A fork by the bare system call
+                              * is not noticed.) */
     REDO_NULL = 69,          /* a pointer to bytes, or to room for some, is null and its length is not 0; or a path is null */
     REDO_LOCKED = 71,        /* another handle, or another process, has the store */
     REDO_NO_FOLDER = 72,     /* the folder is not there, or cannot be locked; detail: errno */
