@@ -35,7 +35,7 @@ install:
 	install -m 644 release/libredo-x86_64-linux.so $(lib)/libredo.so.1
 	ln -sf libredo.so.1 $(lib)/libredo.so
 	for file in $(static); do install -m 644 $$file $(lib)/libredo.a || exit; done
-	install -m 644 capi/redo.h $(include)/redo.h
+	install -m 644 capi/redo.h capi/redo.hpp $(include)
 	sed 's|@PREFIX@|$(PREFIX)|; s|@LIBDIR@|$(libdir)|; s|@VERSION@|$(version)|' capi/redo.pc.in >$(lib)/pkgconfig/redo.pc
 	chmod 644 $(lib)/pkgconfig/redo.pc
 	install -d $(libexec)/python/redo/shell
@@ -48,18 +48,18 @@ uninstall:
 	rm -f $(bin)/redo $(bin)/redo_log $(bin)/redo_check $(man)/redo.1 $(man)/redo_log.1 $(man)/redo_check.1
 	rm -f $(completions)/redo $(completions)/redo_log $(completions)/redo_check
 	rm -f $(libexec)/redo $(libexec)/redo_log $(libexec)/redo_check
-	rm -f $(lib)/libredo.so $(lib)/libredo.so.1 $(lib)/libredo.a $(lib)/pkgconfig/redo.pc $(include)/redo.h
+	rm -f $(lib)/libredo.so $(lib)/libredo.so.1 $(lib)/libredo.a $(lib)/pkgconfig/redo.pc $(include)/redo.h $(include)/redo.hpp
 	rm -f $(doc)/LICENSE-MIT $(doc)/LICENSE-APACHE $(doc)/THIRD-PARTY
 	rm -rf $(libexec)/python
 	-rmdir $(libexec) $(doc)
 
 # what runs and reads without the sources: unpack it and `make install`
 dist:
-	tar -czf redo-$(version)-x86_64-linux.tar.gz --transform 's|^|redo-$(version)/|' \
+	tar -czf redo-$(version)-x86_64-linux.tar.gz --exclude=__pycache__ --transform 's|^|redo-$(version)/|' \
 	  README.md CHANGELOG.md LICENSE-MIT LICENSE-APACHE THIRD-PARTY Makefile docs release/redo-x86_64-linux release/redo_log-x86_64-linux \
 	  release/redo_check-x86_64-linux release/start release/look release/deb release/completion.bash release/completion_look.bash \
 	  release/libredo-x86_64-linux.so $(static) \
-	  capi/redo.h capi/redo.pc.in capi/redo capi/redo_shell.py capi/pyproject.toml capi/build_wheel.py
+	  capi/redo.h capi/redo.hpp capi/redo.pc.in capi/redo capi/redo_shell.py capi/pyproject.toml capi/build_wheel.py
 
 # a package for Debian and Ubuntu: `apt install ./redo_*_amd64.deb`
 deb:

@@ -28,7 +28,7 @@ typedef struct redo_detail { uint64_t first, second, third; } redo_detail_t;
  * copied or moved between redo_open and redo_close: what was is REDO_COPIED, and its redo_close closes nothing. */
 typedef struct redo_core { uint8_t opened_; void *at_; } redo_core_t;
 typedef struct redo_files { int32_t folder_, file_[3]; } redo_files_t;
-typedef struct redo {
+typedef struct redo_handle {
     int32_t state_;
     uint8_t busy_, reads_, upkeep_, unused_;
     redo_files_t files_;
@@ -38,7 +38,7 @@ typedef struct redo {
     redo_detail_t detail_;
     redo_files_t copy_;
     redo_core_t target_;
-    const struct redo *self_;
+    const struct redo_handle *self_;
     uint32_t forks_;
     int32_t answer_;
 } redo_t;

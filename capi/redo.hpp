@@ -1,0 +1,198 @@
+/* redo.h for C++20: what is begun ends with its scope, bytes are spans or strings, and an answer that is not REDO_OK is thrown.
+ *
+ *     auto s = redo::store::open("accounts", {.create = redo_params_t{64, 1024, 1 << 20}});
+ *     auto t = s.transaction();                   // an exception drops it
+ *     s.put(0, "hello"), s.put(1, s.get(0) + "!");
+ *     t.commit(), s.force();                      // from here on no crash loses them
+ *
+ * redo.h says what each call does. Link with -lredo.
+ *
+ * SPDX-License-Identifier: MIT OR Apache-2.0 */
+#ifndef REDO_HPP
+#define REDO_HPP
+#include "redo.h"
+#include <algorithm>
+#include <chrono>
+#include <filesystem>
+#include <memory>
+#include <optional>
+#include <ranges>
+#include <span>
+#include <stdexcept>
+#include <string>
+#include <string_view>
+#include <utility>
+#include <vector>
+
+namespace redo {
+
+/* Why a call was not done: the number of redo.h, what it says in words, and the numbers beside it. */
+struct error : std::runtime_error {
+    int32_t code;
+    redo_detail_t detail;
+    error(int32_t number, const char *text, redo_detail_t beside) : runtime_error(text), code(number), detail(beside) {}
+};
+
+inline void check(const redo_t *db, int32_t answer) {
+    if (answer == REDO_OK) return;
+    if (answer == REDO_BUSY) throw error(answer, redo_strerror(answer), {});
+    char text[160];
+    redo_detail_t detail{};
+    redo_last_detail(db, &detail);
+    throw error(answer, redo_last_error(db, text, sizeof text), detail);
+}
+
+/* Bytes of the caller: a string, or a span, a vector or an array of what is one byte long. */
+struct bytes {
+    const void *at;
+    std::size_t length;
+    bytes(const char *text) : bytes(std::string_view(text)) {}
+    template <std::ranges::contiguous_range R> requires(sizeof(std::ranges::range_value_t<R>) == 1)
+    bytes(const R &range) : at(std::ranges::data(range)), length(std::ranges::size(range)) {}
+};
+
+/* The value that such a call puts into room; it is made once more where that was too small. */
+std::string value_of(const redo_t *db, auto &&call) {
+    std::string value(256, '\0');
+    for (uint64_t length = 0;; value.resize(length)) {
+        check(db, call(value.data(), value.size(), &length));
+        if (length <= value.size()) return value.resize(length), value;
+    }
+}
+
+/* What is begun, and is given up at the end of the scope unless it was ended before. */
+template <int32_t (*give_up)(redo_t *)> class scope {
+  protected:
+    redo_t *db;
+    scope(redo_t *of, int32_t answer) : db(of) { check(of, answer); }
+    void end(int32_t answer) { check(db, answer), db = nullptr; }
+
+  public:
+    scope(scope &&other) noexcept : db(std::exchange(other.db, nullptr)) {}
+    ~scope() { db ? give_up(db) : REDO_OK; }
+};
+
+struct group : scope<redo_group_abort> {
+    explicit group(redo_t *of) : scope(of, redo_begin(of)) {}
+    group(redo_t *of, uint64_t room) : scope(of, redo_begin_room(of, room)) {}
+    void end() { scope::end(redo_end(db)); }
+};
+
+struct transaction : scope<redo_txn_abort> {
+    explicit transaction(redo_t *of) : scope(of, redo_txn_begin(of)) {}
+    void commit() { end(redo_txn_commit(db)); }
+    void commit_lazily() { end(redo_txn_commit_lazily(db)); }
+};
+
+struct snapshot : scope<redo_snapshot_end> {
+    explicit snapshot(redo_t *of) : scope(of, redo_snapshot_begin(of)) {}
+    std::string get(uint32_t x) const {
+        return value_of(db, [&](auto... room) { return redo_snapshot_get(db, x, room...); });
+    }
+};
+
+struct backup : scope<redo_backup_give_up> {
+    backup(redo_t *of, const std::filesystem::path &folder) : scope(of, redo_backup_start(of, folder.c_str())) {}
+    uint64_t copy(uint32_t count, uint64_t copied = 0) { return check(db, redo_backup_copy(db, count, &copied)), copied; }
+    uint64_t finish(uint64_t commands = 0) {        // copies what is left, and says how many commands there are
+        return copy(UINT32_MAX), end(redo_backup_finish(db, &commands)), commands;
+    }
+};
+
+/* A map in a range of objects, by its three calls in redo.h. */
+template <auto set_, auto delete_, auto get_> class map {
+  protected:
+    redo_t *db;
+    redo_range_t at;
+
+  public:
+    map(redo_t *of, uint32_t low, uint32_t high) : db(of), at{low, high} {}
+    void set(bytes key, bytes value) { check(db, set_(db, at, key.at, key.length, value.at, value.length)); }
+    bool erase(bytes key) {                         // false where the key is not there
+        int32_t answer = delete_(db, at, key.at, key.length);
+        return answer == REDO_NO_KEY ? false : (check(db, answer), true);
+    }
+    std::optional<std::string> get(bytes key) const {
+        char value[32];
+        uint64_t length = 0;
+        int32_t answer = get_(db, at, key.at, key.length, value, sizeof value, &length);
+        if (answer == REDO_NO_KEY) return std::nullopt;
+        return check(db, answer), std::string(value, length);
+    }
+};
+using hash = map<redo_hash_put, redo_hash_delete, redo_hash_get>;
+
+struct tree : map<redo_tree_insert, redo_tree_delete, redo_tree_get> {
+    using map::map;
+    std::vector<std::pair<std::string, std::string>> range(bytes from, bytes to) const {    // by rising key, up to `to`
+        std::vector<std::pair<std::string, std::string>> pairs;
+        char key[32], value[32];
+        redo_lengths_t n{};
+        uint64_t count = 0;
+        check(db, redo_tree_range(db, at, from.at, from.length, to.at, to.length, &count));
+        for (uint64_t i = 0; i < count; i++) {
+            check(db, redo_tree_pair(db, i, key, sizeof key, value, sizeof value, &n));
+            pairs.emplace_back(std::string(key, n.key), std::string(value, n.value));
+        }
+        return pairs;
+    }
+};
+
+/* How a store is opened: made with these numbers where there is none, waited for, only read, with upkeep. */
+struct opening {
+    std::optional<redo_params_t> create{};
+    std::chrono::milliseconds wait{0};
+    bool readonly = false, upkeep = false;
+};
+
+/* A store that is open. It closes at the end of its scope, and forces nothing. What it has begun ends before it. */
+class store {
+    struct closes { void operator()(redo_t *db) const { redo_close(db), delete db; } };
+    std::unique_ptr<redo_t, closes> own{new redo_t REDO_CLOSED};
+    redo_t *db() const { return own.get(); }
+    void made(int32_t answer) const { check(db(), answer); }
+
+  public:
+    static store open(const std::filesystem::path &folder, const opening &how = {}) {
+        store s;
+        uint32_t way = how.create.has_value() * REDO_OR_CREATE + how.readonly * REDO_TO_READ;
+        auto wait = uint32_t(std::clamp<int64_t>(how.wait.count(), 0, UINT32_MAX));
+        s.made(redo_open_with(s.db(), folder.c_str(), way, wait, how.create ? &*how.create : nullptr));
+        if (how.upkeep) s.made(redo_upkeep(s.db(), 1));
+        return s;
+    }
+    static store create(const std::filesystem::path &folder, redo_params_t p) {
+        store s;
+        s.made(redo_create(s.db(), folder.c_str(), p.objects, p.cap, p.limit));
+        return s;
+    }
+    redo_t *handle() const { return db(); }         // for the other calls of redo.h
+    void put(uint32_t x, bytes value) { made(redo_put(db(), x, value.at, value.length)); }
+    std::string get(uint32_t x) const {
+        return value_of(db(), [&](auto... room) { return redo_get(db(), x, room...); });
+    }
+    uint64_t get(uint32_t x, std::span<std::byte> into) const {     // as much as there is room for, and how long it is
+        uint64_t length = 0;
+        return made(redo_get(db(), x, into.data(), into.size(), &length)), length;
+    }
+    void copy(uint32_t from, uint32_t to) { made(redo_copy(db(), from, to)); }
+    void append(uint32_t from, uint32_t to) { made(redo_append(db(), from, to)); }
+    void cut(uint32_t from, uint32_t to, uint32_t place) { made(redo_cut(db(), from, to, place)); }
+    void sort(uint32_t from, uint32_t to, uint32_t width) { made(redo_sort(db(), from, to, width)); }
+    void swap(uint32_t first, uint32_t second) { made(redo_swap(db(), first, second)); }
+    uint64_t force(uint64_t commands = 0) { return made(redo_force(db(), &commands)), commands; }
+    uint64_t tend(uint64_t most, uint64_t installed = 0) { return made(redo_tend(db(), most, &installed)), installed; }
+    void drain() { made(redo_drain(db())); }
+    void trim() { made(redo_trim(db())); }
+    redo_stat_t stat(redo_stat_t s = {}) const { return made(redo_stat(db(), &s)), s; }
+    redo_params_t params(redo_params_t p = {}) const { return made(redo_params(db(), &p)), p; }
+    [[nodiscard]] redo::group group() { return redo::group(db()); }
+    [[nodiscard]] redo::group group(uint64_t room) { return {db(), room}; }
+    [[nodiscard]] redo::transaction transaction() { return redo::transaction(db()); }
+    [[nodiscard]] redo::snapshot snapshot() const { return redo::snapshot(db()); }
+    [[nodiscard]] redo::backup backup(const std::filesystem::path &folder) { return {db(), folder}; }
+    redo::tree tree(uint32_t low, uint32_t high) const { return {db(), low, high}; }
+    redo::hash hash(uint32_t low, uint32_t high) const { return {db(), low, high}; }
+};
+}
+#endif
