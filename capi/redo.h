@@ -235,6 +235,11 @@ int32_t redo_hash_delete(redo_t *db, redo_range_t hash, const void *key, size_t 
 int32_t redo_hash_get(redo_t *db, redo_range_t hash, const void *key, size_t key_length, void *into, size_t room,
                       uint64_t *length);
 
+/* Calls `each` with one pair after the other, in no order, until it answers another number than 0: so many were told. Where it is null
+ * they are counted. The bytes are there until it answers, and the handle is busy meanwhile. */
+typedef int (*redo_each_t)(void *with, const void *key, size_t key_length, const void *value, size_t length);
+int32_t redo_hash_each(redo_t *db, redo_range_t hash, redo_each_t each, void *with, uint64_t *count);
+
 /* An application whose state is the value of `app`: a step, input added from an object, output taken to one, and steps until
  * `most` are done or one is refused for want of input. */
 int32_t redo_app_exec(redo_t *db, uint32_t app);

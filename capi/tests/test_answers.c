@@ -10,6 +10,62 @@ static void detail_is(const redo_t *db, uint64_t first, uint64_t second) {
     if (d.first != first || d.second != second) fail("detail %d %d", (int)d.first, (int)d.second);
 }
 
+/* A pair of a hash file: the key says which, and each is told once. */
+typedef struct { redo_t *db; uint64_t most, told; uint8_t seen[200]; } seen_t;
+static int see(void *with, const void *key, size_t key_length, const void *value, size_t length) {
+    seen_t *seen = with;
+    char text[8] = "";
+    if (key_length != 4 || length != key_length + 1 || memcmp(key, value, 4) || ((const char *)value)[4] != '!') fail("a pair");
+    memcpy(text, key, 4);
+    int i = atoi(text + 1);
+    if (i < 0 || i >= 200 || seen->seen[i]++) fail("%s is told twice", text);
+    WANT(REDO_BUSY, redo_get(seen->db, 0, 0, 0, 0));
+    return ++seen->told == seen->most;
+}
+static void pairs(redo_t *db) {
+    redo_range_t hash = range(2, 63);
+    seen_t all = {.db = db, .most = 1000}, some = {.db = db, .most = 3};
+    uint64_t n = 9;
+    char key[8], value[8];
+    int kept = 0;
+    WANT(REDO_OK, redo_hash_each(db, hash, see, &all, &n));
+    if (n || all.told) fail("a hash file that is not begun");
+    for (int i = 0; i < 200; i++) {
+        snprintf(key, sizeof key, "k%03d", i), snprintf(value, sizeof value, "k%03d!", i);
+        int32_t answer = redo_hash_put(db, hash, B(key), B(value));
+        if (answer == REDO_OK) kept++;
+        else WANT(REDO_HASH_FULL, answer);
+    }
+    for (int i = 0; i < 10; i++) {
+        snprintf(key, sizeof key, "k%03d", i);
+        WANT(REDO_OK, redo_hash_delete(db, hash, B(key)));
+    }
+    WANT(REDO_OK, redo_hash_each(db, hash, see, &all, &n));
+    if (n != (uint64_t)kept - 10 || all.told != n || all.seen[0] || !all.seen[10]) fail("%d pairs of %d", (int)n, kept - 10);
+    WANT(REDO_OK, redo_hash_each(db, hash, 0, 0, &n));
+    if (n != all.told || n < 100) fail("%d pairs are counted", (int)n);
+    WANT(REDO_OK, redo_hash_each(db, hash, see, &some, &n));
+    if (n != 3 || some.told != 3) fail("%d pairs were told", (int)n);
+    WANT(REDO_OK, redo_hash_each(db, hash, 0, 0, 0));
+    WANT(REDO_NO_OBJECT, redo_hash_each(db, range(2, 64), 0, 0, &n)), WANT(REDO_NO_OBJECT, redo_hash_each(db, range(3, 3), 0, 0, &n));
+    WANT(REDO_OK, redo_txn_begin(db)), WANT(REDO_IN_TXN, redo_hash_each(db, hash, 0, 0, &n)), WANT(REDO_OK, redo_txn_abort(db));
+
+    static const char *const spoilt[5] = {"\x04\0\1\1", "\x04\0\0\1", "\x03\0\0", "\x04\0", "\x04\0\1\1k\2v"};
+    static const size_t lengths[5] = {4, 4, 3, 2, 7};
+    uint8_t directory[6] = {3, 0, 1}, longer[600] = {4};
+    WANT(REDO_OK, redo_put(db, 0, directory, sizeof directory));
+    for (int i = 0; i < 5; i++) {
+        WANT(REDO_OK, redo_put(db, 1, spoilt[i], lengths[i]));
+        WANT(REDO_BAD_HASH, redo_hash_each(db, range(0, 1), 0, 0, &n)), detail_is(db, 1, 0);
+    }
+    WANT(REDO_OK, redo_put(db, 1, longer, sizeof longer));
+    WANT(REDO_BAD_HASH, redo_hash_each(db, range(0, 1), 0, 0, &n)), detail_is(db, 1, 0);
+    for (int i = 0; i < 3; i++) {
+        WANT(REDO_OK, redo_put(db, 0, i == 0 ? (uint8_t[6]){3, 0, 2} : i == 1 ? (uint8_t[6]){3, 1, 1} : (uint8_t[6]){5, 0, 1}, 6));
+        WANT(REDO_BAD_HASH, redo_hash_each(db, range(0, 1), 0, 0, &n)), detail_is(db, i == 0 ? 2 : 0, 0);
+    }
+}
+
 /* No value makes a call ask for memory that is longer than a store's may be. */
 static void huge(redo_t *db) {
     size_t length = (size_t)1 << 30;
@@ -51,6 +107,11 @@ int main(int argc, char **argv) {
     WANT(REDO_BAD_HASH, redo_hash_get(&db, range(9, 12), B("k"), got, sizeof got, &n)), detail_is(&db, 9, 0);
     huge(&db);
     WANT(REDO_OK, redo_force(&db, &n));
+    WANT(REDO_OK, redo_close(&db));
+
+    snprintf(path, sizeof path, "%s/pairs", folder);
+    if (mkdir(path, 0777)) fail("%s cannot be made", path);
+    WANT(REDO_OK, redo_create(&db, path, 64, 1024, 65536)), pairs(&db);
     WANT(REDO_OK, redo_close(&db));
 
     /* A create that was cut short at its first byte, which a crash may leave as any, has made no store, and may be made again. */

@@ -108,6 +108,7 @@ static void reads(redo_t *of) {
     WANT(REDO_OK, redo_hash_get(of, (redo_range_t){16, 31}, B("bob"), got, sizeof got, &n));
     WANT(REDO_NO_KEY, redo_hash_get(of, (redo_range_t){16, 31}, B("eve"), got, sizeof got, &n));
     WANT(REDO_NO_OBJECT, redo_get(of, 64, got, sizeof got, &n));
+    WANT(REDO_OK, redo_hash_each(of, (redo_range_t){16, 31}, 0, 0, &n));
     WANT(REDO_OK, redo_snapshot_begin(of));
     WANT(REDO_OK, redo_snapshot_get(of, 0, got, sizeof got, &n));
     WANT(REDO_OK, redo_snapshot_end(of));
