@@ -1,25 +1,25 @@
 // What the calls do to a map.
-ghost use Rattle.std.specs.Prelude.{◌≡◌, ◌<◌, ◌≤◌, ◌^◌, ℕ, Ok, Some, List, length};
+ghost use Rattle.std.specs.Prelude.{◌≡◌, ◌<◌, ◌≤◌, ◌^◌, ℕ, None, Ok, Some, List, length};
 ghost use Rattle.std.specs.FinMap.{get as get_pair};
 ghost use Rattle.oper_core.specs.Meaning.{Accepts};
 ghost use Rattle.oper_core.specs.State.{State};
 ghost use Rattle.oper_core.specs.declared.bounds.Bounds.{Bounds};
 ghost use Rattle.formats.specs.Objects.{bounds_of};
 ghost use Rattle.formats.specs.declared.params.Params.{Params};
-ghost use Rattle.page_map.specs.Map.{IsMap, Span, content_of};
+ghost use Rattle.page_map.specs.Map.{IsMap, Span, all_keys, content_of};
 ghost use Rattle.page_map.specs.Plan.{Admits, delete_command};
 ghost use Rattle.page_ops.specs.Operation.{page_meaning};
 ghost use Rattle.page_ops.specs.declared.page_op.PageOp.{PageOp};
 ghost use Rattle.page_map.specs.Sets.{IsKept};
-ghost use Rattle.page_map.specs.Reads.{count_of};
+ghost use Rattle.page_map.specs.Reads.{back_of, count_of, first_of, last_of, next_of, prev_of, range_of};
 ghost use Rattle.range_calls.specs.Store.{Command, state_of};
 ghost use Rattle.map_client.specs.Answers.{get_told};
 ghost use Rattle.map_client.specs.Laws.{DeleteActs, SetActs, TakesOut};
-ghost use Rattle.map_client.specs.Ranging.{count_told};
+ghost use Rattle.map_client.specs.Ranging.{back_told, count_told, if_any, next_told, prev_told, range_told};
 
 use page_map::{
     a_delete_is_done_or_refused, a_get_finds_what_the_map_has, a_set_is_done_or_refused,
-    changes_are_those_of_the_map, ranges_are_read_from_leaves,
+    changes_are_those_of_the_map, ranges_are_read_from_leaves, reads_are_ranges,
 };
 
 /// Where the range is a map a get answers what the map has at the key. A delete is refused exactly where the map lacks the key;
@@ -43,9 +43,18 @@ pub fn calls_act_as_on_an_ordered_map()
     a_delete_is_done_or_refused();
 }
 
-/// Where the range is a map a count answers how many pairs of the map have keys in the span.
+/// Where the range is a map a count answers how many pairs of the map have keys in the span, a range the first of them, at most so
+/// many, one back the last of them, and the reads beside a key the first pair above it and the last one below it. A range of one of
+/// all keys has the first pair of all, and the last one stands before no key.
 pub fn reads_of_ranges_are_those_of_the_map()
-    ensures { (b : Bounds) (lo hi : ℕ) (s : State) (span : Span) → hi < 2 ^ 32 → hi < b.objects → (is : IsMap lo hi s) → count_told b lo hi s span ≡ Ok (count_of (content_of is) span) }
+    ensures count { (b : Bounds) (lo hi : ℕ) (s : State) (span : Span) → hi < 2 ^ 32 → hi < b.objects → (is : IsMap lo hi s) → count_told b lo hi s span ≡ Ok (count_of (content_of is) span) }
+    ensures range { (b : Bounds) (lo hi : ℕ) (s : State) (span : Span) (most : ℕ) → hi < 2 ^ 32 → hi < b.objects → (is : IsMap lo hi s) → range_told b lo hi s span most ≡ Ok (range_of (content_of is) span most) }
+    ensures back { (b : Bounds) (lo hi : ℕ) (s : State) (span : Span) (most : ℕ) → hi < 2 ^ 32 → hi < b.objects → (is : IsMap lo hi s) → back_told b lo hi s span most ≡ Ok (back_of (content_of is) span most) }
+    ensures next { (b : Bounds) (lo hi : ℕ) (s : State) (key : List ℕ) → hi < 2 ^ 32 → hi < b.objects → (is : IsMap lo hi s) → next_told b lo hi s key ≡ Ok (if_any (next_of (content_of is) key)) }
+    ensures prev { (b : Bounds) (lo hi : ℕ) (s : State) (key : List ℕ) → hi < 2 ^ 32 → hi < b.objects → (is : IsMap lo hi s) → prev_told b lo hi s (Some key) ≡ Ok (if_any (prev_of (content_of is) key)) }
+    ensures first { (b : Bounds) (lo hi : ℕ) (s : State) → hi < 2 ^ 32 → hi < b.objects → (is : IsMap lo hi s) → range_told b lo hi s all_keys 1 ≡ Ok (if_any (first_of (content_of is))) }
+    ensures last { (b : Bounds) (lo hi : ℕ) (s : State) → hi < 2 ^ 32 → hi < b.objects → (is : IsMap lo hi s) → prev_told b lo hi s None ≡ Ok (if_any (last_of (content_of is))) }
 {
     ranges_are_read_from_leaves();
+    reads_are_ranges();
 }
