@@ -2,6 +2,8 @@ pub mod WalkLemmas
 pub mod RangingLemmas
 pub mod RangingWayLemmas
 pub mod RangingCountLemmas
+pub mod RangingPairsLemmas
+pub mod RangingLeavesLemmas
 pub mod DueLemmas
 pub mod OpenLemmas
 pub mod CommandLemmas

@@ -39,9 +39,9 @@ module _ (lo hi : ℕ) (s : State) (span : Span) where
       by_stop (Ok leaf) same = cc
       by_stop (Err bad) same = cc same
 
-  module _ (x : ℕ) (end : Option (List ℕ)) (way : IsOnWay lo hi s span.from 0 x end) (asked : is_below span.from span.to ≡ true) where
+  module _ (x : ℕ) (from : List ℕ) (end : Option (List ℕ)) (way : IsOnWay lo hi s (under_key span.from) 0 x (record { from = from; to = end })) (asked : is_below span.from span.to ≡ true) where
     abbrev leaf : Stop
-    leaf = record { object = x; span = record { from = way.from; to = end } }
+    leaf = record { object = x; span = record { from = from; to = end } }
 
     abbrev counted : ℕ → Option Places → Result ℕ ℕ
     counted n places = ranges.count_on lo hi s (on n) span leaf (ranges.or_bad x places)

@@ -1,5 +1,5 @@
-//! The calls of an ordered map of wide pages that stands in a range of a store's objects: `get`, `set` and `delete`. No line of a
-//! script and no call of the library has them yet.
+//! The calls of an ordered map of wide pages that stands in a range of a store's objects: `get`, `set`, `delete`, and reads of ranges
+//! of keys. No line of a script and no call of the library has them yet.
 //!
 //! The one contract: on an engine that stands for a list of commands each call answers what the definitions of `page_map` say on
 //! the map of these commands, whatever bytes the objects hold (`get_answer`, `delete_plan`, `set_plan`), and adds the commands
@@ -10,26 +10,32 @@
 //! and then tidies by rounds: a leaf that has no cells left gives way to the one beside it, and a root with one child becomes it. A
 //! page is read where it is cached. What a call on another kind of range would do too is in `range_calls`.
 //!
-//! `count` tells how many pairs have keys in a span, from leaf to leaf: each is found from the root, with the key at which the next
-//! one begins. On a map it is that of the map (`reads_of_ranges_are_those_of_the_map`). The pairs of a span are not read yet.
+//! `range` reads the pairs in a span of keys by rising key, `back` by falling key, at most so many; `next` and `prev` read the pair
+//! beside a key, which is all that a cursor has to hold, and `count` tells how many there are. They go from leaf to leaf: each is found
+//! from the root, with the span of its keys, whose ends are where the leaves beside it begin and end. On a map they are those of the
+//! map (`reads_of_ranges_are_those_of_the_map`).
 #![tactic(auto)]
 
 mod call_refusal;
 mod cutting;
 mod deleting;
 mod emptied;
+mod gathered;
 mod getting;
 mod giving;
 mod laws;
 mod map_err;
 mod opening;
+mod order;
 mod pair;
 mod putting;
 mod ranging_count;
 mod ranging_fall;
 mod ranging_leaf;
+mod ranging_pairs;
 mod ranging_rise;
 mod setting;
+mod spanned;
 mod stepping;
 mod stop;
 mod tidying;

@@ -3,7 +3,6 @@ ghost use Rattle.std.specs.Prelude.{◌≡◌, ◌<◌, ◌^◌, [], List, false
 ghost use Rattle.formats.specs.Objects.{bounds_of};
 ghost use Rattle.formats.specs.declared.params.Params.{Params};
 ghost use Rattle.op_codec.specs.AllOps.{all_meaning};
-ghost use Rattle.page_map.specs.Map as maps;
 ghost use Rattle.page_map.specs.Map.{bytes_at};
 ghost use Rattle.page_map.specs.Ranges.{count_answer};
 ghost use Rattle.running_store.specs.Taking.Ending.{Done};
@@ -20,13 +19,12 @@ ghost use Rattle.map_client.specs.RangingWay.{CountGoesOn, CountIsBad};
 use crate::call_refusal::CallRefusal;
 use crate::map_err::MapErr;
 use crate::ranging_leaf::leaf_under;
-use crate::stepping::end_bytes;
+use crate::stepping::{end_bytes, is_below};
 use disk_model::Machine;
 use op_codec::AllOps;
 use page_map::{Map, MapRefusal, page_on, places_in};
 use range_calls::{CallErr, reads_go_on, reads_run_short, see};
 use std::alloc::Global;
-use std::cmp::Ordering;
 use store_engine::{Engine, nothing_is_made};
 
 /// What one leaf adds to a count, and the key at which the next leaf begins, if there is one.
@@ -72,19 +70,6 @@ pub(crate) fn count_leaf<M: Machine>(
     match count_on(map.bytes(object, engine.get(object)), from, to, end) {
         Some(count) => Ok(count),
         None => Err(CallErr::Refused(CallRefusal::Map(MapRefusal::BadMap { object }))),
-    }
-}
-
-/// Whether a key is below an end.
-fn is_below(key: &[u8], end: Option<&[u8]>) -> bool
-    ensures { result ≡ maps.is_below key.now (option_map (λ end. end.now) end.entry) }
-{
-    match end {
-        None => true,
-        Some(end) => match key.cmp(end) {
-            Ordering::Less => true,
-            Ordering::Equal | Ordering::Greater => false,
-        },
     }
 }
 

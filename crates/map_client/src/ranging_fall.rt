@@ -1,22 +1,102 @@
 // The pairs of a span of keys, by falling key.
-ghost use Rattle.std.specs.Prelude.{◌≡◌, [], List, false, Ok, Err, IfErr, IfOk, option_map};
+ghost use Rattle.std.specs.Prelude.{◌≡◌, ◌<◌, [], List, false, Ok, Err, IfErr, IfOk, OnOk, option_map};
 ghost use Rattle.formats.specs.Objects.{bounds_of};
 ghost use Rattle.formats.specs.declared.params.Params.{Params};
 ghost use Rattle.op_codec.specs.AllOps.{all_meaning};
+ghost use Rattle.page_map.specs.Ranges.{and_then, back_answer};
 ghost use Rattle.running_store.specs.Taking.Ending.{Done};
+ghost use Rattle.store_engine.specs.Engine.{params_of};
 ghost use Rattle.store_engine.specs.Lists.{AddsFront, AreCalls, ending_of};
+ghost use Rattle.range_calls.specs.Making.{Reads};
 ghost use Rattle.range_calls.specs.Store.{Command, Holds, state_of};
-ghost use Rattle.map_client.specs.Answers.{cause_in, cause_of};
+ghost use Rattle.map_client.specs.Answers.{cause_in, cause_of, told};
 ghost use Rattle.map_client.specs.Ranging.{back_told, prev_told};
+ghost use Rattle.map_client.specs.RangingWay.{BackGoesOn, BackIsBad};
 
+use crate::call_refusal::CallRefusal;
+use crate::gathered::Gathered;
 use crate::map_err::MapErr;
+use crate::order::Order;
+use crate::ranging_leaf::leaf_below;
+use crate::ranging_pairs::{gather_leaf, is_more};
+use crate::stepping::end_bytes;
 use disk_model::Machine;
 use op_codec::AllOps;
 use oper_core::ByteList;
 use page_map::Map;
-use range_calls::CallErr;
+use range_calls::{CallErr, reads_go_on};
 use std::alloc::Global;
-use store_engine::Engine;
+use store_engine::{Engine, nothing_is_made};
+
+/// Gathers in the leaf before an end, from that end back, and answers where the leaf begins, if there is more to read.
+fn back_turn<M: Machine>(
+    map: &Map,
+    engine: &mut Engine<AllOps>,
+    machine: &mut M,
+    from: &[u8],
+    to: Option<&[u8]>,
+    gathered: &mut Gathered,
+) -> Result<Option<Vec<u8>>, MapErr>
+    requires unbroken { engine.old.broken ≡ false }
+    requires there { map.now.hi < (params_of engine.old).objects }
+    ensures reads { Reads (M.disk machine.old) (M.disk machine.new) engine.old engine.new (cause_in result) }
+    ensures found { (p : Params) (commands : List Command) → Holds p (M.disk machine.old) engine.old commands →
+        IfOk result (λ begin. BackGoesOn map.now.lo map.now.hi (state_of p commands) (record { from = from.now; to = option_map (λ end. end.now) to.entry }) gathered.old.pairs.items gathered.old.left gathered.new.pairs.items gathered.new.left (option_map (λ v. v.items) begin)) }
+    ensures bad { (p : Params) (commands : List Command) → Holds p (M.disk machine.old) engine.old commands →
+        IfErr result (λ e. ending_of (cause_of e) ≡ Done → BackIsBad map.now.lo map.now.hi (state_of p commands) (record { from = from.now; to = option_map (λ end. end.now) to.entry }) gathered.old.left e) }
+{
+    nothing_is_made(machine, engine);
+    reads_go_on::<M>();
+    if !is_more(gathered.left, from, to) {
+        return Ok(None);
+    }
+    let leaf = leaf_below(gathered.alloc, map, engine, machine, to)?;
+    gather_leaf(
+        map,
+        engine,
+        machine,
+        &leaf.stop,
+        from,
+        to,
+        Order::Falling,
+        gathered,
+    )?;
+    Ok(Some(leaf.from))
+}
+
+/// Gathers leaf by leaf, back. There are no more leaves than objects in the range.
+fn back_leaves<M: Machine>(
+    map: &Map,
+    engine: &mut Engine<AllOps>,
+    machine: &mut M,
+    from: &[u8],
+    to: Option<&[u8]>,
+    gathered: &mut Gathered,
+) -> Result<(), MapErr>
+    requires unbroken { engine.old.broken ≡ false }
+    requires there { map.now.hi < (params_of engine.old).objects }
+    ensures reads { Reads (M.disk machine.old) (M.disk machine.new) engine.old engine.new (cause_in result) }
+    ensures found { (p : Params) (commands : List Command) → Holds p (M.disk machine.old) engine.old commands →
+        OnOk result (and_then (Ok gathered.old.pairs.items) (back_answer map.now.lo map.now.hi (state_of p commands) (record { from = from.now; to = option_map (λ end. end.now) to.entry }) gathered.old.left) ≡ Ok gathered.new.pairs.items) }
+    ensures bad { (p : Params) (commands : List Command) → Holds p (M.disk machine.old) engine.old commands →
+        IfErr result (λ e. ending_of (cause_of e) ≡ Done → told (and_then (Ok gathered.old.pairs.items) (back_answer map.now.lo map.now.hi (state_of p commands) (record { from = from.now; to = option_map (λ end. end.now) to.entry }) gathered.old.left)) ≡ Err e) }
+{
+    reads_go_on::<M>();
+    let last = map.last();
+    let mut leaves = last - map.root();
+    let mut begin = back_turn(map, engine, machine, from, to, gathered)?;
+    while leaves > 0 {
+        leaves -= 1;
+        match end_bytes(&begin) {
+            Some(at) => {
+                let earlier = back_turn(map, engine, machine, from, Some(at), gathered)?;
+                begin = earlier;
+            }
+            None => return Ok(()),
+        }
+    }
+    Ok(())
+}
 
 /// The last pairs whose keys stand from `from` on and below `to`, at most so many, by falling key. No command is added.
 ///
@@ -41,7 +121,20 @@ pub fn back<M: Machine>(
     ensures refused { (p : Params) (commands : List Command) → Holds p (M.disk machine.old) engine.old commands →
         IfErr result (λ e. ending_of (cause_of e) ≡ Done → back_told (bounds_of p) map.now.lo map.now.hi (state_of p commands) (record { from = from.now; to = option_map (λ end. end.now) to.entry }) limit ≡ Err e) }
 {
-    Err(CallErr::Memory)
+    nothing_is_made(machine, engine);
+    if map.last() >= engine.params().objects {
+        return Err(CallErr::Refused(CallRefusal::NoObject));
+    }
+    let pairs = Vec::new(alloc);
+    let left = limit as usize;
+    let mut gathered = Gathered { alloc, pairs, left };
+    back_leaves(map, engine, machine, from, to, &mut gathered)?;
+    let Gathered {
+        alloc: _alloc,
+        pairs,
+        left: _left,
+    } = gathered;
+    Ok(pairs)
 }
 
 /// The last pair below a key, or of all where no key is given, if there is one. No command is added.
@@ -63,5 +156,5 @@ pub fn prev<M: Machine>(
     ensures refused { (p : Params) (commands : List Command) → Holds p (M.disk machine.old) engine.old commands →
         IfErr result (λ e. ending_of (cause_of e) ≡ Done → prev_told (bounds_of p) map.now.lo map.now.hi (state_of p commands) (option_map (λ key. key.now) key.entry) ≡ Err e) }
 {
-    Err(CallErr::Memory)
+    back(alloc, map, engine, machine, &[], key, 1)
 }

@@ -1,22 +1,103 @@
 // The pairs of a span of keys, by rising key.
-ghost use Rattle.std.specs.Prelude.{◌≡◌, [], List, false, Ok, Err, IfErr, IfOk, option_map};
+ghost use Rattle.std.specs.Prelude.{◌≡◌, ◌<◌, ◌++◌, ◌∷◌, [], List, false, Ok, Err, IfErr, IfOk, OnOk, option_map};
 ghost use Rattle.formats.specs.Objects.{bounds_of};
 ghost use Rattle.formats.specs.declared.params.Params.{Params};
 ghost use Rattle.op_codec.specs.AllOps.{all_meaning};
+ghost use Rattle.page_map.specs.Ranges.{and_then, range_answer};
 ghost use Rattle.running_store.specs.Taking.Ending.{Done};
+ghost use Rattle.store_engine.specs.Engine.{params_of};
 ghost use Rattle.store_engine.specs.Lists.{AddsFront, AreCalls, ending_of};
+ghost use Rattle.range_calls.specs.Making.{Reads};
 ghost use Rattle.range_calls.specs.Store.{Command, Holds, state_of};
-ghost use Rattle.map_client.specs.Answers.{cause_in, cause_of};
+ghost use Rattle.range_calls.specs.declared.call_err.CallErr.TheVariants.{Memory as OutOfMemory};
+ghost use Rattle.map_client.specs.Answers.{cause_in, cause_of, told};
 ghost use Rattle.map_client.specs.Ranging.{next_told, range_told};
+ghost use Rattle.map_client.specs.RangingWay.{RangeGoesOn, RangeIsBad};
 
+use crate::call_refusal::CallRefusal;
+use crate::gathered::Gathered;
 use crate::map_err::MapErr;
+use crate::order::Order;
+use crate::ranging_leaf::leaf_under;
+use crate::ranging_pairs::{gather_leaf, is_more};
+use crate::stepping::end_bytes;
 use disk_model::Machine;
 use op_codec::AllOps;
 use oper_core::ByteList;
 use page_map::Map;
-use range_calls::CallErr;
+use range_calls::{CallErr, reads_go_on, reads_run_short};
 use std::alloc::Global;
-use store_engine::Engine;
+use store_engine::{Engine, nothing_is_made};
+
+/// Gathers in the leaf of a key, from that key on, and answers where the next leaf begins, if there is one.
+fn range_turn<M: Machine>(
+    map: &Map,
+    engine: &mut Engine<AllOps>,
+    machine: &mut M,
+    from: &[u8],
+    to: Option<&[u8]>,
+    gathered: &mut Gathered,
+) -> Result<Option<Vec<u8>>, MapErr>
+    requires unbroken { engine.old.broken ≡ false }
+    requires there { map.now.hi < (params_of engine.old).objects }
+    ensures reads { Reads (M.disk machine.old) (M.disk machine.new) engine.old engine.new (cause_in result) }
+    ensures found { (p : Params) (commands : List Command) → Holds p (M.disk machine.old) engine.old commands →
+        IfOk result (λ next. RangeGoesOn map.now.lo map.now.hi (state_of p commands) (record { from = from.now; to = option_map (λ end. end.now) to.entry }) gathered.old.pairs.items gathered.old.left gathered.new.pairs.items gathered.new.left (option_map (λ v. v.items) next)) }
+    ensures bad { (p : Params) (commands : List Command) → Holds p (M.disk machine.old) engine.old commands →
+        IfErr result (λ e. ending_of (cause_of e) ≡ Done → RangeIsBad map.now.lo map.now.hi (state_of p commands) (record { from = from.now; to = option_map (λ end. end.now) to.entry }) gathered.old.left e) }
+{
+    nothing_is_made(machine, engine);
+    reads_go_on::<M>();
+    if !is_more(gathered.left, from, to) {
+        return Ok(None);
+    }
+    let leaf = leaf_under(gathered.alloc, map, engine, machine, from)?;
+    gather_leaf(
+        map,
+        engine,
+        machine,
+        &leaf,
+        from,
+        to,
+        Order::Rising,
+        gathered,
+    )?;
+    Ok(leaf.to)
+}
+
+/// Gathers leaf by leaf. There are no more leaves than objects in the range.
+fn range_leaves<M: Machine>(
+    map: &Map,
+    engine: &mut Engine<AllOps>,
+    machine: &mut M,
+    from: &[u8],
+    to: Option<&[u8]>,
+    gathered: &mut Gathered,
+) -> Result<(), MapErr>
+    requires unbroken { engine.old.broken ≡ false }
+    requires there { map.now.hi < (params_of engine.old).objects }
+    ensures reads { Reads (M.disk machine.old) (M.disk machine.new) engine.old engine.new (cause_in result) }
+    ensures found { (p : Params) (commands : List Command) → Holds p (M.disk machine.old) engine.old commands →
+        OnOk result (and_then (Ok gathered.old.pairs.items) (range_answer map.now.lo map.now.hi (state_of p commands) (record { from = from.now; to = option_map (λ end. end.now) to.entry }) gathered.old.left) ≡ Ok gathered.new.pairs.items) }
+    ensures bad { (p : Params) (commands : List Command) → Holds p (M.disk machine.old) engine.old commands →
+        IfErr result (λ e. ending_of (cause_of e) ≡ Done → told (and_then (Ok gathered.old.pairs.items) (range_answer map.now.lo map.now.hi (state_of p commands) (record { from = from.now; to = option_map (λ end. end.now) to.entry }) gathered.old.left)) ≡ Err e) }
+{
+    reads_go_on::<M>();
+    let last = map.last();
+    let mut leaves = last - map.root();
+    let mut next = range_turn(map, engine, machine, from, to, gathered)?;
+    while leaves > 0 {
+        leaves -= 1;
+        match end_bytes(&next) {
+            Some(at) => {
+                let further = range_turn(map, engine, machine, at, to, gathered)?;
+                next = further;
+            }
+            None => return Ok(()),
+        }
+    }
+    Ok(())
+}
 
 /// The first pairs whose keys stand from `from` on and below `to`, at most so many, by rising key. No command is added.
 ///
@@ -41,7 +122,30 @@ pub fn range<M: Machine>(
     ensures refused { (p : Params) (commands : List Command) → Holds p (M.disk machine.old) engine.old commands →
         IfErr result (λ e. ending_of (cause_of e) ≡ Done → range_told (bounds_of p) map.now.lo map.now.hi (state_of p commands) (record { from = from.now; to = option_map (λ end. end.now) to.entry }) limit ≡ Err e) }
 {
-    Err(CallErr::Memory)
+    nothing_is_made(machine, engine);
+    if map.last() >= engine.params().objects {
+        return Err(CallErr::Refused(CallRefusal::NoObject));
+    }
+    let pairs = Vec::new(alloc);
+    let left = limit as usize;
+    let mut gathered = Gathered { alloc, pairs, left };
+    range_leaves(map, engine, machine, from, to, &mut gathered)?;
+    let Gathered {
+        alloc: _alloc,
+        pairs,
+        left: _left,
+    } = gathered;
+    Ok(pairs)
+}
+
+/// The least key above a key.
+fn key_above(alloc: Global, key: &[u8]) -> Result<Vec<u8>, MapErr>
+    ensures key { IfOk result (λ above. above.items ≡ key.now ++ 0 ∷ []) }
+    ensures memory { IfErr result (λ e. e ≡ OutOfMemory) }
+{
+    let mut above = key.to_vec(alloc)?;
+    above.push(0)?;
+    Ok(above)
 }
 
 /// The first pair above a key, if there is one: that of an empty key is the first pair of all, since no key that is set is empty. No
@@ -64,5 +168,8 @@ pub fn next<M: Machine>(
     ensures refused { (p : Params) (commands : List Command) → Holds p (M.disk machine.old) engine.old commands →
         IfErr result (λ e. ending_of (cause_of e) ≡ Done → next_told (bounds_of p) map.now.lo map.now.hi (state_of p commands) key.now ≡ Err e) }
 {
-    Err(CallErr::Memory)
+    nothing_is_made(machine, engine);
+    reads_run_short::<M>();
+    let from = key_above(alloc, key)?;
+    range(alloc, map, engine, machine, from.as_slice(), None, 1)
 }

@@ -1,6 +1,7 @@
 // The way to a leaf, with the end of the span of its keys.
 ghost use Rattle.std.specs.Prelude.{◌≡◌, ◌<◌, List, false, Some, None, IfErr, IfOk, option_map};
 ghost use Rattle.formats.specs.declared.params.Params.{Params};
+ghost use Rattle.page_map.specs.Map as maps;
 ghost use Rattle.page_map.specs.Map.{bytes_at};
 ghost use Rattle.page_map.specs.Steps.{Step as StepDown, ended, step_seen};
 ghost use Rattle.running_store.specs.Taking.Ending.{Done};
@@ -13,12 +14,14 @@ ghost use Rattle.map_client.specs.Ranging as ranging;
 
 use crate::call_refusal::CallRefusal;
 use crate::map_err::MapErr;
+use crate::spanned::Spanned;
 use crate::stop::Stop;
 use disk_model::Machine;
 use op_codec::AllOps;
 use page_map::{Map, MapRefusal, Step, page_on};
 use range_calls::{CallErr, reads_run_short, see};
 use std::alloc::Global;
+use std::cmp::Ordering;
 use store_engine::Engine;
 
 /// The bytes of an end, if there is one.
@@ -28,6 +31,19 @@ pub(crate) fn end_bytes(end: &Option<Vec<u8>>) -> Option<&[u8]>
     match end {
         Some(key) => Some(key.as_slice()),
         None => None,
+    }
+}
+
+/// Whether a key is below an end.
+pub(crate) fn is_below(key: &[u8], end: Option<&[u8]>) -> bool
+    ensures { result ≡ maps.is_below key.now (option_map (λ end. end.now) end.entry) }
+{
+    match end {
+        None => true,
+        Some(end) => match key.cmp(end) {
+            Ordering::Less => true,
+            Ordering::Equal | Ordering::Greater => false,
+        },
     }
 }
 
@@ -99,6 +115,71 @@ pub(crate) fn go_down<M: Machine>(
         key,
     ) {
         Some(step) => further(alloc, step, at.to),
+        None => Err(CallErr::Refused(CallRefusal::Map(MapRefusal::BadMap { object }))),
+    }
+}
+
+/// The step down from a page of this level to the last child that begins below an end.
+fn below_on<'a>(
+    map: &Map,
+    level: u8,
+    bytes: &'a [u8],
+    to: Option<&[u8]>,
+    end: Option<&[u8]>,
+) -> Option<Step<'a>>
+    ensures { option_map step_seen result ≡ ranging.below_on map.now.lo map.now.hi level bytes.now (option_map (λ end. end.now) to.entry) (option_map (λ end. end.now) end.entry) }
+{
+    let page = page_on(level, bytes)?;
+    map.step_below(&page, to, end)
+}
+
+/// The child of a step, and the whole span of its keys.
+fn spanned(alloc: Global, step: Step, to: Option<Vec<u8>>) -> Result<Spanned, MapErr>
+    ensures span { IfOk result (λ at. (at.stop.object ≡ (step_seen step.entry).object) × (at.from.items ≡ (step_seen step.entry).from)
+        × (option_map (λ v. v.items) at.stop.to ≡ ended (option_map (λ v. v.items) to) (step_seen step.entry).end)) }
+    ensures memory { IfErr result (λ e. e ≡ OutOfMemory) }
+{
+    let from = step.from.to_vec(alloc)?;
+    let stop = further(alloc, step, to)?;
+    Ok(Spanned { from, stop })
+}
+
+/// Goes from an inner page to the last child that begins below an end.
+pub(crate) fn go_below<M: Machine>(
+    alloc: Global,
+    map: &Map,
+    engine: &mut Engine<AllOps>,
+    machine: &mut M,
+    at: Spanned,
+    level: u8,
+    end: Option<&[u8]>,
+) -> Result<Spanned, MapErr>
+    requires unbroken { engine.old.broken ≡ false }
+    ensures reads { Reads (M.disk machine.old) (M.disk machine.new) engine.old engine.new (cause_in result) }
+    ensures found { (p : Params) (commands : List Command) → Holds p (M.disk machine.old) engine.old commands →
+        IfOk result (λ next. (step : StepDown)
+        × (ranging.below_on map.now.lo map.now.hi level (bytes_at map.now.lo (state_of p commands) at.stop.object) (option_map (λ v. v.items) at.stop.to) (option_map (λ end. end.now) end.entry) ≡ Some step)
+        × (next.stop.object ≡ step.object) × (next.from.items ≡ step.from) × (option_map (λ v. v.items) next.stop.to ≡ ended (option_map (λ v. v.items) at.stop.to) step.end)) }
+    ensures bad { (p : Params) (commands : List Command) → Holds p (M.disk machine.old) engine.old commands → at.stop.object < p.objects →
+        IfErr result (λ e. ending_of (cause_of e) ≡ Done →
+        (ranging.below_on map.now.lo map.now.hi level (bytes_at map.now.lo (state_of p commands) at.stop.object) (option_map (λ v. v.items) at.stop.to) (option_map (λ end. end.now) end.entry) ≡ None)
+        × (e ≡ bad_map at.stop.object)) }
+{
+    reads_run_short::<M>();
+    let Spanned { from: _from, stop } = at;
+    let object = stop.object;
+    let there = see(engine, machine, object)?;
+    if !there {
+        return Err(CallErr::Refused(CallRefusal::NoObject));
+    }
+    match below_on(
+        map,
+        level,
+        map.bytes(object, engine.get(object)),
+        end_bytes(&stop.to),
+        end,
+    ) {
+        Some(step) => spanned(alloc, step, stop.to),
         None => Err(CallErr::Refused(CallRefusal::Map(MapRefusal::BadMap { object }))),
     }
 }

@@ -1,4 +1,4 @@
-use Rattle.std.proofs.Common.{◌≡◌, ◌<◌, ◌+◌, ◌-◌, refl, sym, ap, ◌∙◌, ℕ, suc, None, Some, List, [], Option, Result, Ok, Err, arith, option_map}
+use Rattle.std.proofs.Common.{◌≡◌, ◌<◌, ◌+◌, ◌-◌, refl, sym, ap, ◌∙◌, ℕ, suc, None, List, [], Option, Result, Ok, Err, arith, option_map}
 use Rattle.page_map.specs.Map.{Span}
 use Rattle.page_map.specs.Ranges.{and_count, count_answer, count_from, from_end}
 use Rattle.range_calls.specs.JoinLaws.{holds_behind, memory_is_short, nothing_reads, reads_then}

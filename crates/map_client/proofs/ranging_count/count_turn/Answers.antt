@@ -41,13 +41,13 @@ returns-in_err-count-clause-bad g c = λ p commands holds.
     let span : Span = record { from = c.args.from.now; to = option_map (λ end. end.now) c.args.to } in
     let leaf = c.in_ok-leaf.leaf in
     let way = c.in_ok-leaf.ensures.leaf p commands holds in
-    let within = way.within in
+    let within = way.1.within in
     let fits = ap (λ (q : Params). q.objects) holds.shows.shows.store.params in
     let below : leaf.object < p.objects = omega (arith, within, c.requires.there, fits) in
     let end : Option (List ℕ) = option_map (λ v. v.items) leaf.to in
     refused_passed c.from_residual-in_err-count.result c.in_err-count.field-0.0 (λ e. ending_of (cause_of e) ≡ Done → CountIsBad lo hi s span e)
     (passed c.from_residual-in_err-count.result c.in_err-count.field-0.0 c.from_residual-in_err-count.ensures.1)
-    (λ done. leaf_is_bad lo hi s span leaf.object end way (sym c.is_below.ensures ∙ c.if-not-is_below.false) c.in_err-count.field-0.0
+    (λ done. leaf_is_bad lo hi s span leaf.object way.0 end way.1 (sym c.is_below.ensures ∙ c.if-not-is_below.false) c.in_err-count.field-0.0
     (c.in_err-count.ensures.answer p commands (holds_behind c.in_ok-leaf.ensures.reads holds) below done ∙ (λ k. or_bad leaf.object (count_on (bytes_at lo s leaf.object) span (c.end_bytes.ensures k)))))
 
 pub returns-clause-reads : goal.returns-clause-reads
@@ -62,9 +62,9 @@ returns-clause-found g c = λ p commands holds.
     let span : Span = record { from = c.args.from.now; to = option_map (λ end. end.now) c.args.to } in
     let leaf = c.in_ok-leaf.leaf in
     let way = c.in_ok-leaf.ensures.leaf p commands holds in
-    let within = way.within in
+    let within = way.1.within in
     let fits = ap (λ (q : Params). q.objects) holds.shows.shows.store.params in
     let below : leaf.object < p.objects = omega (arith, within, c.requires.there, fits) in
     let end : Option (List ℕ) = option_map (λ v. v.items) leaf.to in
-    leaf_counted lo hi s span leaf.object end way (sym c.is_below.ensures ∙ c.if-not-is_below.false) c.in_ok-count.count
+    leaf_counted lo hi s span leaf.object way.0 end way.1 (sym c.is_below.ensures ∙ c.if-not-is_below.false) c.in_ok-count.count
     (c.in_ok-count.ensures.answer p commands (holds_behind c.in_ok-leaf.ensures.reads holds) below refl ∙ (λ k. or_bad leaf.object (count_on (bytes_at lo s leaf.object) span (c.end_bytes.ensures k))))

@@ -1,5 +1,6 @@
-use Rattle.std.proofs.Common.{◌-◌, None, List, option_map}
+use Rattle.std.proofs.Common.{◌-◌, ℕ, None, List, option_map}
 use Rattle.formats.specs.declared.params.Params.{Params}
+use Rattle.page_map.specs.Ranges.{under_key}
 use Rattle.range_calls.specs.Making.{Reads}
 use Rattle.range_calls.specs.Store.{Command, Holds, state_of}
 use Rattle.map_client.specs.RangingWay.{IsOnWay}
@@ -9,5 +10,5 @@ abbrev pub invariant-loop-step : goal.invariant-loop-step
 invariant-loop-step g l = record {
   reads : Reads (g.M.Machine.disk l.fn.machine) (g.M.Machine.disk l.machine) l.fn.engine l.engine None;
   way : (p : Params) (commands : List Command) → Holds p (g.M.Machine.disk l.fn.machine) l.fn.engine commands
-      → IsOnWay l.map.lo l.map.hi (state_of p commands) l.key (l.levels - l.step) l.at.object (option_map (λ v. v.items) l.at.to);
+      → (from : List ℕ) × IsOnWay l.map.lo l.map.hi (state_of p commands) (under_key l.key) (l.levels - l.step) l.at.object (record { from = from; to = option_map (λ v. v.items) l.at.to });
 }

@@ -1,0 +1,87 @@
+use Rattle.std.proofs.Common.{◌≡◌, ◌≤◌, ◌<◌, refl, sym, ap, subst, ℕ, ◌-◌, Option, None, List, [], Err, arith, option_map}
+use Rattle.formats.specs.declared.params.Params.{Params}
+use Rattle.page_map.specs.Map.{Span, all_keys}
+use Rattle.page_map.specs.Ranges.{stop as stop_at}
+use Rattle.page_map.specs.Steps.{last_below}
+use Rattle.range_calls.specs.JoinLaws.{holds_behind}
+use Rattle.range_calls.specs.ReadLaws.{makes_err, passed, refused_passed}
+use Rattle.range_calls.specs.Store.{state_of}
+use Rattle.running_store.specs.Taking.Ending.{Done}
+use Rattle.store_engine.specs.Lists.{ending_of}
+use Rattle.map_client.specs.Answers.{cause_of, told}
+use Rattle.map_client.specs.RangingWay.{IsOnWay}
+use Rattle.map_client.proofs.RangingWayLemmas.{begins_bad, way_bad, way_begins, way_goes_on}
+use Rattle.map_client.proofs.ranging_leaf.leaf_below.Goals as goal
+
+pub returns-in_err-levels-clause-bad : goal.returns-in_err-levels-clause-bad
+returns-in_err-levels-clause-bad g c = λ p commands holds.
+    let s = state_of p commands in
+    let lo = c.args.map.now.lo in
+    let hi = c.args.map.now.hi in
+    let end : Option (List ℕ) = option_map (λ end. end.now) c.args.end in
+    let fits = ap (λ (q : Params). q.objects) holds.shows.shows.store.params in
+    let below : lo < p.objects = omega (arith, c.last-last.ensures.value, c.last-last.ensures.order, c.requires.there, fits) in
+    refused_passed c.from_residual.result c.in_err-levels.field-0.0 (λ e. ending_of (cause_of e) ≡ Done → told (stop_at lo hi s (last_below end)) ≡ Err e)
+    (passed c.from_residual.result c.in_err-levels.field-0.0 c.from_residual.ensures.1)
+    (λ done. begins_bad lo hi s (last_below end) c.in_err-levels.field-0.0 (c.in_err-levels.ensures.answer p commands holds below done))
+
+pub loop-step-init : goal.loop-step-init
+loop-step-init g c = record {
+  reads = c.in_ok-levels.ensures.reads;
+  way = λ p commands holds.
+      let s = state_of p commands in
+      let lo = c.args.map.now.lo in
+      let hi = c.args.map.now.hi in
+      let levels = c.in_ok-levels.levels in
+      let end : Option (List ℕ) = option_map (λ end. end.now) c.args.end in
+      let fits = ap (λ (q : Params). q.objects) holds.shows.shows.store.params in
+      let below : lo < p.objects = omega (arith, c.last-last.ensures.value, c.last-last.ensures.order, c.requires.there, fits) in
+      let order : lo ≤ hi = omega (arith, c.last-last.ensures.value, c.last-last.ensures.order) in
+      let all : levels ≡ levels - 0 = omega arith in
+      let begun = way_begins lo hi s (last_below end) levels order (c.in_ok-levels.ensures.answer p commands holds below refl) in
+      subst (λ (l : List ℕ). IsOnWay lo hi s (last_below end) (levels - 0) c.root.result (record { from = l; to = None })) (sym c.new-from.ensures.items)
+      (subst (λ (n : ℕ). IsOnWay lo hi s (last_below end) n c.root.result all_keys) all (subst (λ (x : ℕ). IsOnWay lo hi s (last_below end) levels x all_keys) (sym c.root.ensures) begun));
+}
+
+pub returns-in_err-at-clause-reads : goal.returns-in_err-at-clause-reads
+returns-in_err-at-clause-reads g c =
+    makes_err c.from_residual-in_err-at.result c.in_err-at.field-0.0 (passed c.from_residual-in_err-at.result c.in_err-at.field-0.0 c.from_residual-in_err-at.ensures.1)
+    (c.reads_go_on.ensures c.args.machine.now c.loop-step.machine c.go_below.new.machine c.args.engine.now c.loop-step.engine c.go_below.new.engine (λ p commands. []) _ c.loop-step.invariant.reads c.in_err-at.ensures.reads)
+
+pub returns-in_err-at-clause-bad : goal.returns-in_err-at-clause-bad
+returns-in_err-at-clause-bad g c = λ p commands holds.
+    let s = state_of p commands in
+    let lo = c.args.map.now.lo in
+    let hi = c.args.map.now.hi in
+    let inv = c.loop-step.invariant in
+    let way = inv.way p commands holds in
+    let within = way.within in
+    let end : Option (List ℕ) = option_map (λ end. end.now) c.args.end in
+    let span : Span = record { from = c.loop-step.at.from.items; to = option_map (λ v. v.items) c.loop-step.at.stop.to } in
+    let fits = ap (λ (q : Params). q.objects) holds.shows.shows.store.params in
+    let below : c.loop-step.at.stop.object < p.objects = omega (arith, within, c.requires.there, fits) in
+    refused_passed c.from_residual-in_err-at.result c.in_err-at.field-0.0 (λ e. ending_of (cause_of e) ≡ Done → told (stop_at lo hi s (last_below end)) ≡ Err e)
+    (passed c.from_residual-in_err-at.result c.in_err-at.field-0.0 c.from_residual-in_err-at.ensures.1)
+    (λ done. way_bad lo hi s (last_below end) c.in_ok-levels.levels c.loop-step.step c.loop-step.at.stop.object span c.loop-step-test.true way c.in_err-at.field-0.0
+    (c.in_err-at.ensures.bad p commands (holds_behind inv.reads holds) below done))
+
+pub loop-step-preserved : goal.loop-step-preserved
+loop-step-preserved g c =
+    let inv = c.loop-step.invariant in
+    record {
+      reads = c.reads_go_on.ensures c.args.machine.now c.loop-step.machine c.go_below.new.machine c.args.engine.now c.loop-step.engine c.go_below.new.engine (λ p commands. []) None inv.reads c.in_ok-at.ensures.reads;
+      way = λ p commands holds.
+          let found = c.in_ok-at.ensures.found p commands (holds_behind inv.reads holds) in
+          let end : Option (List ℕ) = option_map (λ end. end.now) c.args.end in
+          let span : Span = record { from = c.loop-step.at.from.items; to = option_map (λ v. v.items) c.loop-step.at.stop.to } in
+          let next : Span = record { from = c.in_ok-at.at.from.items; to = option_map (λ v. v.items) c.in_ok-at.at.stop.to } in
+          way_goes_on c.args.map.now.lo c.args.map.now.hi (state_of p commands) (last_below end) c.in_ok-levels.levels c.loop-step.step c.loop-step.at.stop.object span c.loop-step-test.true (inv.way p commands holds)
+          found.0 found.1 c.in_ok-at.at.stop.object found.2 next (λ k. record { from = found.3 k; to = found.4 k });
+    }
+
+pub returns-clause-leaf : goal.returns-clause-leaf
+returns-clause-leaf g c = λ p commands holds.
+    let none : c.in_ok-levels.levels - c.loop-step.step ≡ 0 = omega (arith, c.loop-step-test.false) in
+    let end : Option (List ℕ) = option_map (λ end. end.now) c.args.end in
+    let span : Span = record { from = c.loop-step.at.from.items; to = option_map (λ v. v.items) c.loop-step.at.stop.to } in
+    subst (λ (n : ℕ). IsOnWay c.args.map.now.lo c.args.map.now.hi (state_of p commands) (last_below end) n c.loop-step.at.stop.object span) none (c.loop-step.invariant.way p commands holds)
