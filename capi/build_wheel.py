@@ -49,7 +49,7 @@ def _tag(library: bytes) -> str:
 
 
 def _package() -> dict[str, bytes]:
-    """The files of the package, with the library beside them."""
+    """The files of the package."""
     files = {}
     for folder, _, names in os.walk(os.path.join(HERE, "redo")):
         for name in sorted(names):
@@ -88,10 +88,8 @@ def _write(folder: str, files: dict[str, bytes], tag: str) -> str:
 
 
 def build_wheel(wheel_directory: str, config_settings: object = None, metadata_directory: object = None) -> str:
-    library, package = _library(), _package()
-    module = package["redo/__init__.py"]
-    package["redo/__init__.py"] = module.replace(b'__version__ = "0"', f'__version__ = "{_version()}"'.encode())
-    return _write(wheel_directory, {**package, "redo/libredo.so.1": library}, _tag(library))
+    library = _library()
+    return _write(wheel_directory, {**_package(), "redo/libredo.so.1": library}, _tag(library))
 
 
 def build_editable(wheel_directory: str, config_settings: object = None, metadata_directory: object = None) -> str:

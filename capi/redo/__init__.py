@@ -46,8 +46,6 @@ from functools import partial
 from operator import index
 from typing import Any, NamedTuple, NoReturn, Union
 
-__version__ = "0"       # in the wheel that of the program (build_wheel.py)
-
 __all__ = ["Backup", "Error", "Hash", "MemoryFault", "Params", "Snapshot", "Stat", "Store", "Tree", "create", "open", "version"]
 
 Bytes = Union[bytes, bytearray, memoryview]
@@ -109,6 +107,8 @@ class _Stat(ctypes.Structure):
 
 
 _lib = _load()
+if _lib.redo_version() < 6 or _lib.redo_handle_size() != ctypes.sizeof(_Handle):
+    raise ImportError("the library is none that this module knows")
 _u32, _u64, _size, _bytes, _into = ctypes.c_uint32, ctypes.c_uint64, ctypes.c_size_t, ctypes.c_char_p, ctypes.c_void_p
 _u64p = ctypes.POINTER(_u64)
 _pair: list[type] = [_bytes, _size]
@@ -147,9 +147,8 @@ _app_exec, _app_read, _app_write = _c("app_exec", _u32), _c("app_read", *_object
 _app_run, _program_run = _c("app_run", _u32, _u64, _u64p), _c("program_run", *_objects, _u64, _u64p)
 _program_exec, _program_read, _program_write = (_c("program_" + name, *_objects) for name in ("exec", "read", "write"))
 _lib.redo_strerror.restype, _lib.redo_strerror.argtypes = _bytes, [ctypes.c_int32]
-_lib.redo_version.restype, _lib.redo_handle_size.restype = _u32, _size
-if _lib.redo_version() < 6 or _lib.redo_handle_size() != ctypes.sizeof(_Handle):
-    raise ImportError("the library is none that this module knows")
+_lib.redo_version.restype, _lib.redo_handle_size.restype, _lib.redo_version_string.restype = _u32, _size, _bytes
+__version__: str = _lib.redo_version_string().decode()          # of the library, as that of the program
 
 
 def version() -> int:
