@@ -14,7 +14,11 @@
 #include <time.h>
 #include <unistd.h>
 
-enum { OBJECTS = 26000, LENGTH = 1024, KEYS = 100000, NODES = 39000, BATCH = 1000, TRANSACTIONS = 1000, PUTS = 10, SHORT = 16, TURN = 64 };
+enum { OBJECTS = 26000, LENGTH = 1024, KEYS = 100000, NODES = 39000, BATCH = 1000, TRANSACTIONS = 1000, PUTS = 10, SHORT = 16 };
+
+/* How many nodes a piece of upkeep has at most: behind a commit, and behind the last one, piece by piece to the end. */
+typedef struct { uint64_t behind, last; } pieces_t;
+static const pieces_t even = {64, 64}, small = {16, 1024};
 typedef struct { uint8_t at[8]; } word_t;
 
 static void fail(const char *what) {
@@ -39,7 +43,7 @@ int msync(void *at, size_t length, int flags) { return count_sync(), (int)syscal
 typedef struct {
     void (*open)(void), (*begin)(void), (*put)(uint32_t, const void *, size_t), (*set)(word_t, word_t), (*commit)(int durable);
     void (*sync)(void), (*settle)(void);
-    int (*tend)(void);
+    int (*tend)(uint64_t most);
     void (*close)(void);
 } peer_t;
 
@@ -58,9 +62,9 @@ static void redo_commit(int durable) {
     redo_do(durable ? redo_txn_commit(&db) : redo_txn_commit_lazily(&db));
     if (durable) redo_sync();
 }
-static int redo_turn(void) {
+static int redo_turn(uint64_t most) {
     uint64_t installed;
-    return redo_do(redo_tend(&db, TURN, &installed)), installed > 0;
+    return redo_do(redo_tend(&db, most, &installed)), installed > 0;
 }
 #else
 static void redo_start_commands(void) { redo_do(redo_begin(&db)); }
@@ -208,7 +212,7 @@ static int by_length(const void *a, const void *b) {
 }
 
 /* Keys into an index, a commit after each thousand and a piece of upkeep behind it, to the end of the last upkeep. */
-static void index_keys(const peer_t *peer, int is_redo) {
+static void index_keys(const peer_t *peer, int is_redo, pieces_t pieces, const char *work) {
     size_t calls = 0;
     start();
     for (uint32_t i = 0; i < KEYS; i++) {
@@ -220,14 +224,14 @@ static void index_keys(const peer_t *peer, int is_redo) {
             at = now();
             if (is_redo) peer->sync(); else peer->commit(1);
             took[calls++] = now() - at;
-            if (peer->tend) at = now(), peer->tend(), took[calls++] = now() - at;
+            if (peer->tend) at = now(), peer->tend(pieces.behind), took[calls++] = now() - at;
         }
     }
-    while (peer->tend && peer->tend()) {}
+    while (peer->tend && peer->tend(pieces.last)) {}
     if (peer->settle) peer->settle();
     double end = now() - began;
     qsort(took, calls, sizeof *took, by_length);
-    printf("index: %.3f %lu %.1f %.1f\n", end, syncs - synced, 1e3 * took[calls - 1], 1e3 * took[calls - 1 - calls / 1000]);
+    printf("%s: %.3f %lu %.1f %.1f\n", work, end, syncs - synced, 1e3 * took[calls - 1], 1e3 * took[calls - 1 - calls / 1000]);
 }
 
 static void in_folder(const char *name, const peer_t *peer, void (*work)(const peer_t *)) {
@@ -238,8 +242,9 @@ static void in_folder(const char *name, const peer_t *peer, void (*work)(const p
 
 static void durable(const peer_t *peer) { transactions(peer, 1); }
 static void in_a_force(const peer_t *peer) { transactions(peer, 0); }
-static void keys_of_redo(const peer_t *peer) { index_keys(peer, 1); }
-static void keys(const peer_t *peer) { index_keys(peer, 0); }
+static void keys_of_redo(const peer_t *peer) { index_keys(peer, 1, even, "index"); }
+static void keys_in_small_pieces(const peer_t *peer) { index_keys(peer, 1, small, "index in small pieces"); }
+static void keys(const peer_t *peer) { index_keys(peer, 0, even, "index"); }
 
 /* The bytes of a drain, written and synced once. */
 static void write_once(void) {
@@ -294,6 +299,8 @@ int main(int argc, char **argv) {
     in_folder("drain", peer, drain);
     in_folder("durable", peer, durable);
     in_folder("force", peer, in_a_force);
-    in_folder("index", peer, strcmp(argv[1], "redo") == 0 ? keys_of_redo : keys);
+    int is_redo = strcmp(argv[1], "redo") == 0;
+    in_folder("index", peer, is_redo ? keys_of_redo : keys);
+    if (is_redo) in_folder("pieces", peer, keys_in_small_pieces);
     return 0;
 }
