@@ -10,6 +10,7 @@
 //! entries of an empty leaf.
 #![tactic(auto)]
 
+mod below;
 mod child;
 mod full;
 mod refusal;
@@ -17,6 +18,7 @@ mod tree;
 mod tree_laws;
 mod worked;
 
+pub use below::Below;
 pub use child::child_for;
 pub use full::is_full;
 pub use refusal::TreeRefusal;

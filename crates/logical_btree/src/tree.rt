@@ -3,7 +3,9 @@ ghost use Rattle.std.specs.List.{list_all};
 ghost use Rattle.oper_core.specs.State.{State};
 ghost use Rattle.logical_btree.specs.Walk as walks;
 ghost use Rattle.logical_btree.specs.Walk.{children_of, node_at};
+ghost use Rattle.logical_btree.specs.Below.{below_in};
 
+use crate::{Below, child_for, is_full};
 use arrayvec::ArrayVec;
 use btree_ops::Node;
 use key_entries::Short;
@@ -63,6 +65,33 @@ impl Tree {
             Some(node)
         } else {
             None
+        }
+    }
+
+    /// Where a way to a key goes on from the node of an object of this value; none where that is a leaf, or the object is bad.
+    pub fn below(&self, object: u32, value: &[u8], key: Short) -> Option<Below>
+        ensures { (s : State) → s object ≡ value.now → result ≡ below_in key (node_at self.now.lo self.now.hi s object) }
+    {
+        let read = self.read(object, value);
+        match &read {
+            Some(node) => self.below_node(node, key),
+            None => None,
+        }
+    }
+
+    /// The same for a node that was read, which stays where it is.
+    fn below_node(&self, node: &Node, key: Short) -> Option<Below>
+        ensures { result ≡ below_in key (walks.if_sound self.now.lo self.now.hi node.now) }
+    {
+        if !self.names_children(node) {
+            return None;
+        }
+        match node {
+            Node::Leaf(_) => None,
+            Node::Inner(first, branches) => Some(Below {
+                child: child_for(key, *first, branches.as_slice()),
+                full: is_full(node),
+            }),
         }
     }
 

@@ -12,7 +12,10 @@ use Rattle.btree_ops.specs.declared.node.Node.TheVariants.{Leaf, Inner}
 use Rattle.arrayvec.specs.ArrayVec.{ArrayVec}
 use Rattle.logical_btree.specs.Walk.{Way, children_of, child_for, if_sound, is_child, node_at, read_as, size, walk_at, walk_from, with_met}
 use Rattle.logical_btree.specs.Plan.{Full, first_full, is_full, steps_of}
-use Rattle.tree_client.specs.Finding.{first_of, full_here, node_answer, way_end}
+use Rattle.logical_btree.specs.Below.{below_in}
+use Rattle.logical_btree.specs.declared.below.Below.{Below}
+use Rattle.tree_client.specs.Finding.{first_of, full_at, full_here, leaf_end, node_answer, way_end}
+use Rattle.tree_client.specs.declared.walking.WayEnd.{WayEnd}
 use Rattle.tree_client.specs.Answers.{TreeErr}
 use Rattle.tree_client.specs.Answers.{bad_tree}
 
@@ -62,18 +65,6 @@ goes_below lo hi s key n x first branches seen parent is =
     ap (λ (o : Option Node). way_end seen parent (walk_at (λ y. walk_from lo hi s key n y) key x o)) is
     ∙ met_goes_on seen parent x (Inner first (record { items = branches })) (walk_from lo hi s key n (child_for key first branches))
 
--- it ends at a leaf
-pub ends_at_leaf : (lo hi : ℕ) (s : State) (key : List ℕ) (n x : ℕ) (pairs : List (List ℕ × List ℕ)) (seen : Option Full) (parent : Option ℕ)
-    → node_at lo hi s x ≡ Some (Leaf (record { items = pairs }))
-    → way_end seen parent (walk_from lo hi s key (suc n) x)
-    ≡ Ok (record { leaf = x; pairs = record { items = pairs }; full = first_of seen (full_here parent x (Leaf (record { items = pairs }))) })
-ends_at_leaf lo hi s key n x pairs seen parent is = ap (λ (o : Option Node). way_end seen parent (walk_at (λ y. walk_from lo hi s key n y) key x o)) is
-
--- it ends at a bad object
-pub ends_at_bad : (lo hi : ℕ) (s : State) (key : List ℕ) (n x : ℕ) (seen : Option Full) (parent : Option ℕ) (error : TreeErr) → node_at lo hi s x ≡ None
-    → way_end seen parent (walk_from lo hi s key (suc n) x) ≡ way_end seen parent (Err x)
-ends_at_bad lo hi s key n x seen parent error is = ap (λ (o : Option Node). way_end seen parent (walk_at (λ y. walk_from lo hi s key n y) key x o)) is
-
 -- what a node that was read says of the state
 pub node_found : (x : ℕ) (o : Option Node) (node : Node) → Ok node ≡ node_answer x o → o ≡ Some node
 node_found x None node is = cc
@@ -87,32 +78,73 @@ node_bad x (Some n) e is = cc
 pub one_less : (all step : ℕ) → step < all → all - step ≡ suc (all - (step + 1))
 one_less all step below = omega (arith, below)
 
--- the same with what the code has found
-pub meets_bad : (lo hi : ℕ) (s : State) (key : List ℕ) (step x : ℕ) (seen : Option Full) (parent : Option ℕ) (e : TreeErr) → step < size lo hi → Err e ≡ node_answer x (node_at lo hi s x)
-    → Err e ≡ way_end seen parent (walk_from lo hi s key (size lo hi - step) x)
-meets_bad lo hi s key step x seen parent e turn is =
-    let bad = node_bad x (node_at lo hi s x) e is in
-    ap (λ (o : TreeErr). Err o) bad.1
-    ∙ sym (ap (λ (n : ℕ). way_end seen parent (walk_from lo hi s key n x)) (one_less (size lo hi) step turn) ∙ ends_at_bad lo hi s key (size lo hi - (step + 1)) x seen parent e bad.0)
+-- what the code has found of a node
+below_is : (key : List ℕ) (o : Option Node) (b : Below) → Some b ≡ below_in key o
+    → (first : ℕ) × (branches : List (List ℕ × ℕ)) × (o ≡ Some (Inner first (record { items = branches }))) × (b.child ≡ child_for key first branches) × (b.full ≡ is_full (Inner first (record { items = branches })))
+below_is key None b is = cc
+below_is key (Some (Leaf pairs)) b is = cc
+below_is key (Some (Inner first branches)) b is =
+    let same = same_some b (record { child = child_for key first branches.items; full = is_full (Inner first branches) }) is in
+    (first, branches.items, refl, ap (λ (c : Below). c.child) same, ap (λ (c : Below). c.full) same)
 
-pub at_leaf : (lo hi : ℕ) (s : State) (key : List ℕ) (step x : ℕ) (seen : Option Full) (parent : Option ℕ) (pairs : ArrayVec (List ℕ × List ℕ)) (node : Node) (full : Option Full) → step < size lo hi
-    → node_at lo hi s x ≡ Some node → node ≡ Leaf pairs → full ≡ first_of seen (full_here parent x node)
-    → Ok (record { leaf = x; pairs = pairs; full = full }) ≡ way_end seen parent (walk_from lo hi s key (size lo hi - step) x)
-at_leaf lo hi s key step x seen parent pairs node full turn is leaf noted =
-    ap (λ (f : Option Full). Ok (record { leaf = x; pairs = pairs; full = f })) (noted ∙ ap (λ (n : Node). first_of seen (full_here parent x n)) leaf)
-    ∙ sym (
-    ap (λ (n : ℕ). way_end seen parent (walk_from lo hi s key n x)) (one_less (size lo hi) step turn)
-    ∙ ends_at_leaf lo hi s key (size lo hi - (step + 1)) x pairs.items seen parent (is ∙ ap (λ (n : Node). Some n) leaf)
-    )
+pub below_within : (lo hi : ℕ) (s : State) (key : List ℕ) (x : ℕ) (b : Below) → Some b ≡ below_in key (node_at lo hi s x) → b.child ≤ hi
+below_within lo hi s key x b is =
+    let found = below_is key (node_at lo hi s x) b is in
+    subst (λ (y : ℕ). y ≤ hi) (sym found.3) (child_within lo hi s key x found.0 found.1 found.2)
 
-pub below_node : (lo hi : ℕ) (s : State) (key : List ℕ) (step x first : ℕ) (seen : Option Full) (parent : Option ℕ) (branches : List (List ℕ × ℕ)) (node : Node) (full : Option Full) (child : ℕ) → step < size lo hi
-    → node_at lo hi s x ≡ Some (Inner first (record { items = branches })) → node ≡ Inner first (record { items = branches }) → full ≡ first_of seen (full_here parent x node) → child ≡ child_for key first branches
-    → way_end seen parent (walk_from lo hi s key (size lo hi - step) x) ≡ way_end full (Some x) (walk_from lo hi s key (size lo hi - (step + 1)) child)
-below_node lo hi s key step x first seen parent branches node full child turn is inner noted below =
+pub goes_on_below : (lo hi : ℕ) (s : State) (key : List ℕ) (step x : ℕ) (seen : Option Full) (parent : Option ℕ) (b : Below) (full : Option Full) → step < size lo hi
+    → Some b ≡ below_in key (node_at lo hi s x) → full ≡ first_of seen (full_at parent x b.full)
+    → way_end seen parent (walk_from lo hi s key (size lo hi - step) x) ≡ way_end full (Some x) (walk_from lo hi s key (size lo hi - (step + 1)) b.child)
+goes_on_below lo hi s key step x seen parent b full turn is noted =
+    let found = below_is key (node_at lo hi s x) b is in
+    let first = found.0 in
+    let branches = found.1 in
+    let rest = size lo hi - (step + 1) in
+    let same : full ≡ first_of seen (full_here parent x (Inner first (record { items = branches }))) = noted ∙ ap (λ (f : Bool). first_of seen (full_at parent x f)) found.4 in
     ap (λ (n : ℕ). way_end seen parent (walk_from lo hi s key n x)) (one_less (size lo hi) step turn)
-    ∙ goes_below lo hi s key (size lo hi - (step + 1)) x first branches seen parent is
-    ∙ ap (λ (f : Option Full). way_end f (Some x) (walk_from lo hi s key (size lo hi - (step + 1)) (child_for key first branches))) (sym (noted ∙ ap (λ (n : Node). first_of seen (full_here parent x n)) inner))
-    ∙ ap (λ (y : ℕ). way_end full (Some x) (walk_from lo hi s key (size lo hi - (step + 1)) y)) (sym below)
+    ∙ goes_below lo hi s key rest x first branches seen parent found.2
+    ∙ ap (λ (f : Option Full). way_end f (Some x) (walk_from lo hi s key rest (child_for key first branches))) (sym same)
+    ∙ ap (λ (y : ℕ). way_end full (Some x) (walk_from lo hi s key rest y)) (sym found.3)
+
+ends_at_no_inner : (on : ℕ → Result Way ℕ) (key : List ℕ) (x : ℕ) (seen : Option Full) (parent : Option ℕ) (o : Option Node) → None ≡ below_in key o
+    → leaf_end seen parent x o ≡ way_end seen parent (walk_at on key x o)
+ends_at_no_inner on key x seen parent None none = refl
+ends_at_no_inner on key x seen parent (Some (Leaf pairs)) none = refl
+ends_at_no_inner on key x seen parent (Some (Inner first branches)) none = cc
+
+pub ends_here : (lo hi : ℕ) (s : State) (key : List ℕ) (step x : ℕ) (seen : Option Full) (parent : Option ℕ) → step < size lo hi → None ≡ below_in key (node_at lo hi s x)
+    → leaf_end seen parent x (node_at lo hi s x) ≡ way_end seen parent (walk_from lo hi s key (size lo hi - step) x)
+ends_here lo hi s key step x seen parent turn none =
+    ends_at_no_inner (λ y. walk_from lo hi s key (size lo hi - (step + 1)) y) key x seen parent (node_at lo hi s x) none
+    ∙ sym (ap (λ (n : ℕ). way_end seen parent (walk_from lo hi s key n x)) (one_less (size lo hi) step turn))
+
+-- where a node was read, a leaf ends the way, and what is no node is bad
+pub leaf_ends : (o : Option Node) (x : ℕ) (node : Node) (pairs : ArrayVec (List ℕ × List ℕ)) (full seen : Option Full) (parent : Option ℕ) (is : Bool) → Ok node ≡ node_answer x o → node ≡ Leaf pairs
+    → is ≡ is_full node → full ≡ first_of seen (full_at parent x is) → Ok (record { leaf = x; pairs = pairs; full = full }) ≡ leaf_end seen parent x o
+leaf_ends o x node pairs full seen parent is read leaf told noted =
+    let found : o ≡ Some (Leaf pairs) = node_found x o node read ∙ ap (λ (n : Node). Some n) leaf in
+    ap (λ (f : Option Full). Ok (record { leaf = x; pairs = pairs; full = f })) (noted ∙ ap (λ (f : Bool). first_of seen (full_at parent x f)) (told ∙ ap (λ (n : Node). is_full n) leaf))
+    ∙ ap (λ (q : Option Node). leaf_end seen parent x q) (sym found)
+
+pub inner_ends_not : (o : Option Node) (x : ℕ) (node : Node) (first : ℕ) (branches : ArrayVec (List ℕ × ℕ)) (seen : Option Full) (parent : Option ℕ) → Ok node ≡ node_answer x o → node ≡ Inner first branches
+    → Err (bad_tree x) ≡ leaf_end seen parent x o
+inner_ends_not o x node first branches seen parent read inner =
+    ap (λ (q : Option Node). leaf_end seen parent x q) (sym (node_found x o node read ∙ ap (λ (n : Node). Some n) inner))
+
+pub bad_ends : (o : Option Node) (x : ℕ) (e : TreeErr) (seen : Option Full) (parent : Option ℕ) → Err e ≡ node_answer x o → Err e ≡ leaf_end seen parent x o
+bad_ends o x e seen parent read =
+    let bad = node_bad x o e read in
+    ap (λ (c : TreeErr). Err c) bad.1 ∙ ap (λ (q : Option Node). leaf_end seen parent x q) (sym bad.0)
+
+-- what was answered, by cases
+pub no_below : (found o : Option Below) → ◌≡◌ {A = Result (Option Below) TreeErr} (Ok found) (Ok o) → found ≡ None → None ≡ o
+no_below found o told is = cc
+
+pub some_below : (found : Option Below) (b : Below) (o : Option Below) → ◌≡◌ {A = Result (Option Below) TreeErr} (Ok found) (Ok o) → found ≡ Some b → Some b ≡ o
+some_below found b o told is = cc
+
+pub told_no_error : (e : TreeErr) (o : Option Below) (x : Result WayEnd TreeErr) → ◌≡◌ {A = Result (Option Below) TreeErr} (Err e) (Ok o) → Err e ≡ x
+told_no_error e o x is = cc
 
 pub at_end : (lo hi : ℕ) (s : State) (key : List ℕ) (n x : ℕ) (seen : Option Full) (parent : Option ℕ) → n ≡ 0 → way_end seen parent (walk_from lo hi s key n x) ≡ Err (bad_tree x)
 at_end lo hi s key n x seen parent none = ap (λ (k : ℕ). way_end seen parent (walk_from lo hi s key k x)) none

@@ -6,8 +6,8 @@
 //! call acts as on an ordered map (`a_tree_is_an_ordered_map`), a split keeps the tree and its pairs
 //! (`a_split_keeps_the_tree`), and no command of a plan is refused where a value may hold 1,024 bytes
 //! (`commands_are_accepted`). So a tree that only these calls have written is one after every stop, with the pairs of the
-//! calls that were done (`only_calls_keep_the_tree`). A call fetches each node on its way once, and an insert that splits
-//! nothing is one command. What a call on another kind of range would do too is in `range_calls`.
+//! calls that were done (`only_calls_keep_the_tree`). A call fetches each inner node on its way once, and an insert that
+//! splits nothing is one command. What a call on another kind of range would do too is in `range_calls`.
 #![tactic(auto)]
 
 mod deleting;

@@ -6,17 +6,17 @@ ghost use Rattle.store_engine.specs.Engine.{params_of};
 ghost use Rattle.store_engine.specs.Lists.{ending_of};
 ghost use Rattle.logical_btree.specs.Walk as walks;
 ghost use Rattle.tree_client.specs.Answers.{cause_in};
-ghost use Rattle.tree_client.specs.Finding.{first_of, full_here, way_end};
+ghost use Rattle.tree_client.specs.Finding.{first_of, full_at, leaf_end, way_end};
 ghost use Rattle.range_calls.specs.Making.{Reads};
 ghost use Rattle.range_calls.specs.Store.{Command, Holds, state_of};
 
 use crate::full::Full;
-use crate::nodes::node_of;
+use crate::nodes::{below_of, node_of};
 use crate::tree_err::TreeErr;
 use btree_ops::Node;
 use disk_model::Machine;
 use key_entries::{Pairs, Short};
-use logical_btree::{Tree, TreeRefusal, child_for, is_full};
+use logical_btree::{Tree, TreeRefusal, is_full};
 use op_codec::AllOps;
 use range_calls::{CallErr, reads_go_on};
 use store_engine::{Engine, nothing_is_made};
@@ -39,13 +39,13 @@ pub(crate) fn size(tree: &Tree) -> u64
 }
 
 /// The full node that was seen, or else this one, if it is full.
-fn note_full(seen: Option<Full>, parent: Option<u32>, object: u32, node: &Node) -> Option<Full>
-    ensures { result ≡ first_of seen (full_here parent object node.now) }
+fn note_full(seen: Option<Full>, parent: Option<u32>, object: u32, is_full: bool) -> Option<Full>
+    ensures { result ≡ first_of seen (full_at parent object is_full) }
 {
     if seen.is_some() {
         return seen;
     }
-    if is_full(node) {
+    if is_full {
         return Some(Full {
             parent,
             child: object,
@@ -54,7 +54,33 @@ fn note_full(seen: Option<Full>, parent: Option<u32>, object: u32, node: &Node) 
     None
 }
 
-/// Goes from the root to the leaf under which a key stands. Each node on the way is fetched once.
+/// The end of a way at an object that is no inner node.
+fn end_at<M: Machine>(
+    tree: &Tree,
+    engine: &mut Engine<AllOps>,
+    machine: &mut M,
+    object: u32,
+    seen: Option<Full>,
+    parent: Option<u32>,
+) -> Result<WayEnd, TreeErr>
+    requires unbroken { engine.old.broken ≡ false }
+    ensures reads { Reads (M.disk machine.old) (M.disk machine.new) engine.old engine.new (cause_in result) }
+    ensures answer { (p : Params) (commands : List Command) → Holds p (M.disk machine.old) engine.old commands → object < p.objects →
+        ending_of (cause_in result) ≡ Done → result ≡ leaf_end seen parent object (walks.node_at tree.now.lo tree.now.hi (state_of p commands) object) }
+{
+    let node = node_of(tree, engine, machine, object)?;
+    let full = note_full(seen, parent, object, is_full(&node));
+    match node {
+        Node::Leaf(pairs) => Ok(WayEnd {
+            leaf: object,
+            pairs,
+            full,
+        }),
+        Node::Inner(_, _) => Err(CallErr::Refused(TreeRefusal::BadTree { object })),
+    }
+}
+
+/// Goes from the root to the leaf under which a key stands. Of an inner node only the child is read where the way goes on.
 pub(crate) fn walk<M: Machine>(
     tree: &Tree,
     engine: &mut Engine<AllOps>,
@@ -73,19 +99,13 @@ pub(crate) fn walk<M: Machine>(
     let mut parent = None;
     let mut full = None;
     for _step in 0..size(tree) {
-        let node = node_of(tree, engine, machine, object)?;
-        full = note_full(full, parent, object, &node);
-        match node {
-            Node::Leaf(pairs) => {
-                return Ok(WayEnd {
-                    leaf: object,
-                    pairs,
-                    full,
-                });
-            }
-            Node::Inner(first, branches) => {
+        let found = below_of(tree, engine, machine, object, key)?;
+        match found {
+            None => return end_at(tree, engine, machine, object, full, parent),
+            Some(below) => {
+                full = note_full(full, parent, object, below.full);
                 parent = Some(object);
-                object = child_for(key, first, branches.as_slice());
+                object = below.child;
             }
         }
     }
