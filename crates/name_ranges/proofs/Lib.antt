@@ -1,0 +1,6 @@
+pub mod Directories
+pub mod Writing
+pub mod Alike
+pub mod Untouched
+pub mod Naming
+pub mod Calls

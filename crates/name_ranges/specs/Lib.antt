@@ -1,0 +1,4 @@
+pub mod Directory
+pub mod Named
+pub mod Changes
+pub mod Worked

@@ -1,0 +1,15 @@
+-- A small store with one name.
+use Rattle.std.specs.Prelude.{ℕ, ◌==◌, codes, List, [], ◌∷◌, if◌then◌else◌}
+use Rattle.std.specs.FinMap.{empty, insert}
+use Rattle.oper_core.specs.State.{State}
+use Rattle.page_ops.specs.Page.{page_of}
+use Rattle.name_ranges.specs.Directory.{Directory, key_of, number_bytes}
+
+-- objects 0 to 3 are the range, and the name a has object 5, with the value 10
+abbrev pub sample : State
+sample x =
+    if x == 0 then page_of 0 ((key_of (codes "a"), number_bytes 5) ∷ [])
+    else if x == 5 then codes "10" else []
+
+abbrev pub of_a : Directory
+of_a = insert empty (key_of (codes "a")) (number_bytes 5)
