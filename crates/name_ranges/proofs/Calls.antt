@@ -1,15 +1,13 @@
 -- What calls on the map do to names.
-use Rattle.std.proofs.Common.{◌≡◌, ◌≢◌, ◌<◌, ◌≤◌, ◌^◌, ◌⊎◌, inl, inr, refl, sym, ap, ◌∙◌, subst, arith, true≢false, ℕ, zero, suc, ◌+◌, ◌*◌, ◌-◌, ◌/◌, Bool, true, false, ◌&&◌, if◌then◌else◌, Option, None, Some, Result, Ok, Err, List, [], ◌∷◌, length, map, take, option_map}
+use Rattle.std.proofs.Common.{◌≡◌, ◌<◌, ◌≤◌, ◌^◌, inl, inr, refl, sym, ap, ◌∙◌, subst, arith, true≢false, ℕ, suc, ◌+◌, ◌*◌, ◌-◌, ◌/◌, Bool, true, false, ◌&&◌, if◌then◌else◌, Option, None, Some, Result, Ok, List, length, map, take, option_map}
 use Rattle.std.specs.Prelude.{is_some, nat_le, nat_lt}
 use Rattle.std.proofs.lemmas.Bool.{cases_Bool, le-leb, leb-true, lt-ltb}
 use Rattle.std.proofs.lemmas.List.{take_all}
-use Rattle.std.specs.Cmp.Lexicographic.{nat_list_cmp_total, slice_cmp}
+use Rattle.std.specs.Cmp.Lexicographic.{nat_list_cmp_total}
 use Rattle.std.specs.FinMap.{empty, get, get-empty, insert, nat_cmp-IsAntisymmetric, remove, same_map, slice_cmp-IsAntisymmetric}
-use Rattle.std.specs.Ordering.{nat_cmp}
 use Rattle.oper_core.specs.State.{State}
 use Rattle.oper_core.specs.declared.bounds.Bounds.{Bounds}
 use Rattle.key_entries.specs.Entries.{byte_order}
-use Rattle.key_entries.specs.EntryLaws.{map_some, same_some}
 use Rattle.call_plans.specs.Laws.{AllAccepted, after_all}
 use Rattle.call_plans.specs.Plan.{Plan}
 use Rattle.op_codec.specs.AllOps.{all_meaning, page}
@@ -17,18 +15,18 @@ use Rattle.page_ops.specs.Operation.{page_meaning}
 use Rattle.page_ops.specs.declared.page_op.PageOp.{PageOp}
 use Rattle.page_map.specs.Deletes.{Deletes, delete_by, delete_plan}
 use Rattle.page_map.specs.Map.{IsMap, content_of}
-use Rattle.page_map.specs.Plan.{Admits, DeleteMakes, delete_command}
+use Rattle.page_map.specs.Plan.{DeleteMakes, delete_command}
 use Rattle.page_map.specs.Sets.{IsCause, IsKept, Sets, is_pair, room_of, set_plan}
 use Rattle.page_map.specs.Walk.{get_answer}
 use Rattle.page_map.specs.declared.refusal.MapRefusal.{MapRefusal}
 use Rattle.page_map.specs.declared.refusal.MapRefusal.TheVariants.{BadMap, MapFull, NoKey, TooLong}
 use Rattle.named_words.specs.Effects.{Names}
 use Rattle.name_ranges.specs.Changes.{Gives, IsFound, Leaves, LeavesOthers, Takes, giving, taking}
-use Rattle.name_ranges.specs.Directory.{Directory, IsDirectory, IsSpare, key_of, name_most, number_bytes, number_in, object_of, sizes_of}
+use Rattle.name_ranges.specs.Directory.{Directory, IsSpare, key_of, name_most, number_bytes, number_in, object_of, sizes_of}
 use Rattle.name_ranges.specs.Named.{HasMaps, IsNamed, directory_of}
-use Rattle.name_ranges.proofs.Directories.{directory_given, directory_taken, object_given, object_given_other, object_taken, object_taken_other, stays, taken_here, taken_other, tells}
+use Rattle.name_ranges.proofs.Directories.{directory_given, directory_taken, object_given, object_given_other, object_taken, object_taken_other, taken_here, taken_other, tells}
 use Rattle.name_ranges.proofs.Naming.{AreNamed, are_named, given_value, values_alike}
-use Rattle.name_ranges.proofs.Untouched.{accepted_pages, after_pages, delete_alike, narrow, narrow_admits, set_alike, untouched}
+use Rattle.name_ranges.proofs.Untouched.{accepted_pages, after_pages, delete_alike, narrow, set_alike, untouched}
 
 -- ---- how long names may be
 

@@ -1,5 +1,5 @@
 -- What directories have for names, where one is given an object or is taken away.
-use Rattle.std.proofs.Common.{◌≡◌, ◌≢◌, ◌<◌, ◌≤◌, ◌^◌, ◌⊎◌, inl, inr, refl, sym, ap, ◌∙◌, subst, arith, true≢false, ℕ, Bool, true, false, cond, Option, None, Some, List, [], ◌∷◌, length, option_map}
+use Rattle.std.proofs.Common.{◌≡◌, ◌≢◌, ◌<◌, ◌^◌, ◌⊎◌, inl, inr, refl, sym, ap, ◌∙◌, subst, true≢false, ℕ, true, false, cond, None, Some, List, [], length, option_map}
 use Rattle.std.proofs.lemmas.Bool.{cases_Bool, false_from_ne_true}
 use Rattle.std.proofs.lemmas.Slice.Eq.{bytes_eq-Decides}
 use Rattle.std.specs.Cmp.Lexicographic.{nat_list_cmp_total, texts_ties}
@@ -8,7 +8,7 @@ use Rattle.std.specs.Ordering.{eq_by_cmp}
 use Rattle.std.specs.Str.{bytes_eq}
 use Rattle.oper_core.specs.LittleEndian.{little_number-little_bytes}
 use Rattle.key_entries.specs.Entries.{byte_order}
-use Rattle.key_entries.specs.EntryLaws.{map_some, same_some}
+use Rattle.key_entries.specs.EntryLaws.{same_some}
 use Rattle.name_ranges.specs.Directory.{Directory, IsDirectory, IsSpare, key_of, name_in, number_bytes, number_in, object_of}
 
 -- two texts are one, or two

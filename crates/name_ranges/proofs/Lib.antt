@@ -4,3 +4,5 @@ pub mod Alike
 pub mod Untouched
 pub mod Naming
 pub mod Calls
+pub mod Sample
+pub mod Putting

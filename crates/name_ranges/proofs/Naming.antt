@@ -1,11 +1,10 @@
 -- What operations do to names and their values.
-use Rattle.std.proofs.Common.{◌≡◌, ◌≢◌, ◌<◌, ◌≤◌, ◌^◌, inl, inr, refl, sym, ap, ◌∙◌, subst, arith, ℕ, suc, ◌+◌, Bool, Option, None, Some, List, [], ◌∷◌, length, map, take, option_map}
+use Rattle.std.proofs.Common.{◌≡◌, ◌≢◌, ◌<◌, ◌≤◌, inl, inr, refl, sym, ap, ◌∙◌, subst, arith, ℕ, Option, None, Some, List, [], ◌∷◌, length, option_map}
 use Rattle.std.proofs.lemmas.Bool.Decides.{eqb_tells}
-use Rattle.std.specs.FinMap.{get, insert, remove}
+use Rattle.std.specs.FinMap.{get, insert}
 use Rattle.oper_core.specs.State.{State}
 use Rattle.oper_core.specs.Meaning.{after}
 use Rattle.oper_core.specs.declared.bounds.Bounds.{Bounds}
-use Rattle.call_plans.specs.Laws.{after_all}
 use Rattle.op_codec.specs.AllOps.{AllOps, all_meaning}
 use Rattle.page_map.specs.Map.{content_of}
 use Rattle.page_map.specs.Sets.{IsKept}

@@ -1,22 +1,20 @@
 -- The commands of a set and of a delete leave the objects behind the range: each is accepted in a store that has no objects there.
-use Rattle.std.proofs.Common.{◌≡◌, ◌≢◌, ◌<◌, ◌≤◌, ◌^◌, refl, sym, ap, ◌∙◌, subst, arith, ℕ, zero, suc, ◌+◌, Bool, true, false, ◌||◌, if◌then◌else◌, Option, None, Some, Result, Ok, Err, List, [], ◌∷◌, map}
+use Rattle.std.proofs.Common.{◌≡◌, ◌<◌, ◌^◌, refl, ◌∙◌, arith, ℕ, zero, suc, ◌+◌, Option, None, Some, Result, Ok, Err, List, [], ◌∷◌, map}
 use Rattle.std.proofs.lemmas.List.Elements.{All-pop}
 use Rattle.oper_core.specs.State.{State}
 use Rattle.oper_core.specs.Meaning.{IsSmall, after}
 use Rattle.oper_core.specs.MeaningLaws.{or_else-none}
 use Rattle.oper_core.specs.declared.bounds.Bounds.{Bounds}
 use Rattle.call_plans.specs.Laws.{AllAccepted, after_all}
-use Rattle.call_plans.specs.Plan.{Plan}
 use Rattle.op_codec.specs.AllOps.{all_meaning, page}
 use Rattle.page_ops.specs.Operation.{page_meaning, written_by}
 use Rattle.page_ops.specs.OperationLaws.{page_lawful}
 use Rattle.page_ops.specs.Reading.{level_in}
 use Rattle.page_ops.specs.declared.page_op.PageOp.{PageOp}
-use Rattle.page_map.specs.Deletes.{by_tidying, delete_by, delete_plan, tidied, tidy_plan, tidy_turn}
+use Rattle.page_map.specs.Deletes.{by_tidying, delete_by, delete_plan, tidied, tidy_turn}
 use Rattle.page_map.specs.Map.{bytes_at}
 use Rattle.page_map.specs.Plan.{Admits, delete_command}
-use Rattle.page_map.specs.Sets.{IsKept, Turn, by_turn, does, ends, refuses, set_from, set_plan, set_turn}
-use Rattle.page_map.specs.declared.refusal.MapRefusal.{MapRefusal}
+use Rattle.page_map.specs.Sets.{Turn, by_turn, does, ends, refuses, set_from, set_plan, set_turn}
 use Rattle.name_ranges.specs.Named.{HasMaps}
 use Rattle.name_ranges.proofs.Writing.{not_written}
 

@@ -1,9 +1,8 @@
 -- What the operations on plain values write.
-use Rattle.std.proofs.Common.{◌≡◌, ◌≢◌, ◌<◌, ◌≤◌, refl, sym, ap, ◌∙◌, arith, ℕ, ◌+◌, ◌==◌, Bool, true, false, not, ◌&&◌, ◌||◌, cond, if◌then◌else◌, Option, None, Some, List, [], ◌∷◌, ◌++◌, length}
-use Rattle.std.specs.Prelude.{nat_le, nat_lt}
-use Rattle.std.specs.List.{list_all}
+use Rattle.std.proofs.Common.{◌≡◌, ◌≢◌, ◌<◌, ◌≤◌, refl, ap, ◌∙◌, arith, ℕ, ◌+◌, ◌==◌, true, false, not, ◌&&◌, ◌||◌, if◌then◌else◌, Option, None, List, [], ◌∷◌, ◌++◌, length}
+use Rattle.std.specs.Prelude.{nat_le}
 use Rattle.std.proofs.lemmas.Bool.{eq-eqb, false_from_ne_true, eqb-true, le-leb, lt-ltb}
-use Rattle.oper_core.specs.State.{State, is_among, with_values}
+use Rattle.oper_core.specs.State.{State, with_values}
 use Rattle.oper_core.specs.Meaning.{or_else, unless}
 use Rattle.oper_core.specs.MeaningLaws.{or_else-both}
 use Rattle.oper_core.specs.declared.bounds.Bounds.{Bounds}
@@ -12,7 +11,7 @@ use Rattle.oper_core.specs.declared.refusal.Refusal.TheVariants.{NoObject, Same,
 use Rattle.op_codec.specs.AllOps.{plain}
 use Rattle.op_meaning.specs.Table.{append_check}
 use Rattle.op_meaning.specs.declared.plain_op.PlainOp.TheVariants.{Append, Copy, Put}
-use Rattle.op_rows.specs.Rows.{are_apart, if_applicable, named}
+use Rattle.op_rows.specs.Rows.{if_applicable, named}
 use Rattle.name_ranges.specs.Changes.{Writes}
 
 differ : (x y : ℕ) → x ≢ y → (x == y) ≡ false

@@ -1,4 +1,5 @@
 pub mod Directory
 pub mod Named
 pub mod Changes
+pub mod Putting
 pub mod Worked

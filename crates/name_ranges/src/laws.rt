@@ -11,6 +11,7 @@ ghost use Rattle.named_words.specs.Effects.{Names};
 ghost use Rattle.name_ranges.specs.Changes.{Gives, IsFound, Leaves, Takes, Writes};
 ghost use Rattle.name_ranges.specs.Directory.{Directory, IsDirectory, IsSpare, key_of, number_bytes, object_of};
 ghost use Rattle.name_ranges.specs.Named.{HasMaps, IsNamed, directory_of};
+ghost use Rattle.name_ranges.specs.Putting.{IsWriting, Puts};
 
 use page_map::{
     a_delete_is_done_or_refused, a_get_finds_what_the_map_has, a_set_is_done_or_refused,
@@ -48,6 +49,16 @@ pub fn a_name_is_given_an_object()
         IsSpare hi b.objects (directory_of is) x → Gives b lo hi s names is name x }
 {
     a_set_is_done_or_refused();
+}
+
+/// Where a name is given a value, the value is written first: to its object, or to one of no name, which it is given then. It has the
+/// value, or it is refused, and no name is changed.
+pub fn a_name_is_given_a_value()
+    ensures { (b : Bounds) (lo hi : ℕ) (s : State) (names : Names) (is : IsNamed b lo hi s names) (name bytes : List ℕ) (spare : ℕ) (writing : ℕ → AllOps) → HasMaps b hi →
+        IsWriting b lo hi s names is name bytes spare writing → Puts b lo hi s names is name bytes spare writing }
+{
+    a_name_is_given_an_object();
+    a_get_finds_what_the_map_has();
 }
 
 /// A delete of the key of a name takes the name away, and is refused exactly where it is not there.

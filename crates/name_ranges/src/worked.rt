@@ -1,12 +1,16 @@
-//! Keys and a directory worked out by computation.
+//! Keys and a small range worked out by computation.
 
-ghost use Rattle.std.specs.Prelude.{◌≡◌, ◌∷◌, [], Ok, None, Some, codes, ℕ};
-ghost use Rattle.oper_core.specs.declared.bounds.Bounds.{Bounds};
-ghost use Rattle.page_map.specs.Sets.{is_pair};
+ghost use Rattle.std.specs.Prelude.{◌≡◌, ◌∷◌, [], Ok, None, Some, codes, replicate};
+ghost use Rattle.call_plans.specs.Plan.{one_command, refused_by};
+ghost use Rattle.page_ops.specs.declared.page_op.PageOp.TheVariants.{Delete, Put, Set};
+ghost use Rattle.page_map.specs.Deletes.{delete_plan};
+ghost use Rattle.page_map.specs.Sets.{set_plan};
 ghost use Rattle.page_map.specs.Walk.{get_answer};
+ghost use Rattle.page_map.specs.declared.refusal.MapRefusal.TheVariants.{NoKey, TooLong};
 ghost use Rattle.named_words.specs.Effects.{place_of};
-ghost use Rattle.name_ranges.specs.Directory.{key_of, name_in, name_most, number_bytes, number_in, object_of};
-ghost use Rattle.name_ranges.specs.Worked.{of_a, sample};
+ghost use Rattle.name_ranges.specs.Directory.{IsSpare, key_of, name_in, name_most, number_bytes, number_in, object_of};
+ghost use Rattle.name_ranges.specs.Named.{IsNamed};
+ghost use Rattle.name_ranges.specs.Worked.{bounds, of_a, only_a, sample};
 
 /// Places are halves of FNV-1a of 64 bits, and keys begin with them.
 pub fn keys_are_as_worked()
@@ -23,8 +27,19 @@ pub fn keys_are_as_worked()
 pub fn directories_are_as_worked()
     ensures there { object_of of_a (codes "a") ≡ Some 5 }
     ensures missing { object_of of_a (codes "b") ≡ None }
-    ensures found { get_answer 0 3 sample (key_of (codes "a")) ≡ Ok (Some (5 ∷ 0 ∷ 0 ∷ 0 ∷ [])) }
-    ensures not_found { get_answer 0 3 sample (key_of (codes "b")) ≡ Ok None }
+    ensures spare { IsSpare 3 100 of_a 6 }
     ensures shortest { name_most 1024 ≡ 112 }
     ensures longest { name_most 65535 ≡ 1015 }
+{}
+
+/// A small range has one name, and the commands of a set, of a delete and of a set that is too long.
+pub fn a_range_is_as_worked()
+    ensures named { IsNamed bounds 0 3 sample only_a }
+    ensures found { get_answer 0 3 sample (key_of (codes "a")) ≡ Ok (Some (5 ∷ 0 ∷ 0 ∷ 0 ∷ [])) }
+    ensures not_found { get_answer 0 3 sample (key_of (codes "b")) ≡ Ok None }
+    ensures set { set_plan bounds 0 3 (key_of (codes "b")) (number_bytes 6) sample ≡ one_command (Put 0 1 (key_of (codes "b")) (number_bytes 6)) }
+    ensures set_again { set_plan bounds 0 3 (key_of (codes "a")) (number_bytes 6) sample ≡ one_command (Set 0 0 (number_bytes 6)) }
+    ensures deleted { delete_plan bounds 0 3 (key_of (codes "a")) sample ≡ one_command (Delete 0 0) }
+    ensures missing { delete_plan bounds 0 3 (key_of (codes "b")) sample ≡ refused_by NoKey }
+    ensures long { (set_plan bounds 0 3 (key_of (replicate 113 97)) (number_bytes 6) sample).refusal ≡ Some TooLong }
 {}

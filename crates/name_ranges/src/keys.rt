@@ -19,7 +19,7 @@ pub fn place(name: &[u8]) -> u64
 }
 
 /// The key of a name in a directory.
-pub fn key(alloc: Global, name: &[u8]) -> Result<Vec<u8>, Memory>
+pub fn key_of(alloc: Global, name: &[u8]) -> Result<Vec<u8>, Memory>
     ensures { IfOk result (λ key. key.items ≡ directories.key_of name.now) }
 {
     let mut key = place(name).to_be_bytes().to_vec(alloc)?;
@@ -38,5 +38,9 @@ pub fn number_bytes(alloc: Global, object: u32) -> Result<Vec<u8>, Memory>
 pub fn number_in(bytes: &[u8]) -> Option<u32>
     ensures { result ≡ (if length bytes.now == 4 then Some (directories.number_in bytes.now) else None) }
 {
-    if bytes.len() == 4 { Some(LittleEndian::read_u32(bytes)) } else { None }
+    if bytes.len() == 4 {
+        Some(LittleEndian::read_u32(bytes))
+    } else {
+        None
+    }
 }

@@ -1,6 +1,6 @@
 use Rattle.std.proofs.Common.{◌≡◌, drop}
 use Rattle.named_words.specs.Effects.{hash_from}
-use Rattle.name_ranges.proofs.key.place.Given as goal
+use Rattle.name_ranges.proofs.keys.place.Given as goal
 
 abbrev pub invariant-loop-byte : goal.invariant-loop-byte
 invariant-loop-byte l = record {
