@@ -18,10 +18,10 @@ tells a c = elim (cases_Bool (bytes_eq a c)) [
   | inr apart ↦ inr (λ same. true≢false (sym ((bytes_eq-Decides a c).1 same) ∙ apart))
 ]
 
-tied : (k : List ℕ) → eq_by_cmp byte_order k k ≡ true
+pub tied : (k : List ℕ) → eq_by_cmp byte_order k k ≡ true
 tied k = sym (texts_ties k k) ∙ (bytes_eq-Decides k k).1 refl
 
-untied : (q k : List ℕ) → q ≢ k → eq_by_cmp byte_order q k ≡ false
+pub untied : (q k : List ℕ) → q ≢ k → eq_by_cmp byte_order q k ≡ false
 untied q k apart = sym (texts_ties q k) ∙ false_from_ne_true (bytes_eq q k) (λ e. apart ((bytes_eq-Decides q k).0 e))
 
 module _ {X : Type 0} (m : FinMap byte_order X) where
@@ -38,7 +38,7 @@ module _ {X : Type 0} (m : FinMap byte_order X) where
   taken_other k q apart = get-remove nat_list_cmp_total m k q ∙ ap (λ t. cond t None (get m q)) (untied q k apart)
 
 -- names have keys of their own
-one_key : (a c : List ℕ) → key_of a ≡ key_of c → a ≡ c
+pub one_key : (a c : List ℕ) → key_of a ≡ key_of c → a ≡ c
 one_key a c same = ap name_in same
 
 none_is : {A : Type 0} (x : A) → None ≢ Some x

@@ -6,3 +6,4 @@ pub mod Naming
 pub mod Calls
 pub mod Sample
 pub mod Putting
+pub mod Places

@@ -1,15 +1,20 @@
 -- Directories: what a map has for names.
-use Rattle.std.specs.Prelude.{◌≡◌, ◌≢◌, ◌<◌, ◌/◌, ◌-◌, ℕ, Option, Some, List, ◌++◌, drop, length, nat_le, if◌then◌else◌, option_map}
+use Rattle.std.specs.Prelude.{◌≡◌, ◌≢◌, ◌<◌, ◌/◌, ◌-◌, ℕ, Option, None, Some, List, ◌++◌, drop, length, nat_le, if◌then◌else◌, option_map}
 use Rattle.std.specs.FinMap.{FinMap, get}
 use Rattle.byteorder.specs.Endian.{big_bytes, little_bytes, little_number}
 use Rattle.oper_core.specs.declared.bounds.Bounds.{Bounds}
 use Rattle.key_entries.specs.Entries.{byte_order}
+use Rattle.page_map.specs.Map.{Span}
 use Rattle.page_map.specs.Sets.{room_of}
 use Rattle.named_words.specs.Effects.{Sizes, place_of}
 
 -- the key of a name: its place, the highest byte first, and then the name. So keys are in the order of places.
 abbrev pub key_of : List ℕ → List ℕ
 key_of name = big_bytes 8 (place_of name) ++ name
+
+-- the keys of the names whose place is not before one
+abbrev pub from_place : ℕ → Span
+from_place place = record { from = big_bytes 8 place; to = None }
 
 -- the name of a key
 abbrev pub name_in : List ℕ → List ℕ

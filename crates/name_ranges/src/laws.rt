@@ -1,15 +1,16 @@
 //! What operations do to names, as laws on definitions.
 
-ghost use Rattle.std.specs.Prelude.{◌≡◌, ◌≢◌, ◌<◌, ◌≤◌, ◌+◌, ◌^◌, ◌++◌, ◌∷◌, [], ℕ, List, Ok, Option, None, Some, length};
+ghost use Rattle.std.specs.Prelude.{◌≡◌, ◌≢◌, ◌<◌, ◌≤◌, ◌+◌, ◌^◌, ◌++◌, ◌∷◌, [], ℕ, List, Ok, Option, None, Some, length, nat_le};
 ghost use Rattle.std.specs.FinMap.{empty, insert, remove};
 ghost use Rattle.oper_core.specs.State.{State};
 ghost use Rattle.oper_core.specs.declared.bounds.Bounds.{Bounds};
 ghost use Rattle.op_codec.specs.AllOps.{AllOps, plain};
 ghost use Rattle.op_meaning.specs.declared.plain_op.PlainOp.TheVariants.{Append, Copy, Put};
+ghost use Rattle.page_map.specs.Map.{is_within};
 ghost use Rattle.page_map.specs.Walk.{get_answer};
-ghost use Rattle.named_words.specs.Effects.{Names};
+ghost use Rattle.named_words.specs.Effects.{Names, place_of};
 ghost use Rattle.name_ranges.specs.Changes.{Gives, IsFound, Leaves, Takes, Writes};
-ghost use Rattle.name_ranges.specs.Directory.{Directory, IsDirectory, IsSpare, key_of, number_bytes, object_of};
+ghost use Rattle.name_ranges.specs.Directory.{Directory, IsDirectory, IsSpare, from_place, key_of, number_bytes, object_of};
 ghost use Rattle.name_ranges.specs.Named.{HasMaps, IsNamed, directory_of};
 ghost use Rattle.name_ranges.specs.Putting.{IsWriting, Puts};
 
@@ -90,3 +91,8 @@ pub fn a_range_has_one_map_of_names()
     a_get_finds_what_the_map_has();
     an_empty_root_is_an_empty_map();
 }
+
+/// Keys are in the order of places: those of the names whose place is not before one are a span.
+pub fn keys_are_in_the_order_of_places()
+    ensures { (name : List ℕ) (place : ℕ) → place < 2 ^ 64 → is_within (from_place place) (key_of name) ≡ nat_le place (place_of name) }
+{}

@@ -2,8 +2,9 @@
 //! program of the repository is a server.
 //!
 //! The range is a map of `page_map`, the *directory*. The key of a name is its *place*, a number made of its bytes, as eight bytes,
-//! the highest first, and then the name itself; so the keys are in the order of the places in which `named_words` scans names. Beside
-//! it stands the number of an object behind the range, as four bytes, and what that object has is the value of the name (`IsNamed`).
+//! the highest first, and then the name itself; so the keys are in the order of the places in which `named_words` scans names
+//! ([`keys_are_in_the_order_of_places`]). Beside it stands the number of an object behind the range, as four bytes, and what that
+//! object has is the value of the name (`IsNamed`).
 //!
 //! An operation that writes the object of a name gives the name a value, and one that writes an object which no name has changes
 //! none ([`a_value_is_written`]). A set of a name's key gives it an object with what this has, or is refused, and a delete takes it
@@ -20,6 +21,6 @@ pub use keys::{key_of, number_bytes, number_in, place};
 pub use laws::{
     a_name_is_found, a_name_is_given_a_value, a_name_is_given_an_object, a_name_is_taken_away,
     a_range_has_one_map_of_names, a_value_is_written, directories_change,
-    operations_write_one_object,
+    keys_are_in_the_order_of_places, operations_write_one_object,
 };
 pub use worked::{a_range_is_as_worked, directories_are_as_worked, keys_are_as_worked};
