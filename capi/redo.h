@@ -2,7 +2,7 @@
  *
  * redo_close forces nothing: what no redo_force has answered for may be lost, as by a kill.
  * A handle is used where it was opened, in the process that opened it, by one call at a time; other calls are refused (REDO_COPIED,
- * REDO_FORKED, REDO_BUSY), and so is a second handle on a store (REDO_LOCKED).
+ * REDO_FORKED, REDO_BUSY), and so is a second handle on a store (REDO_LOCKED), but where both only read.
  * docs/LIBRARY.md says more, and docs/SCRIPT.md ("Lines") what the commands do.
  *
  * SPDX-License-Identifier: MIT OR Apache-2.0 */

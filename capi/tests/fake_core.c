@@ -25,8 +25,8 @@ typedef struct {
     redo_detail_t detail;
 } store_t;
 
-/* Where a test says so, no memory is left for an abort, and the store is let go; or for a snapshot. */
-bool fake_aborts_fail, fake_keeps_fail;
+/* Where a test says so, no memory is left for an abort, and the store is let go; or for a snapshot; or for the bytes of a call. */
+bool fake_aborts_fail, fake_keeps_fail, fake_calls_are_long;
 
 static bytes_t dup_bytes(const void *at, size_t n) {
     bytes_t b = {malloc(n + 1), n};
@@ -210,6 +210,7 @@ uint32_t redo_core_next(redo_core_t *c, redo_call_t *call, uint8_t *into, size_t
     waiting_t *w = s->first;
     if (!w) return 0;
     *call = w->call;
+    if (fake_calls_are_long) call->length = SIZE_MAX / 2;
     if (call->length > room) return 1;
     if (call->length) memcpy(into, w->bytes, call->length);
     if (!(s->first = w->next)) s->last = &s->first;

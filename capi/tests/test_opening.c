@@ -2,6 +2,7 @@
 #include "calls.h"
 #include "want.h"
 #include <signal.h>
+#include <sys/socket.h>
 #include <sys/stat.h>
 #include <sys/wait.h>
 #include <time.h>
@@ -28,6 +29,18 @@ static double now(void) {
 static void no_call_was_made(const char *what) {
     for (size_t i = 0; i < made_count; i++)
         if (made[i].done == WRITTEN || made[i].done == MADE) fail("%s: file %d was written", what, made[i].file);
+}
+
+/* A log with a block, without an objects file, is kept. */
+static void old_log(const char *folder) {
+    char path[4096], log[40] = "\1RDOLOG01";
+    snprintf(path, sizeof path, "%s/log_b.rdo", folder);
+    log[33] = 1;
+    FILE *f = fopen(path, "wb");
+    if (!f || fwrite(log, 1, sizeof log, f) != sizeof log || fclose(f)) fail("%s cannot be written", path);
+    WANT(REDO_OLD_LOG, redo_open_with(&db, folder, REDO_OR_CREATE, 0, &numbers));
+    remove(path);
+    if (access_in(folder, "objects.rdo")) fail("a file was made");
 }
 
 /* A store is made where none is, once, and opened where one is. */
@@ -69,32 +82,30 @@ static void nothing_is_overwritten(const char *folder) {
     WANT(REDO_DAMAGED, redo_open_with(&db, folder, REDO_OR_CREATE, 0, &numbers));
 }
 
-/* A child has the store for a while; who waits long enough gets it. */
+/* A child has the store until it is told, and a little longer; who waits long enough gets it. */
 static void waits(const char *folder) {
-    int pipes[2];
+    int ends[2], status = 1;
     char byte;
-    if (pipe(pipes)) fail("no pipe");
+    if (socketpair(AF_UNIX, SOCK_STREAM, 0, ends)) fail("no pair of sockets");
     pid_t child = fork();
     if (child == 0) {
         WANT(REDO_OK, redo_open(&other, folder));
-        if (write(pipes[1], "o", 1) != 1) fail("no pipe");
-        usleep(300000);
+        if (write(ends[1], "o", 1) != 1 || read(ends[1], &byte, 1) != 1) fail("no word from the parent");
+        usleep(100000);
         WANT(REDO_OK, redo_close(&other));
         _exit(0);
     }
-    if (read(pipes[0], &byte, 1) != 1) fail("no pipe");
-    double start = now();
+    if (read(ends[0], &byte, 1) != 1) fail("no word from the child");
     WANT(REDO_LOCKED, redo_open(&db, folder));
     WANT(REDO_LOCKED, redo_open_with(&db, folder, REDO_TO_READ, 0, 0));
-    if (now() - start > 0.25) fail("no wait was asked for");
+    double start = now();
     WANT(REDO_LOCKED, redo_open_with(&db, folder, REDO_TO_READ, 30, 0)), says(&db, "another handle or process has the store");
     if (now() - start < 0.03) fail("the wait was too short");
-    WANT(REDO_OK, redo_open_with(&db, folder, REDO_OR_CREATE, 20000, &numbers));
-    if (now() - start > 15) fail("the wait was too long");
+    if (write(ends[0], "c", 1) != 1) fail("no word to the child");
+    WANT(REDO_OK, redo_open_with(&db, folder, REDO_OR_CREATE, 60000, &numbers));
     WANT(REDO_OK, redo_close(&db));
-    int status = 1;
     if (waitpid(child, &status, 0) != child || status != 0) fail("the child ended with %d", status);
-    close(pipes[0]), close(pipes[1]);
+    close(ends[0]), close(ends[1]);
 }
 
 static void reads(redo_t *of) {
@@ -185,8 +196,14 @@ static void readers_faults(const char *folder) {
     fail_at = 0, fail_why = EIO;
 }
 
+static void says_memory(void) {
+    redo_detail_t d;
+    WANT(REDO_OK, redo_last_detail(&db, &d)), says(&db, "memory was refused in the middle of a call on the store");
+    if (d.first != ENOMEM || d.second || d.third) fail("the detail of memory is %d %d %d", (int)d.first, (int)d.second, (int)d.third);
+}
+
 /* What an answer says in words. */
-extern bool fake_aborts_fail __attribute__((weak));
+extern bool fake_aborts_fail __attribute__((weak)), fake_calls_are_long __attribute__((weak));
 static void words(const char *folder) {
     char text[160], few[8];
     redo_t none = REDO_CLOSED;
@@ -218,8 +235,13 @@ static void words(const char *folder) {
     if (!&fake_aborts_fail) return;
     WANT(REDO_OK, redo_open(&db, folder)), WANT(REDO_OK, redo_begin(&db));
     fake_aborts_fail = true;
-    WANT(REDO_DISK_FAULT, redo_group_abort(&db)), says(&db, "memory was refused in the middle of a call on the store");
+    WANT(REDO_DISK_FAULT, redo_group_abort(&db)), says_memory();
     fake_aborts_fail = false;
+    WANT(REDO_OK, redo_close(&db));
+    WANT(REDO_OK, redo_open(&db, folder)), WANT(REDO_OK, redo_put(&db, 1, B("lost")));
+    fake_calls_are_long = true;
+    WANT(REDO_DISK_FAULT, redo_force(&db, &n)), says_memory();
+    fake_calls_are_long = false;
     WANT(REDO_OK, redo_close(&db));
 }
 
@@ -244,7 +266,7 @@ static void words_of_backups(const char *folder) {
 int main(int argc, char **argv) {
     const char *folder = argc > 1 ? argv[1] : ".";
     if (strcmp(redo_version_string(), REDO_VERSION_STRING) != 0) fail("the version is %s", redo_version_string());
-    or_create(folder), waits(folder), readers(folder), readers_faults(folder), words(folder), words_of_backups(folder);
+    old_log(folder), or_create(folder), waits(folder), readers(folder), readers_faults(folder), words(folder), words_of_backups(folder);
     nothing_is_overwritten(folder);
     puts("test_opening: ok");
     return 0;
