@@ -4,6 +4,7 @@ pub mod RangingWayLemmas
 pub mod RangingCountLemmas
 pub mod RangingPairsLemmas
 pub mod RangingLeavesLemmas
+pub mod PrefixLemmas
 pub mod DueLemmas
 pub mod OpenLemmas
 pub mod CommandLemmas

@@ -1,6 +1,6 @@
 -- Pairs that are read leaf by leaf, and what the calls answer.
 use Rattle.std.proofs.Common.{◌≡◌, ◌<◌, ◌≤◌, refl, sym, ap, ◌∙◌, ℕ, suc, Option, None, Some, Result, Ok, Err, List, [], ◌∷◌}
-use Rattle.std.specs.Prelude.{nat_lt, slice_get, take}
+use Rattle.std.specs.Prelude.{nat_lt, option_to_list, slice_get, take}
 use Rattle.std.proofs.lemmas.Bool.{cond-false, cond-true, le-ltb, lt-ltb}
 use Rattle.std.proofs.lemmas.List.{append-nil}
 use Rattle.oper_core.specs.State.{State}
@@ -10,7 +10,7 @@ use Rattle.page_map.specs.Map.{Span}
 use Rattle.page_map.specs.Ranges.{and_then, back_answer, back_from, from_end, range_answer, range_from}
 use Rattle.range_calls.specs.declared.call_err.CallErr.TheVariants.{Refused}
 use Rattle.map_client.specs.Answers.{MapErr, told}
-use Rattle.map_client.specs.Ranging.{back_told, if_any, range_told}
+use Rattle.map_client.specs.Ranging.{back_told, range_told}
 use Rattle.map_client.specs.RangingWay.{before}
 use Rattle.map_client.specs.declared.call_refusal.CallRefusal.TheVariants.{NoObject}
 
@@ -78,6 +78,6 @@ module _ (b : Bounds) (lo hi : ℕ) (s : State) (span : Span) (most : ℕ) where
   back_within within = cond-true (nat_lt hi b.objects) (told (back_answer lo hi s span most)) (Err (Refused NoObject)) (lt-ltb hi b.objects within)
 
 -- the first of some pairs
-pub one_pair : (pairs : List Cell) (first : Option Cell) → first ≡ slice_get (take 1 pairs) 0 → take 1 pairs ≡ if_any first
-one_pair [] first is = ap if_any (sym is)
-one_pair (pair ∷ pairs) first is = ap if_any (sym is)
+pub one_pair : (pairs : List Cell) (first : Option Cell) → first ≡ slice_get (take 1 pairs) 0 → take 1 pairs ≡ option_to_list first
+one_pair [] first is = ap option_to_list (sym is)
+one_pair (pair ∷ pairs) first is = ap option_to_list (sym is)

@@ -1,11 +1,11 @@
 -- What calls on ranges of keys read in one page, and what they answer.
-use Rattle.std.specs.Prelude.{◌≡◌, ◌⊎◌, ℕ, ◌-◌, Option, None, Some, Result, Err, List, [], ◌∷◌, ◌++◌, reverse, nat_lt, if◌then◌else◌, option_and_then, option_map}
+use Rattle.std.specs.Prelude.{◌≡◌, ◌⊎◌, ℕ, ◌-◌, Option, None, Result, Err, List, [], ◌++◌, reverse, nat_lt, if◌then◌else◌, option_and_then, option_map}
 use Rattle.oper_core.specs.State.{State}
 use Rattle.oper_core.specs.declared.bounds.Bounds.{Bounds}
 use Rattle.page_ops.specs.Page.{Cell}
 use Rattle.page_map.specs.Map.{Span}
 use Rattle.page_map.specs.Ranges.{back_answer, count_answer, range_answer}
-use Rattle.page_map.specs.Reads.{above}
+use Rattle.page_map.specs.Reads.{above, prefix_span}
 use Rattle.page_map.specs.Steps.{Places, Step, cells_at, first_places, last_places, places_in, step_below, step_in, step_under}
 use Rattle.page_map.specs.Walk.{is_on}
 use Rattle.range_calls.specs.declared.call_err.CallErr.TheVariants.{Refused, Memory as OutOfMemory}
@@ -69,14 +69,13 @@ range_told b lo hi s span most = if nat_lt hi b.objects then told (range_answer 
 abbrev pub back_told : Bounds → ℕ → ℕ → State → Span → ℕ → Result (List Cell) MapErr
 back_told b lo hi s span most = if nat_lt hi b.objects then told (back_answer lo hi s span most) else Err (Refused NoObject)
 
+-- the first pairs whose keys begin with some bytes
+abbrev pub prefix_told : Bounds → ℕ → ℕ → State → List ℕ → ℕ → Result (List Cell) MapErr
+prefix_told b lo hi s bytes most = range_told b lo hi s (prefix_span bytes) most
+
 -- the first pair above a key, and the last one below an end
 abbrev pub next_told : Bounds → ℕ → ℕ → State → List ℕ → Result (List Cell) MapErr
 next_told b lo hi s key = range_told b lo hi s (above key) 1
 
 abbrev pub prev_told : Bounds → ℕ → ℕ → State → Option (List ℕ) → Result (List Cell) MapErr
 prev_told b lo hi s end = back_told b lo hi s (record { from = []; to = end }) 1
-
--- a pair, if there is one
-abbrev pub if_any : Option Cell → List Cell
-if_any None = []
-if_any (Some pair) = pair ∷ []

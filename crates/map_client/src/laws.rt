@@ -1,6 +1,7 @@
 // What the calls do to a map.
-ghost use Rattle.std.specs.Prelude.{◌≡◌, ◌<◌, ◌≤◌, ◌^◌, ℕ, None, Ok, Some, List, length};
-ghost use Rattle.std.specs.FinMap.{get as get_pair};
+ghost use Rattle.std.specs.Prelude.{◌≡◌, ◌<◌, ◌≤◌, ◌^◌, ℕ, IsTrue, None, Ok, Some, List, length, option_to_list, take};
+ghost use Rattle.std.specs.FinMap.{entries, get as get_pair};
+ghost use Rattle.std.specs.List.{list_all};
 ghost use Rattle.oper_core.specs.Meaning.{Accepts};
 ghost use Rattle.oper_core.specs.State.{State};
 ghost use Rattle.oper_core.specs.declared.bounds.Bounds.{Bounds};
@@ -11,11 +12,11 @@ ghost use Rattle.page_map.specs.Plan.{Admits, delete_command};
 ghost use Rattle.page_ops.specs.Operation.{page_meaning};
 ghost use Rattle.page_ops.specs.declared.page_op.PageOp.{PageOp};
 ghost use Rattle.page_map.specs.Sets.{IsKept};
-ghost use Rattle.page_map.specs.Reads.{back_of, count_of, first_of, last_of, next_of, prev_of, range_of};
+ghost use Rattle.page_map.specs.Reads.{are_bytes, back_of, count_of, first_of, last_of, next_of, prefix_of, prev_of, range_of};
 ghost use Rattle.range_calls.specs.Store.{Command, state_of};
 ghost use Rattle.map_client.specs.Answers.{get_told};
 ghost use Rattle.map_client.specs.Laws.{DeleteActs, SetActs, TakesOut};
-ghost use Rattle.map_client.specs.Ranging.{back_told, count_told, if_any, next_told, prev_told, range_told};
+ghost use Rattle.map_client.specs.Ranging.{back_told, count_told, next_told, prefix_told, prev_told, range_told};
 
 use page_map::{
     a_delete_is_done_or_refused, a_get_finds_what_the_map_has, a_set_is_done_or_refused,
@@ -44,16 +45,19 @@ pub fn calls_act_as_on_an_ordered_map()
 }
 
 /// Where the range is a map a count answers how many pairs of the map have keys in the span, a range the first of them, at most so
-/// many, one back the last of them, and the reads beside a key the first pair above it and the last one below it. A range of one of
-/// all keys has the first pair of all, and the last one stands before no key.
+/// many, one back the last of them, and the reads beside a key the first pair above it and the last one below it. Where its keys
+/// are bytes, a prefix has those that begin with it. A range of one of all keys has the first pair of all, and the last one stands
+/// before no key.
 pub fn reads_of_ranges_are_those_of_the_map()
     ensures count { (b : Bounds) (lo hi : ℕ) (s : State) (span : Span) → hi < 2 ^ 32 → hi < b.objects → (is : IsMap lo hi s) → count_told b lo hi s span ≡ Ok (count_of (content_of is) span) }
     ensures range { (b : Bounds) (lo hi : ℕ) (s : State) (span : Span) (most : ℕ) → hi < 2 ^ 32 → hi < b.objects → (is : IsMap lo hi s) → range_told b lo hi s span most ≡ Ok (range_of (content_of is) span most) }
     ensures back { (b : Bounds) (lo hi : ℕ) (s : State) (span : Span) (most : ℕ) → hi < 2 ^ 32 → hi < b.objects → (is : IsMap lo hi s) → back_told b lo hi s span most ≡ Ok (back_of (content_of is) span most) }
-    ensures next { (b : Bounds) (lo hi : ℕ) (s : State) (key : List ℕ) → hi < 2 ^ 32 → hi < b.objects → (is : IsMap lo hi s) → next_told b lo hi s key ≡ Ok (if_any (next_of (content_of is) key)) }
-    ensures prev { (b : Bounds) (lo hi : ℕ) (s : State) (key : List ℕ) → hi < 2 ^ 32 → hi < b.objects → (is : IsMap lo hi s) → prev_told b lo hi s (Some key) ≡ Ok (if_any (prev_of (content_of is) key)) }
-    ensures first { (b : Bounds) (lo hi : ℕ) (s : State) → hi < 2 ^ 32 → hi < b.objects → (is : IsMap lo hi s) → range_told b lo hi s all_keys 1 ≡ Ok (if_any (first_of (content_of is))) }
-    ensures last { (b : Bounds) (lo hi : ℕ) (s : State) → hi < 2 ^ 32 → hi < b.objects → (is : IsMap lo hi s) → prev_told b lo hi s None ≡ Ok (if_any (last_of (content_of is))) }
+    ensures next { (b : Bounds) (lo hi : ℕ) (s : State) (key : List ℕ) → hi < 2 ^ 32 → hi < b.objects → (is : IsMap lo hi s) → next_told b lo hi s key ≡ Ok (option_to_list (next_of (content_of is) key)) }
+    ensures prev { (b : Bounds) (lo hi : ℕ) (s : State) (key : List ℕ) → hi < 2 ^ 32 → hi < b.objects → (is : IsMap lo hi s) → prev_told b lo hi s (Some key) ≡ Ok (option_to_list (prev_of (content_of is) key)) }
+    ensures prefix { (b : Bounds) (lo hi : ℕ) (s : State) (bytes : List ℕ) (most : ℕ) → hi < 2 ^ 32 → hi < b.objects → (is : IsMap lo hi s) → IsTrue (list_all (λ c. are_bytes c.0) (entries (content_of is)))
+        → prefix_told b lo hi s bytes most ≡ Ok (take most (prefix_of (content_of is) bytes)) }
+    ensures first { (b : Bounds) (lo hi : ℕ) (s : State) → hi < 2 ^ 32 → hi < b.objects → (is : IsMap lo hi s) → range_told b lo hi s all_keys 1 ≡ Ok (option_to_list (first_of (content_of is))) }
+    ensures last { (b : Bounds) (lo hi : ℕ) (s : State) → hi < 2 ^ 32 → hi < b.objects → (is : IsMap lo hi s) → prev_told b lo hi s None ≡ Ok (option_to_list (last_of (content_of is))) }
 {
     ranges_are_read_from_leaves();
     reads_are_ranges();

@@ -10,10 +10,10 @@
 //! and then tidies by rounds: a leaf that has no cells left gives way to the one beside it, and a root with one child becomes it. A
 //! page is read where it is cached. What a call on another kind of range would do too is in `range_calls`.
 //!
-//! `range` reads the pairs in a span of keys by rising key, `back` by falling key, at most so many; `next` and `prev` read the pair
-//! beside a key, which is all that a cursor has to hold, and `count` tells how many there are. They go from leaf to leaf: each is found
-//! from the root, with the span of its keys, whose ends are where the leaves beside it begin and end. On a map they are those of the
-//! map (`reads_of_ranges_are_those_of_the_map`).
+//! `range` reads the pairs in a span of keys by rising key, `back` by falling key, at most so many, and `prefix` those whose keys
+//! begin with some bytes; `next` and `prev` read the pair beside a key, which is all that a cursor has to hold, and `count` tells how
+//! many pairs a span has. They go from leaf to leaf: each is found from the root, with the span of its keys, whose ends are where the
+//! leaves beside it begin and end. On a map they are those of the map (`reads_of_ranges_are_those_of_the_map`).
 #![tactic(auto)]
 
 mod call_refusal;
@@ -33,6 +33,7 @@ mod ranging_count;
 mod ranging_fall;
 mod ranging_leaf;
 mod ranging_pairs;
+mod ranging_prefix;
 mod ranging_rise;
 mod setting;
 mod spanned;
@@ -49,5 +50,6 @@ pub use laws::{calls_act_as_on_an_ordered_map, reads_of_ranges_are_those_of_the_
 pub use map_err::MapErr;
 pub use ranging_count::count;
 pub use ranging_fall::{back, prev};
+pub use ranging_prefix::prefix;
 pub use ranging_rise::{next, range};
 pub use setting::set;
