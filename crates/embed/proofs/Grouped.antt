@@ -6,12 +6,16 @@ use Rattle.disk_model.specs.Disk.{Disk, IsDisk}
 use Rattle.disk_model.specs.Moments.{stays_here}
 use Rattle.disk_model.specs.declared.machine.Failed.{Failed}
 use Rattle.formats.specs.declared.params.Params.{Params}
+use Rattle.dirty_cache.specs.Contents.{Contents}
 use Rattle.op_codec.specs.AllOps.{AllOps, all_meaning}
 use Rattle.store_engine.specs.Calls.{IsBeginning, work_of_force}
 use Rattle.store_engine.specs.Engine.{EngineView, Holds, commands_since, params_of, used_in}
 use Rattle.store_engine.specs.declared.work_err.WorkErr.{WorkErr}
+use Rattle.transactions.specs.Keeping.{KeepsOld}
 use Rattle.transactions.specs.Room.{HasRoomOf}
+use Rattle.transactions.specs.Snapshots.{KeepsOn}
 use Rattle.transactions.specs.Staged.{OnlyReads}
+use Rattle.transactions.specs.declared.snapshot.Snapshot.{Snapshot}
 
 -- nothing is said of a group where none is open
 pub none_open : (P : ℕ → Type 0) (next : ℕ) (group : Option ℕ) → group ≡ None → IfSome (commands_since next group) P
@@ -21,9 +25,28 @@ none_open P next group none = subst (λ (g : Option ℕ). IfSome (commands_since
 pub unbroken_where : {A : Type 0} {b : Bool} (engine : EngineView) → engine.broken ≡ false → b ≡ true → b ≡ engine.broken → A
 unbroken_where engine unbroken is same = absurd (subst T (sym is ∙ same ∙ unbroken) tt)
 
--- nothing is read
-pub reads_none : (d : Disk) (engine : EngineView) (failed : Type 0) → IsDisk d → engine.broken ≡ false → OnlyReads all_meaning d d engine engine failed
-reads_none d engine failed lawful fine = record { kept = stays_here d lawful; log = refl; params = refl; group = refl; broken = inr fine; holds = λ p commands holds. inr holds }
+-- nothing is read, and nothing failed
+pub reads_none : (d : Disk) (engine : EngineView) (failed : Type 0) → IsDisk d → engine.broken ≡ false → (failed → ⊥) → OnlyReads all_meaning d d engine engine failed
+reads_none d engine failed lawful fine none = record {
+  kept = stays_here d lawful;
+  log = refl;
+  params = refl;
+  group = refl;
+  copied = refl;
+  identities = refl;
+  attached = λ is. is;
+  broken = inr fine;
+  fault = λ f. absurd (none f);
+  holds = λ p commands holds. inr holds;
+}
+
+-- what is kept once is kept
+pub keeps_on_same : (snapshot : Snapshot) → KeepsOn snapshot snapshot
+keeps_on_same snapshot = by_kept snapshot.kept
+  where
+    by_kept : (o : Option Contents) → IfSome o (λ after. (before : Contents) × (o ≡ Some before) × KeepsOld before after)
+    by_kept None = tt
+    by_kept (Some kept) = (kept, refl, λ x some. refl)
 
 module _ (last value : List ℕ) where
   alone : (rest : List (List ℕ)) → rest ++ last ∷ [] ≡ value ∷ [] → last ≡ value

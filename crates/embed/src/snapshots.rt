@@ -1,12 +1,12 @@
 // Snapshots: a state is kept while the store goes on.
-ghost use Rattle.std.specs.Prelude.{◌≡◌, ◌⊎◌, ◌++◌, ◌∷◌, [], ⊤, ℕ, true, false, List, None, Err, take, IfOk, IfSome, IsErrOf, IsSome, OnErr, OnOk};
+ghost use Rattle.std.specs.Prelude.{◌≡◌, ◌≤◌, ◌⊎◌, ◌++◌, ◌∷◌, [], ⊤, ℕ, true, false, List, None, Err, take, IfOk, IfSome, IsErrOf, IsSome, OnErr, OnOk};
 ghost use Rattle.disk_model.specs.Disk.{Passes};
 ghost use Rattle.formats.specs.declared.params.Params.{Params};
 ghost use Rattle.execution.specs.declared.exec_err.ExecErr.TheVariants.{DiskFault};
 ghost use Rattle.op_codec.specs.AllOps.{AllOps as Command, all_meaning};
-ghost use Rattle.store_engine.specs.Engine.{Holds, params_of};
+ghost use Rattle.store_engine.specs.Engine.{Holds, accepted_in, params_of};
 ghost use Rattle.store_engine.specs.Store.{state_of};
-ghost use Rattle.transactions.specs.Snapshots.{AreKept, Covers, HasFailed, IsSnapshot, RunsBeside};
+ghost use Rattle.transactions.specs.Snapshots.{AreKept, Covers, HasFailed, IsSnapshot, KeepsOn, RunsBeside};
 ghost use Rattle.transactions.specs.Staged.{OnlyReads};
 ghost use Rattle.embed.specs.Embedded.{GivesValue, IsStillBroken};
 
@@ -41,11 +41,15 @@ impl<M: Machine + Drop> Store<M> {
         snapshot.exec(&mut self.engine, &mut self.machine, op)
     }
 
-    /// Sees that the values which these objects have now are kept, as `Snapshot::keep`: before any call that may change them.
+    /// Sees that the values which these objects have now are kept, as `Snapshot::keep`: before any call that may change them. A
+    /// snapshot that stands then has them all.
     pub fn keep(&mut self, snapshot: &mut Snapshot, objects: &[u32])
         ensures time { Passes (M.disk self.old.machine) (M.disk self.new.machine) }
         ensures reads { self.old.engine.broken ≡ false → OnlyReads all_meaning (M.disk self.old.machine) (M.disk self.new.machine) self.old.engine self.new.engine (self.new.engine.broken ≡ true) }
+        ensures whole { self.old.engine.broken ≡ false → IsSome snapshot.new.kept → self.new.engine.broken ≡ false }
         ensures kept { self.old.engine.broken ≡ false → IfSome snapshot.new.kept (λ kept. AreKept (params_of self.old.engine).objects kept objects.now) }
+        ensures on { KeepsOn snapshot.old snapshot.new }
+        ensures stands { IfSome snapshot.old.kept (λ kept. AreKept (params_of self.old.engine).objects kept objects.now) → snapshot.new ≡ snapshot.old }
         ensures snapshot { (p : Params) (base commands : List Command) → Holds all_meaning p (M.disk self.old.machine) self.old.engine commands → IsSnapshot all_meaning p snapshot.old base commands → IsSnapshot all_meaning p snapshot.new base commands }
         ensures broken { self.old.engine.broken ≡ true → (self.new ≡ self.old) × (snapshot.new ≡ snapshot.old) }
     {
@@ -59,7 +63,10 @@ impl<M: Machine + Drop> Store<M> {
     pub fn keep_staged(&mut self, snapshot: &mut Snapshot, transaction: &Transaction<AllOps>)
         ensures time { Passes (M.disk self.old.machine) (M.disk self.new.machine) }
         ensures reads { self.old.engine.broken ≡ false → OnlyReads all_meaning (M.disk self.old.machine) (M.disk self.new.machine) self.old.engine self.new.engine (self.new.engine.broken ≡ true) }
+        ensures whole { self.old.engine.broken ≡ false → IsSome snapshot.new.kept → self.new.engine.broken ≡ false }
         ensures covers { self.old.engine.broken ≡ false → Covers all_meaning (params_of self.old.engine) snapshot.new transaction.now.ops.items }
+        ensures on { KeepsOn snapshot.old snapshot.new }
+        ensures stands { Covers all_meaning (params_of self.old.engine) snapshot.old transaction.now.ops.items → snapshot.new ≡ snapshot.old }
         ensures snapshot { (p : Params) (base commands : List Command) → Holds all_meaning p (M.disk self.old.machine) self.old.engine commands → IsSnapshot all_meaning p snapshot.old base commands → IsSnapshot all_meaning p snapshot.new base commands }
         ensures broken { self.old.engine.broken ≡ true → (self.new ≡ self.old) × (snapshot.new ≡ snapshot.old) }
     {
@@ -105,10 +112,11 @@ impl<M: Machine + Drop> Store<M> {
     }
 
     /// The store went back to first ones of its commands, by `abort` or `reopen`: a snapshot that began behind these is given up, as
-    /// by `Snapshot::go_back`.
+    /// by `Snapshot::go_back`, and no other.
     pub fn bring_back(&self, snapshot: &mut Snapshot)
-        ensures { (p : Params) (base commands : List Command) (n : ℕ) → IsSnapshot all_meaning p snapshot.old base commands → Holds all_meaning p (M.disk self.now.machine) self.now.engine (take n commands) →
+        ensures back { (p : Params) (base commands : List Command) (n : ℕ) → IsSnapshot all_meaning p snapshot.old base commands → Holds all_meaning p (M.disk self.now.machine) self.now.engine (take n commands) →
             IsSnapshot all_meaning p snapshot.new base (take n commands) }
+        ensures stands { snapshot.old.at ≤ accepted_in self.now.engine → snapshot.new ≡ snapshot.old }
     {
         snapshot.go_back(&self.engine, &self.machine);
     }

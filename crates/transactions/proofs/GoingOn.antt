@@ -11,7 +11,7 @@ use Rattle.store_engine.specs.Store.{meaning_in}
 use Rattle.transactions.specs.Keeping.{KeepsOld}
 use Rattle.transactions.specs.Snapshots.{AreKept, Covers, IsSnapshot, Keeps, KeepsOn, WriteKept}
 use Rattle.transactions.specs.declared.snapshot.Snapshot.{Snapshot}
-use Rattle.transactions.proofs.Kept.{still_some, write_both, write_first, write_on}
+use Rattle.transactions.proofs.Kept.{old_twice, still_some, write_at, write_both, write_first, write_on}
 
 -- what holds in any case holds of an answer
 pub on_ok : {T E : Type 0} (r : Result T E) (P : Type 0) → P → OnOk r P
@@ -21,6 +21,23 @@ on_ok (Err e) P is = tt
 pub on_err : {T E : Type 0} (r : Result T E) (P : Type 0) → P → OnErr r P
 on_err (Ok value) P is = tt
 on_err (Err e) P is = is
+
+-- what is kept once is kept
+pub on_none : (snapshot : Snapshot) → KeepsOn snapshot snapshot
+on_none snapshot = by_kept snapshot.kept
+  where
+    by_kept : (o : Option Contents) → IfSome o (λ after. (before : Contents) × (o ≡ Some before) × KeepsOld before after)
+    by_kept None = tt
+    by_kept (Some kept) = (kept, refl, λ x some. refl)
+
+pub on_twice : (old mid new : Snapshot) → KeepsOn old mid → KeepsOn mid new → KeepsOn old new
+on_twice old mid new first second = by_kept new.kept second
+  where
+    by_kept : (o : Option Contents) → IfSome o (λ after. (before : Contents) × (mid.kept ≡ Some before) × KeepsOld before after) → IfSome o (λ after. (before : Contents) × (old.kept ≡ Some before) × KeepsOld before after)
+    by_kept None second = tt
+    by_kept (Some after) second =
+        let was = subst (λ (o : Option Contents). IfSome o (λ after. (before : Contents) × (old.kept ≡ Some before) × KeepsOld before after)) second.1 first in
+        (was.0, was.1, old_twice was.0 second.0 after was.2 second.2)
 
 module _ {O : Type 0} (meaning : Bounds → Meaning O) (p : Params) where
   -- what a snapshot keeps that was not given up
@@ -75,6 +92,17 @@ module _ {O : Type 0} (meaning : Bounds → Meaning O) (p : Params) where
       by_kept : (o : Option Contents) → IfSome o (λ kept. AreKept q.objects kept objects) → IfSome o (λ kept. WriteKept meaning p kept (op ∷ []))
       by_kept None kept = tt
       by_kept (Some all) kept = (subst (λ (l : List ℕ). AreKept p.objects all l) are (subst (λ (r : Params). AreKept r.objects all objects) same kept), tt)
+
+  -- what one of some commands writes is kept, where all that they write is
+  pub covered_at : (q : Params) → q ≡ p → (snapshot : Snapshot) (ops : List O) (i : ℕ) (op : O) (objects : List ℕ) → objects ≡ (meaning_in meaning p).writes op → i < length ops → op ≡ get_or ops i op → Covers meaning p snapshot ops
+      → IfSome snapshot.kept (λ kept. AreKept q.objects kept objects)
+  covered_at q same snapshot ops i op objects are within here covers = by_kept snapshot.kept covers
+    where
+      by_kept : (o : Option Contents) → IfSome o (λ kept. WriteKept meaning p kept ops) → IfSome o (λ kept. AreKept q.objects kept objects)
+      by_kept None covers = tt
+      by_kept (Some kept) covers =
+          subst (λ (r : Params). AreKept r.objects kept objects) (sym same)
+          (subst (λ (l : List ℕ). AreKept p.objects kept l) (sym (ap (λ (o : O). (meaning_in meaning p).writes o) here) ∙ sym are) (write_at meaning p kept ops i op covers within))
 
   pub covers_none : (snapshot : Snapshot) → Covers meaning p snapshot []
   covers_none snapshot = by_kept snapshot.kept

@@ -1,6 +1,6 @@
 -- Values that are kept, and what a snapshot has of them.
-use Rattle.std.proofs.Common.{◌≡◌, ◌∙◌, ◌==◌, sym, subst, ap, ℕ, ◌<◌, true, false, List, [], ◌∷◌, ◌++◌, fold, take, zero, suc, ◌+◌, length, slice_index, get_or, true≢false, refl, inl, inr, ◌⊎◌, ⊎_elim, Option, None, Some, nat_eq}
-use Rattle.std.specs.Prelude.{IfSome, IsSome, is_some}
+use Rattle.std.proofs.Common.{◌≡◌, ◌∙◌, ◌==◌, sym, subst, ap, ℕ, ◌<◌, Bool, true, false, List, [], ◌∷◌, ◌++◌, fold, take, zero, suc, ◌+◌, length, slice_index, get_or, true≢false, refl, inl, inr, ◌⊎◌, ⊎_elim, arith, Option, None, Some, nat_eq}
+use Rattle.std.specs.Prelude.{IfSome, IsSome, IsTrue, is_some}
 use Rattle.std.specs.Option.{option_map_or}
 use Rattle.std.proofs.lemmas.Bool.{cases_Bool, cond-true, cond-false, eqb-true, false_from_ne_true}
 use Rattle.std.proofs.lemmas.List.{append-nil, take_more}
@@ -29,7 +29,7 @@ use Rattle.transactions.proofs.Reading.{fetched_reads, reads_so}
 pub fetched_or_broken : {O : Type 0} (meaning : Bounds → Meaning O) (old new : Disk) (before after : EngineView) (object : ℕ) (error : Option ReadErr) → HasFetched meaning old new before after object error
     → OnlyReads meaning old new before after (after.broken ≡ true)
 fetched_or_broken meaning old new before after object error fetched =
-    reads_so meaning old new before after (error ≡ Some of_read.DiskFault) (after.broken ≡ true) (λ failed. fetched.call.broken.1 failed) (fetched_reads meaning old new before after object error fetched)
+    reads_so meaning old new before after (error ≡ Some of_read.DiskFault) (after.broken ≡ true) (λ failed. fetched.call.broken.1 failed) (λ broken. fetched.call.broken.0 broken) (fetched_reads meaning old new before after object error fetched)
 
 is_some_so : {T : Type 0} (o : Option T) (v : T) → o ≡ Some v → IsSome o
 is_some_so {T} o v is = ap (λ (q : Option T). is_some q) is
@@ -45,6 +45,16 @@ still_some old new on x some = subst (λ (o : Option Entry). IsSome o) (sym (on 
 pub old_twice : (old mid new : Contents) → KeepsOld old mid → KeepsOld mid new → KeepsOld old new
 old_twice old mid new first second x some = second x (still_some old mid first x some) ∙ first x some
 
+pub some_of_none : {T : Type 0} (o : Option T) → o ≡ None → IsSome o → ⊥
+some_of_none {T} o none some = true≢false (sym some ∙ ap (λ (q : Option T). is_some q) none)
+
+pub not_done : (done : Bool) → done ≡ false → IsTrue done → ⊥
+not_done done undone is = true≢false (sym is ∙ undone)
+
+-- where an object that the store has would be kept, none that is not kept is there
+pub none_there : (kept : Contents) (object count : ℕ) → held kept object ≡ None → (object < count → IsSome (held kept object)) → object < count → ⊥
+none_there kept object count none are there = some_of_none (held kept object) none (are there)
+
 -- the value of one object, of which none was kept, is kept, or it is not
 pub record OneKept (old new : Contents) (o : ℕ) (v : List ℕ) : Type 0 where
   pub none : held old o ≡ None
@@ -56,9 +66,6 @@ all_same old new o here others x = elim (cases_Bool (nat_eq o x)) [
   | inl same ↦ subst (λ (y : ℕ). held new y ≡ held old y) (eqb-true o x same) here
   | inr other ↦ others x other
 ]
-
-some_of_none : {T : Type 0} (o : Option T) → o ≡ None → IsSome o → ⊥
-some_of_none {T} o none some = true≢false (sym some ∙ ap (λ (q : Option T). is_some q) none)
 
 pub one_old : (old new : Contents) (o : ℕ) (v : List ℕ) → OneKept old new o v → KeepsOld old new
 one_old old new o v one x some = elim (cases_Bool (nat_eq o x)) [
@@ -101,6 +108,11 @@ module _ {O : Type 0} (meaning : Bounds → Meaning O) (p : Params) where
   write_first kept zero ops writes = tt
   write_first kept (suc n) [] writes = tt
   write_first kept (suc n) (op ∷ ops) writes = (writes.0, write_first kept n ops writes.1)
+
+  pub write_at : (kept : Contents) (ops : List O) (i : ℕ) (d : O) → WriteKept meaning p kept ops → i < length ops → AreKept p.objects kept (m.writes (get_or ops i d))
+  write_at kept [] i d writes within = absurd (omega (arith, within))
+  write_at kept (op ∷ ops) zero d writes within = writes.0
+  write_at kept (op ∷ ops) (suc i) d writes within = write_at kept ops i d writes.1 (omega (arith, within))
 
   -- commands that write kept objects alone leave the others
   stays : (kept : Contents) (ops : List O) (s : State) → WriteKept meaning p kept ops → (x : ℕ) → x < p.objects → held kept x ≡ None → fold (after m) s ops x ≡ s x

@@ -1,5 +1,5 @@
 // A command is judged on the values that are seen.
-ghost use Rattle.std.specs.Prelude.{◌≡◌, List, false, Some, length, IfOk};
+ghost use Rattle.std.specs.Prelude.{◌≡◌, ◌↔◌, List, false, Some, length, IfOk};
 ghost use Rattle.execution.specs.Answers.{ending_of_error, ending_of_exec};
 ghost use Rattle.running_store.specs.Calls.{IsFailed};
 ghost use Rattle.store_engine.specs.Engine.{Holds, params_of};
@@ -18,7 +18,7 @@ use store_engine::{Engine, ExecErr};
 // Why values are not read: it is no refusal.
 fn unread(e: ExecErr) -> ExecErr
     ensures unrefused { IsNoRefusal (Some result) }
-    ensures fault { IsFailed (ending_of_error e) → IsFailed (ending_of_error result) }
+    ensures fault { IsFailed (ending_of_error e) ↔ IsFailed (ending_of_error result) }
 {
     match e {
         ExecErr::Refused(_) => ExecErr::Memory,

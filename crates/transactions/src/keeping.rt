@@ -51,6 +51,7 @@ fn keep_one<O: Oper, M: Machine>(
     ensures reads { OnlyReads O.meaning (M.disk machine.old) (M.disk machine.new) engine.old engine.new (engine.new.broken ≡ true) }
     ensures whole { IsTrue result → engine.new.broken ≡ false }
     ensures kept { IsTrue result → object < (params_of engine.old).objects → IsSome (held kept.new object) }
+    ensures stands { (object < (params_of engine.old).objects → IsSome (held kept.old object)) → IsTrue result × (kept.new ≡ kept.old) }
     ensures same { KeepsOld kept.old kept.new }
     ensures values { (p : Params) (commands : List O) → Holds O.meaning p (M.disk machine.old) engine.old commands → AddsValues O.meaning p commands kept.old kept.new }
 {
@@ -75,6 +76,7 @@ pub(crate) fn keep_all<O: Oper, M: Machine>(
     ensures reads { OnlyReads O.meaning (M.disk machine.old) (M.disk machine.new) engine.old engine.new (engine.new.broken ≡ true) }
     ensures whole { IsTrue result → engine.new.broken ≡ false }
     ensures kept { IsTrue result → AreKept (params_of engine.old).objects kept.new objects.now }
+    ensures stands { AreKept (params_of engine.old).objects kept.old objects.now → IsTrue result × (kept.new ≡ kept.old) }
     ensures same { KeepsOld kept.old kept.new }
     ensures values { (p : Params) (commands : List O) → Holds O.meaning p (M.disk machine.old) engine.old commands → AddsValues O.meaning p commands kept.old kept.new }
 {

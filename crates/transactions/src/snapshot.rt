@@ -86,7 +86,8 @@ impl Snapshot {
         }
     }
 
-    /// Sees that the values which these objects have now are kept, or is given up. The store is only read.
+    /// Sees that the values which these objects have now are kept, or is given up. The store is only read. Where they are kept
+    /// already nothing changes.
     pub fn keep<O: Oper, M: Machine>(
         &mut self,
         engine: &mut Engine<O>,
@@ -98,6 +99,7 @@ impl Snapshot {
         ensures whole { IsSome self.new.kept → engine.new.broken ≡ false }
         ensures kept { IfSome self.new.kept (λ kept. AreKept (params_of engine.old).objects kept objects.now) }
         ensures on { KeepsOn self.old self.new }
+        ensures stands { IfSome self.old.kept (λ kept. AreKept (params_of engine.old).objects kept objects.now) → self.new ≡ self.old }
         ensures snapshot { (p : Params) (base commands : List O) → Holds O.meaning p (M.disk machine.old) engine.old commands → IsSnapshot O.meaning p self.old base commands → IsSnapshot O.meaning p self.new base commands }
     {
         let Some(mut kept) = mem::replace(&mut self.kept, None) else {
@@ -118,7 +120,10 @@ impl Snapshot {
     )
         requires unbroken { engine.old.broken ≡ false }
         ensures reads { OnlyReads O.meaning (M.disk machine.old) (M.disk machine.new) engine.old engine.new (engine.new.broken ≡ true) }
+        ensures whole { IsSome self.new.kept → engine.new.broken ≡ false }
         ensures covers { Covers O.meaning (params_of engine.old) self.new transaction.now.ops.items }
+        ensures on { KeepsOn self.old self.new }
+        ensures stands { Covers O.meaning (params_of engine.old) self.old transaction.now.ops.items → self.new ≡ self.old }
         ensures snapshot { (p : Params) (base commands : List O) → Holds O.meaning p (M.disk machine.old) engine.old commands → IsSnapshot O.meaning p self.old base commands → IsSnapshot O.meaning p self.new base commands }
     {
         let mut next = 0;

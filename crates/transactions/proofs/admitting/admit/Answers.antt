@@ -11,7 +11,7 @@ use Rattle.transactions.proofs.Staging.{fits_reads, judged, refused_by_shape, un
 use Rattle.transactions.proofs.admitting.admit.Goals as goal
 
 pub returns-in-Err-clause-reads : goal.returns-in-Err-clause-reads
-returns-in-Err-clause-reads g c = reads_none g.O.Oper.meaning (g.M.Machine.disk c.args.machine.now) c.args.engine.now _ (g.met.M.Machine.lawful c.args.machine.now) c.requires.unbroken
+returns-in-Err-clause-reads g c = reads_none g.O.Oper.meaning (g.M.Machine.disk c.args.machine.now) c.args.engine.now _ (g.met.M.Machine.lawful c.args.machine.now) c.requires.unbroken (λ none. absurd none)
 
 pub returns-in-Err-clause-admitted : goal.returns-in-Err-clause-admitted
 returns-in-Err-clause-admitted g c = λ commands holds.
@@ -28,7 +28,7 @@ check-requires g c =
 pub returns-in-Err-check-clause-reads : goal.returns-in-Err-check-clause-reads
 returns-in-Err-check-clause-reads g c =
     let disk = g.M.Machine.disk in
-    reads_so g.O.Oper.meaning (disk c.args.machine.now) (disk c.values_of.new.machine) c.args.engine.now c.values_of.new.engine _ _ (λ failed. absurd failed) c.in-Ok.ensures.reads
+    reads_so g.O.Oper.meaning (disk c.args.machine.now) (disk c.values_of.new.machine) c.args.engine.now c.values_of.new.engine _ _ (λ failed. absurd failed) (λ none. absurd none) c.in-Ok.ensures.reads
 
 pub returns-in-Err-check-clause-admitted : goal.returns-in-Err-check-clause-admitted
 returns-in-Err-check-clause-admitted g c = λ commands holds.
@@ -48,7 +48,7 @@ apply-requires g c =
 pub returns-in-Ok-apply-clause-reads : goal.returns-in-Ok-apply-clause-reads
 returns-in-Ok-apply-clause-reads g c =
     let disk = g.M.Machine.disk in
-    reads_so g.O.Oper.meaning (disk c.args.machine.now) (disk c.values_of.new.machine) c.args.engine.now c.values_of.new.engine _ _ (λ failed. absurd failed) c.in-Ok.ensures.reads
+    reads_so g.O.Oper.meaning (disk c.args.machine.now) (disk c.values_of.new.machine) c.args.engine.now c.values_of.new.engine _ _ (λ failed. absurd failed) (λ none. absurd none) c.in-Ok.ensures.reads
 
 pub returns-in-Ok-apply-clause-count : goal.returns-in-Ok-apply-clause-count
 returns-in-Ok-apply-clause-count g c =
@@ -75,12 +75,12 @@ returns-in-Ok-apply-clause-admitted g c = λ commands holds.
 pub returns-in-Ok-clause-reads : goal.returns-in-Ok-clause-reads
 returns-in-Ok-clause-reads g c =
     let disk = g.M.Machine.disk in
-    reads_so g.O.Oper.meaning (disk c.args.machine.now) (disk c.values_of.new.machine) c.args.engine.now c.values_of.new.engine _ _ (λ failed. absurd failed) c.in-Ok.ensures.reads
+    reads_so g.O.Oper.meaning (disk c.args.machine.now) (disk c.values_of.new.machine) c.args.engine.now c.values_of.new.engine _ _ (λ failed. absurd failed) (λ none. absurd none) c.in-Ok.ensures.reads
 
 pub returns-clause-reads : goal.returns-clause-reads
 returns-clause-reads g c =
     let disk = g.M.Machine.disk in
-    reads_so g.O.Oper.meaning (disk c.args.machine.now) (disk c.values_of.new.machine) c.args.engine.now c.values_of.new.engine _ _ (λ failed. c.unread.ensures.fault failed) c.in-Err-values_of.ensures.reads
+    reads_so g.O.Oper.meaning (disk c.args.machine.now) (disk c.values_of.new.machine) c.args.engine.now c.values_of.new.engine _ _ (λ failed. c.unread.ensures.fault.0 failed) (λ failed. c.unread.ensures.fault.1 failed) c.in-Err-values_of.ensures.reads
 
 pub returns-clause-admitted : goal.returns-clause-admitted
 returns-clause-admitted g c = λ commands holds.

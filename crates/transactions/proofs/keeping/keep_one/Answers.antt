@@ -1,11 +1,23 @@
-use Rattle.std.proofs.Common.{◌∙◌, refl, [], None, Some}
-use Rattle.transactions.proofs.Kept.{fetched_or_broken, one_old, one_value, values_same}
+use Rattle.std.proofs.Common.{◌∙◌, refl, sym, [], None, Some}
+use Rattle.std.proofs.lemmas.Bool.{ltb-true}
+use Rattle.store_engine.specs.Engine.{params_of}
+use Rattle.transactions.proofs.Kept.{fetched_or_broken, none_there, one_old, one_value, values_same}
 use Rattle.transactions.proofs.keeping.keep_one.Goals as goal
 
 pub returns-in-Ok-true-clause-reads : goal.returns-in-Ok-true-clause-reads
 returns-in-Ok-true-clause-reads g c =
     let disk = g.M.Machine.disk in
     fetched_or_broken g.O.Oper.meaning (disk c.args.machine.now) (disk c.fetch.new.machine) c.args.engine.now c.fetch.new.self c.args.object None c.in-Ok-true.ensures.fetched
+
+pub returns-in-Ok-true-clause-stands : goal.returns-in-Ok-true-clause-stands
+returns-in-Ok-true-clause-stands g c = λ are.
+    let count = (params_of c.args.engine.now).objects in
+    absurd (none_there c.args.kept.now c.args.object count (c.is_kept.ensures.no c.if-is_kept.false) are (ltb-true c.args.object count (sym c.in-Ok-true.ensures.there ∙ c.in-Ok-true.field-0-test)))
+
+pub returns-in-Err-clause-stands : goal.returns-in-Err-clause-stands
+returns-in-Err-clause-stands g c = λ are.
+    let count = (params_of c.args.engine.now).objects in
+    absurd (none_there c.args.kept.now c.args.object count (c.is_kept.ensures.no c.if-is_kept.false) are c.in-Err.ensures.fetched.cause.0)
 
 pub returns-in-Ok-true-clause-same : goal.returns-in-Ok-true-clause-same
 returns-in-Ok-true-clause-same g c =

@@ -8,7 +8,7 @@ use Rattle.transactions.proofs.seeing.push_value.Goals as goal
 pub returns-in-Ok-true-clause-reads : goal.returns-in-Ok-true-clause-reads
 returns-in-Ok-true-clause-reads g c =
     let disk = g.M.Machine.disk in
-    reads_so g.O.Oper.meaning (disk c.args.machine.now) (disk c.see.new.machine) c.args.engine.now c.see.new.engine _ _ (λ failed. absurd failed) c.in-Ok-true.ensures.reads
+    reads_so g.O.Oper.meaning (disk c.args.machine.now) (disk c.see.new.machine) c.args.engine.now c.see.new.engine _ _ (λ failed. absurd failed) (λ failed. c.push_short-in-Ok-true.ensures.no_fault failed) c.in-Ok-true.ensures.reads
 
 pub returns-in-Ok-true-clause-value : goal.returns-in-Ok-true-clause-value
 returns-in-Ok-true-clause-value g c = λ p commands holds.
@@ -20,9 +20,9 @@ returns-in-Ok-true-clause-value g c = λ p commands holds.
 pub returns-in-Ok-false-clause-reads : goal.returns-in-Ok-false-clause-reads
 returns-in-Ok-false-clause-reads g c =
     let disk = g.M.Machine.disk in
-    reads_so g.O.Oper.meaning (disk c.args.machine.now) (disk c.see.new.machine) c.args.engine.now c.see.new.engine _ _ (λ failed. absurd failed) c.in-Ok-false.ensures.reads
+    reads_so g.O.Oper.meaning (disk c.args.machine.now) (disk c.see.new.machine) c.args.engine.now c.see.new.engine _ _ (λ failed. absurd failed) (λ none. absurd none) c.in-Ok-false.ensures.reads
 
 pub returns-in-Err-clause-reads : goal.returns-in-Err-clause-reads
 returns-in-Err-clause-reads g c =
     let disk = g.M.Machine.disk in
-    reads_so g.O.Oper.meaning (disk c.args.machine.now) (disk c.see.new.machine) c.args.engine.now c.see.new.engine _ _ (λ failed. failed) c.in-Err.ensures.reads
+    reads_so g.O.Oper.meaning (disk c.args.machine.now) (disk c.see.new.machine) c.args.engine.now c.see.new.engine _ _ (λ failed. failed) (λ failed. failed) c.in-Err.ensures.reads

@@ -11,7 +11,7 @@ use Rattle.transactions.proofs.seeing.values_of.Goals as goal
 pub returns-in-Err-clause-reads : goal.returns-in-Err-clause-reads
 returns-in-Err-clause-reads g c =
     let disk = g.M.Machine.disk in
-    reads_so g.O.Oper.meaning (disk c.args.machine.now) (disk c.push_value.new.machine) c.args.engine.now c.push_value.new.engine _ _ (λ failed. failed)
+    reads_so g.O.Oper.meaning (disk c.args.machine.now) (disk c.push_value.new.machine) c.args.engine.now c.push_value.new.engine _ _ (λ failed. failed) (λ failed. failed)
     (reads_twice g.O.Oper.meaning (disk c.args.machine.now) (disk c.loop-object.machine) (disk c.push_value.new.machine) c.args.engine.now c.loop-object.engine c.push_value.new.engine _ c.loop-object.invariant.reads c.in-Err.ensures.reads)
 
 pub loop-object-preserved : goal.loop-object-preserved
@@ -34,7 +34,7 @@ loop-object-preserved g c =
 pub returns-clause-reads : goal.returns-clause-reads
 returns-clause-reads g c =
     let disk = g.M.Machine.disk in
-    reads_so g.O.Oper.meaning (disk c.args.machine.now) (disk c.loop-object.machine) c.args.engine.now c.loop-object.engine _ _ (λ failed. absurd failed) c.loop-object.invariant.reads
+    reads_so g.O.Oper.meaning (disk c.args.machine.now) (disk c.loop-object.machine) c.args.engine.now c.loop-object.engine _ _ (λ failed. absurd failed) (λ none. absurd none) c.loop-object.invariant.reads
 
 pub returns-clause-values : goal.returns-clause-values
 returns-clause-values g c = λ p commands holds.

@@ -11,13 +11,13 @@ pub returns-then-is_given_up-clause-time : goal.returns-then-is_given_up-clause-
 returns-then-is_given_up-clause-time g c = passes_none _
 
 pub returns-then-is_given_up-clause-reads : goal.returns-then-is_given_up-clause-reads
-returns-then-is_given_up-clause-reads g c = λ unbroken. reads_none (g.M.Machine.disk c.args.self.now.machine) c.args.self.now.engine _ (g.met.M.Machine.lawful c.args.self.now.machine) unbroken
+returns-then-is_given_up-clause-reads g c = λ unbroken. reads_none (g.M.Machine.disk c.args.self.now.machine) c.args.self.now.engine _ (g.met.M.Machine.lawful c.args.self.now.machine) unbroken (λ none. absurd none)
 
 pub returns-then-object-params-clause-time : goal.returns-then-object-params-clause-time
 returns-then-object-params-clause-time g c = passes_none _
 
 pub returns-then-object-params-clause-reads : goal.returns-then-object-params-clause-reads
-returns-then-object-params-clause-reads g c = λ unbroken. reads_none (g.M.Machine.disk c.args.self.now.machine) c.args.self.now.engine _ (g.met.M.Machine.lawful c.args.self.now.machine) unbroken
+returns-then-object-params-clause-reads g c = λ unbroken. reads_none (g.M.Machine.disk c.args.self.now.machine) c.args.self.now.engine _ (g.met.M.Machine.lawful c.args.self.now.machine) unbroken (λ none. absurd none)
 
 pub returns-then-object-params-clause-value : goal.returns-then-object-params-clause-value
 returns-then-object-params-clause-value g c = λ p base commands holds it.

@@ -11,7 +11,7 @@ returns-then-is_broken-clause-time g c = c.keep.ensures.reads.kept.time
 
 pub returns-then-is_broken-clause-run : goal.returns-then-is_broken-clause-run
 returns-then-is_broken-clause-run g c =
-    let disk = g.M.Machine.disk in inr (refl, sym c.is_broken.ensures ∙ c.if-is_broken.true, reads_so g.O.Oper.meaning (disk c.args.machine.now) (disk c.keep.new.machine) c.args.engine.now c.keep.new.engine _ _ (λ broken. tt) c.keep.ensures.reads)
+    let disk = g.M.Machine.disk in inr (refl, sym c.is_broken.ensures ∙ c.if-is_broken.true, reads_so g.O.Oper.meaning (disk c.args.machine.now) (disk c.keep.new.machine) c.args.engine.now c.keep.new.engine _ _ (λ broken. tt) (λ all. sym c.is_broken.ensures ∙ c.if-is_broken.true) c.keep.ensures.reads)
 
 pub returns-then-is_broken-clause-undone : goal.returns-then-is_broken-clause-undone
 returns-then-is_broken-clause-undone g c = λ p base commands holds it. c.keep.ensures.snapshot p base commands holds it
@@ -27,7 +27,7 @@ returns-clause-run g c =
     inl (record {
       mid = c.keep.new.machine;
       between = c.keep.new.engine;
-      reads = reads_so g.O.Oper.meaning (disk c.args.machine.now) (disk c.keep.new.machine) c.args.engine.now c.keep.new.engine _ _ (λ broken. true≢false (sym broken ∙ sym c.is_broken.ensures ∙ c.if-is_broken.false)) c.keep.ensures.reads;
+      reads = reads_so g.O.Oper.meaning (disk c.args.machine.now) (disk c.keep.new.machine) c.args.engine.now c.keep.new.engine _ _ (λ broken. true≢false (sym broken ∙ sym c.is_broken.ensures ∙ c.if-is_broken.false)) (λ none. absurd none) c.keep.ensures.reads;
       run = c.exec.ensures.run;
       calls = c.exec.ensures.calls;
     })

@@ -11,13 +11,13 @@ use Rattle.transactions.proofs.Staging.{not_staged, own, refusal_seen, staged_mo
 use Rattle.transactions.proofs.transaction.Transaction.exec.Goals as goal
 
 pub returns-in_default-clause-reads : goal.returns-in_default-clause-reads
-returns-in_default-clause-reads g c = reads_none g.O.Oper.meaning (g.M.Machine.disk c.args.machine.now) c.args.engine.now _ (g.met.M.Machine.lawful c.args.machine.now) c.requires.unbroken
+returns-in_default-clause-reads g c = reads_none g.O.Oper.meaning (g.M.Machine.disk c.args.machine.now) c.args.engine.now _ (g.met.M.Machine.lawful c.args.machine.now) c.requires.unbroken (λ none. absurd none)
 
 pub returns-in_default-clause-staged : goal.returns-in_default-clause-staged
 returns-in_default-clause-staged g c = λ p commands holds staged. (refl, staged)
 
 pub returns-in-Err-make_rooms-clause-reads : goal.returns-in-Err-make_rooms-clause-reads
-returns-in-Err-make_rooms-clause-reads g c = let disk = g.M.Machine.disk in reads_so g.O.Oper.meaning (disk c.args.machine.now) (disk c.admit.new.machine) c.args.engine.now c.admit.new.engine _ _ (λ failed. absurd failed) c.in-Ok.ensures.reads
+returns-in-Err-make_rooms-clause-reads g c = let disk = g.M.Machine.disk in reads_so g.O.Oper.meaning (disk c.args.machine.now) (disk c.admit.new.machine) c.args.engine.now c.admit.new.engine _ _ (λ failed. absurd failed) (λ none. absurd none) c.in-Ok.ensures.reads
 
 pub returns-in-Err-make_rooms-clause-staged : goal.returns-in-Err-make_rooms-clause-staged
 returns-in-Err-make_rooms-clause-staged g c = λ p commands holds staged.
@@ -31,7 +31,7 @@ set_all-requires-clause-count g c =
     c.in-Ok.ensures.count ∙ ap (λ (l : List ℕ). length l) (sym (c.writes-writes.ensures (bounds_of (params_of c.args.engine.now))) ∙ sym c.as_slice-in-Ok-push_back.ensures.value)
 
 pub returns-in-Ok-push_back-clause-reads : goal.returns-in-Ok-push_back-clause-reads
-returns-in-Ok-push_back-clause-reads g c = let disk = g.M.Machine.disk in reads_so g.O.Oper.meaning (disk c.args.machine.now) (disk c.admit.new.machine) c.args.engine.now c.admit.new.engine _ _ (λ failed. absurd failed) c.in-Ok.ensures.reads
+returns-in-Ok-push_back-clause-reads g c = let disk = g.M.Machine.disk in reads_so g.O.Oper.meaning (disk c.args.machine.now) (disk c.admit.new.machine) c.args.engine.now c.admit.new.engine _ _ (λ failed. absurd failed) (λ none. absurd none) c.in-Ok.ensures.reads
 
 pub returns-in-Ok-push_back-clause-staged : goal.returns-in-Ok-push_back-clause-staged
 returns-in-Ok-push_back-clause-staged g c = λ p commands holds staged.
@@ -52,7 +52,7 @@ returns-in-Ok-push_back-clause-staged g c = λ p commands holds staged.
     p holds staged
 
 pub returns-in-Err-push_back-clause-reads : goal.returns-in-Err-push_back-clause-reads
-returns-in-Err-push_back-clause-reads g c = let disk = g.M.Machine.disk in reads_so g.O.Oper.meaning (disk c.args.machine.now) (disk c.admit.new.machine) c.args.engine.now c.admit.new.engine _ _ (λ failed. absurd failed) c.in-Ok.ensures.reads
+returns-in-Err-push_back-clause-reads g c = let disk = g.M.Machine.disk in reads_so g.O.Oper.meaning (disk c.args.machine.now) (disk c.admit.new.machine) c.args.engine.now c.admit.new.engine _ _ (λ failed. absurd failed) (λ none. absurd none) c.in-Ok.ensures.reads
 
 pub returns-in-Err-push_back-clause-staged : goal.returns-in-Err-push_back-clause-staged
 returns-in-Err-push_back-clause-staged g c = λ p commands holds staged. (
@@ -63,7 +63,7 @@ returns-in-Err-push_back-clause-staged g c = λ p commands holds staged. (
 
 pub returns-in-Err-clause-reads : goal.returns-in-Err-clause-reads
 returns-in-Err-clause-reads g c =
-    let disk = g.M.Machine.disk in reads_so g.O.Oper.meaning (disk c.args.machine.now) (disk c.admit.new.machine) c.args.engine.now c.admit.new.engine _ _ (λ failed. failed) c.in-Err.ensures.reads
+    let disk = g.M.Machine.disk in reads_so g.O.Oper.meaning (disk c.args.machine.now) (disk c.admit.new.machine) c.args.engine.now c.admit.new.engine _ _ (λ failed. failed) (λ failed. failed) c.in-Err.ensures.reads
 
 pub returns-in-Err-clause-staged : goal.returns-in-Err-clause-staged
 returns-in-Err-clause-staged g c = λ p commands holds staged.
