@@ -1,5 +1,5 @@
 -- Groups that are given up, and groups for which the log has room.
-use Rattle.std.specs.Prelude.{◌≡◌, ◌⊎◌, ◌++◌, if◌then◌else◌, true, false, ℕ, List, Option, None, Some, Result, Box, IfSome, IsSome, OnOk, length, take}
+use Rattle.std.specs.Prelude.{◌≡◌, ◌≤◌, ◌⊎◌, ◌++◌, if◌then◌else◌, true, false, ℕ, List, Option, None, Some, Result, Box, IfSome, IsSome, OnOk, length, take}
 use Rattle.std.specs.Global.{Global}
 use Rattle.disk_model.specs.Disk.{LeavesOnly}
 use Rattle.disk_model.specs.Silent.{IsSilent}
@@ -7,7 +7,7 @@ use Rattle.disk_model.specs.declared.machine.Failed.{Failed}
 use Rattle.formats.specs.declared.params.Params.{Params}
 use Rattle.op_codec.specs.AllOps.{AllOps, all_meaning}
 use Rattle.store_engine.specs.Calls.{IsBeginning, IsRefused, work_of_force}
-use Rattle.store_engine.specs.Engine.{Between, Holds, IsAttached, Opens, forced_in, group_size}
+use Rattle.store_engine.specs.Engine.{Between, Holds, IsAttached, Opens, accepted_in, forced_in, group_size}
 use Rattle.store_engine.specs.Store.{Stands}
 use Rattle.store_engine.specs.declared.work_err.WorkErr.{WorkErr}
 use Rattle.store_engine.specs.declared.work_err.WorkErr.TheVariants as work
@@ -57,12 +57,16 @@ pub record DoesReopen (old new : Store QueueMem) : Type 0 where
   pub images : (p : Params) (commands : List AllOps) → Holds all_meaning p (disk_of old.machine) old.engine commands →
       LeavesOnly (disk_of old.machine) (disk_of new.machine) (IsSilent (λ files. Stands all_meaning p files (take (forced_in old.engine) commands)) (disk_of old.machine).said)
 
--- A snapshot of a store that went back to first ones of its commands is one of the same state still, or it was given up.
+-- A snapshot of a store that went back to first ones of its commands is one of the same state still, or it was given up; it was not
+-- where the store has as many commands as when it began.
+pub record GoesBack (store : Store QueueMem) (s t : Snapshot) : Type 0 where
+  pub back : (p : Params) (base commands : List AllOps) (n : ℕ) → IsSnapshot all_meaning p s base commands → Holds all_meaning p (disk_of store.machine) store.engine (take n commands) → IsSnapshot all_meaning p t base (take n commands)
+  pub stands : s.at ≤ accepted_in store.engine → t ≡ s
+
 abbrev pub BringsBack : Store QueueMem → Option Snapshot → Option Snapshot → Type 0
 BringsBack store None after = after ≡ None
 BringsBack store (Some s) None = ⊥
-BringsBack store (Some s) (Some t) = (p : Params) (base commands : List AllOps) (n : ℕ) → IsSnapshot all_meaning p s base commands → Holds all_meaning p (disk_of store.machine) store.engine (take n commands) →
-    IsSnapshot all_meaning p t base (take n commands)
+BringsBack store (Some s) (Some t) = GoesBack store s t
 
 -- a session whose store was given up so; no call is taken from its machine, and what else is kept for C is as it was
 pub record IsAgain (does : Store QueueMem → Store QueueMem → Type 0) (old new : Session) : Type 0 where

@@ -5,7 +5,7 @@ use Rattle.execution.specs.declared.exec_err.ExecErr.TheVariants as commands
 use Rattle.op_codec.specs.AllOps.{AllOps, all_meaning}
 use Rattle.store_engine.specs.Engine.{Holds, params_of}
 use Rattle.store_engine.specs.Store.{state_of}
-use Rattle.transactions.specs.Snapshots.{AreKept, Covers, HasFailed, IsSnapshot}
+use Rattle.transactions.specs.Snapshots.{AreKept, Covers, HasFailed, IsSnapshot, KeepsOn}
 use Rattle.transactions.specs.Staged.{OnlyReads}
 use Rattle.transactions.specs.declared.snapshot.Snapshot.{Snapshot}
 use Rattle.transactions.specs.declared.snapshot_err.SnapshotErr.{SnapshotErr}
@@ -52,11 +52,16 @@ pub record DropsSnapshot (old new : Session) (answer : ℕ) : Type 0 where
 abbrev pub EndsSnapshot : Session → Session → ℕ → Type 0
 EndsSnapshot old new answer = DropsSnapshot old new answer ⊎ ((old.snapshot ≡ None) × DoesNothing (alone 26) old new answer)
 
--- The store was read for the snapshot, which is one of the same state still or was given up. After that it covers what it is to cover.
+-- The store was read for the snapshot, which is one of the same state still or was given up. After that it covers what it is to cover;
+-- where it did before nothing of it changes, and what it kept it keeps. On a store that a fault has broken nothing is done.
 pub record DoesKeep (covers : Snapshot → Type 0) (old new : Store QueueMem) (s t : Snapshot) : Type 0 where
   pub reads : old.engine.broken ≡ false → OnlyReads all_meaning (disk_of old.machine) (disk_of new.machine) old.engine new.engine (new.engine.broken ≡ true)
+  pub whole : old.engine.broken ≡ false → IsSome t.kept → new.engine.broken ≡ false
   pub kept : old.engine.broken ≡ false → covers t
+  pub on : KeepsOn s t
+  pub stands : covers s → t ≡ s
   pub same : (p : Params) (base commands : List AllOps) → Holds all_meaning p (disk_of old.machine) old.engine commands → IsSnapshot all_meaning p s base commands → IsSnapshot all_meaning p t base commands
+  pub broken : old.engine.broken ≡ true → (new ≡ old) × (t ≡ s)
 
 -- that was done on a session, and nothing else
 pub record HasKept (covers : Snapshot → Type 0) (s : Snapshot) (old new : Session) (answer : ℕ) : Type 0 where

@@ -4,4 +4,4 @@ use Rattle.embed_c.specs.GivenUp.{BringsBack}
 use Rattle.embed_c.proofs.giving_up.brought_back.Goals as goal
 
 pub returns-in-Some : goal.returns-in-Some
-returns-in-Some c = subst (λ (o : Option Snapshot). BringsBack c.args.store.now o (Some c.bring_back.new.snapshot)) (sym c.in-Some.is) c.bring_back.ensures
+returns-in-Some c = subst (λ (o : Option Snapshot). BringsBack c.args.store.now o (Some c.bring_back.new.snapshot)) (sym c.in-Some.is) (record { back = c.bring_back.ensures.back; stands = c.bring_back.ensures.stands })

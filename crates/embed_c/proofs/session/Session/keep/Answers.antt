@@ -17,7 +17,7 @@ returns c =
     let e = c.keep.ensures in
     keeps c.args.self.now (record c.args.self.now { store = c.keep.new.self; snapshot = Some c.keep.new.snapshot; detail = c.done.result.detail }) 0 (AreKeptIn c.args.self.now c.args.objects.now) c.args.self.now.snapshot c.in-Some.snapshot (sym c.replace.ensures.value ∙ c.in-Some.is) (record {
       after = c.keep.new.snapshot;
-      store = record { reads = e.reads; kept = e.kept; same = e.snapshot };
+      store = record { reads = e.reads; whole = e.whole; kept = e.kept; on = e.on; stands = e.stands; same = e.snapshot; broken = e.broken };
       snapshot = refl;
       number = refl;
       detail = ap (λ (a : Answer). a.detail) c.done.ensures;

@@ -26,7 +26,7 @@ returns c =
     subst (λ (o : Option (Transaction AllOps)). KeepsStagedFor o c.args.self.now (record c.args.self.now { store = c.keep_staged.new.self; snapshot = Some c.keep_staged.new.snapshot; detail = c.done.result.detail }) 0) (sym c.in-Some.is)
     (keeps c.args.self.now (record c.args.self.now { store = c.keep_staged.new.self; snapshot = Some c.keep_staged.new.snapshot; detail = c.done.result.detail }) 0 (λ s. Covers all_meaning (params_of c.args.self.now.store.engine) s c.in-Some.transaction.ops.items) c.args.self.now.snapshot c.in-Some-replace.snapshot (sym c.replace.ensures.value ∙ c.in-Some-replace.is) (record {
       after = c.keep_staged.new.snapshot;
-      store = record { reads = e.reads; kept = e.covers; same = e.snapshot };
+      store = record { reads = e.reads; whole = e.whole; kept = e.covers; on = e.on; stands = e.stands; same = e.snapshot; broken = e.broken };
       snapshot = refl;
       number = refl;
       detail = ap (λ (a : Answer). a.detail) c.done.ensures;
