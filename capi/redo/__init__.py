@@ -920,8 +920,9 @@ class _Map(MutableMapping[bytes, bytes]):
 
 
 class Hash(_Map):
-    """A hash file in a range of objects: a map without an order, that reads one bucket for a key. Raises BadHash where an object of
-    the range is not of it, and NoRoom and HashFull where it has no room for a key."""
+    """A hash file in a range of objects: a map without an order, that reads one bucket for a key. Keys and values have 1 to 32 bytes.
+    It has 448 pairs at most, 7 in each of 64 buckets, and with random keys HashFull is raised from some 200 on, where a bucket cannot
+    be split any more; NoRoom where no object of the range is empty, and BadHash where one is not of it."""
 
     _set, _get, _delete = staticmethod(_hash_put), staticmethod(_hash_get), staticmethod(_hash_delete)
 
@@ -962,8 +963,9 @@ class Hash(_Map):
 
 
 class Tree(_Map):
-    """An ordered map in a range of objects: iteration is by rising keys. Raises BadTree where an object of the range is none of its
-    nodes, and TreeFull where the range has no room for a key."""
+    """An ordered map in a range of objects: iteration is by rising keys. Keys and values have 1 to 32 bytes. Raises TreeFull where the
+    range has no room for a key: for good, after some 2.25 inserts an object, where keys rise and the oldest are deleted. BadTree
+    where an object of the range is none of its nodes."""
 
     _set, _get, _delete = staticmethod(_tree_insert), staticmethod(_tree_get), staticmethod(_tree_delete)
 
