@@ -7,3 +7,4 @@ pub mod Calls
 pub mod Sample
 pub mod Putting
 pub mod Places
+pub mod Listing

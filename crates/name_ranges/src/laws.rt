@@ -7,10 +7,12 @@ ghost use Rattle.oper_core.specs.declared.bounds.Bounds.{Bounds};
 ghost use Rattle.op_codec.specs.AllOps.{AllOps, plain};
 ghost use Rattle.op_meaning.specs.declared.plain_op.PlainOp.TheVariants.{Append, Copy, Put};
 ghost use Rattle.page_map.specs.Map.{is_within};
+ghost use Rattle.page_map.specs.Reads.{pairs_of};
 ghost use Rattle.page_map.specs.Walk.{get_answer};
-ghost use Rattle.named_words.specs.Effects.{Names, place_of};
+ghost use Rattle.named_words.specs.Effects.{Names, names_from, place_of};
 ghost use Rattle.name_ranges.specs.Changes.{Gives, IsFound, Leaves, Takes, Writes};
 ghost use Rattle.name_ranges.specs.Directory.{Directory, IsDirectory, IsSpare, from_place, key_of, number_bytes, object_of};
+ghost use Rattle.name_ranges.specs.Listing.{in_order, names_read};
 ghost use Rattle.name_ranges.specs.Named.{HasMaps, IsNamed, directory_of};
 ghost use Rattle.name_ranges.specs.Putting.{IsWriting, Puts};
 
@@ -95,4 +97,10 @@ pub fn a_range_has_one_map_of_names()
 /// Keys are in the order of places: those of the names whose place is not before one are a span.
 pub fn keys_are_in_the_order_of_places()
     ensures { (name : List ℕ) (place : ℕ) → place < 2 ^ 64 → is_within (from_place place) (key_of name) ≡ nat_le place (place_of name) }
+{}
+
+/// The names from a place on are those of the pairs that a range of the directory has from there on, in the order of names.
+pub fn names_are_read_from_a_span()
+    ensures { (b : Bounds) (lo hi : ℕ) (s : State) (names : Names) (is : IsNamed b lo hi s names) (place : ℕ) → place < 2 ^ 64 →
+        names_from names place ≡ in_order (names_read (pairs_of (directory_of is) (from_place place))) }
 {}

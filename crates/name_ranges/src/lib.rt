@@ -9,8 +9,8 @@
 //! An operation that writes the object of a name gives the name a value, and one that writes an object which no name has changes
 //! none ([`a_value_is_written`]). A set of a name's key gives it an object with what this has, or is refused, and a delete takes it
 //! away ([`a_name_is_given_an_object`], [`a_name_is_taken_away`]). So a name is given a value in two steps, the value first
-//! ([`a_name_is_given_a_value`]). A get finds the object ([`a_name_is_found`]), and a state has one map of names
-//! ([`a_range_has_one_map_of_names`]).
+//! ([`a_name_is_given_a_value`]). A get finds the object ([`a_name_is_found`]), a range of the directory has the names from a place
+//! on ([`names_are_read_from_a_span`]), and a state has one map of names ([`a_range_has_one_map_of_names`]).
 #![tactic(auto)]
 
 mod keys;
@@ -21,6 +21,6 @@ pub use keys::{key_of, number_bytes, number_in, place};
 pub use laws::{
     a_name_is_found, a_name_is_given_a_value, a_name_is_given_an_object, a_name_is_taken_away,
     a_range_has_one_map_of_names, a_value_is_written, directories_change,
-    keys_are_in_the_order_of_places, operations_write_one_object,
+    keys_are_in_the_order_of_places, names_are_read_from_a_span, operations_write_one_object,
 };
 pub use worked::{a_range_is_as_worked, directories_are_as_worked, keys_are_as_worked};
