@@ -20,7 +20,7 @@ sys.dont_write_bytecode = True
 CAPI = os.path.join(os.path.dirname(os.path.abspath(__file__)), os.pardir)
 sys.path.insert(0, CAPI)
 import redo  # noqa: E402
-from redo.shell import forms, lines, notation, reading, terminal  # noqa: E402
+from redo.shell import explain, forms, lines, notation, reading, terminal  # noqa: E402
 from redo.shell import main as shell_main  # noqa: E402
 
 COMMAND = [sys.executable, "-B", os.path.join(CAPI, "redo_shell.py")]
@@ -138,7 +138,7 @@ def notations(folder):
 def table(_):
     """Each line has a form that reads its example, and is done by a call or by the session."""
     words = {form.word for form in forms.LINES}
-    assert words - lines.CALLS.keys() == {"begin", "end", "abort", "bstart", "bcopy", "bfinish"} and lines.CALLS.keys() <= words
+    assert words - lines.CALLS.keys() == {"begin", "end", "abort"} | explain.OTHERS and lines.CALLS.keys() <= words
     assert shell_main.WORDS.keys() == {form.word for form in forms.WORDS}
     for form in forms.FORMS.values():
         line = reading.read(form.example)

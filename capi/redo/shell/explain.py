@@ -3,6 +3,7 @@ from __future__ import annotations
 
 import redo
 
+from . import forms
 from .reading import Line
 
 _WHY = {
@@ -43,9 +44,11 @@ def refusal(error: redo.Error, params: redo.Params, form: str = "") -> str:
     return why.format(last=params.objects - 1, cap=params.cap, first=first, second=second, third=third)
 
 
-OTHERS = frozenset(("bstart", "bcopy", "bfinish"))
+BACKUPS = frozenset(("bstart", "bcopy", "bfinish"))
+OTHERS = BACKUPS | forms.MAPS
 
 
 def no_call(line: Line) -> str:
     """Why a line of a script is none here."""
-    return f"`{line.word}` is answered by `redo run` alone: .backup DIR saves the store here"
+    why = f"`{line.word}` is answered by `redo run` alone"
+    return f"{why}: .backup DIR saves the store here" if line.word in BACKUPS else why

@@ -35,8 +35,12 @@ FIELDS = {
     "LO HI": "the first and the last object of a map",
     "K W N": "a number, from 0 to 4294967295",
     "HEX": 'bytes: "text", 0xhex, hexadecimal digits in pairs, @FILE, or - for none',
-    "KEY VAL FROM TO": "1 to 32 bytes, written as HEX is",
+    "KEY VAL FROM TO": "1 to 32 bytes, of a map more, written as HEX is",
+    "LIMIT": "how many pairs at most",
 }
+
+# lines of a map, which take keys of other lengths
+MAPS = frozenset(("mset", "mget", "mdel", "mrange", "mback", "mcount", "mnext", "mprev"))
 
 LINES = [
     Form("put X HEX", "object X holds these bytes", 'put 1 "hello"'),
@@ -57,6 +61,14 @@ LINES = [
     Form("hset LO HI KEY VAL", "KEY gets VAL in the hash file of the objects LO to HI", 'hset 36 63 "ann" "100"'),
     Form("hget LO HI KEY", "the value of KEY in the hash file, - where KEY is not there", 'hget 36 63 "ann"'),
     Form("hdel LO HI KEY", "KEY leaves the hash file, with its value", 'hdel 36 63 "ann"'),
+    Form("mset LO HI KEY VAL", "KEY gets VAL in the map of the objects LO to HI: by `redo run` alone", 'mset 64 99 "ann" "100"'),
+    Form("mget LO HI KEY", "the value of KEY in the map: by `redo run` alone", 'mget 64 99 "ann"'),
+    Form("mdel LO HI KEY", "KEY leaves the map, with its value: by `redo run` alone", 'mdel 64 99 "ann"'),
+    Form("mrange LO HI FROM TO LIMIT", "the first LIMIT pairs of the map from FROM up to TO, which is left out: by `redo run` alone", 'mrange 64 99 "a" "c" 10'),
+    Form("mback LO HI FROM TO LIMIT", "the last LIMIT of these pairs, the last one first: by `redo run` alone", 'mback 64 99 "a" "c" 10'),
+    Form("mcount LO HI FROM TO", "how many these pairs are: by `redo run` alone", 'mcount 64 99 "a" "c"'),
+    Form("mnext LO HI KEY", "the first pair of the map above KEY: by `redo run` alone", 'mnext 64 99 "ann"'),
+    Form("mprev LO HI KEY", "the last pair of the map below KEY: by `redo run` alone", 'mprev 64 99 "ann"'),
     Form("exec A", "the application in A takes one step", "exec 1"),
     Form("arun A N", "the application in A takes N steps, or as many as its input has bytes", "arun 1 100"),
     Form("aread A X", "the value of X is added to the input of the application in A", "aread 1 2"),

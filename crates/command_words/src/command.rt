@@ -14,41 +14,49 @@ const MORE: &str =
     docs/redo.1 tell the rest.";
 
 const LINES: &str = "Lines:\n  \
-    put X HEX               X gets the bytes HEX\n  \
-    copy X Y                Y gets the value of X\n  \
-    append X Y              the value of X is added at the end of that of Y\n  \
-    cut X Y K               X keeps its first K bytes, and Y gets the others\n  \
-    sort X Y W              Y gets the records of X, of W bytes each, in order\n  \
-    swap X Y                the values of X and Y are exchanged\n  \
-    exec A                  the application in A takes a step\n  \
-    aread A X               the value of X is added to its input\n  \
-    awrite A X              X gets its output\n  \
-    pexec A P               the program in P takes a step on the state in A\n  \
-    pread A X               the value of X is added to the input of the state\n  \
-    pwrite A X              X gets the output of the state\n  \
-    prun A P N              N steps of the program, or as many as it can take\n  \
-    arun A N                N steps of the application, or as many as its input has bytes\n  \
-    tinsert LO HI KEY VAL   KEY gets VAL, in the tree of the objects LO to HI\n  \
-    tget LO HI KEY          the value of KEY\n  \
-    tdelete LO HI KEY       KEY leaves the tree\n  \
-    trange LO HI FROM TO    the keys from FROM up to TO, which is left out, with their values\n  \
-    hset LO HI KEY VAL      KEY gets VAL, in the hash file of the objects LO to HI\n  \
-    hget LO HI KEY          the value of KEY\n  \
-    hdel LO HI KEY          KEY leaves the hash file\n  \
-    get X                   the value of X\n  \
-    force                   everything so far is on the disk\n  \
-    install                 one node of the write graph is installed\n  \
-    drain                   all nodes are installed\n  \
-    checkpoint              a checkpoint is added to the log\n  \
-    trim                    the log is rewritten without what no restart needs\n  \
-    begin                   a group begins, of which a crash leaves all or none\n  \
-    end                     the group ends\n  \
-    abort                   the group is given up: none of its commands stays\n  \
-    stat                    the counts of the store\n  \
-    bstart                  a backup begins\n  \
-    bcopy K                 K objects more are copied into it\n  \
-    bfinish                 the backup becomes a store\n  \
-    # a comment             no answer\n\n\
+    put X HEX                   X gets the bytes HEX\n  \
+    copy X Y                    Y gets the value of X\n  \
+    append X Y                  the value of X is added at the end of that of Y\n  \
+    cut X Y K                   X keeps its first K bytes, and Y gets the others\n  \
+    sort X Y W                  Y gets the records of X, of W bytes each, in order\n  \
+    swap X Y                    the values of X and Y are exchanged\n  \
+    mset LO HI KEY VAL          KEY gets VAL, in the map of the objects LO to HI\n  \
+    mget LO HI KEY              the value of KEY\n  \
+    mdel LO HI KEY              KEY leaves the map\n  \
+    mrange LO HI FROM TO LIMIT  the pairs from FROM up to TO, which is left out, LIMIT at most\n  \
+    mback LO HI FROM TO LIMIT   the pairs below TO back to FROM, LIMIT at most\n  \
+    mcount LO HI FROM TO        how many keys there are from FROM up to TO\n  \
+    mnext LO HI KEY             the first pair above KEY\n  \
+    mprev LO HI KEY             the last pair below KEY\n  \
+    exec A                      the application in A takes a step\n  \
+    aread A X                   the value of X is added to its input\n  \
+    awrite A X                  X gets its output\n  \
+    pexec A P                   the program in P takes a step on the state in A\n  \
+    pread A X                   the value of X is added to the input of the state\n  \
+    pwrite A X                  X gets the output of the state\n  \
+    prun A P N                  N steps of the program, or as many as it can take\n  \
+    arun A N                    N steps of the application, or as many as its input has bytes\n  \
+    tinsert LO HI KEY VAL       KEY gets VAL, in the tree of the objects LO to HI\n  \
+    tget LO HI KEY              the value of KEY\n  \
+    tdelete LO HI KEY           KEY leaves the tree\n  \
+    trange LO HI FROM TO        the keys from FROM up to TO, which is left out, with their values\n  \
+    hset LO HI KEY VAL          KEY gets VAL, in the hash file of the objects LO to HI\n  \
+    hget LO HI KEY              the value of KEY\n  \
+    hdel LO HI KEY              KEY leaves the hash file\n  \
+    get X                       the value of X\n  \
+    force                       everything so far is on the disk\n  \
+    install                     one node of the write graph is installed\n  \
+    drain                       all nodes are installed\n  \
+    checkpoint                  a checkpoint is added to the log\n  \
+    trim                        the log is rewritten without what no restart needs\n  \
+    begin                       a group begins, of which a crash leaves all or none\n  \
+    end                         the group ends\n  \
+    abort                       the group is given up: none of its commands stays\n  \
+    stat                        the counts of the store\n  \
+    bstart                      a backup begins\n  \
+    bcopy K                     K objects more are copied into it\n  \
+    bfinish                     the backup becomes a store\n  \
+    # a comment                 no answer\n\n\
     The lines drain and trim make a full log short again. `rlwrap redo run` lets lines be edited; Ctrl-D ends\n\
     the input and forces, Ctrl-C loses what is not forced.";
 

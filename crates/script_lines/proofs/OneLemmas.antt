@@ -1,9 +1,9 @@
 -- A line asks for one thing.
 use Rattle.std.proofs.Common.{◌≡◌, List, ℕ, [], ◌∷◌, Option, Some, None, sym, ◌∙◌, subst, ⊎_elim}
-use Rattle.script_lines.specs.Grammar.{AreOf, AsksFor, Form, IsComment, Makes, MakesIf, Request, asks, fields_of, form_in, hex, number, rows, short, without_return}
+use Rattle.script_lines.specs.Grammar.{AreOf, AsksFor, Form, IsComment, Makes, MakesIf, Request, asks, fields_of, form_in, hex, long, number, rows, short, without_return}
 use Rattle.script_lines.specs.declared.line.Line.TheVariants.{Skip}
 use Rattle.script_lines.proofs.HexLemmas.{hex_one}
-use Rattle.script_lines.proofs.ReadLemmas.{number_one, short_one}
+use Rattle.script_lines.proofs.ReadLemmas.{long_one, number_one, short_one}
 
 makes_one : (form : Form) (texts : List (List ℕ)) (a b : Request) → Makes form texts a → Makes form texts b → a ≡ b
 makes_one (asks made) [] a b p q = p ∙ sym q
@@ -14,6 +14,8 @@ makes_one (hex form) [] a b p q = absurd p
 makes_one (hex form) (text ∷ texts) a b (u, says, p) (v, other, q) = makes_one (form u) texts a b p (subst (λ (k : List ℕ). Makes (form k) texts b) (hex_one text v u other says) q)
 makes_one (short form) [] a b p q = absurd p
 makes_one (short form) (text ∷ texts) a b (u, says, p) (v, other, q) = makes_one (form u) texts a b p (subst (λ (k : List ℕ). Makes (form k) texts b) (short_one text v u other says) q)
+makes_one (long form) [] a b p q = absurd p
+makes_one (long form) (text ∷ texts) a b (u, says, p) (v, other, q) = makes_one (form u) texts a b p (subst (λ (k : List ℕ). Makes (form k) texts b) (long_one text v u other says) q)
 
 row_one : (found : Option Form) (texts : List (List ℕ)) (a b : Request) → MakesIf found texts a → MakesIf found texts b → a ≡ b
 row_one None texts a b p q = absurd p

@@ -1,9 +1,9 @@
 -- The fields of a line are read one after the other, by the form that stands in the row of its word.
-use Rattle.std.proofs.Common.{◌≡◌, ◌≢◌, ◌∙◌, ◌^◌, ◌<◌, List, ℕ, [], ◌∷◌, Option, Some, None, is_some, false, true, refl, sym, ap, subst, arith}
+use Rattle.std.proofs.Common.{◌≡◌, ◌≢◌, ◌∙◌, ◌^◌, ◌<◌, List, ℕ, [], ◌∷◌, Option, Some, None, is_some, false, true, length, nat_lt, IsTrue, refl, sym, ap, subst, arith}
 use Rattle.std.specs.Option.{IfNone, IfSome, option_map}
 use Rattle.std.specs.Fmt.{decimal}
 use Rattle.std.proofs.lemmas.Fmt.{decimal_injective}
-use Rattle.script_lines.specs.Grammar.{Form, Request, Row, IsHex, IsRead, Makes, SaysNumber, SaysShort, asks, form_in, hex, number, short}
+use Rattle.script_lines.specs.Grammar.{Form, Request, Row, IsHex, IsRead, Makes, ReadsAs, SaysLong, SaysNumber, SaysShort, asks, form_in, hex, long, number, short}
 use Rattle.script_lines.proofs.HexLemmas.{hex_one}
 
 pub number_one : (text : List ℕ) (m n : ℕ) → SaysNumber m text → SaysNumber n text → m ≡ n
@@ -11,6 +11,9 @@ number_one text m n p q = decimal_injective m n (omega (arith, p.1)) (omega (ari
 
 pub short_one : (text x y : List ℕ) → SaysShort x text → SaysShort y text → x ≡ y
 short_one text x y p q = hex_one text x y p.0 q.0
+
+pub long_one : (text x y : List ℕ) → SaysLong x text → SaysLong y text → x ≡ y
+long_one text x y p q = hex_one text x y p.0 q.0
 
 -- the first text is no number
 pub no_number : (form : ℕ → Form) (texts : List (List ℕ)) → ((n : ℕ) (others : List (List ℕ)) → n < 2 ^ 32 → texts ≢ decimal n ∷ others) → IsRead (Some (number form)) texts None
@@ -42,6 +45,33 @@ pub short_read : (form : List ℕ → Form) (texts others : List (List ℕ)) (te
     → IsRead (Some (short form)) texts given
 short_read form texts others text bytes given is says read =
     subst (λ (t : List (List ℕ)). IsRead (Some (short form)) t given) (sym is) (at_short form text others bytes given says read)
+
+-- there is no text, or the first is no key of a map
+pub none_long : (form : List ℕ → Form) (texts : List (List ℕ)) → texts ≡ [] → IsRead (Some (long form)) texts None
+none_long form texts is = subst (λ (t : List (List ℕ)). IsRead (Some (long form)) t None) (sym is) (λ request made. made)
+
+pub no_long : (form : List ℕ → Form) (texts others : List (List ℕ)) (text : List ℕ) → texts ≡ text ∷ others → ((bytes : List ℕ) → SaysLong bytes text → ⊥) → IsRead (Some (long form)) texts None
+no_long form texts others text is never = λ request made.
+    let here = subst (λ (t : List (List ℕ)). Makes (long form) t request) is made in
+    never here.0 here.1
+
+at_long : (form : List ℕ → Form) (text : List ℕ) (others : List (List ℕ)) (bytes : List ℕ) (given : Option Request) → SaysLong bytes text → IsRead (Some (form bytes)) others given
+    → IsRead (Some (long form)) (text ∷ others) given
+at_long form text others bytes None says read = λ request made. read request (subst (λ (m : List ℕ). Makes (form m) others request) (long_one text made.0 bytes made.1 says) made.2)
+at_long form text others bytes (Some request) says read = (bytes, says, read)
+
+-- it is one, and others follow
+pub long_read : (form : List ℕ → Form) (texts others : List (List ℕ)) (text bytes : List ℕ) (given : Option Request) → texts ≡ text ∷ others → SaysLong bytes text → IsRead (Some (form bytes)) others given
+    → IsRead (Some (long form)) texts given
+long_read form texts others text bytes given is says read =
+    subst (λ (t : List (List ℕ)). IsRead (Some (long form)) t given) (sym is) (at_long form text others bytes given says read)
+
+-- the bytes that it stands for are too many
+pub too_many : (text bytes : List ℕ) → IsHex text bytes → nat_lt (length bytes) 65536 ≡ false → (other : List ℕ) → SaysLong other text → ⊥
+too_many text bytes is many other says =
+    let same : other ≡ bytes = hex_one text other bytes says.0 is in
+    let fits : nat_lt (length bytes) 65536 ≡ true = subst (λ (b : List ℕ). IsTrue (nat_lt (length b) 65536)) same says.1 in
+    cc
 
 -- the first text is no hexadecimal
 pub no_hex_read : (form : List ℕ → Form) (texts others : List (List ℕ)) (text : List ℕ) → texts ≡ text ∷ others → ((bytes : List ℕ) → IsHex text bytes → ⊥) → IsRead (Some (hex form)) texts None
@@ -97,3 +127,12 @@ when_none (Some x) is here = absurd cc
 
 pub when_some : {A : Type 0} {x : A} (P : A → Type 0) (found : Option A) → found ≡ Some x → IfSome found P → P x
 when_some P found is here = subst (λ o. IfSome o P) is here
+
+-- what is behind the last field is none, or it is one too many
+pub read_behind : {A : Type 0} (form : Form) (texts others : List (List ℕ)) (request : Request) (found : Option A) → is_some found ≡ true → ReadsAs (asks request) others form texts
+    → IsRead (Some (asks request)) others (option_map (λ _. request) found) → IsRead (Some form) texts (Some request)
+read_behind form texts others request found is reads read = reads (Some request) (something_read (Some (asks request)) others request found is read)
+
+pub not_read_behind : {A : Type 0} (form : Form) (texts others : List (List ℕ)) (request : Request) (found : Option A) → is_some found ≡ false → ReadsAs (asks request) others form texts
+    → IsRead (Some (asks request)) others (option_map (λ _. request) found) → IsRead (Some form) texts None
+not_read_behind form texts others request found is reads read = reads None (nothing_read (Some (asks request)) others (λ _. request) found is read)

@@ -9,15 +9,15 @@ use Rattle.std.specs.Str.{bytes_eq, all_ascii_digits}
 use Rattle.std.specs.Char.{is_ascii_digit}
 use Rattle.oper_core.specs.declared.refusal.Refusal.{Refusal}
 use Rattle.oper_core.specs.declared.refusal.Refusal.TheVariants.{NoPages, NoObject, Same, BadPlace, BadWidth, NotApp, NotCode, Halted, NoInput, NotNode, NoKey, NodeFull, TooLarge}
-use Rattle.script_lines.specs.Replies.{Reply, ok, value, forced, bad, refused, full, end, object_value, command_count, stat, ran, pairs, bad_tree, tree_full, denied, in_group, no_group, copied, saved, backup_denied, summary, silence, Pair, pair_text, spaced_pair, pairs_reply, spaced, numbers_of, AreSmall, HasSmallNumbers, hex_glyph, hex_pair, hex_text, backup_denial_name, denial_name, name_of, text_of, reply_of, said_line}
+use Rattle.script_lines.specs.Replies.{Reply, ok, value, forced, bad, refused, full, end, object_value, command_count, stat, ran, pairs, bad_tree, tree_full, denied, in_group, no_group, copied, saved, backup_denied, summary, absent, counted, silence, Pair, pair_text, spaced_pair, pairs_reply, spaced, numbers_of, AreSmall, HasSmallNumbers, hex_glyph, hex_pair, hex_text, backup_denial_name, denial_name, name_of, text_of, reply_of, said_line}
 use Rattle.script_lines.specs.declared.denial.Denial.{Denial}
-use Rattle.script_lines.specs.declared.denial.Denial.TheVariants.{BadHash, HashFull, NoRoom}
+use Rattle.script_lines.specs.declared.denial.Denial.TheVariants.{BadHash, HashFull, NoRoom, BadMap, MapFull, TooLong}
 use Rattle.script_lines.specs.declared.backup_denial.BackupDenial.{BackupDenial}
 use Rattle.script_lines.specs.declared.backup_denial.BackupDenial.TheVariants.{InBackup, NoBackup, AlreadyStore, NotCopied}
 use Rattle.script_lines.specs.declared.answer.Answer.{Answer}
 use Rattle.script_lines.specs.declared.answer.StatLine.{StatLine}
 use Rattle.script_lines.specs.declared.answer.Totals.{Totals}
-use Rattle.script_lines.specs.declared.answer.Answer.TheVariants.{Done, Value, Forced, Bad, Refused, Full, End, Object, Commands, Stat, Ran, Pairs, BadTree, TreeFull, Denied, InGroup, NoGroup, Copied, Saved, BackupDenied, Summary}
+use Rattle.script_lines.specs.declared.answer.Answer.TheVariants.{Done, Value, Forced, Bad, Refused, Full, End, Object, Commands, Stat, Ran, Pairs, BadTree, TreeFull, Denied, InGroup, NoGroup, Copied, Saved, BackupDenied, Summary, Absent, Counted, Entries}
 use Rattle.script_lines.proofs.NumberLemmas.{own}
 
 -- some byte of the text is this one
@@ -48,10 +48,12 @@ kind (backup_denied why) = 26
 kind (copied n) = 13
 kind (saved n) = 14
 kind (summary totals) = 12
+kind absent = 15
+kind (counted n) = 16
 kind silence = 1
 
--- a refusal of a tree, of a group, of a hash file or of a backup has a name of its own; those of a hash file have one number
--- here, and so have those of a backup
+-- a refusal of a tree, of a group, of a hash file, of a map or of a backup has a name of its own; those of hash files and maps
+-- have one number here, and so have those of a backup
 abbrev number_of_name : List ℕ → ℕ
 number_of_name name =
     if bytes_eq name (codes "BadTree") then 1
@@ -61,6 +63,9 @@ number_of_name name =
     else if bytes_eq name (codes "BadHash") then 5
     else if bytes_eq name (codes "HashFull") then 5
     else if bytes_eq name (codes "NoRoom") then 5
+    else if bytes_eq name (codes "BadMap") then 5
+    else if bytes_eq name (codes "MapFull") then 5
+    else if bytes_eq name (codes "TooLong") then 5
     else if bytes_eq name (codes "InBackup") then 6
     else if bytes_eq name (codes "NoBackup") then 6
     else if bytes_eq name (codes "AlreadyStore") then 6
@@ -74,7 +79,7 @@ kind_by first second fourth size name spaced =
     else if second == 117 then 5
     else if second == 110 then 6
     else if second == 116 then 9
-    else if second == 111 then (if first == 102 then 2 else if fourth == 105 then 13 else 8)
+    else if second == 111 then (if first == 102 then 2 else if first == 110 then 15 else if fourth == 105 then 13 else if fourth == 110 then 16 else 8)
     else if second == 101 then (if fourth == 117 then 20 + name else if fourth == 111 then 12 else 1)
     else if second == 97 then (if fourth == 32 then 10 else if spaced then 14 else if size == 3 then 3 else 1)
     else if spaced then 7
@@ -148,7 +153,8 @@ fourth_other b (c ∷ bytes) is = omega (arith, glyph_high (c % 16), is)
 hex_kind : (bytes : List ℕ) → plain_kind (hex_text bytes) ≡ 1
 hex_kind [] = refl
 hex_kind (b ∷ bytes) =
-    kind_value _ _ _ _ _ _ (glyph_low b) (fourth_low b bytes) (fourth_other b bytes) (λ is. omega (arith, is, even_size (b ∷ bytes))) (no_space_in (b ∷ bytes))
+    let text = flat_map hex_pair (b ∷ bytes) in
+    kind_value (get_or text 0 0) (get_or text 1 0) (get_or text 3 0) (length text) (number_of_name (drop 8 text)) (has 32 text) (glyph_low b) (fourth_low b bytes) (fourth_other b bytes) (λ is. omega (arith, is, even_size (b ∷ bytes))) (no_space_in (b ∷ bytes))
 
 pairs_one : (u v : List ℕ) → flat_map hex_pair u ≡ flat_map hex_pair v → u ≡ v
 pairs_one [] [] same = refl
@@ -336,19 +342,31 @@ other_name NoKey = refl
 other_name NodeFull = refl
 other_name TooLarge = refl
 
--- the refusals of a hash file
+-- the refusals of hash files and maps
 denial_number : (why : Denial) → number_of_name (denial_name why) ≡ 5
 denial_number BadHash = refl
 denial_number HashFull = refl
 denial_number NoRoom = refl
+denial_number BadMap = refl
+denial_number MapFull = refl
+denial_number TooLong = refl
 
 abbrev denial_of : List ℕ → Denial
-denial_of name = if bytes_eq name (codes "BadHash") then BadHash else if bytes_eq name (codes "HashFull") then HashFull else NoRoom
+denial_of name =
+    if bytes_eq name (codes "BadHash") then BadHash
+    else if bytes_eq name (codes "HashFull") then HashFull
+    else if bytes_eq name (codes "NoRoom") then NoRoom
+    else if bytes_eq name (codes "BadMap") then BadMap
+    else if bytes_eq name (codes "MapFull") then MapFull
+    else TooLong
 
 denial_named : (why : Denial) → denial_of (denial_name why) ≡ why
 denial_named BadHash = refl
 denial_named HashFull = refl
 denial_named NoRoom = refl
+denial_named BadMap = refl
+denial_named MapFull = refl
+denial_named TooLong = refl
 
 denied_one : (a b : Denial) → denial_name a ≡ denial_name b → a ≡ b
 denied_one a b same = sym (denial_named a) ∙ ap denial_of same ∙ denial_named b
@@ -386,6 +404,9 @@ no_colon_denial : (why : Denial) → has 58 (denial_name why) ≡ false
 no_colon_denial BadHash = refl
 no_colon_denial HashFull = refl
 no_colon_denial NoRoom = refl
+no_colon_denial BadMap = refl
+no_colon_denial MapFull = refl
+no_colon_denial TooLong = refl
 
 no_colon_name : (refusal : Refusal) → has 58 (name_of refusal) ≡ false
 no_colon_name NoPages = refl
@@ -507,6 +528,8 @@ kind_told (copied n) small = without (codes "copied " ++ decimal n) 13 (no_colon
 kind_told (saved n) small = without (codes "saved " ++ decimal n) 14 (no_colon_decimal n small) refl
 kind_told (backup_denied why) small = without (codes "refused " ++ backup_denial_name why) 26 (no_colon_backup why) (ap (λ (n : ℕ). 20 + n) (backup_denial_number why))
 kind_told (summary totals) small = without (to_sum totals) 12 (ap (has 58) (regrouped totals) ∙ no_colon_totals totals small) refl
+kind_told absent small = refl
+kind_told (counted n) small = without (codes "counted " ++ decimal n) 16 (no_colon_decimal n small) refl
 kind_told silence small = refl
 
 same_kind : (a b : Reply) → HasSmallNumbers a → HasSmallNumbers b → kind a ≡ kind b → text_of a ≡ text_of b → a ≡ b
@@ -542,6 +565,8 @@ same_kind (copied m) (copied n) p q like same = ap copied (decimal_injective m n
 same_kind (saved m) (saved n) p q like same = ap saved (decimal_injective m n p q (ap (λ (l : List ℕ). drop 6 l) same))
 same_kind (backup_denied a) (backup_denied b) p q like same = ap backup_denied (backup_denied_one a b (ap (λ (l : List ℕ). drop 8 l) same))
 same_kind (summary s) (summary t) p q like same = ap summary (totals_one s t p q (ap (λ (l : List ℕ). drop 10 l) (sym (regrouped s) ∙ same ∙ regrouped t)))
+same_kind absent absent p q like same = refl
+same_kind (counted m) (counted n) p q like same = ap counted (decimal_injective m n p q (ap (λ (l : List ℕ). drop 8 l) same))
 same_kind silence silence p q like same = refl
 same_kind silence (value []) p q like same = absurd cc
 same_kind silence (value (b ∷ bytes)) p q like same = absurd cc
@@ -617,3 +642,6 @@ said_answer (Copied n) = refl
 said_answer (Saved n) = refl
 said_answer (BackupDenied why) = refl
 said_answer (Summary totals) = refl
+said_answer Absent = refl
+said_answer (Counted n) = refl
+said_answer (Entries found) = said_pairs found.now

@@ -1,6 +1,6 @@
 -- The table of the lines' forms, and the grammar.
 use Rattle.std.specs.Prelude.{◌≡◌, ℕ, suc, List, [], ◌∷◌, length, map}
-use Rattle.script_lines.specs.Grammar.{Form, Row, asks, fields_of, number, hex, short}
+use Rattle.script_lines.specs.Grammar.{Form, Row, asks, fields_of, number, hex, long, short}
 use Rattle.script_lines.specs.declared.forms.LineForm.{LineForm}
 
 -- so many fields follow the word
@@ -9,6 +9,7 @@ count_of (asks made) = 0
 count_of (number form) = suc (count_of (form 0))
 count_of (hex form) = suc (count_of (form []))
 count_of (short form) = suc (count_of (form []))
+count_of (long form) = suc (count_of (form []))
 
 -- A word, and how many fields follow it.
 pub record Head : Type 0 where

@@ -8,8 +8,12 @@ use Rattle.op_codec.specs.AllOps.{plain, program}
 use Rattle.op_meaning.specs.declared.plain_op.PlainOp.TheVariants.{Put, Copy, Append, Cut, Sort, Swap, Exec, AppRead, AppWrite}
 use Rattle.script_lines.specs.declared.line.Line.{Line}
 use Rattle.script_lines.specs.declared.line.Line.TheVariants.{Run, Make, Ask, Force, Keep, Group, Save, Stat, Skip}
-use Rattle.script_lines.specs.declared.line.Making.TheVariants.{AppRun, ProgramRun, TreeInsert, TreeDelete, HashPut, HashDelete}
-use Rattle.script_lines.specs.declared.line.Question.TheVariants.{Get, TreeGet, TreeRange, HashGet}
+use Rattle.script_lines.specs.declared.line.Making.TheVariants.{AppRun, ProgramRun, TreeInsert, TreeDelete, HashPut, HashDelete, Map as ChangeMap}
+use Rattle.script_lines.specs.declared.line.MapChange.{MapChange}
+use Rattle.script_lines.specs.declared.line.MapChange.TheVariants.{Set, Delete}
+use Rattle.script_lines.specs.declared.line.MapQuestion.{MapQuestion}
+use Rattle.script_lines.specs.declared.line.MapQuestion.TheVariants as map_questions
+use Rattle.script_lines.specs.declared.line.Question.TheVariants.{Get, TreeGet, TreeRange, HashGet, Map as AskMap}
 use Rattle.script_lines.specs.declared.line.Upkeep.TheVariants.{Install, Drain, Checkpoint, Trim}
 use Rattle.script_lines.specs.declared.line.Grouping.TheVariants.{Abort, Begin, End}
 use Rattle.script_lines.specs.declared.line.Saving.TheVariants.{Start, Copy as CopyOn, Finish}
@@ -83,6 +87,8 @@ pub data Form : Type 0 where
   hex : (List ℕ → Form) → Form
   -- a key, or the value of one
   short : (List ℕ → Form) → Form
+  -- the key of a map, or the value of one
+  long : (List ℕ → Form) → Form
 
 abbrev pub one : (ℕ → Request) → Form
 one make = number (λ x. asks (make x))
@@ -104,6 +110,22 @@ range_and_key make = number (λ low. number (λ high. short (λ key. asks (make 
 -- a range of objects and a key with its value, or two keys
 abbrev pub range_and_two : (ℕ → ℕ → List ℕ → List ℕ → Request) → Form
 range_and_two make = number (λ low. number (λ high. short (λ key. short (λ other. asks (make low high key other)))))
+
+-- a range of objects, and what follows it
+abbrev pub of_range : (ℕ → ℕ → Form) → Form
+of_range form = number (λ low. number (λ high. form low high))
+
+-- and a key of a map
+abbrev pub map_key : (ℕ → ℕ → List ℕ → Request) → Form
+map_key make = of_range (λ low high. long (λ key. asks (make low high key)))
+
+-- and a key with its value, or two keys
+abbrev pub map_two : (ℕ → ℕ → List ℕ → List ℕ → Request) → Form
+map_two make = of_range (λ low high. long (λ key. long (λ other. asks (make low high key other))))
+
+-- and two keys, and how many pairs at most
+abbrev pub map_limit : (ℕ → ℕ → List ℕ → List ℕ → ℕ → Request) → Form
+map_limit make = of_range (λ low high. long (λ from. long (λ to. number (λ limit. asks (make low high from to limit)))))
 
 -- a word, and the fields after it with what they make
 pub record Row : Type 0 where
@@ -149,16 +171,39 @@ made_rows =
     ∷ row (codes "trange") (range_and_two (λ low high from to. Ask (TreeRange low high from to)))
     ∷ hash_rows
 
--- before these those that are asked of an interpreted application,
+-- before these those that are asked of an application,
 abbrev pub program_rows : List Row
 program_rows =
-    row (codes "pexec") (two (λ app p. Run (program (Step app p))))
+    row (codes "exec") (one (λ app. Run (plain (Exec app))))
+    ∷ row (codes "aread") (two (λ app x. Run (plain (AppRead app x))))
+    ∷ row (codes "awrite") (two (λ app x. Run (plain (AppWrite app x))))
+    ∷ row (codes "pexec") (two (λ app p. Run (program (Step app p))))
     ∷ row (codes "pread") (two (λ app x. Run (program (Feed app x))))
     ∷ row (codes "pwrite") (two (λ app x. Run (program (DrainTo app x))))
     ∷ row (codes "prun") (three (λ app p steps. Make (ProgramRun app p steps)))
     ∷ made_rows
 
--- and before all of these those that are one command on plain values or on an application.
+-- a map of these objects is changed, or asked
+abbrev pub change_map : ℕ → ℕ → MapChange → Request
+change_map low high change = Make (ChangeMap low high change)
+
+abbrev pub ask_map : ℕ → ℕ → MapQuestion → Request
+ask_map low high question = Ask (AskMap low high question)
+
+-- before these those that are asked of a map,
+abbrev pub map_rows : List Row
+map_rows =
+    row (codes "mset") (map_two (λ low high key value. change_map low high (Set key value)))
+    ∷ row (codes "mget") (map_key (λ low high key. ask_map low high (map_questions.Get key)))
+    ∷ row (codes "mdel") (map_key (λ low high key. change_map low high (Delete key)))
+    ∷ row (codes "mrange") (map_limit (λ low high from to limit. ask_map low high (map_questions.Range from to limit)))
+    ∷ row (codes "mback") (map_limit (λ low high from to limit. ask_map low high (map_questions.Back from to limit)))
+    ∷ row (codes "mcount") (map_two (λ low high from to. ask_map low high (map_questions.Count from to)))
+    ∷ row (codes "mnext") (map_key (λ low high key. ask_map low high (map_questions.Next key)))
+    ∷ row (codes "mprev") (map_key (λ low high key. ask_map low high (map_questions.Prev key)))
+    ∷ program_rows
+
+-- and before all of these those that are one command on plain values.
 abbrev pub rows : List Row
 rows =
     row (codes "put") (object_and_value (λ x bytes. Run (plain (Put x bytes))))
@@ -167,10 +212,7 @@ rows =
     ∷ row (codes "cut") (three (λ x y place. Run (plain (Cut x y place))))
     ∷ row (codes "sort") (three (λ x y width. Run (plain (Sort x y width))))
     ∷ row (codes "swap") (two (λ x y. Run (plain (Swap x y))))
-    ∷ row (codes "exec") (one (λ app. Run (plain (Exec app))))
-    ∷ row (codes "aread") (two (λ app x. Run (plain (AppRead app x))))
-    ∷ row (codes "awrite") (two (λ app x. Run (plain (AppWrite app x))))
-    ∷ program_rows
+    ∷ map_rows
 
 -- the form of the fields after a word, if a row has it
 abbrev pub form_in : List Row → List ℕ → Option Form
@@ -185,6 +227,10 @@ SaysNumber n text = (text ≡ decimal n) × (n < 2 ^ 32)
 abbrev pub SaysShort : List ℕ → List ℕ → Type 0
 SaysShort bytes text = IsHex text bytes × IsTrue (is_short bytes)
 
+-- a text says the key of a map, or the value of one
+abbrev pub SaysLong : List ℕ → List ℕ → Type 0
+SaysLong bytes text = IsHex text bytes × IsTrue (nat_lt (length bytes) 65536)
+
 -- the texts say the fields of the form, one each, and this is what they make
 abbrev pub Makes : Form → List (List ℕ) → Request → Type 0
 Makes (asks made) [] request = request ≡ made
@@ -195,6 +241,8 @@ Makes (hex form) [] request = ⊥
 Makes (hex form) (text ∷ texts) request = (bytes : List ℕ) × IsHex text bytes × Makes (form bytes) texts request
 Makes (short form) [] request = ⊥
 Makes (short form) (text ∷ texts) request = (bytes : List ℕ) × SaysShort bytes text × Makes (form bytes) texts request
+Makes (long form) [] request = ⊥
+Makes (long form) (text ∷ texts) request = (bytes : List ℕ) × SaysLong bytes text × Makes (form bytes) texts request
 
 -- the form makes this of the texts, if there is one
 abbrev pub MakesIf : Option Form → List (List ℕ) → Request → Type 0
@@ -227,3 +275,7 @@ IsBad line = (request : Request) → AsksFor line request → ⊥
 abbrev pub IsRead : Option Form → List (List ℕ) → Option Request → Type 0
 IsRead form texts None = (request : Request) → MakesIf form texts request → ⊥
 IsRead form texts (Some request) = MakesIf form texts request
+
+-- whatever is read of the rest by its form is what is read of all by this one
+abbrev pub ReadsAs : Form → List (List ℕ) → Form → List (List ℕ) → Type 0
+ReadsAs rest others form texts = (given : Option Request) → IsRead (Some rest) others given → IsRead (Some form) texts given

@@ -5,13 +5,13 @@ use Rattle.std.specs.Fmt.{decimal}
 use Rattle.oper_core.specs.declared.refusal.Refusal.{Refusal}
 use Rattle.oper_core.specs.declared.refusal.Refusal.TheVariants.{NoPages, NoObject, Same, BadPlace, BadWidth, NotApp, NotCode, Halted, NoInput, NotNode, NoKey, NodeFull, TooLarge}
 use Rattle.script_lines.specs.declared.denial.Denial.{Denial}
-use Rattle.script_lines.specs.declared.denial.Denial.TheVariants.{BadHash, HashFull, NoRoom}
+use Rattle.script_lines.specs.declared.denial.Denial.TheVariants.{BadHash, HashFull, NoRoom, BadMap, MapFull, TooLong}
 use Rattle.script_lines.specs.declared.backup_denial.BackupDenial.{BackupDenial}
 use Rattle.script_lines.specs.declared.backup_denial.BackupDenial.TheVariants.{InBackup, NoBackup, AlreadyStore, NotCopied}
 use Rattle.script_lines.specs.declared.answer.Answer.{Answer}
 use Rattle.script_lines.specs.declared.answer.StatLine.{StatLine}
 use Rattle.script_lines.specs.declared.answer.Totals.{Totals}
-use Rattle.script_lines.specs.declared.answer.Answer.TheVariants.{Done, Value, Forced, Bad, Refused, Full, End, Object, Commands, Stat, Ran, Pairs, BadTree, TreeFull, Denied, InGroup, NoGroup, Copied, Saved, BackupDenied, Summary}
+use Rattle.script_lines.specs.declared.answer.Answer.TheVariants.{Done, Value, Forced, Bad, Refused, Full, End, Object, Commands, Stat, Ran, Pairs, BadTree, TreeFull, Denied, InGroup, NoGroup, Copied, Saved, BackupDenied, Summary, Absent, Counted, Entries}
 
 -- a key and its value
 abbrev pub Pair : Type 0
@@ -36,13 +36,13 @@ pub data Reply : Type 0 where
   stat : StatLine → Reply
   -- so many steps of an application were done
   ran : ℕ → Reply
-  -- a first pair of a tree, and the others
+  -- a first pair of a tree or a map, and the others
   pairs : Pair → List Pair → Reply
   -- the range of objects is no tree
   bad_tree : Reply
   -- the tree has too few free objects
   tree_full : Reply
-  -- a call on a hash file is refused
+  -- a call on a hash file or a map is refused
   denied : Denial → Reply
   -- a group is open
   in_group : Reply
@@ -54,12 +54,16 @@ pub data Reply : Type 0 where
   saved : ℕ → Reply
   -- a line of a backup, or a trim while one goes on, is refused
   backup_denied : BackupDenial → Reply
+  -- the key of a map is not there
+  absent : Reply
+  -- so many keys of a map were counted
+  counted : ℕ → Reply
   -- what a generated script did
   summary : Totals → Reply
   -- nothing: the line is skipped
   silence : Reply
 
--- the pairs of a tree: where there are none, the reply is that of an empty value
+-- the pairs of a tree or a map: where there are none, the reply is that of an empty value
 abbrev pub pairs_reply : List Pair → Reply
 pairs_reply [] = value []
 pairs_reply (pair ∷ others) = pairs pair others
@@ -87,6 +91,9 @@ reply_of (Copied n) = copied n
 reply_of (Saved n) = saved n
 reply_of (BackupDenied why) = backup_denied why
 reply_of (Summary totals) = summary totals
+reply_of Absent = absent
+reply_of (Counted n) = counted n
+reply_of (Entries found) = pairs_reply found.now
 
 -- a lower-case hexadecimal digit
 abbrev pub hex_glyph : ℕ → ℕ
@@ -117,11 +124,14 @@ name_of NoKey = codes "NoKey"
 name_of NodeFull = codes "NodeFull"
 name_of TooLarge = codes "TooLarge"
 
--- the name of a hash file's refusal
+-- the name of a hash file's refusal, or a map's
 abbrev pub denial_name : Denial → List ℕ
 denial_name BadHash = codes "BadHash"
 denial_name HashFull = codes "HashFull"
 denial_name NoRoom = codes "NoRoom"
+denial_name BadMap = codes "BadMap"
+denial_name MapFull = codes "MapFull"
+denial_name TooLong = codes "TooLong"
 
 -- and of a backup's
 abbrev pub backup_denial_name : BackupDenial → List ℕ
@@ -170,6 +180,8 @@ text_of (saved n) = codes "saved " ++ decimal n
 text_of (backup_denied why) = codes "refused " ++ backup_denial_name why
 text_of (summary totals) = codes "demo seed " ++ decimal totals.seed ++ codes " steps " ++ decimal totals.steps ++ codes " lines " ++ decimal totals.lines
     ++ codes " bytes " ++ decimal totals.bytes ++ codes " accepted " ++ decimal totals.accepted ++ codes " refused " ++ decimal totals.refused ++ codes " sum " ++ decimal totals.sum
+text_of absent = codes "none"
+text_of (counted n) = codes "counted " ++ decimal n
 text_of silence = []
 
 -- each number has at most 64 bits
@@ -188,6 +200,7 @@ HasSmallNumbers (stat counts) = AreSmall (numbers_of counts)
 HasSmallNumbers (ran n) = n < 2 ^ 64
 HasSmallNumbers (copied n) = n < 2 ^ 64
 HasSmallNumbers (saved n) = n < 2 ^ 64
+HasSmallNumbers (counted n) = n < 2 ^ 64
 HasSmallNumbers (summary t) = AreSmall (t.seed ∷ t.steps ∷ t.lines ∷ t.bytes ∷ t.accepted ∷ t.refused ∷ t.sum ∷ [])
 HasSmallNumbers reply = ⊤
 

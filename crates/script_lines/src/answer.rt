@@ -8,7 +8,7 @@ use crate::denial::{Denial, denial_name};
 use crate::hex::{push_hex, push_value};
 use crate::number::{push_number, push_numbers};
 use key_entries::Short;
-use oper_core::{Memory, Refusal};
+use oper_core::{ByteList, Memory, Refusal};
 use std::alloc::Global;
 
 /// The counts of a store, in the order in which they are reported.
@@ -80,7 +80,7 @@ pub enum Answer<'a> {
     BadTree,
     /// The tree has too few free objects for an insert: `refused TreeFull`.
     TreeFull,
-    /// A call on a hash file is refused: `refused NAME`.
+    /// A call on a hash file or a map is refused: `refused NAME`.
     Denied(Denial),
     /// A group is open, and does not allow what the line asks: `refused InGroup`.
     InGroup,
@@ -94,6 +94,12 @@ pub enum Answer<'a> {
     BackupDenied(BackupDenial),
     /// What a generated script did: `demo`, and seven numbers, each after its name.
     Summary(Totals),
+    /// The key of a map is not there: `none`.
+    Absent,
+    /// So many keys of a map were counted: `counted n`.
+    Counted(u64),
+    /// Keys of a map and their values, as `Pairs`.
+    Entries(&'a [(ByteList, ByteList)]),
 }
 
 /// The name of a refusal. Its `Display` prints the same, but what a derive of thiserror prints no clause says.
@@ -165,12 +171,12 @@ fn push_counts(alloc: Global, text: &mut Vec<u8>, counts: &StatLine) -> Result<(
 }
 
 /// Adds a key and its value in hexadecimal.
-fn push_pair(text: &mut Vec<u8>, pair: &(Short, Short)) -> Result<(), Memory>
-    ensures { OnOk result (text.new.items ≡ text.old.items ++ pair_text pair.now) }
+fn push_pair(text: &mut Vec<u8>, key: &[u8], value: &[u8]) -> Result<(), Memory>
+    ensures { OnOk result (text.new.items ≡ text.old.items ++ pair_text (key.now, value.now)) }
 {
-    push_hex(text, pair.0.as_slice())?;
+    push_hex(text, key)?;
     text.push(b':')?;
-    push_hex(text, pair.1.as_slice())
+    push_hex(text, value)
 }
 
 /// Adds each pair after a space.
@@ -179,7 +185,7 @@ fn push_spaced_pairs(text: &mut Vec<u8>, pairs: &[(Short, Short)]) -> Result<(),
 {
     for pair in pairs {
         text.push(b' ')?;
-        push_pair(text, pair)?;
+        push_pair(text, pair.0.as_slice(), pair.1.as_slice())?;
     }
     Ok(())
 }
@@ -191,8 +197,33 @@ fn push_pairs(text: &mut Vec<u8>, pairs: &[(Short, Short)]) -> Result<(), Memory
     match pairs {
         [] => text.push(b'-')?,
         [first, others @ ..] => {
-            push_pair(text, first)?;
+            push_pair(text, first.0.as_slice(), first.1.as_slice())?;
             push_spaced_pairs(text, others)?;
+        }
+    }
+    Ok(())
+}
+
+/// Adds each pair of a map after a space.
+fn push_spaced_entries(text: &mut Vec<u8>, pairs: &[(ByteList, ByteList)]) -> Result<(), Memory>
+    ensures { OnOk result (text.new.items ≡ text.old.items ++ flat_map spaced_pair pairs.now) }
+{
+    for pair in pairs {
+        text.push(b' ')?;
+        push_pair(text, pair.0.as_slice(), pair.1.as_slice())?;
+    }
+    Ok(())
+}
+
+/// Adds the pairs of a map with a space between two, or `-` where there are none.
+fn push_entries(text: &mut Vec<u8>, pairs: &[(ByteList, ByteList)]) -> Result<(), Memory>
+    ensures { OnOk result (text.new.items ≡ text.old.items ++ text_of (pairs_reply pairs.now)) }
+{
+    match pairs {
+        [] => text.push(b'-')?,
+        [first, others @ ..] => {
+            push_pair(text, first.0.as_slice(), first.1.as_slice())?;
+            push_spaced_entries(text, others)?;
         }
     }
     Ok(())
@@ -250,6 +281,9 @@ fn write_answer(alloc: Global, text: &mut Vec<u8>, answer: &Answer<'_>) -> Resul
         Answer::Saved(count) => push_counted(alloc, text, b"saved", *count)?,
         Answer::BackupDenied(denial) => push_refused(text, backup_denial_name(*denial))?,
         Answer::Summary(totals) => push_totals(alloc, text, totals)?,
+        Answer::Absent => text.extend_from_slice(b"none")?,
+        Answer::Counted(count) => push_counted(alloc, text, b"counted", *count)?,
+        Answer::Entries(pairs) => push_entries(text, pairs)?,
     }
     Ok(())
 }

@@ -1,7 +1,7 @@
 ghost use Rattle.std.specs.Prelude.{◌≡◌};
 ghost use Rattle.script_lines.specs.Replies.{denial_name as name_in_words};
 
-/// Why a call on a hash file is refused, where that is no refusal of a command.
+/// Why a call on a hash file or a map is refused, where that is no refusal of a command.
 #[derive(Clone, Copy, Debug, PartialEq, Eq)]
 pub enum Denial {
     /// The range of objects is no hash file.
@@ -10,6 +10,12 @@ pub enum Denial {
     HashFull,
     /// An object is needed, and none is free.
     NoRoom,
+    /// An object on the way in a map is no page of it.
+    BadMap,
+    /// The map needs more objects than are free, or more levels than it can have.
+    MapFull,
+    /// The key or the value is too long for the pages of a map, or the key is empty.
+    TooLong,
 }
 
 /// Its name.
@@ -20,5 +26,8 @@ pub fn denial_name(denial: Denial) -> &'static [u8]
         Denial::BadHash => b"BadHash",
         Denial::HashFull => b"HashFull",
         Denial::NoRoom => b"NoRoom",
+        Denial::BadMap => b"BadMap",
+        Denial::MapFull => b"MapFull",
+        Denial::TooLong => b"TooLong",
     }
 }

@@ -1,12 +1,13 @@
 // The fields of a line, taken off one by one.
 ghost use Rattle.std.specs.Prelude.{position, not, ◌==◌, ◌≡◌, ◌≢◌, ◌∷◌, [], ◌<◌, ◌^◌, List, ℕ, Some, option_map, IfOk, IfSome, IfNone};
 ghost use Rattle.std.specs.Fmt.{decimal};
-ghost use Rattle.script_lines.specs.Grammar.{Request, IsRead, asks, fields_of, one, object_and_value, range_and_key, range_and_two, short, two, three};
+ghost use Rattle.script_lines.specs.Grammar.{Form, Request, IsRead, ReadsAs, asks, fields_of, long, map_key, map_limit, map_two, of_range, one, object_and_value, range_and_key, range_and_two, short, two, three};
 
 use crate::hex::{hex_bytes, short_of};
 use crate::number::read_number;
 use key_entries::Short;
 use oper_core::{ByteList, Memory};
+use page_ops::Text;
 use std::alloc::Global;
 
 /// The place of the first byte that is no space.
@@ -138,4 +139,85 @@ pub fn range_and_two(text: &[u8]) -> Option<(u32, u32, Short, Short)>
     let (high, rest) = next_number(rest)?;
     let (first, second) = two_shorts(rest)?;
     Some((low, high, first, second))
+}
+
+/// The two numbers of a range of objects that are the first fields, and what follows them.
+fn next_range(text: &[u8]) -> Option<(u32, u32, &[u8])>
+    ensures some { IfSome result (λ found. (form : ℕ → ℕ → Form) → ReadsAs (form found.0 found.1) (fields_of found.2.now) (of_range form) (fields_of text.now)) }
+    ensures none { IfNone result ((form : ℕ → ℕ → Form) → IsRead (Some (of_range form)) (fields_of text.now) None) }
+{
+    let (low, rest) = next_number(text)?;
+    let (high, rest) = next_number(rest)?;
+    Some((low, high, rest))
+}
+
+/// The key of a map, or the value of one, that the first field is, and what follows it.
+fn next_text(alloc: Global, text: &[u8]) -> Result<Option<(Text, &[u8])>, Memory>
+    ensures some { IfOk result (λ read. IfSome read (λ found. (form : List ℕ → Form) → ReadsAs (form found.0) (fields_of found.1.now) (long form) (fields_of text.now))) }
+    ensures none { IfOk result (λ read. IfNone read ((form : List ℕ → Form) → IsRead (Some (long form)) (fields_of text.now) None)) }
+{
+    let Some((field, rest)) = next_field(text) else {
+        return Ok(None);
+    };
+    let Some(bytes) = hex_bytes(alloc, field)? else {
+        return Ok(None);
+    };
+    let Some(long) = Text::new(bytes) else {
+        return Ok(None);
+    };
+    Ok(Some((long, rest)))
+}
+
+/// The two numbers of a range of objects and the key of a map that are all fields.
+pub fn map_key(alloc: Global, text: &[u8]) -> Result<Option<(u32, u32, Text)>, Memory>
+    ensures { (make : ℕ → ℕ → List ℕ → Request) → IfOk result (λ found. IsRead (Some (map_key make)) (fields_of text.now) (option_map (λ all. make all.0 all.1 all.2) found)) }
+{
+    let Some((low, high, rest)) = next_range(text) else {
+        return Ok(None);
+    };
+    let Some((key, rest)) = next_text(alloc, rest)? else {
+        return Ok(None);
+    };
+    if no_field(rest).is_none() {
+        return Ok(None);
+    }
+    Ok(Some((low, high, key)))
+}
+
+/// The two numbers of a range of objects and the key of a map with its value, or the two keys, that are all fields.
+pub fn map_two(alloc: Global, text: &[u8]) -> Result<Option<(u32, u32, Text, Text)>, Memory>
+    ensures { (make : ℕ → ℕ → List ℕ → List ℕ → Request) → IfOk result (λ found. IsRead (Some (map_two make)) (fields_of text.now) (option_map (λ all. make all.0 all.1 all.2 all.3) found)) }
+{
+    let Some((low, high, rest)) = next_range(text) else {
+        return Ok(None);
+    };
+    let Some((first, rest)) = next_text(alloc, rest)? else {
+        return Ok(None);
+    };
+    let Some((second, rest)) = next_text(alloc, rest)? else {
+        return Ok(None);
+    };
+    if no_field(rest).is_none() {
+        return Ok(None);
+    }
+    Ok(Some((low, high, first, second)))
+}
+
+/// The two numbers of a range of objects, the two keys of a map, and how many pairs at most, that are all fields.
+pub fn map_limit(alloc: Global, text: &[u8]) -> Result<Option<(u32, u32, Text, Text, u32)>, Memory>
+    ensures { (make : ℕ → ℕ → List ℕ → List ℕ → ℕ → Request) → IfOk result (λ found. IsRead (Some (map_limit make)) (fields_of text.now) (option_map (λ all. make all.0 all.1 all.2 all.3 all.4) found)) }
+{
+    let Some((low, high, rest)) = next_range(text) else {
+        return Ok(None);
+    };
+    let Some((from, rest)) = next_text(alloc, rest)? else {
+        return Ok(None);
+    };
+    let Some((to, rest)) = next_text(alloc, rest)? else {
+        return Ok(None);
+    };
+    let Some(limit) = one_number(rest) else {
+        return Ok(None);
+    };
+    Ok(Some((low, high, from, to, limit)))
 }

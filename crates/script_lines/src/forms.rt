@@ -12,7 +12,7 @@ pub struct LineForm {
 
 // The help of `redo run` is made of this table, by docs/forms.
 
-static FORMS: [LineForm; 34] = [
+static FORMS: [LineForm; 42] = [
     LineForm {
         text: "put X HEX",
         about: "X gets the bytes HEX",
@@ -36,6 +36,38 @@ static FORMS: [LineForm; 34] = [
     LineForm {
         text: "swap X Y",
         about: "the values of X and Y are exchanged",
+    },
+    LineForm {
+        text: "mset LO HI KEY VAL",
+        about: "KEY gets VAL, in the map of the objects LO to HI",
+    },
+    LineForm {
+        text: "mget LO HI KEY",
+        about: "the value of KEY",
+    },
+    LineForm {
+        text: "mdel LO HI KEY",
+        about: "KEY leaves the map",
+    },
+    LineForm {
+        text: "mrange LO HI FROM TO LIMIT",
+        about: "the pairs from FROM up to TO, which is left out, LIMIT at most",
+    },
+    LineForm {
+        text: "mback LO HI FROM TO LIMIT",
+        about: "the pairs below TO back to FROM, LIMIT at most",
+    },
+    LineForm {
+        text: "mcount LO HI FROM TO",
+        about: "how many keys there are from FROM up to TO",
+    },
+    LineForm {
+        text: "mnext LO HI KEY",
+        about: "the first pair above KEY",
+    },
+    LineForm {
+        text: "mprev LO HI KEY",
+        about: "the last pair below KEY",
     },
     LineForm {
         text: "exec A",

@@ -5,8 +5,8 @@
 //! forms that a person is shown are those of the table; an answer is exactly the text of its reply, and no other reply has
 //! this text; the reader gives exactly the lines of its source, one after the other; and a
 //! demo's script is exactly that of its seed. The crate depends on op_codec, op_meaning and app_program, whose operations are
-//! what most lines ask, on oper_core, whose refusals an answer names, on key_entries for keys and their values, and on the
-//! source of disk_model.
+//! what most lines ask, on oper_core, whose refusals an answer names, on key_entries for the keys of trees and hash files and
+//! their values, on page_ops for those of maps, and on the source of disk_model.
 #![tactic(auto)]
 
 mod answer;
@@ -32,7 +32,7 @@ pub use backup_denial::BackupDenial;
 pub use demo::demo_script;
 pub use denial::Denial;
 pub use forms::{LineForm, line_forms};
-pub use line::{Grouping, Line, Making, Question, Saving, Upkeep};
+pub use line::{Grouping, Line, Making, MapChange, MapQuestion, Question, Saving, Upkeep};
 pub use line_laws::{a_line_asks_one_thing, a_text_says_one_thing, scripts_are_short};
 pub use next::Next;
 pub use parse::{LineErr, MAX_LINE, parse_line};

@@ -1,8 +1,35 @@
 use key_entries::Short;
 use op_codec::AllOps;
+use page_ops::Text;
+
+/// What is changed in a map of wide pages.
+#[derive(Drop)]
+pub enum MapChange {
+    /// `mset LO HI KEY VAL`: the key gets this value.
+    Set { key: Text, value: Text },
+    /// `mdel LO HI KEY`: the key leaves the map, with its value.
+    Delete { key: Text },
+}
+
+/// What is read of a map of wide pages. Where a key is asked that ends what is read, no bytes stand for the end of the map.
+#[derive(Drop)]
+pub enum MapQuestion {
+    /// `mget LO HI KEY`: the value of the key.
+    Get { key: Text },
+    /// `mrange LO HI FROM TO LIMIT`: the keys from `from` up to `to`, which is left out, with their values: the first `limit` of them.
+    Range { from: Text, to: Text, limit: u32 },
+    /// `mback LO HI FROM TO LIMIT`: the last `limit` of these keys, the last one first, with their values.
+    Back { from: Text, to: Text, limit: u32 },
+    /// `mcount LO HI FROM TO`: how many these keys are.
+    Count { from: Text, to: Text },
+    /// `mnext LO HI KEY`: the first key above this one, with its value.
+    Next { key: Text },
+    /// `mprev LO HI KEY`: the last key below this one, with its value.
+    Prev { key: Text },
+}
 
 /// What makes commands, as many as the values that are there ask for.
-#[derive(Clone, Copy)]
+#[derive(Drop)]
 pub enum Making {
     /// `arun A N`: the application takes so many steps, or as many as its input has bytes.
     AppRun {
@@ -41,10 +68,16 @@ pub enum Making {
         high: u32,
         key: Short,
     },
+    /// A change of the map of the objects from `low` to `high`.
+    Map {
+        low: u32,
+        high: u32,
+        change: MapChange,
+    },
 }
 
 /// What reports values, and changes nothing.
-#[derive(Clone, Copy)]
+#[derive(Drop)]
 pub enum Question {
     /// `get X`: the value of the object.
     Get {
@@ -68,6 +101,12 @@ pub enum Question {
         low: u32,
         high: u32,
         key: Short,
+    },
+    /// A question to the map of the objects from `low` to `high`.
+    Map {
+        low: u32,
+        high: u32,
+        question: MapQuestion,
     },
 }
 

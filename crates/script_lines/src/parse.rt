@@ -1,11 +1,11 @@
 ghost use Rattle.std.specs.Prelude.{◌≡◌, IfOk, IsErrOf};
-ghost use Rattle.script_lines.specs.Grammar.{AsksFor, IsBad, IsRead, form_in, rows, program_rows, made_rows, hash_rows, store_rows, fields_of, without_return};
+ghost use Rattle.script_lines.specs.Grammar.{AsksFor, IsBad, IsRead, form_in, rows, map_rows, program_rows, made_rows, hash_rows, store_rows, fields_of, without_return, ask_map, change_map};
 
 use crate::fields::{
-    next_field, no_field, object_and_value, one_number, range_and_key, range_and_two,
-    three_numbers, two_numbers,
+    map_key, map_limit, map_two, next_field, no_field, object_and_value, one_number, range_and_key,
+    range_and_two, three_numbers, two_numbers,
 };
-use crate::line::{Grouping, Line, Making, Question, Saving, Upkeep};
+use crate::line::{Grouping, Line, Making, MapChange, MapQuestion, Question, Saving, Upkeep};
 use app_program::ProgramOp;
 use op_codec::{plain_op, program_op};
 use op_meaning::PlainOp;
@@ -146,11 +146,17 @@ fn made_line(word: &[u8], rest: &[u8]) -> Option<Line>
     }
 }
 
-/// The same of a line that asks an interpreted application, too.
+/// The same of a line that asks an application, too.
 fn program_line(word: &[u8], rest: &[u8]) -> Option<Line>
     ensures { IsRead (form_in program_rows word.now) (fields_of rest.now) result }
 {
-    if word == b"pexec".as_slice() {
+    if word == b"exec".as_slice() {
+        one_number(rest).map(|app| Line::Run(plain_op(PlainOp::Exec { app })))
+    } else if word == b"aread".as_slice() {
+        two_numbers(rest).map(|(app, from)| Line::Run(plain_op(PlainOp::AppRead { app, from })))
+    } else if word == b"awrite".as_slice() {
+        two_numbers(rest).map(|(app, to)| Line::Run(plain_op(PlainOp::AppWrite { app, to })))
+    } else if word == b"pexec".as_slice() {
         two_numbers(rest).map(|(app, program)| {
             Line::Run(program_op(ProgramOp::Step { app, program }))
         })
@@ -171,7 +177,62 @@ fn program_line(word: &[u8], rest: &[u8]) -> Option<Line>
     }
 }
 
-/// The same of any line. Out of memory is the only error.
+/// What a map of these objects is asked.
+fn ask_map(low: u32, high: u32, question: MapQuestion) -> Line
+    ensures { result ≡ ask_map low high question }
+{
+    Line::Ask(Question::Map {
+        low,
+        high,
+        question,
+    })
+}
+
+/// A map of these objects is changed.
+fn change_map(low: u32, high: u32, change: MapChange) -> Line
+    ensures { result ≡ change_map low high change }
+{
+    Line::Make(Making::Map { low, high, change })
+}
+
+/// The same of a line that asks a map, too. Out of memory is the only error.
+fn map_line(alloc: Global, word: &[u8], rest: &[u8]) -> Result<Option<Line>, Memory>
+    ensures { IfOk result (IsRead (form_in map_rows word.now) (fields_of rest.now)) }
+{
+    if word == b"mset".as_slice() {
+        let set = map_two(alloc, rest)?;
+        Ok(set.map(|(low, high, key, value)| change_map(low, high, MapChange::Set { key, value })))
+    } else if word == b"mget".as_slice() {
+        let get = map_key(alloc, rest)?;
+        Ok(get.map(|(low, high, key)| ask_map(low, high, MapQuestion::Get { key })))
+    } else if word == b"mdel".as_slice() {
+        let delete = map_key(alloc, rest)?;
+        Ok(delete.map(|(low, high, key)| change_map(low, high, MapChange::Delete { key })))
+    } else if word == b"mrange".as_slice() {
+        let range = map_limit(alloc, rest)?;
+        Ok(range.map(|(low, high, from, to, limit)| {
+            ask_map(low, high, MapQuestion::Range { from, to, limit })
+        }))
+    } else if word == b"mback".as_slice() {
+        let back = map_limit(alloc, rest)?;
+        Ok(back.map(|(low, high, from, to, limit)| {
+            ask_map(low, high, MapQuestion::Back { from, to, limit })
+        }))
+    } else if word == b"mcount".as_slice() {
+        let count = map_two(alloc, rest)?;
+        Ok(count.map(|(low, high, from, to)| ask_map(low, high, MapQuestion::Count { from, to })))
+    } else if word == b"mnext".as_slice() {
+        let next = map_key(alloc, rest)?;
+        Ok(next.map(|(low, high, key)| ask_map(low, high, MapQuestion::Next { key })))
+    } else if word == b"mprev".as_slice() {
+        let prev = map_key(alloc, rest)?;
+        Ok(prev.map(|(low, high, key)| ask_map(low, high, MapQuestion::Prev { key })))
+    } else {
+        Ok(program_line(word, rest))
+    }
+}
+
+/// The same of any line.
 fn line_of(alloc: Global, word: &[u8], rest: &[u8]) -> Result<Option<Line>, Memory>
     ensures { IfOk result (IsRead (form_in rows word.now) (fields_of rest.now)) }
 {
@@ -199,14 +260,8 @@ fn line_of(alloc: Global, word: &[u8], rest: &[u8]) -> Result<Option<Line>, Memo
             first,
             second,
         }))))
-    } else if word == b"exec".as_slice() {
-        Ok(one_number(rest).map(|app| Line::Run(plain_op(PlainOp::Exec { app }))))
-    } else if word == b"aread".as_slice() {
-        Ok(two_numbers(rest).map(|(app, from)| Line::Run(plain_op(PlainOp::AppRead { app, from }))))
-    } else if word == b"awrite".as_slice() {
-        Ok(two_numbers(rest).map(|(app, to)| Line::Run(plain_op(PlainOp::AppWrite { app, to }))))
     } else {
-        Ok(program_line(word, rest))
+        map_line(alloc, word, rest)
     }
 }
 

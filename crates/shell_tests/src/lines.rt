@@ -8,15 +8,16 @@ use disk_model::{Failed, Source};
 use formats::Params;
 use op_codec::{AllOps, Sum};
 use op_meaning::PlainOp;
-use oper_core::Refusal;
+use oper_core::{ByteList, Refusal};
 use script_lines::{
-    Answer, BackupDenial, Denial, Grouping, Line, LineErr, LineReader, Making, Next, Question,
-    ReadError, Saving, StatLine, Upkeep, answer_line, answer_text, parse_line,
+    Answer, BackupDenial, Denial, Grouping, Line, LineErr, LineReader, Making, MapChange,
+    MapQuestion, Next, Question, ReadError, Saving, StatLine, Upkeep, answer_line, answer_text,
+    parse_line,
 };
 use std::alloc::Global;
 
 // A line of each form, and which one it is, counted from 1. That it asks what it says is a clause.
-const FORMS: [(&[u8], u32); 34] = [
+const FORMS: [(&[u8], u32); 43] = [
     (b"put 4294967295 00FfA9", 1),
     (b"copy 0 1", 2),
     (b"append 7 12", 3),
@@ -51,6 +52,18 @@ const FORMS: [(&[u8], u32); 34] = [
     (b"bcopy 4294967295", 32),
     (b"bfinish", 33),
     (b"abort", 34),
+    (b"mset 0 7 01 -", 35),
+    (b"mget 0 7 -", 36),
+    (b"mdel 0 7 0102", 37),
+    (b"mrange 0 7 - - 4294967295", 38),
+    (b"mback 0 7 00 Ff 0", 39),
+    (b"mcount 7 0 00 -", 40),
+    (b"mnext 0 7 -", 41),
+    (b"mprev 0 7 ff", 42),
+    (
+        b"mset 0 7 000102030405060708090a0b0c0d0e0f101112131415161718191a1b1c1d1e1f20 00",
+        35,
+    ),
 ];
 
 // Lines, and the plain ones that ask the same.
@@ -80,7 +93,15 @@ const SKIPPED: [&[u8]; 10] = [
     b"#\r\r",
 ];
 
-const BAD: [&[u8]; 79] = [
+const BAD: [&[u8]; 87] = [
+    b"mset 0 7 01",
+    b"mget 0 7",
+    b"mget 0 7 01 02",
+    b"mdel 0 01",
+    b"mrange 0 7 - -",
+    b"mback 0 7 - - -",
+    b"mcount 0 7 - - 1",
+    b"mnext 0 7 0",
     b"bstart 0",
     b"bcopy",
     b"bcopy 1 2",
@@ -207,16 +228,37 @@ fn making_told(making: &Making) -> u32 {
         Making::ProgramRun { .. } => 27,
         Making::HashPut { .. } => 28,
         Making::HashDelete { .. } => 30,
+        Making::Map {
+            change: MapChange::Set { .. },
+            ..
+        } => 35,
+        Making::Map {
+            change: MapChange::Delete { .. },
+            ..
+        } => 37,
     }
 }
 
-// The form of a question to a tree or a hash file.
+// The form of a question to a map.
+fn map_told(question: &MapQuestion) -> u32 {
+    match question {
+        MapQuestion::Get { .. } => 36,
+        MapQuestion::Range { .. } => 38,
+        MapQuestion::Back { .. } => 39,
+        MapQuestion::Count { .. } => 40,
+        MapQuestion::Next { .. } => 41,
+        MapQuestion::Prev { .. } => 42,
+    }
+}
+
+// The form of a question.
 fn question_told(question: &Question) -> u32 {
     match question {
         Question::Get { .. } => 15,
         Question::TreeGet { .. } => 12,
         Question::TreeRange { .. } => 14,
         Question::HashGet { .. } => 29,
+        Question::Map { question, .. } => map_told(question),
     }
 }
 
@@ -337,7 +379,7 @@ fn hex_is_read(rt: HostRuntime) {
 }
 
 // Answers, and their texts.
-const TEXTS: [(Answer<'static>, &[u8]); 35] = [
+const TEXTS: [(Answer<'static>, &[u8]); 40] = [
     (Answer::Done, b"ok"),
     (Answer::Value(&[]), b"-"),
     (Answer::Value(&[0x00, 0x9a, 0xff]), b"009aff"),
@@ -362,6 +404,11 @@ const TEXTS: [(Answer<'static>, &[u8]); 35] = [
     (Answer::Denied(Denial::BadHash), b"refused BadHash"),
     (Answer::Denied(Denial::HashFull), b"refused HashFull"),
     (Answer::Denied(Denial::NoRoom), b"refused NoRoom"),
+    (Answer::Denied(Denial::BadMap), b"refused BadMap"),
+    (Answer::Denied(Denial::MapFull), b"refused MapFull"),
+    (Answer::Denied(Denial::TooLong), b"refused TooLong"),
+    (Answer::Absent, b"none"),
+    (Answer::Counted(100000), b"counted 100000"),
     (
         Answer::BackupDenied(BackupDenial::InBackup),
         b"refused InBackup",
@@ -456,6 +503,29 @@ fn all_have_their_texts(alloc: Global) -> bool {
 #[test]
 fn answers_have_their_texts(rt: HostRuntime) {
     assert!(rt; all_have_their_texts(rt.alloc()));
+}
+
+fn listed(alloc: Global, bytes: &[u8]) -> Option<ByteList> {
+    let bytes = bytes.to_vec(alloc).ok()?;
+    Some(ByteList::new(bytes))
+}
+
+fn entries_have_their_texts(alloc: Global) -> Option<bool> {
+    let mut pairs = Vec::new(alloc);
+    let none = has_text(alloc, &Answer::Entries(pairs.as_slice()), b"-");
+    pairs
+        .push((listed(alloc, &[0x0a])?, listed(alloc, &[])?))
+        .ok()?;
+    pairs
+        .push((listed(alloc, &[0x0b, 0xff])?, listed(alloc, &[0x01])?))
+        .ok()?;
+    let two = has_text(alloc, &Answer::Entries(pairs.as_slice()), b"0a: 0bff:01");
+    Some(none && two)
+}
+
+#[test]
+fn entries_are_said(rt: HostRuntime) {
+    assert!(rt; entries_have_their_texts(rt.alloc()) == Some(true));
 }
 
 fn strings(alloc: Global, words: &[&str]) -> Option<Vec<String>> {

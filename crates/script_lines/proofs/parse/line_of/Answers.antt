@@ -1,5 +1,5 @@
 use Rattle.std.proofs.Common.{codes, refl, rules}
-use Rattle.op_meaning.specs.declared.plain_op.PlainOp.TheVariants.{Put, Copy, Append, Cut, Sort, Swap, Exec, AppRead, AppWrite}
+use Rattle.op_meaning.specs.declared.plain_op.PlainOp.TheVariants.{Put, Copy, Append, Cut, Sort, Swap}
 use Rattle.op_codec.specs.AllOps.{plain}
 use Rattle.script_lines.specs.Grammar.{rows}
 use Rattle.script_lines.specs.declared.line.Line.TheVariants.{Run}
@@ -23,12 +23,3 @@ returns-then-eq-5 c = by_row rows c.args.word.now (codes "sort") _ c.map-then-eq
 
 pub returns-then-eq-6 : goal.returns-then-eq-6
 returns-then-eq-6 c = by_row rows c.args.word.now (codes "swap") _ c.map-then-eq-6.result (c.two_numbers-then-eq-6.ensures (λ x y. Run (plain (Swap x y)))) (search rules) refl (search rules)
-
-pub returns-then-eq-7 : goal.returns-then-eq-7
-returns-then-eq-7 c = by_row rows c.args.word.now (codes "exec") _ c.map-then-eq-7.result (c.one_number.ensures (λ app. Run (plain (Exec app)))) (search rules) refl (search rules)
-
-pub returns-then-eq-8 : goal.returns-then-eq-8
-returns-then-eq-8 c = by_row rows c.args.word.now (codes "aread") _ c.map-then-eq-8.result (c.two_numbers-then-eq-8.ensures (λ app x. Run (plain (AppRead app x)))) (search rules) refl (search rules)
-
-pub returns-then-eq-9 : goal.returns-then-eq-9
-returns-then-eq-9 c = by_row rows c.args.word.now (codes "awrite") _ c.map-then-eq-9.result (c.two_numbers-then-eq-9.ensures (λ app x. Run (plain (AppWrite app x)))) (search rules) refl (search rules)
