@@ -8,7 +8,7 @@ use Rattle.std.proofs.lemmas.List.Splits.{length-slice_split}
 use Rattle.std.proofs.lemmas.List.Sums.{sum_by-cons, sum_by-append}
 use borrow.Author.Tests.{ne_eqb}
 use Rattle.script_lines.specs.Reading.{IsPlain}
-use Rattle.script_lines.specs.Replies.{Reply, ok, value, ran, pairs, forced, bad, refused, bad_tree, tree_full, denied, in_group, no_group, full, end, object_value, command_count, stat, copied, saved, backup_denied, summary, silence, hex_glyph, hex_pair, hex_text, spaced, spaced_pair, numbers_of, text_of, said_line}
+use Rattle.script_lines.specs.Replies.{Reply, ok, value, ran, pairs, forced, bad, refused, bad_tree, tree_full, denied, in_group, no_group, full, end, object_value, command_count, stat, copied, saved, backup_denied, summary, absent, counted, silence, hex_glyph, hex_pair, hex_text, spaced, spaced_pair, numbers_of, text_of, said_line}
 use Rattle.formats.specs.declared.params.Params.{Params}
 use Rattle.shell_base.specs.Store.{Command}
 use Rattle.script_run.specs.Answers.{Answers}
@@ -116,6 +116,8 @@ text_kind p group commands line (stat counts) added is =
 text_kind p group commands line (copied n) added is = no_refusal (codes "copied " ++ decimal n) refl refl refl (neither (length (codes "copied " ++ decimal n) == 3))
 text_kind p group commands line (saved n) added is = no_refusal (codes "saved " ++ decimal n) refl refl refl (neither (length (codes "saved " ++ decimal n) == 3))
 text_kind p group commands line (backup_denied why) added is = refl
+text_kind p group commands line absent added is = refl
+text_kind p group commands line (counted n) added is = no_refusal (codes "counted " ++ decimal n) refl refl refl (neither (length (codes "counted " ++ decimal n) == 3))
 text_kind p group commands line silence added is = refl
 text_kind p group commands line (object_value object bytes) added is = absurd is
 text_kind p group commands line (command_count n) added is = absurd is

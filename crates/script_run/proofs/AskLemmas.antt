@@ -1,6 +1,6 @@
--- What a question to a tree or a hash file is answered.
+-- What a question to a tree, a hash file or a map is answered.
 use Rattle.std.proofs.Common.{◌≡◌, ◌∙◌, ap, sym, subst, refl, ◌⊎◌, inl, inr, ⊎_elim, ◌+◌, ◌++◌, ℕ, zero, suc, Bool, true, false, List, [], ◌∷◌, length, take, drop, Option, Some, None, Result, Ok, Err, IfOk}
-use Rattle.std.specs.Prelude.{⊤, if◌then◌else◌}
+use Rattle.std.specs.Prelude.{⊤, ◌&&◌, nat_le, nat_lt, if◌then◌else◌}
 use Rattle.std.proofs.Math.Seq.{take-nil}
 use Rattle.std.proofs.lemmas.List.{append-nil}
 use Rattle.disk_model.specs.Disk.{Disk, LeavesOnly}
@@ -8,6 +8,7 @@ use Rattle.disk_model.specs.Moments.{weaker}
 use Rattle.formats.specs.Objects.{bounds_of}
 use Rattle.formats.specs.declared.params.Params.{Params}
 use Rattle.oper_core.specs.State.{State}
+use Rattle.oper_core.specs.declared.bounds.Bounds.{Bounds}
 use Rattle.op_codec.specs.AllOps.{all_meaning}
 use Rattle.running_store.specs.Courses.{course}
 use Rattle.running_store.specs.Courses.Stop.{Through}
@@ -19,15 +20,21 @@ use Rattle.std.specs.FinMap.Entries.{find}
 use Rattle.key_entries.specs.Entries.{byte_order}
 use Rattle.logical_btree.specs.Walk.{Pair, Way, scan, walk}
 use Rattle.logical_btree.specs.declared.refusal.TreeRefusal.TheVariants.{NoObject}
+use Rattle.map_client.specs.declared.call_refusal.CallRefusal.TheVariants as map_refusals
+use Rattle.page_map.specs.Ranges as of_maps
+use Rattle.page_map.specs.Reads.{above}
+use Rattle.page_map.specs.Walk as ways
 use Rattle.hash_file.specs.Find.{Met, find_bucket}
 use Rattle.hash_file.specs.Find as hash_find
 use Rattle.hash_file.specs.Plan as of_hash
 use Rattle.hash_file.specs.declared.refusal.HashRefusal.TheVariants as hash_refusals
-use Rattle.script_lines.specs.declared.denial.Denial.TheVariants.{BadHash}
+use Rattle.script_lines.specs.declared.denial.Denial.TheVariants.{BadHash, BadMap}
 use Rattle.script_lines.specs.Grammar.{Request, AsksFor}
 use Rattle.script_lines.specs.declared.line.Line.TheVariants.{Ask}
-use Rattle.script_lines.specs.declared.line.Question.TheVariants.{TreeGet as tget, TreeRange as trange, HashGet as hget}
-use Rattle.script_lines.specs.Replies.{Reply, value, pairs, refused, bad_tree, denied, pairs_reply}
+use Rattle.script_lines.specs.declared.line.MapQuestion.{MapQuestion}
+use Rattle.script_lines.specs.declared.line.MapQuestion.TheVariants.{Get as mget, Range as mrange, Back as mback, Count as mcount, Next as mnext, Prev as mprev}
+use Rattle.script_lines.specs.declared.line.Question.TheVariants.{TreeGet as tget, TreeRange as trange, HashGet as hget, Map as ask_map}
+use Rattle.script_lines.specs.Replies.{Reply, value, pairs, refused, bad_tree, denied, absent, counted, pairs_reply}
 use Rattle.store_engine.specs.Engine.{EngineView, forced_in, used_in}
 use Rattle.shell_base.specs.First.{Stage, stage_of}
 use Rattle.shell_base.specs.Store.{Between, Command, Holds, meaning_in, state_of}
@@ -35,7 +42,7 @@ use Rattle.shell_base.specs.declared.stop.Stop.{Stop as Early}
 use Rattle.script_run.specs.Courses.{Works}
 use Rattle.script_run.specs.Found.{IsAsked, IsDone, IsOfEngine, reply_in}
 use Rattle.script_run.specs.Groups.{Regroups, open_in}
-use Rattle.script_run.specs.Made.{AsksTree, found_reply, hash_found, range_reply, tree_answer}
+use Rattle.script_run.specs.Made.{AsksTree, found_reply, hash_found, keys_from, map_found, of_map, range_reply, read_reply, tree_answer, value_reply}
 use Rattle.script_run.specs.Replies.{Replies}
 use Rattle.script_run.specs.Run.{Working}
 use Rattle.script_run.specs.Stages.{GoesBy, IsQuestion}
@@ -45,13 +52,16 @@ use Rattle.script_run.proofs.ListLemmas.{IsOk, not_early}
 use Rattle.script_run.proofs.MomentLemmas.{works_by}
 use Rattle.script_run.proofs.RunLemmas.{asks_values, run_nothing}
 
--- the answer to a question to a tree
+-- the answer to a question to a tree, a hash file or a map
 abbrev IsTold : Reply → Type 0
 IsTold (value bytes) = ⊤
 IsTold (pairs pair others) = ⊤
 IsTold (refused why) = ⊤
 IsTold bad_tree = ⊤
 IsTold (denied BadHash) = ⊤
+IsTold (denied BadMap) = ⊤
+IsTold absent = ⊤
+IsTold (counted n) = ⊤
 IsTold reply = ⊥
 
 told_value : (found : Option (List ℕ)) → IsTold (found_reply (Ok found))
@@ -82,6 +92,24 @@ told_hash true key hash_find.unused = tt
 told_hash true key (hash_find.bad x) = tt
 told_hash true key (hash_find.found x b) = told_bytes (find byte_order key b.pairs.items)
 
+-- what is read of a map
+told_read : {A : Type 0} (reply : A → Reply) → ((found : A) → IsTold (reply found)) → (there : Bool) (found : Result A ℕ) → IsTold (read_reply reply (if there then of_map found else Err map_refusals.NoObject))
+told_read reply told false found = tt
+told_read reply told true (Err bad) = tt
+told_read reply told true (Ok found) = told found
+
+told_key : (found : Option (List ℕ)) → IsTold (value_reply found)
+told_key None = tt
+told_key (Some bytes) = tt
+
+told_map : (b : Bounds) (lo hi : ℕ) (s : State) (question : MapQuestion) → IsTold (map_found b lo hi s question)
+told_map b lo hi s (mget key) = told_read value_reply told_key (nat_le lo hi && nat_lt hi b.objects) (ways.get_answer lo hi s key)
+told_map b lo hi s (mrange from to limit) = told_read pairs_reply told_pairs (nat_le lo hi && nat_lt hi b.objects) (of_maps.range_answer lo hi s (keys_from from to) limit)
+told_map b lo hi s (mback from to limit) = told_read pairs_reply told_pairs (nat_le lo hi && nat_lt hi b.objects) (of_maps.back_answer lo hi s (keys_from from to) limit)
+told_map b lo hi s (mcount from to) = told_read counted (λ n. tt) (nat_le lo hi && nat_lt hi b.objects) (of_maps.count_answer lo hi s (keys_from from to))
+told_map b lo hi s (mnext key) = told_read pairs_reply told_pairs (nat_le lo hi && nat_lt hi b.objects) (of_maps.range_answer lo hi s (above key) 1)
+told_map b lo hi s (mprev key) = told_read pairs_reply told_pairs (nat_le lo hi && nat_lt hi b.objects) (of_maps.back_answer lo hi s (keys_from [] key) 1)
+
 is_told : (p : Params) (s : State) (reply : Reply) (request : Request) → tree_answer p s request ≡ Some reply → IsTold reply
 is_told p s reply (Ask (tget lo hi key)) is =
     subst IsTold (let e : found_reply (get_answer (bounds_of p) lo hi s key) ≡ reply = cc is in e) (told_get (is_there (bounds_of p) lo hi) key (walk lo hi s key))
@@ -90,12 +118,15 @@ is_told p s reply (Ask (trange lo hi from to)) is =
     (told_range (is_there (bounds_of p) lo hi) (scan lo hi s (record { from = from; to = Some to })))
 is_told p s reply (Ask (hget lo hi key)) is =
     subst IsTold (let e : hash_found (of_hash.get_answer (bounds_of p) lo hi s key) ≡ reply = cc is in e) (told_hash (of_hash.is_there (bounds_of p) lo hi) key (find_bucket lo hi s key))
+is_told p s reply (Ask (ask_map lo hi question)) is =
+    subst IsTold (let e : map_found (bounds_of p) lo hi s question ≡ reply = cc is in e) (told_map (bounds_of p) lo hi s question)
 is_told p s reply request is = cc
 
 is_question : (p : Params) (s : State) (reply : Reply) (request : Request) → tree_answer p s request ≡ Some reply → IsQuestion request
 is_question p s reply (Ask (tget lo hi key)) is = tt
 is_question p s reply (Ask (trange lo hi from to)) is = tt
 is_question p s reply (Ask (hget lo hi key)) is = tt
+is_question p s reply (Ask (ask_map lo hi question)) is = tt
 is_question p s reply request is = cc
 
 module _ (p : Params) (commands : List Command) (line : List ℕ) where
@@ -104,7 +135,10 @@ module _ (p : Params) (commands : List Command) (line : List ℕ) where
   told_replies group (pairs pair others) told a = (a, refl)
   told_replies group (refused why) told a = inr (inr a, refl)
   told_replies group bad_tree told a = inr (a, refl)
-  told_replies group (denied BadHash) told a = inr (refl, a, refl)
+  told_replies group (denied BadHash) told a = inr (tt, a, refl)
+  told_replies group (denied BadMap) told a = inr (tt, a, refl)
+  told_replies group absent told a = (a, refl)
+  told_replies group (counted n) told a = (a, refl)
   told_replies group reply told a = absurd told
 
   -- it leaves the open group as it is
@@ -114,6 +148,9 @@ module _ (p : Params) (commands : List Command) (line : List ℕ) where
   told_regroups group (refused why) told = refl
   told_regroups group bad_tree told = refl
   told_regroups group (denied BadHash) told = refl
+  told_regroups group (denied BadMap) told = refl
+  told_regroups group absent told = refl
+  told_regroups group (counted n) told = refl
   told_regroups group reply told = absurd told
 
   told_goes : (reply : Reply) → IsTold reply → AsksTree p commands line reply → (s : Stage) → GoesBy p s line reply s
@@ -122,6 +159,9 @@ module _ (p : Params) (commands : List Command) (line : List ℕ) where
   told_goes (refused why) told a s = asks_values p s line a.request (is_question p (state_of p commands) (refused why) a.request a.answers) a.asks
   told_goes bad_tree told a s = asks_values p s line a.request (is_question p (state_of p commands) bad_tree a.request a.answers) a.asks
   told_goes (denied BadHash) told a s = asks_values p s line a.request (is_question p (state_of p commands) (denied BadHash) a.request a.answers) a.asks
+  told_goes (denied BadMap) told a s = asks_values p s line a.request (is_question p (state_of p commands) (denied BadMap) a.request a.answers) a.asks
+  told_goes absent told a s = refl
+  told_goes (counted n) told a s = refl
   told_goes reply told a s = absurd told
 
   -- and says nothing of the engine
@@ -131,6 +171,9 @@ module _ (p : Params) (commands : List Command) (line : List ℕ) where
   told_is_of (refused why) told engine = tt
   told_is_of bad_tree told engine = tt
   told_is_of (denied BadHash) told engine = tt
+  told_is_of (denied BadMap) told engine = tt
+  told_is_of absent told engine = tt
+  told_is_of (counted n) told engine = tt
   told_is_of reply told engine = absurd told
 
 -- nothing is there to be stopped at

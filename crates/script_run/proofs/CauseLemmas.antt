@@ -20,24 +20,23 @@ use Rattle.store_engine.specs.Engine.{needed_in, so_far}
 use Rattle.script_lines.specs.declared.answer.StatLine.{StatLine}
 use Rattle.script_lines.specs.Grammar.{Request, AsksFor, IsBad}
 use Rattle.script_lines.specs.declared.line.Line.TheVariants.{Run as run, Make, Ask, Force as force, Keep, Group, Save, Stat as asks_stat, Skip as skip}
-use Rattle.script_lines.specs.declared.line.Question.TheVariants.{TreeGet as tget, TreeRange as trange, HashGet as hget, Get as get}
+use Rattle.script_lines.specs.declared.line.Question.TheVariants.{TreeGet as tget, TreeRange as trange, HashGet as hget, Map as ask_map, Get as get}
 use Rattle.script_lines.specs.declared.line.Upkeep.TheVariants.{Trim as trim}
 use Rattle.script_lines.specs.declared.line.Grouping.TheVariants.{Begin as begin_group, End as end_group, Abort as abort_group}
 use Rattle.script_lines.specs.declared.line.Saving.TheVariants.{Start as bstart, Copy as bcopy, Finish as bfinish}
-use Rattle.script_lines.specs.Replies.{Reply, ok, ran, value, pairs, forced, bad, refused, bad_tree, tree_full, denied, in_group, no_group, full, end, object_value, command_count, stat, copied, saved, backup_denied, summary, silence}
+use Rattle.script_lines.specs.Replies.{Reply, ok, ran, value, pairs, forced, bad, refused, bad_tree, tree_full, denied, in_group, no_group, full, end, object_value, command_count, stat, copied, saved, backup_denied, summary, absent, counted, silence}
 use Rattle.script_lines.specs.declared.denial.Denial.{Denial}
-use Rattle.script_lines.specs.declared.denial.Denial.TheVariants.{BadHash}
 use Rattle.script_lines.specs.declared.backup_denial.BackupDenial.{BackupDenial}
 use Rattle.script_lines.specs.declared.backup_denial.BackupDenial.TheVariants.{InBackup, NoBackup, AlreadyStore, NotCopied}
 use Rattle.shell_base.specs.First.{Stage}
 use Rattle.shell_base.specs.Store.{Command, meaning_in, refusal_after, state_of, record_length}
 use Rattle.script_run.specs.Groups.{open_in, size_of}
 use Rattle.script_run.specs.Made.{Made, AsksMade, AsksBehind, AsksTree, made, made_by, one_made, one_unless, tree_answer}
-use Rattle.script_run.specs.Replies.{AsksCommand, Replies, IsBarred, IsClosing, IsDenied, IsFull, IsGranted, IsLogged, IsNumbered, IsOver}
+use Rattle.script_run.specs.Replies.{AsksCommand, Replies, IsBarred, IsClosing, IsDenied, IsFull, IsGranted, IsLogged, IsMet, IsNumbered, IsOver}
 use Rattle.script_run.specs.Stages.{Aborts, Ends, GoesBy, IsBackupFull, IsBesideBackup, IsQuestion, StartsBackup, forced_stage, upkeep_course}
 use Rattle.script_run.proofs.MadeLemmas.{command_made, one_course}
 
--- the classes of requests: for pairs of a tree or a hash file, for a value, for commands, the end of a group or an abort, upkeep and the
+-- the classes of requests: for pairs of a tree, a hash file or a map, for a value, for commands, the end of a group or an abort, upkeep and the
 -- end of a backup, the beginning of a group or of a backup, and four by themselves
 abbrev pub class : Request → ℕ
 class (Ask (get x)) = 1
@@ -71,6 +70,8 @@ first_of (full used need limit) = 2
 first_of (end number) = 2
 first_of (stat counts) = 8
 first_of (copied n) = 6
+first_of absent = 0
+first_of (counted n) = 0
 first_of (saved n) = 4
 first_of (backup_denied why) = 4
 first_of silence = 9
@@ -154,6 +155,7 @@ tree_class : (p : Params) (s : State) (reply : Reply) (request : Request) → tr
 tree_class p s reply (Ask (tget lo hi key)) is = refl
 tree_class p s reply (Ask (trange lo hi from to)) is = refl
 tree_class p s reply (Ask (hget lo hi key)) is = refl
+tree_class p s reply (Ask (ask_map lo hi question)) is = refl
 tree_class p s reply request is = cc
 
 pub question_class : (request : Request) → IsQuestion request → class request ≤ 1
@@ -161,6 +163,7 @@ question_class (Ask (get x)) is = omega arith
 question_class (Ask (tget lo hi key)) is = omega arith
 question_class (Ask (trange lo hi from to)) is = omega arith
 question_class (Ask (hget lo hi key)) is = omega arith
+question_class (Ask (ask_map lo hi question)) is = omega arith
 question_class request is = absurd is
 
 -- no group is open, and one is
@@ -227,6 +230,8 @@ module _ (p : Params) (group : Option ℕ) (commands : List Command) (line : Lis
       (λ (t : AsksTree p commands line (value bytes)). of_tree (value bytes) (λ n e. (omega (arith, e), omega (arith, e))) t)
       is.0
   asked (pairs pair others) added is other = of_tree (pairs pair others) (λ n e. (omega (arith, e), omega (arith, e))) is.0
+  asked absent added is other = of_tree absent (λ n e. (omega (arith, e), omega (arith, e))) is.0
+  asked (counted n) added is other = of_tree (counted n) (λ n e. (omega (arith, e), omega (arith, e))) is.0
   asked (forced n) added is other = (force, is.0, (omega arith, omega arith))
   asked bad added is other = absurd (other refl)
   asked (refused why) added is other = ⊎_elim
@@ -243,7 +248,7 @@ module _ (p : Params) (group : Option ℕ) (commands : List Command) (line : Lis
   asked tree_full added is other = of_made tree_full (λ n e. (omega (arith, e), omega (arith, e))) is
   asked (denied why) added is other = ⊎_elim
       (λ (m : AsksMade p commands line (made added (denied why))). of_made (denied why) (λ n e. (omega (arith, e), omega (arith, e))) m)
-      (λ (t : (why ≡ BadHash) × AsksTree p commands line (denied why) × (added ≡ [])). of_tree (denied why) (λ n e. (omega (arith, e), omega (arith, e))) t.1)
+      (λ (t : IsMet why × AsksTree p commands line (denied why) × (added ≡ [])). of_tree (denied why) (λ n e. (omega (arith, e), omega (arith, e))) t.1)
       is
   asked in_group added is other = (is.0, is.2, barred_class is.0 is.1)
   asked no_group added is other = let three = closing_class is.0 is.1 in (is.0, is.2, (omega (arith, three), omega (arith, three)))
@@ -360,7 +365,7 @@ module _ (p : Params) (group : Option ℕ) (commands : List Command) (line : Lis
         ⊎_elim (λ (none : (refusal_after p commands op ≡ None) × (denied because ≡ ok)). absurd (let e = none.1 in cc e))
         (λ (other : (why : Refusal) × (refusal_after p commands op ≡ Some why) × (denied because ≡ refused why)). absurd (let e = other.2 in cc e))
         (answer_of op (denied because) added asks m))
-        (λ (t : (because ≡ BadHash) × AsksTree p commands line (denied because) × (added ≡ [])). let mine = command_made p commands line op asks in
+        (λ (t : IsMet because × AsksTree p commands line (denied because) × (added ≡ [])). let mine = command_made p commands line op asks in
         absurd (tree_clash mine.request mine.asks (λ e. let same = made_class p commands (one_made p commands op) mine.request mine.makes in omega (arith, e, same)) t.1))
         is
     refused_exactly (full used need limit) added op why is asks = ⊎_elim
@@ -395,11 +400,11 @@ module _ (p : Params) (group : Option ℕ) (commands : List Command) (line : Lis
         (λ (t : AsksTree p commands line bad_tree × (added ≡ [])). tree_clash (Ask (get object)) asks (λ e. omega (arith, e)) t.0)
         is
 
-    -- nor of a hash file
+    -- nor of a hash file or a map
     no_denial : (object : ℕ) (why : Denial) (added : List Command) → Replies p group commands line (denied why) added → AsksFor line (Ask (get object)) → ⊥
     no_denial object why added is asks = ⊎_elim
         (λ (m : AsksMade p commands line (made added (denied why))). made_clash (Ask (get object)) asks (λ e. omega (arith, e)) m)
-        (λ (t : (why ≡ BadHash) × AsksTree p commands line (denied why) × (added ≡ [])). tree_clash (Ask (get object)) asks (λ e. omega (arith, e)) t.1)
+        (λ (t : IsMet why × AsksTree p commands line (denied why) × (added ≡ [])). tree_clash (Ask (get object)) asks (λ e. omega (arith, e)) t.1)
         is
 
     pub no_object_exactly : (reply : Reply) (added : List Command) (object : ℕ) → Replies p group commands line reply added → AsksFor line (Ask (get object)) → (reply ≡ refused NoObject) ↔ (p.objects ≤ object)
@@ -567,7 +572,7 @@ module _ (p : Params) (group : Option ℕ) (commands : List Command) (line : Lis
         (λ (none : (refusal_after p commands op ≡ None) × (denied why ≡ ok)). let e = none.1 in cc e)
         (λ (other : (because : Refusal) × (refusal_after p commands op ≡ Some because) × (denied why ≡ refused because)). let e = other.2 in cc e)
         (answer_of op (denied why) added asks m))
-        (λ (t : (why ≡ BadHash) × AsksTree p commands line (denied why) × (added ≡ [])). let mine = command_made p commands line op asks in
+        (λ (t : IsMet why × AsksTree p commands line (denied why) × (added ≡ [])). let mine = command_made p commands line op asks in
         tree_clash mine.request mine.asks (λ e. let same = made_class p commands (one_made p commands op) mine.request mine.makes in omega (arith, e, same)) t.1)
         is)
     full_exactly (full used need limit) added op before after is goes same asks none = (

@@ -47,7 +47,7 @@ use Rattle.script_lines.specs.declared.line.Upkeep.{Upkeep}
 use Rattle.script_lines.specs.declared.line.Upkeep.TheVariants.{Trim as trim}
 use Rattle.script_lines.specs.declared.line.Grouping.TheVariants.{Abort as abort_group}
 use Rattle.script_lines.specs.declared.line.Saving.TheVariants.{Start as bstart}
-use Rattle.script_lines.specs.Replies.{Reply, ok, ran, value, pairs, forced, bad, refused, bad_tree, tree_full, denied, in_group, no_group, full, end, object_value, command_count, stat, copied, saved, backup_denied, summary, silence, reply_of}
+use Rattle.script_lines.specs.Replies.{Reply, ok, ran, value, pairs, forced, bad, refused, bad_tree, tree_full, denied, in_group, no_group, full, end, object_value, command_count, stat, copied, saved, backup_denied, summary, absent, counted, silence, reply_of}
 use Rattle.script_lines.specs.declared.answer.Answer.{Answer}
 use Rattle.script_lines.specs.declared.answer.Answer.TheVariants as answers
 use Rattle.script_lines.specs.declared.backup_denial.BackupDenial.TheVariants.{InBackup}
@@ -164,6 +164,8 @@ tied_by {p} {d} {engine} {commands} ops line (stat counts) is says stops =
 tied_by ops line (object_value object bytes) is says stops = (tt, λ told f s left. tt)
 tied_by ops line (command_count n) is says stops = (tt, λ told f s left. tt)
 tied_by ops line (summary totals) is says stops = (tt, λ told f s left. tt)
+tied_by ops line absent is says stops = (tt, λ told f s left. tt)
+tied_by ops line (counted n) is says stops = (tt, λ told f s left. tt)
 tied_by ops line silence is says stops = (tt, λ told f s left. tt)
 
 -- an answer that is stopped leaves the group as it was, and no other says anything of what waits

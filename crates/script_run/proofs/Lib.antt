@@ -22,6 +22,8 @@ pub mod MadeLemmas
 pub mod ListLemmas
 pub mod AskLemmas
 pub mod MakingLemmas
+pub mod MapChangeLemmas
+pub mod MapLemmas
 pub mod RangeLemmas
 pub mod HashLemmas
 pub mod DoneLemmas

@@ -42,11 +42,17 @@ use Rattle.execution.specs.declared.exec_err.ExecErr.{ExecErr}
 use Rattle.execution.specs.declared.exec_err.ExecErr.TheVariants as exec_errors
 use Rattle.script_lines.specs.Grammar.{Request, AsksFor}
 use Rattle.script_lines.specs.declared.line.Line.TheVariants.{Run, Make, Group}
-use Rattle.script_lines.specs.declared.line.Making.TheVariants.{AppRun as arun, ProgramRun as prun, TreeInsert as tinsert, TreeDelete as tdelete, HashPut as hset, HashDelete as hdel}
+use Rattle.script_lines.specs.declared.line.Making.TheVariants.{AppRun as arun, ProgramRun as prun, TreeInsert as tinsert, TreeDelete as tdelete, HashPut as hset, HashDelete as hdel, Map as change_map}
+use Rattle.script_lines.specs.declared.line.MapChange.{MapChange}
 use Rattle.script_lines.specs.declared.line.Grouping.TheVariants.{Begin as begin_group, End as end_group, Abort as abort_group}
 use Rattle.script_lines.specs.Replies.{Reply, ok, ran, refused, bad_tree, tree_full, denied, full, end, reply_of}
 use Rattle.script_lines.specs.declared.answer.Answer.{Answer}
 use Rattle.store_engine.specs.Engine.{EngineView, forced_in, group_size, needed_in, params_of, used_in}
+use Rattle.map_client.specs.Answers.{MapErr}
+use Rattle.map_client.specs.declared.call_refusal.CallRefusal.{CallRefusal}
+use Rattle.map_client.specs.declared.call_refusal.CallRefusal.TheVariants as map_refusals
+use Rattle.page_map.specs.declared.refusal.MapRefusal.TheVariants as map_causes
+use Rattle.range_calls.specs.declared.call_err.CallErr.TheVariants as call_errors
 use Rattle.hash_file.specs.Plan.{HashPlan}
 use Rattle.hash_file.specs.Plan as of_hash
 use Rattle.hash_file.specs.declared.refusal.HashRefusal.{HashRefusal}
@@ -61,12 +67,13 @@ use Rattle.shell_base.specs.declared.stop.Stop.TheVariants.{DiskFault, Damaged, 
 use Rattle.script_run.specs.Courses.{Works}
 use Rattle.script_run.specs.Found.{IsAnswerTo, IsEndedBy, IsDone, IsMade, IsOfEngine}
 use Rattle.script_run.specs.Groups.{Regroups, group_after, open_in, size_of}
-use Rattle.script_run.specs.Made.{AsksMade, AsksBehind, Made, call_end, hash_made, hash_reply, end_reply, made, made_by, one_unless, plan_made, plan_reply, run_made, run_reply}
+use Rattle.script_run.specs.Made.{AsksMade, AsksBehind, Made, call_end, change_comes, change_made, change_reply, map_made, map_reply, hash_made, hash_reply, end_reply, made, made_by, one_unless, plan_made, plan_reply, run_made, run_reply}
 use Rattle.script_run.specs.Replies.{Replies}
 use Rattle.script_run.specs.Run.{Working}
 use Rattle.script_run.specs.Stages.{Ends, GoesBy}
 use Rattle.script_run.specs.StoryLaws.{grows_to}
 use Rattle.script_run.proofs.HashLemmas.{planned_delete_all, planned_put_all, some_hash}
+use Rattle.script_run.proofs.MapChangeLemmas.{some_map}
 use Rattle.script_run.proofs.MomentLemmas.{works_by}
 use Rattle.script_run.proofs.DoneLemmas.{asks_in, last_number, left_stopped, over_limit, still_attached, still_whole}
 use Rattle.script_run.proofs.GroupsOfLists.{open_same}
@@ -121,6 +128,33 @@ end_hash (Some hash_refusals.NoKey) = tt
 end_hash_plan : (p : Params) (plan : HashPlan) → IsEnd (hash_made p plan).reply
 end_hash_plan p plan = end_plan p.cap plan.commands (call_end hash_reply plan.refusal) (end_hash plan.refusal)
 
+-- and so has a change of a map
+end_map_refusal : (why : CallRefusal) → IsEnd (map_reply why)
+end_map_refusal map_refusals.NoObject = tt
+end_map_refusal map_refusals.NoPages = tt
+end_map_refusal (map_refusals.Map (map_causes.BadMap object)) = tt
+end_map_refusal (map_refusals.Map map_causes.TooLong) = tt
+end_map_refusal (map_refusals.Map map_causes.MapFull) = tt
+end_map_refusal (map_refusals.Map map_causes.NoKey) = tt
+
+end_change : (refusal : Option MapErr) → IsEnd (change_reply refusal)
+end_change None = tt
+end_change (Some (call_errors.Refused why)) = end_map_refusal why
+end_change (Some (call_errors.Exec (exec_errors.Refused why))) = tt
+end_change (Some (call_errors.Exec (exec_errors.LogFull used need limit))) = tt
+end_change (Some (call_errors.Exec (exec_errors.LsnEnd number))) = tt
+end_change (Some (call_errors.Exec exec_errors.DiskFault)) = tt
+end_change (Some (call_errors.Exec (exec_errors.Damaged file place))) = tt
+end_change (Some (call_errors.Exec exec_errors.Memory)) = tt
+end_change (Some call_errors.Memory) = tt
+
+end_map : (lo hi : ℕ) (change : MapChange) (p : Params) (commands : List Command) → IsEnd (map_made lo hi change p commands).reply
+end_map lo hi change p commands = by_order (nat_le lo hi)
+  where
+    by_order : (b : Bool) → IsEnd (if b then change_made (change_comes lo hi change p commands) else made [] (refused refusals.NoObject)).reply
+    by_order true = end_change (change_comes lo hi change p commands).refusal
+    by_order false = tt
+
 made_end : (p : Params) (commands : List Command) (it : Made) (request : Request) → made_by p commands request ≡ Some it → IsEnd it.reply
 made_end p commands it request is = of_request request it is
   where
@@ -135,6 +169,7 @@ made_end p commands it request is = of_request request it is
     of_request (Make (tdelete lo hi key)) it same = let s = state_of p commands in let plan = delete_plan (bounds_of p) lo hi s key in given _ it same (end_plan p.cap plan.commands (end_reply plan.refusal) (end_end plan.refusal))
     of_request (Make (hset lo hi key value)) it same = given _ it same (end_hash_plan p (of_hash.put_plan (bounds_of p) lo hi (state_of p commands) key value))
     of_request (Make (hdel lo hi key)) it same = given _ it same (end_hash_plan p (of_hash.delete_plan (bounds_of p) lo hi (state_of p commands) key))
+    of_request (Make (change_map lo hi change)) it same = given _ it same (end_map lo hi change p commands)
     of_request request it same = cc
 
 -- where the answer is ok, there are some
@@ -264,6 +299,7 @@ made_some p commands it request is = of_request request it is
     of_request (Make (hdel lo hi key)) it same =
         let plan = of_hash.delete_plan (bounds_of p) lo hi (state_of p commands) key in
         some_given _ it same (some_hash p plan (planned_delete_all (bounds_of p) lo hi (state_of p commands) key))
+    of_request (Make (change_map lo hi change)) it same = some_given _ it same (some_map lo hi change p commands)
     of_request request it same = cc
 
 -- a line that asks for commands leaves the open group as it is

@@ -32,18 +32,18 @@ use Rattle.script_run.proofs.MakingLemmas.{error_ends}
 
 module _ {R : Type 0} (answer_to : R → Answer) (reply_to : R → Reply) (agree : (why : R) → reply_to why ≡ reply_of (answer_to why)) where
   -- an error ends the call so
-  call_ends : (e : CallErr R) {r : Result Answer Early} → r ≡ answer_of_call_error answer_to e → IsEndedBy (cause_of e) r
+  pub call_ends : (e : CallErr R) {r : Result Answer Early} → r ≡ answer_of_call_error answer_to e → IsEndedBy (cause_of e) r
   call_ends (call_errors.Refused why) is = (answer_to why, is)
   call_ends (call_errors.Exec e) is = error_ends e is
   call_ends call_errors.Memory is = is
 
   -- the reply to the range's own refusals, and to a command that is refused
-  abbrev reply_for : CallErr R → Reply
+  abbrev pub reply_for : CallErr R → Reply
   reply_for (call_errors.Refused why) = reply_to why
   reply_for (call_errors.Exec (exec_errors.Refused why)) = refused why
   reply_for error = ok
 
-  call_answers : (e : CallErr R) {r : Result Answer Early} {reply : Reply} → r ≡ answer_of_call_error answer_to e → (ending_of (cause_of e) ≡ Done → reply ≡ reply_for e) → IsAnswerTo reply (cause_of e) r
+  pub call_answers : (e : CallErr R) {r : Result Answer Early} {reply : Reply} → r ≡ answer_of_call_error answer_to e → (ending_of (cause_of e) ≡ Done → reply ≡ reply_for e) → IsAnswerTo reply (cause_of e) r
   call_answers (call_errors.Refused why) is so = (answer_to why, is, so refl ∙ agree why)
   call_answers (call_errors.Exec e) {r} {reply} is so = of_error e is so
     where

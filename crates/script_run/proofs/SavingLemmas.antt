@@ -26,7 +26,7 @@ use Rattle.script_lines.specs.declared.line.Line.TheVariants.{Keep, Group, Save}
 use Rattle.script_lines.specs.declared.line.Upkeep.TheVariants.{Install as install, Drain as drain, Checkpoint as checkpoint, Trim as trim}
 use Rattle.script_lines.specs.declared.line.Grouping.TheVariants.{Begin as begin_group, End as end_group, Abort as abort_group}
 use Rattle.script_lines.specs.declared.line.Saving.TheVariants.{Start as bstart, Copy as bcopy, Finish as bfinish}
-use Rattle.script_lines.specs.Replies.{Reply, ok, ran, value, pairs, forced, bad, refused, bad_tree, tree_full, denied, in_group, no_group, full, end, object_value, command_count, stat, copied, saved, backup_denied, summary, silence}
+use Rattle.script_lines.specs.Replies.{Reply, ok, ran, value, pairs, forced, bad, refused, bad_tree, tree_full, denied, in_group, no_group, full, end, object_value, command_count, stat, copied, saved, backup_denied, summary, absent, counted, silence}
 use Rattle.script_lines.specs.declared.backup_denial.BackupDenial.TheVariants.{AlreadyStore}
 use Rattle.store_engine.specs.Beside.{MayGoBeside}
 use Rattle.store_engine.specs.Calls.{begin_course, end_course}
@@ -181,6 +181,8 @@ module _ {old new backup : Disk} (laws : BesideLaws old new backup) {p : Params}
     goes_on line bad commands added now other replies goes = inl (still now goes)
     goes_on line in_group commands added now other replies goes = inl (still now goes)
     goes_on line no_group commands added now other replies goes = inl (still now goes)
+    goes_on line absent commands added now other replies goes = inl (still now goes)
+    goes_on line (counted n) commands added now other replies goes = inl (still now goes)
     goes_on line silence commands added now other replies goes = inl (still now goes)
     goes_on line (object_value object bytes) commands added now other replies goes = inl (still now goes)
     goes_on line (command_count k) commands added now other replies goes = inl (still now goes)

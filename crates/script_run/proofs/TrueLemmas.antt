@@ -5,7 +5,7 @@ use Rattle.std.specs.List.{flat_map}
 use Rattle.disk_model.specs.Disk.{Files, Disk, Passes, Runs, Same, SaysFront, LeavesOnly}
 use Rattle.disk_model.specs.Moments.{first_call, runs_on, weaker}
 use Rattle.formats.specs.declared.params.Params.{Params}
-use Rattle.script_lines.specs.Replies.{Reply, ok, ran, pairs, bad_tree, tree_full, denied, in_group, no_group, value, forced, bad, refused, full, end, object_value, command_count, stat, copied, saved, backup_denied, summary, silence, text_of, said_line}
+use Rattle.script_lines.specs.Replies.{Reply, ok, ran, pairs, bad_tree, tree_full, denied, in_group, no_group, value, forced, bad, refused, full, end, object_value, command_count, stat, copied, saved, backup_denied, summary, absent, counted, silence, text_of, said_line}
 use Rattle.explain_core.specs.World.{World}
 use Rattle.store_engine.specs.Engine.{EngineView}
 use Rattle.shell_base.specs.Store.{Command}
@@ -46,6 +46,8 @@ within_line (copied n) count some within = newline_behind (text_of (copied n)) c
 within_line (saved n) count some within = newline_behind (text_of (saved n)) count within
 within_line (backup_denied why) count some within = newline_behind (text_of (backup_denied why)) count within
 within_line (summary totals) count some within = newline_behind (text_of (summary totals)) count within
+within_line absent count some within = newline_behind (text_of absent) count within
+within_line (counted n) count some within = newline_behind (text_of (counted n)) count within
 within_line silence count some within = absurd (omega (arith, some, within, none_of_silence))
 
 ends_before : {before : List ℕ} {reply : Reply} {said : List ℕ} → EndsInside before reply said → length said < length (before ++ said_line reply)

@@ -16,6 +16,9 @@ use Rattle.running_store.specs.Taking.Ending.{Done, Stopped, Short, Failed}
 use Rattle.oper_core.specs.declared.refusal.Refusal.TheVariants as refusals
 use Rattle.hash_file.specs.declared.refusal.HashRefusal.{HashRefusal}
 use Rattle.hash_file.specs.declared.refusal.HashRefusal.TheVariants as hash_refusals
+use Rattle.map_client.specs.declared.call_refusal.CallRefusal.{CallRefusal}
+use Rattle.map_client.specs.declared.call_refusal.CallRefusal.TheVariants as map_refusals
+use Rattle.page_map.specs.declared.refusal.MapRefusal.TheVariants as map_causes
 use Rattle.range_calls.specs.declared.call_err.CallErr.{CallErr}
 use Rattle.range_calls.specs.declared.call_err.CallErr.TheVariants as call_errors
 use Rattle.script_lines.specs.declared.denial.Denial.TheVariants as denials
@@ -30,7 +33,7 @@ use Rattle.store_engine.specs.Lists.{AddsFront, AreCalls, ending_of as ending_of
 use Rattle.execution.specs.Stops.{StopsCommand}
 use Rattle.execution.specs.declared.exec_err.ExecErr.{ExecErr}
 use Rattle.execution.specs.declared.exec_err.ExecErr.TheVariants as exec_errors
-use Rattle.script_lines.specs.Replies.{Reply, forced, full, end, pairs_reply, refused, stat, value, reply_of}
+use Rattle.script_lines.specs.Replies.{Reply, absent, counted, forced, full, end, pairs_reply, refused, stat, value, reply_of}
 use Rattle.script_lines.specs.declared.answer.Answer.{Answer}
 use Rattle.script_lines.specs.declared.answer.Answer.TheVariants as answers
 use Rattle.store_engine.specs.Engine.{EngineView, KeepsCommands, TakesIn, forced_in, logged_since, so_far, used_in}
@@ -187,6 +190,15 @@ hash_answer (hash_refusals.HashFull object) = answers.Denied denials.HashFull
 hash_answer (hash_refusals.NoRoom free) = answers.Denied denials.NoRoom
 hash_answer hash_refusals.NoKey = answers.Refused refusals.NoKey
 
+-- and how a map's is
+abbrev pub map_answer : CallRefusal → Answer
+map_answer map_refusals.NoObject = answers.Refused refusals.NoObject
+map_answer map_refusals.NoPages = answers.Refused refusals.NoPages
+map_answer (map_refusals.Map (map_causes.BadMap object)) = answers.Denied denials.BadMap
+map_answer (map_refusals.Map map_causes.TooLong) = answers.Denied denials.TooLong
+map_answer (map_refusals.Map map_causes.MapFull) = answers.Denied denials.MapFull
+map_answer (map_refusals.Map map_causes.NoKey) = answers.Refused refusals.NoKey
+
 -- how the error of a call on a range of objects is answered, by how the range's own refusals are
 abbrev pub answer_of_call_error : {R : Type 0} → (R → Answer) → CallErr R → Result Answer Stop
 answer_of_call_error answer (call_errors.Refused why) = Ok (answer why)
@@ -215,11 +227,15 @@ pub record IsMade (old now : Disk) (before after : EngineView) (request : Reques
   pub adds : (p : Params) (commands : List Command) → (holds : Holds p old before commands) → (it : Made) × (made_by p commands request ≡ Some it)
       × AddsFront all_meaning p old now before after holds.world commands it.ops (ending_of_calls error) × IsAnswerTo it.reply error result
 
--- what is replied where this was found in a tree
+-- what is replied where this was found in a tree, a hash file or a map
 abbrev pub reply_in : Found → Reply
 reply_in (founds.Value bytes) = value bytes
 reply_in founds.Absent = value []
 reply_in (founds.Pairs found) = pairs_reply found.items
+reply_in (founds.Bytes bytes) = value bytes.items
+reply_in founds.Missing = absent
+reply_in (founds.Entries found) = pairs_reply found.items
+reply_in (founds.Counted n) = counted n
 reply_in (founds.Refused answer) = reply_of answer
 
 -- what is found where a call on a tree is not done
@@ -227,7 +243,7 @@ abbrev pub refused_as : Result Answer Stop → Result Found Stop
 refused_as (Ok answer) = Ok (founds.Refused answer)
 refused_as (Err stop) = Err stop
 
--- A call for a request for pairs of a tree: it adds nothing, and finds what the plain map tells.
+-- A call for a request for pairs of a tree, a hash file or a map: it adds nothing, and finds what the plain map tells.
 pub record IsAsked (old now : Disk) (before after : EngineView) (request : Request) (result : Result Found Stop) : Type 0 where
   pub error : Option ExecErr
   pub calls : AreCalls all_meaning old now before after error

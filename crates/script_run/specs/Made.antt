@@ -1,6 +1,8 @@
--- What the plain map makes of a line that asks for commands, or for pairs of a tree or a hash file.
-use Rattle.std.specs.Prelude.{◌≡◌, ◌++◌, ℕ, zero, suc, map, nat_le, if◌then◌else◌, List, [], ◌∷◌, take, Option, None, Some, Result, Ok, Err}
+-- What the plain map makes of a line that asks for commands, or for pairs of a tree, a hash file or a map.
+use Rattle.std.specs.Prelude.{◌≡◌, ◌++◌, ◌&&◌, ℕ, zero, suc, map, nat_le, nat_lt, if◌then◌else◌, List, [], ◌∷◌, take, Option, None, Some, Result, Ok, Err}
+use Rattle.execution.specs.declared.exec_err.ExecErr.TheVariants as exec_errors
 use Rattle.oper_core.specs.State.{State}
+use Rattle.oper_core.specs.declared.bounds.Bounds.{Bounds}
 use Rattle.oper_core.specs.declared.refusal.Refusal.{Refusal}
 use Rattle.oper_core.specs.declared.refusal.Refusal.TheVariants as refusals
 use Rattle.formats.specs.Objects.{bounds_of}
@@ -11,7 +13,17 @@ use Rattle.logical_btree.specs.Plan.{TreePlan, delete_plan, get_answer, insert_p
 use Rattle.tree_client.specs.Answers.{made_of}
 use Rattle.op_codec.specs.AllOps.{hash}
 use Rattle.call_plans.specs.Plan as of_calls
+use Rattle.map_client.specs.Answers.{MapErr}
+use Rattle.map_client.specs.Changing.{delete_comes, set_comes}
+use Rattle.map_client.specs.declared.call_refusal.CallRefusal.{CallRefusal}
+use Rattle.map_client.specs.declared.call_refusal.CallRefusal.TheVariants as map_refusals
+use Rattle.page_map.specs.Map.{Span}
+use Rattle.page_map.specs.Ranges as of_maps
+use Rattle.page_map.specs.Reads.{above}
+use Rattle.page_map.specs.Walk as ways
+use Rattle.page_map.specs.declared.refusal.MapRefusal.TheVariants as map_causes
 use Rattle.range_calls.specs.Answers as of_ranges
+use Rattle.range_calls.specs.declared.call_err.CallErr.TheVariants as call_errors
 use Rattle.hash_file.specs.Plan.{HashPlan}
 use Rattle.hash_file.specs.Plan as of_hash
 use Rattle.hash_file.specs.declared.refusal.HashRefusal.{HashRefusal}
@@ -21,9 +33,13 @@ use Rattle.logical_btree.specs.declared.refusal.TreeRefusal.{TreeRefusal}
 use Rattle.logical_btree.specs.declared.refusal.TreeRefusal.TheVariants.{NoObject, BadTree, TreeFull, NoKey}
 use Rattle.script_lines.specs.Grammar.{Request, AsksFor}
 use Rattle.script_lines.specs.declared.line.Line.TheVariants.{Run as run, Make, Ask}
-use Rattle.script_lines.specs.declared.line.Making.TheVariants.{AppRun as arun, ProgramRun as prun, TreeInsert as tinsert, TreeDelete as tdelete, HashPut as hset, HashDelete as hdel}
-use Rattle.script_lines.specs.declared.line.Question.TheVariants.{TreeGet as tget, TreeRange as trange, HashGet as hget}
-use Rattle.script_lines.specs.Replies.{Reply, ok, value, ran, pairs_reply, refused, bad_tree, tree_full, denied}
+use Rattle.script_lines.specs.declared.line.Making.TheVariants.{AppRun as arun, ProgramRun as prun, TreeInsert as tinsert, TreeDelete as tdelete, HashPut as hset, HashDelete as hdel, Map as change_map}
+use Rattle.script_lines.specs.declared.line.MapChange.{MapChange}
+use Rattle.script_lines.specs.declared.line.MapChange.TheVariants.{Set as mset, Delete as mdel}
+use Rattle.script_lines.specs.declared.line.MapQuestion.{MapQuestion}
+use Rattle.script_lines.specs.declared.line.MapQuestion.TheVariants.{Get as mget, Range as mrange, Back as mback, Count as mcount, Next as mnext, Prev as mprev}
+use Rattle.script_lines.specs.declared.line.Question.TheVariants.{TreeGet as tget, TreeRange as trange, HashGet as hget, Map as ask_map}
+use Rattle.script_lines.specs.Replies.{Reply, ok, value, ran, pairs_reply, refused, bad_tree, tree_full, denied, absent, counted}
 use Rattle.shell_base.specs.Store.{Command, refusal_after, state_of}
 
 -- commands, one after the other, and the answer where the log takes all of them
@@ -94,6 +110,33 @@ hash_reply hash_refusals.NoKey = refused refusals.NoKey
 abbrev pub hash_made : Params → HashPlan → Made
 hash_made p plan = call_made hash hash_reply p plan
 
+-- why a call on a map is refused
+abbrev pub map_reply : CallRefusal → Reply
+map_reply map_refusals.NoObject = refused refusals.NoObject
+map_reply map_refusals.NoPages = refused refusals.NoPages
+map_reply (map_refusals.Map (map_causes.BadMap object)) = denied denials.BadMap
+map_reply (map_refusals.Map map_causes.TooLong) = denied denials.TooLong
+map_reply (map_refusals.Map map_causes.MapFull) = denied denials.MapFull
+map_reply (map_refusals.Map map_causes.NoKey) = refused refusals.NoKey
+
+-- how a change of a map ends: it is done, or refused by the map or by the engine
+abbrev pub change_reply : Option MapErr → Reply
+change_reply (Some (call_errors.Refused why)) = map_reply why
+change_reply (Some (call_errors.Exec (exec_errors.Refused why))) = refused why
+change_reply error = ok
+
+-- what a change comes to
+abbrev pub change_comes : ℕ → ℕ → MapChange → Params → List Command → of_calls.Plan Command MapErr
+change_comes lo hi (mset key bytes) p commands = set_comes lo hi key bytes p commands
+change_comes lo hi (mdel key) p commands = delete_comes lo hi key p commands
+
+abbrev pub change_made : of_calls.Plan Command MapErr → Made
+change_made plan = made plan.commands (change_reply plan.refusal)
+
+-- the same of a range whose last object may be below its first one, which is none
+abbrev pub map_made : ℕ → ℕ → MapChange → Params → List Command → Made
+map_made lo hi change p commands = if nat_le lo hi then change_made (change_comes lo hi change p commands) else made [] (refused refusals.NoObject)
+
 -- what a request for commands makes after these
 abbrev pub made_by : Params → List Command → Request → Option Made
 made_by p commands (run op) = Some (one_made p commands op)
@@ -103,6 +146,7 @@ made_by p commands (Make (tinsert lo hi key bytes)) = Some (plan_made p (insert_
 made_by p commands (Make (tdelete lo hi key)) = Some (plan_made p (delete_plan (bounds_of p) lo hi (state_of p commands) key))
 made_by p commands (Make (hset lo hi key bytes)) = Some (hash_made p (of_hash.put_plan (bounds_of p) lo hi (state_of p commands) key bytes))
 made_by p commands (Make (hdel lo hi key)) = Some (hash_made p (of_hash.delete_plan (bounds_of p) lo hi (state_of p commands) key))
+made_by p commands (Make (change_map lo hi change)) = Some (map_made lo hi change p commands)
 made_by p commands request = None
 
 -- After the commands the line asks for these commands, and has this answer where the log takes all of them.
@@ -140,14 +184,49 @@ hash_found (Ok None) = value []
 hash_found (Ok (Some bytes)) = value bytes
 hash_found (Err why) = hash_reply why
 
--- the answer to a request for pairs of a tree or a hash file
+-- what is read of a map, in a store that has its objects
+abbrev pub of_map : {A : Type 0} → Result A ℕ → Result A CallRefusal
+of_map (Ok found) = Ok found
+of_map (Err bad) = Err (map_refusals.Map (map_causes.BadMap bad))
+
+abbrev pub map_read : {A : Type 0} → Bounds → ℕ → ℕ → Result A ℕ → Result A CallRefusal
+map_read b lo hi found = if nat_le lo hi && nat_lt hi b.objects then of_map found else Err map_refusals.NoObject
+
+abbrev pub read_reply : {A : Type 0} → (A → Reply) → Result A CallRefusal → Reply
+read_reply reply (Ok found) = reply found
+read_reply reply (Err why) = map_reply why
+
+-- the value of a key, if it is there
+abbrev pub value_reply : Option (List ℕ) → Reply
+value_reply None = absent
+value_reply (Some bytes) = value bytes
+
+-- the keys from one up to another; no bytes are the end of the map
+abbrev pub end_of : List ℕ → Option (List ℕ)
+end_of [] = None
+end_of (byte ∷ key) = Some (byte ∷ key)
+
+abbrev pub keys_from : List ℕ → List ℕ → Span
+keys_from from to = record { from = from; to = end_of to }
+
+-- the answer to a question to a map
+abbrev pub map_found : Bounds → ℕ → ℕ → State → MapQuestion → Reply
+map_found b lo hi s (mget key) = read_reply value_reply (map_read b lo hi (ways.get_answer lo hi s key))
+map_found b lo hi s (mrange from to limit) = read_reply pairs_reply (map_read b lo hi (of_maps.range_answer lo hi s (keys_from from to) limit))
+map_found b lo hi s (mback from to limit) = read_reply pairs_reply (map_read b lo hi (of_maps.back_answer lo hi s (keys_from from to) limit))
+map_found b lo hi s (mcount from to) = read_reply counted (map_read b lo hi (of_maps.count_answer lo hi s (keys_from from to)))
+map_found b lo hi s (mnext key) = read_reply pairs_reply (map_read b lo hi (of_maps.range_answer lo hi s (above key) 1))
+map_found b lo hi s (mprev key) = read_reply pairs_reply (map_read b lo hi (of_maps.back_answer lo hi s (keys_from [] key) 1))
+
+-- the answer to a request for pairs of a tree, a hash file or a map
 abbrev pub tree_answer : Params → State → Request → Option Reply
 tree_answer p s (Ask (tget lo hi key)) = Some (found_reply (get_answer (bounds_of p) lo hi s key))
 tree_answer p s (Ask (trange lo hi from to)) = Some (range_reply (range_answer (bounds_of p) lo hi s from to))
 tree_answer p s (Ask (hget lo hi key)) = Some (hash_found (of_hash.get_answer (bounds_of p) lo hi s key))
+tree_answer p s (Ask (ask_map lo hi question)) = Some (map_found (bounds_of p) lo hi s question)
 tree_answer p s request = None
 
--- After the commands the line asks for pairs of a tree or a hash file, and this is the answer.
+-- After the commands the line asks for pairs of a tree, a hash file or a map, and this is the answer.
 pub record AsksTree (p : Params) (commands : List Command) (line : List ℕ) (reply : Reply) : Type 0 where
   pub request : Request
   pub asks : AsksFor line request

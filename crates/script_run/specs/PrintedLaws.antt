@@ -10,8 +10,8 @@ use Rattle.oper_core.specs.declared.refusal.Refusal.TheVariants.{NoPages, NoObje
 use Rattle.formats.specs.declared.params.Params.{Params}
 use Rattle.script_lines.specs.Reading.{IsPlain}
 use Rattle.script_lines.specs.declared.backup_denial.BackupDenial.TheVariants.{InBackup, NoBackup, AlreadyStore, NotCopied}
-use Rattle.script_lines.specs.declared.denial.Denial.TheVariants.{BadHash, HashFull, NoRoom}
-use Rattle.script_lines.specs.Replies.{Pair, Reply, ok, ran, value, pairs, forced, bad, refused, bad_tree, tree_full, denied, in_group, no_group, full, end, object_value, command_count, stat, copied, saved, backup_denied, summary, silence, pair_text, spaced_pair, spaced, numbers_of, hex_glyph, hex_pair, hex_text, name_of, text_of, said_line}
+use Rattle.script_lines.specs.declared.denial.Denial.TheVariants.{BadHash, HashFull, NoRoom, BadMap, MapFull, TooLong}
+use Rattle.script_lines.specs.Replies.{Pair, Reply, ok, ran, value, pairs, forced, bad, refused, bad_tree, tree_full, denied, in_group, no_group, full, end, object_value, command_count, stat, copied, saved, backup_denied, summary, absent, counted, silence, pair_text, spaced_pair, spaced, numbers_of, hex_glyph, hex_pair, hex_text, name_of, text_of, said_line}
 use Rattle.shell_base.specs.Store.{Command}
 use Rattle.script_run.specs.Answers.{Said, Begun}
 use Rattle.script_run.specs.Printed.{before_line, whole_lines, texts_of, SaysForced, SaysNumber, SaysSaved}
@@ -134,6 +134,11 @@ plain_text tree_full = plain_when (codes "refused TreeFull") refl
 plain_text (denied BadHash) = plain_when (codes "refused BadHash") refl
 plain_text (denied HashFull) = plain_when (codes "refused HashFull") refl
 plain_text (denied NoRoom) = plain_when (codes "refused NoRoom") refl
+plain_text (denied BadMap) = plain_when (codes "refused BadMap") refl
+plain_text (denied MapFull) = plain_when (codes "refused MapFull") refl
+plain_text (denied TooLong) = plain_when (codes "refused TooLong") refl
+plain_text absent = plain_when (codes "none") refl
+plain_text (counted n) = plain_count (codes "counted ") n (plain_when (codes "counted ") refl)
 plain_text in_group = plain_when (codes "refused InGroup") refl
 plain_text no_group = plain_when (codes "refused NoGroup") refl
 plain_text (copied n) = plain_count (codes "copied ") n (plain_when (codes "copied ") refl)
@@ -206,6 +211,8 @@ line_more (copied n) replies bytes rest = whole_line (copied n) replies bytes re
 line_more (saved n) replies bytes rest = whole_line (saved n) replies bytes rest
 line_more (backup_denied why) replies bytes rest = whole_line (backup_denied why) replies bytes rest
 line_more (summary totals) replies bytes rest = whole_line (summary totals) replies bytes rest
+line_more absent replies bytes rest = whole_line absent replies bytes rest
+line_more (counted n) replies bytes rest = whole_line (counted n) replies bytes rest
 line_more silence replies bytes rest = rest
 
 -- the whole lines of what is said are the texts of the answers
@@ -261,6 +268,8 @@ forced_text (copied m) n same = absurd (omega (arith, ap (λ (l : List ℕ). get
 forced_text (saved m) n same = absurd (omega (arith, ap (λ (l : List ℕ). get_or l 0 0) same))
 forced_text (backup_denied why) n same = absurd (omega (arith, ap (λ (l : List ℕ). get_or l 1 0) same))
 forced_text (summary totals) n same = absurd (omega (arith, ap (λ (l : List ℕ). get_or l 0 0) same))
+forced_text absent n same = absurd (omega (arith, ap (λ (l : List ℕ). get_or l 0 0) same))
+forced_text (counted m) n same = absurd (omega (arith, ap (λ (l : List ℕ). get_or l 0 0) same))
 forced_text silence n same = absurd (omega (arith, ap (λ (l : List ℕ). get_or l 1 0) same))
 
 -- no text in hexadecimal has its first space there
@@ -299,6 +308,8 @@ saved_text no_group n same = absurd (omega (arith, ap (λ (l : List ℕ). get_or
 saved_text (copied m) n same = absurd (omega (arith, ap (λ (l : List ℕ). get_or l 0 0) same))
 saved_text (backup_denied why) n same = absurd (omega (arith, ap (λ (l : List ℕ). get_or l 0 0) same))
 saved_text (summary totals) n same = absurd (omega (arith, ap (λ (l : List ℕ). get_or l 0 0) same))
+saved_text absent n same = absurd (omega (arith, ap (λ (l : List ℕ). get_or l 0 0) same))
+saved_text (counted m) n same = absurd (omega (arith, ap (λ (l : List ℕ). get_or l 0 0) same))
 saved_text silence n same = absurd (omega (arith, ap (λ (l : List ℕ). get_or l 0 0) same))
 
 -- a list of texts that has this one, in front or after

@@ -13,8 +13,9 @@ use Rattle.script_lines.specs.declared.line.Question.TheVariants.{Get as get}
 use Rattle.script_lines.specs.declared.line.Upkeep.TheVariants.{Install as install, Drain as drain, Trim as trim}
 use Rattle.script_lines.specs.declared.line.Grouping.TheVariants.{Begin as begin_group, End as end_group, Abort as abort_group}
 use Rattle.script_lines.specs.declared.line.Saving.TheVariants.{Start as bstart, Copy as bcopy, Finish as bfinish}
-use Rattle.script_lines.specs.Replies.{Reply, ok, ran, value, pairs, forced, bad, refused, bad_tree, tree_full, denied, in_group, no_group, full, end, object_value, command_count, stat, copied, saved, backup_denied, summary, silence}
-use Rattle.script_lines.specs.declared.denial.Denial.TheVariants.{BadHash}
+use Rattle.script_lines.specs.Replies.{Reply, ok, ran, value, pairs, forced, bad, refused, bad_tree, tree_full, denied, in_group, no_group, full, end, object_value, command_count, stat, copied, saved, backup_denied, summary, absent, counted, silence}
+use Rattle.script_lines.specs.declared.denial.Denial.{Denial}
+use Rattle.script_lines.specs.declared.denial.Denial.TheVariants.{BadHash, BadMap}
 use Rattle.script_lines.specs.declared.backup_denial.BackupDenial.{BackupDenial}
 use Rattle.script_lines.specs.declared.backup_denial.BackupDenial.TheVariants.{InBackup, NoBackup, AlreadyStore, NotCopied}
 use Rattle.shell_base.specs.Store.{Command, meaning_in, state_of, record_length, Stands}
@@ -86,6 +87,12 @@ IsGranted group (Group abort_group) = IsTrue (is_some group)
 IsGranted group (Save bstart) = group ≡ None
 IsGranted group request = IsUpkeep request × (group ≡ None)
 
+-- a question may meet this in a hash file or a map
+abbrev pub IsMet : Denial → Type 0
+IsMet BadHash = ⊤
+IsMet BadMap = ⊤
+IsMet why = ⊥
+
 -- The line gets this answer after the commands, where the open group began after so many of them, or none is open (`group`), and
 -- adds these.
 abbrev pub Replies : Params → Option ℕ → List Command → List ℕ → Reply → List Command → Type 0
@@ -104,7 +111,9 @@ Replies p group commands line (refused why) added =
     ⊎ ((((object : ℕ) × AsksFor line (Ask (get object)) × (p.objects ≤ object) × (why ≡ NoObject)) ⊎ AsksTree p commands line (refused why)) × (added ≡ []))
 Replies p group commands line bad_tree added = AsksMade p commands line (made added bad_tree) ⊎ (AsksTree p commands line bad_tree × (added ≡ []))
 Replies p group commands line tree_full added = AsksMade p commands line (made added tree_full)
-Replies p group commands line (denied why) added = AsksMade p commands line (made added (denied why)) ⊎ ((why ≡ BadHash) × AsksTree p commands line (denied why) × (added ≡ []))
+Replies p group commands line (denied why) added = AsksMade p commands line (made added (denied why)) ⊎ (IsMet why × AsksTree p commands line (denied why) × (added ≡ []))
+Replies p group commands line absent added = AsksTree p commands line absent × (added ≡ [])
+Replies p group commands line (counted n) added = AsksTree p commands line (counted n) × (added ≡ [])
 Replies p group commands line in_group added = (request : Request) × IsBarred request × AsksFor line request × IsTrue (is_some group) × (added ≡ [])
 Replies p group commands line no_group added = (request : Request) × IsClosing request × AsksFor line request × (group ≡ None) × (added ≡ [])
 Replies p group commands line (full used need limit) added =
@@ -149,6 +158,8 @@ is_refusing (summary totals) = false
 is_refusing (stat counts) = false
 is_refusing (copied now) = false
 is_refusing (saved n) = false
+is_refusing absent = false
+is_refusing (counted n) = false
 is_refusing silence = false
 is_refusing reply = true
 

@@ -13,7 +13,7 @@ use Rattle.script_lines.specs.declared.line.Line.TheVariants.{Keep, Group, Save}
 use Rattle.script_lines.specs.declared.line.Upkeep.TheVariants.{Install as install, Drain as drain, Checkpoint as checkpoint, Trim as trim}
 use Rattle.script_lines.specs.declared.line.Grouping.TheVariants.{Begin as begin_group, End as end_group, Abort as abort_group}
 use Rattle.script_lines.specs.declared.line.Saving.TheVariants.{Start as bstart}
-use Rattle.script_lines.specs.Replies.{Reply, ok, ran, pairs, bad_tree, tree_full, denied, in_group, no_group, value, forced, bad, refused, full, end, object_value, command_count, stat, copied, saved, backup_denied, summary, silence, text_of, said_line}
+use Rattle.script_lines.specs.Replies.{Reply, ok, ran, pairs, bad_tree, tree_full, denied, in_group, no_group, value, forced, bad, refused, full, end, object_value, command_count, stat, copied, saved, backup_denied, summary, absent, counted, silence, text_of, said_line}
 use Rattle.shell_base.specs.Store.{Command}
 use Rattle.script_run.specs.declared.tending.Tending.{Tending}
 use Rattle.script_run.specs.Groups.{Account, AreInOrder, AreWhole, Becomes, IsAfter, IsWhole, Regroups, Span, account_before, account_of, all_after, closed_after, closed_with, group_after, waiting}
@@ -417,6 +417,8 @@ beginning (copied n) count less = within_text (text_of (copied n)) count less
 beginning (saved n) count less = within_text (text_of (saved n)) count less
 beginning (backup_denied why) count less = within_text (text_of (backup_denied why)) count less
 beginning (summary totals) count less = within_text (text_of (summary totals)) count less
+beginning absent count less = within_text (text_of absent) count less
+beginning (counted n) count less = within_text (text_of (counted n)) count less
 beginning silence count less = absurd (omega arith)
 
 -- a beginning of the next answer was said, or all of it

@@ -19,7 +19,7 @@
 //! that is bad ([`BadLine`]).
 //!
 //! It depends on shell_base, which opens the store, on script_lines for the lines and their answers, on backup_copy, on the
-//! clients of trees, hash files and applications, and on store_engine and what is below it.
+//! clients of trees, hash files, maps and applications, and on store_engine and what is below it.
 #![tactic(auto)]
 
 mod answers;

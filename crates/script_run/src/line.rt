@@ -65,7 +65,7 @@ fn do_line<M: Machine, T: Machine>(
     copies_go_on::<AllOps, M, T>();
     match line {
         Line::Run(op) => told(command_answer(engine, machine, op)),
-        Line::Make(making) => told(made_answer(engine, machine, making)),
+        Line::Make(making) => told(made_answer(alloc, engine, machine, making)),
         Line::Ask(question) => answer_to(alloc, engine, machine, question),
         Line::Force => told(force_answer(engine, machine)),
         Line::Keep(upkeep) => told(upkeep_answer(engine, machine, upkeep)),

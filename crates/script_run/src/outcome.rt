@@ -17,7 +17,7 @@ use store_engine::Engine;
 pub enum Outcome {
     /// This answer.
     Told(Answer<'static>),
-    /// What was found in a tree or a hash file.
+    /// What was found in a tree, a hash file or a map.
     Found(Found),
     /// The value of this object, which is cached.
     Cached { object: u32 },

@@ -21,7 +21,7 @@ const USAGE: &[u8] =
 const PAGE: &[u8] = b"\x16\0\0\0\x01\x01\0\0\0\0\0\0\0\x15\x02\0\0\0\0\0\x01\0b\x01\02";
 
 // Runs in one folder, empty at first, with a crash between them that loses what was not synced.
-const ROWS: [&[Run]; 49] = [
+const ROWS: [&[Run]; 51] = [
     // A group allows no force, and ends once.
     &[
         NEW,
@@ -191,6 +191,32 @@ const ROWS: [&[Run]; 49] = [
             b"put 0 aa\nhget 0 7 01\nhset 0 7 01 a1\nhdel 0 7 01\nhget 1 1 01\nhset 2 1 01 a1\nhdel 1 8 01\nhget 1 2 01\n",
             Status::DoneWithRefusals,
             b"ok\nrefused BadHash\nrefused BadHash\nrefused BadHash\nrefused NoObject\nrefused NoObject\nrefused NoObject\n-\n",
+        ),
+    ],
+    // A map is read both ways, and has what was forced after a crash.
+    &[
+        ("redo init 8 1024 65536 --pages", b"", Status::Done, b""),
+        (
+            "redo run",
+            b"mget 0 7 61\nmset 0 7 61 01\nmset 0 7 6162 -\nmset 0 7 62 02\nmget 0 7 6162\nmget 0 7 63\nmrange 0 7 - - 9\nmrange 0 7 61 62 1\nmback 0 7 - 62 9\nmcount 0 7 61 -\nmnext 0 7 61\nmprev 0 7 -\nmnext 0 7 62\nmdel 0 7 61\nmdel 0 7 61\nforce\n",
+            Status::DoneWithRefusals,
+            b"none\nok\nok\nok\n-\nnone\n61:01 6162: 62:02\n61:01\n6162: 61:01\ncounted 3\n6162:\n62:02\n-\nok\nrefused NoKey\nforced 4\n",
+        ),
+        (
+            "redo run",
+            b"mrange 0 7 - - 9\nmset 0 7 - 00\nmset 1 0 61 01\nmget 0 8 61\nmcount 3 2 - -\nput 0 aa\nmget 0 7 61\nmset 0 7 61 01\n",
+            Status::DoneWithRefusals,
+            b"6162: 62:02\nrefused TooLong\nrefused NoObject\nrefused NoObject\nrefused NoObject\nok\nrefused BadMap\nrefused BadMap\n",
+        ),
+    ],
+    // A store without pages has none but empty maps.
+    &[
+        NODES,
+        (
+            "redo run",
+            b"mset 0 7 61 01\nmget 0 7 61\nmdel 0 7 61\nmprev 0 7 -\n",
+            Status::DoneWithRefusals,
+            b"refused NoPages\nnone\nrefused NoPages\n-\n",
         ),
     ],
     // A program that copies its input runs to the end of it.

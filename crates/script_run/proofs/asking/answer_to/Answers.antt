@@ -1,7 +1,7 @@
 use Rattle.std.proofs.Common.{ap}
 use Rattle.script_lines.specs.declared.line.Line.TheVariants.{Ask}
 use Rattle.script_lines.specs.declared.line.Question.{Question}
-use Rattle.script_lines.specs.declared.line.Question.TheVariants.{Get, TreeGet, TreeRange, HashGet}
+use Rattle.script_lines.specs.declared.line.Question.TheVariants.{Get, TreeGet, TreeRange, HashGet, Map}
 use Rattle.script_run.proofs.FindingLemmas.{asked_finds_out, finds_for}
 use Rattle.script_run.proofs.asking.answer_to.Goals as goal
 
@@ -19,3 +19,7 @@ returns-in-TreeRange-clause-found g c = finds_for (Ask (TreeRange c.in-TreeRange
 pub returns-in-HashGet-clause-found : goal.returns-in-HashGet-clause-found
 returns-in-HashGet-clause-found g c = finds_for (Ask (HashGet c.in-HashGet.low c.in-HashGet.high c.in-HashGet.key)) (ap (λ (q : Question). Ask q) c.in-HashGet.is)
     (asked_finds_out c.find_hash.result c.found_out-in-HashGet.ensures.out c.find_hash.ensures)
+
+pub returns-in-Map-clause-found : goal.returns-in-Map-clause-found
+returns-in-Map-clause-found g c = finds_for (Ask (Map c.in-Map.low c.in-Map.high c.in-Map.question)) (ap (λ (q : Question). Ask q) c.in-Map.is)
+    (asked_finds_out c.find_in_map.result c.found_out-in-Map.ensures.out c.find_in_map.ensures)

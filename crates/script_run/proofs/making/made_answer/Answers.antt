@@ -33,3 +33,8 @@ pub returns-in-HashDelete : goal.returns-in-HashDelete
 returns-in-HashDelete g c =
     subst (λ (m : Making). IsMade (g.M.Machine.disk c.args.machine.now) (g.M.Machine.disk c.hash_delete.new.machine) c.args.engine.now c.hash_delete.new.engine (Make m) c.hash_delete.result)
     (sym c.in-HashDelete.is) c.hash_delete.ensures
+
+pub returns-in-Map : goal.returns-in-Map
+returns-in-Map g c =
+    subst (λ (m : Making). IsMade (g.M.Machine.disk c.args.machine.now) (g.M.Machine.disk c.map_changed.new.machine) c.args.engine.now c.map_changed.new.engine (Make m) c.map_changed.result)
+    (sym c.in-Map.is) c.map_changed.ensures

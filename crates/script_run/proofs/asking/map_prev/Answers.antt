@@ -1,0 +1,22 @@
+use Rattle.std.proofs.Common.{List, Option, [], option_map, refl, ℕ}
+use Rattle.page_map.specs.Ranges.{back_answer}
+use Rattle.script_lines.specs.Replies.{pairs_reply}
+use Rattle.script_lines.specs.declared.line.MapQuestion.TheVariants.{Prev}
+use Rattle.script_run.specs.Made.{end_of}
+use Rattle.script_run.specs.declared.asking.Found.TheVariants.{Entries}
+use Rattle.script_run.proofs.MapLemmas.{asked, not_asked, nothing_asked}
+use Rattle.script_run.proofs.asking.map_prev.Goals as goal
+
+pub returns-in_default : goal.returns-in_default
+returns-in_default g c = nothing_asked c.args.low c.args.high (Prev c.args.key.now) c.in_default.ensures (c.nothing_is_made.ensures.calls c.requires) c.nothing_is_made.ensures.front
+
+pub returns-in-Ok : goal.returns-in-Ok
+returns-in-Ok g c =
+    asked pairs_reply (λ (e : Option (List ℕ)) lo hi s. back_answer lo hi s (record { from = []; to = e }) 1) _ _ _ _ c.args.low c.args.high (Prev c.args.key.now) (end_of c.args.key.now) (option_map (λ end. end.now) c.end_of.result)
+    c.end_of.ensures (λ p commands. refl) c.in-Some.map (Entries c.in-Ok.found) c.in-Ok.found.items c.in-Some.ensures c.in-Ok.ensures.calls c.in-Ok.ensures.adds c.in-Ok.ensures.found
+    refl
+
+pub returns-in-Err : goal.returns-in-Err
+returns-in-Err g c =
+    not_asked pairs_reply (λ (e : Option (List ℕ)) lo hi s. back_answer lo hi s (record { from = []; to = e }) 1) _ _ _ _ c.args.low c.args.high (Prev c.args.key.now) (end_of c.args.key.now) (option_map (λ end. end.now) c.end_of.result)
+    c.end_of.ensures (λ p commands. refl) c.in-Some.map c.in-Err.error c.in-Some.ensures c.in-Err.ensures.calls c.in-Err.ensures.adds c.in-Err.ensures.refused c.map_refused.ensures
