@@ -1,5 +1,5 @@
 # needs: command -v redis-server && command -v redis-cli
-# One primary and two standbys over a stream of Redis, as docs/STANDBY.md has them. The primary adds what the queue has not; a
+# One primary and two standbys over a stream of Redis (docs/STANDBY.md). The primary adds what the queue has not; a
 # standby takes the entries one after the other and remembers the last one that it has. One that was away catches up; an entry that
 # comes twice is passed over; what was not added is added later; one that is lost is a gap.
 set -o pipefail
