@@ -42,12 +42,13 @@ inline void check(const redo_t *db, int32_t answer) {
     throw error(answer, redo_last_error(db, text, sizeof text), detail);
 }
 
-/* Bytes of the caller: a string, or a span, a vector or an array of what is one byte long. */
+/* Bytes of the caller: a string, span, vector or std::array of bytes; of a literal, a char * or an array of char up to its 0. */
 struct bytes {
     const void *at;
     std::size_t length;
-    bytes(const char *text) : bytes(std::string_view(text)) {}
-    template <std::ranges::contiguous_range R> requires(sizeof(std::ranges::range_value_t<R>) == 1)
+    template <class C> requires std::same_as<std::remove_const_t<C>, char> bytes(C *const &text) : bytes(std::string_view(text)) {}
+    template <size_t n> bytes(const char (&text)[n]) : at(text), length(std::min(std::string_view(text, n).find('\0'), n)) {}
+    template <std::ranges::contiguous_range R> requires(sizeof(std::ranges::range_value_t<R>) == 1 && !std::is_array_v<R>)
     bytes(const R &range) : at(std::ranges::data(range)), length(std::ranges::size(range)) {}
 };
 
