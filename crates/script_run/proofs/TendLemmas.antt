@@ -37,7 +37,7 @@ use Rattle.shell_base.specs.Stops.{IsCaused, IsUndamaged}
 use Rattle.shell_base.specs.Store.{Between, Command, Holds, Says, meaning_in}
 use Rattle.shell_base.specs.declared.stop.Stop.{Stop}
 use Rattle.script_run.specs.Courses.{IsBetween}
-use Rattle.script_run.specs.Stages.{IsTendedTo, IsUpkeep, due_in, paced_in}
+use Rattle.script_run.specs.Stages.{IsTendedIn, IsUpkeep, due_in, paced_in}
 use Rattle.script_run.specs.Tended.{IsTended, Tends}
 use Rattle.script_run.specs.declared.tending.Tending.{Tending}
 use Rattle.script_run.specs.declared.tending.Tending.TheVariants.{ByHand, ByLine}
@@ -60,7 +60,7 @@ any_some (Some n) so = so n
 
 -- tending leaves each stage of the engine as it is
 abbrev pub LeavesStages : Tending → EngineView → Type 0
-LeavesStages tending engine = (p : Params) (w : World Command) (pace : Pace) → w.group ≡ engine.group → IsTendedTo tending p (paced_in engine w pace) (paced_in engine w pace)
+LeavesStages tending engine = (p : Params) (w : World Command) (pace : Pace) → w.group ≡ engine.group → IsTendedIn (epoch_in engine) tending p (paced_in engine w pace) (paced_in engine w pace)
 
 pub left_by_hand : (tending : Tending) (engine : EngineView) → tending ≡ ByHand → LeavesStages tending engine
 left_by_hand tending engine is = subst (λ (t : Tending). LeavesStages t engine) (sym is) (λ p w pace same. refl)
@@ -142,7 +142,6 @@ module _ {old now : Disk} {before after : EngineView} {pace later : Pace} {answe
           };
           same = none_open there.shows (k.done.call.group ∙ alone) ∙ sym (none_open holds.shows alone);
           leads = inr (record {
-            epoch = epoch_in before;
             its = way;
             due = is_upkeep;
             report = upkeep;

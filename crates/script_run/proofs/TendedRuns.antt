@@ -12,6 +12,7 @@ use Rattle.explain_core.specs.World.{World, Step, run}
 use Rattle.script_lines.specs.Replies.{said_line}
 use Rattle.store_engine.specs.Beside.{MayGoBeside}
 use Rattle.store_engine.specs.Engine.{EngineView, accepted_in, forced_in, so_far}
+use Rattle.store_engine.specs.Upkept.{epoch_in}
 use Rattle.store_engine.specs.declared.pace.Pace.{Pace}
 use Rattle.backup_copy.specs.Copies.{Copies}
 use Rattle.shell_base.specs.First.{Stage}
@@ -98,7 +99,7 @@ module _ (few : AreFew) {T : Type 0} {tending : Tending} {p : Params} {first : S
     truly = tending_truly;
     stage = g.stage;
     goes = g.goes;
-    done = subst (λ (x : PacedStage). IsTendedTo tending p x (paced_in after it.kept.holds.world later)) (sym g.done) it.leads;
+    done = subst (λ (x : PacedStage). IsTendedTo tending p x (paced_in after it.kept.holds.world later)) (sym g.done) (epoch_in engine, it.leads);
     steps = tending_steps;
   }
 

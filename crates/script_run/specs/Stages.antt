@@ -203,9 +203,8 @@ pub record IsUpkeep (p : Params) (at : PacedStage) (epoch : ℕ) (c : Course Com
   pub alone : at.stage.world.group ≡ None
   pub course_is : c ≡ tending_course (meaning_in p) (due_in p at) epoch (so_far at.stage.copied) at.stage.world at.stage.used
 
--- It was done, and the pace goes on by what became of its trim and of its turn.
-pub record TakesUpkeep (p : Params) (old new : PacedStage) : Type 0 where
-  pub epoch : ℕ
+-- It was done in a log of this epoch, and the pace goes on by what became of its trim and of its turn.
+pub record TakesUpkeep (p : Params) (epoch : ℕ) (old new : PacedStage) : Type 0 where
   pub its : Course Command
   pub due : IsUpkeep p old epoch its
   pub report : UpkeepReport
@@ -213,10 +212,15 @@ pub record TakesUpkeep (p : Params) (old new : PacedStage) : Type 0 where
   pub stage_is : new.stage ≡ stage_after p old.stage its
   pub pace_is : new.pace ≡ pace_after old.pace (Ok report) new.stage.used p.limit
 
--- Before a line is read: by hand nothing is done, and by line the upkeep that is due, but nothing within a group.
+-- Before a line is read, in a log of this epoch: by hand nothing is done, and by line the upkeep that is due, but nothing within a
+-- group.
+abbrev pub IsTendedIn : ℕ → Tending → Params → PacedStage → PacedStage → Type 0
+IsTendedIn epoch ByHand p old new = new ≡ old
+IsTendedIn epoch ByLine p old new = (IsTrue (is_some old.stage.world.group) × (new ≡ old)) ⊎ TakesUpkeep p epoch old new
+
+-- in a log of some epoch: a run does not say which
 abbrev pub IsTendedTo : Tending → Params → PacedStage → PacedStage → Type 0
-IsTendedTo ByHand p old new = new ≡ old
-IsTendedTo ByLine p old new = (IsTrue (is_some old.stage.world.group) × (new ≡ old)) ⊎ TakesUpkeep p old new
+IsTendedTo tending p old new = (epoch : ℕ) × IsTendedIn epoch tending p old new
 
 -- a line that is asked after the old stage, when the store was tended, leads to the new one by this answer
 abbrev pub LeadsOn : Tending → Params → PacedStage → List ℕ → Reply → PacedStage → Type 0

@@ -6,13 +6,14 @@ use Rattle.formats.specs.declared.params.Params.{Params}
 use Rattle.explain_core.specs.World.{World, Step, run}
 use Rattle.store_engine.specs.Beside.{MayGoBeside}
 use Rattle.store_engine.specs.Engine.{EngineView, forced_in, so_far}
+use Rattle.store_engine.specs.Upkept.{epoch_in}
 use Rattle.store_engine.specs.declared.pace.Pace.{Pace}
 use Rattle.shell_base.specs.Stops.{IsCaused, IsUndamaged}
 use Rattle.shell_base.specs.Store.{Between, Command, Holds, IsAttached, Kept, meaning_in}
 use Rattle.shell_base.specs.declared.stop.Stop.{Stop}
 use Rattle.script_run.specs.Courses.{IsBetween}
 use Rattle.script_run.specs.Groups.{open_in}
-use Rattle.script_run.specs.Stages.{IsTendedTo, paced_in}
+use Rattle.script_run.specs.Stages.{IsTendedIn, paced_in}
 use Rattle.script_run.specs.declared.tending.Tending.{Tending}
 use Rattle.script_run.specs.declared.tending.Tending.TheVariants.{ByHand, ByLine}
 
@@ -21,12 +22,12 @@ abbrev pub tending_of : Bool → Tending
 tending_of false = ByHand
 tending_of true = ByLine
 
--- The store was tended: engine and files stand for the same commands, and the same group is open, or none. What was done may be
--- done beside a backup, if one is made.
+-- The store was tended: engine and files stand for the same commands, and the same group is open, or none. A trim was done in a log
+-- of the epoch that the engine's has. What was done may be done beside a backup, if one is made.
 pub record IsTended (tending : Tending) (p : Params) (now : Disk) (before after : EngineView) (pace later : Pace) (w : World Command) (commands : List Command) : Type 0 where
   pub kept : Kept p before now after commands
   pub same : open_in kept.holds.world ≡ open_in w
-  pub leads : IsTendedTo tending p (paced_in before w pace) (paced_in after kept.holds.world later)
+  pub leads : IsTendedIn (epoch_in before) tending p (paced_in before w pace) (paced_in after kept.holds.world later)
   pub copied : after.copied ≡ before.copied
   pub beside : IfSome before.copied (λ n. (steps : List (Step Command)) × MayGoBeside (meaning_in p) (so_far before.copied) w steps × (kept.holds.world ≡ run (meaning_in p) w steps))
 
