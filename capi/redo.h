@@ -61,7 +61,8 @@ enum {
     REDO_DAMAGED = 4,        /* a file is damaged, or a redo_create was cut short; detail: the file (0 objects, 1 log A, 2 log B) and
                               * the place */
     REDO_DISK_FAULT = 5,     /* a file could not be opened, read, written or synced, or memory was refused in the middle of a call;
-                              * detail: errno; the file (3 the folder); what failed, below, which is 0 where memory was refused */
+                              * detail: errno, 0 where a file ended early; the file (3 the folder); what failed, below, 0 where memory was
+                              * refused */
     REDO_ALREADY_STORE = 6,  /* the folder in which a store is to be made has one */
     REDO_MEMORY = 8,         /* out of memory */
     REDO_BACKUP_FAULT = 11,  /* as REDO_DISK_FAULT, of a backup's files: the backup is given up, and the store goes on */
@@ -101,7 +102,8 @@ enum {
     REDO_COPIED = 67,        /* the handle is a copy of an open one, or was moved since it was opened */
     REDO_FORKED = 68,        /* the handle is the parent's: this process may close it, and nothing else. (A fork by the bare system call
                               * is not noticed.) */
-    REDO_NULL = 69,          /* a pointer to bytes, or to room for some, is null and its length is not 0; or a path is null */
+    REDO_NULL = 69,          /* a pointer to bytes, or to room for some, is null and its length is not 0; or a path is null, or the numbers
+                              * of a store that may have to be made */
     REDO_LOCKED = 71,        /* another handle, or another process, has the store */
     REDO_NO_FOLDER = 72,     /* the folder is not there, or cannot be locked; detail: errno */
     REDO_OLD_LOG = 73,       /* the folder in which a store is to be made has none, but the log of one: see docs/SCRIPT.md */
@@ -130,7 +132,8 @@ int32_t redo_open(redo_t *db, const char *folder);
  * REDO_OR_CREATE: where the folder has no store, one is made with these numbers, which else are not looked at. What redo_open calls
  * damaged is so here.
  * REDO_TO_READ: nothing is written, and no restart is logged. Many handles may read one store, in one process or several, and none
- * changes it meanwhile (REDO_LOCKED, on either side). The folder and its files have to be readable, no more. Every call that does
+ * changes it meanwhile (REDO_LOCKED, on either side; the lock has no queue, and readers that come and go may outlast a wait for it).
+ * The folder and its files have to be readable, no more. Every call that does
  * not only read is REDO_READ_ONLY. */
 enum { REDO_OR_CREATE = 1, REDO_TO_READ = 2 };
 int32_t redo_open_with(redo_t *db, const char *folder, uint32_t how, uint32_t wait, const redo_params_t *numbers);
@@ -236,7 +239,8 @@ int32_t redo_hash_get(redo_t *db, redo_range_t hash, const void *key, size_t key
                       uint64_t *length);
 
 /* Calls `each` with one pair after the other, in no order, until it answers another number than 0: so many were told. Where it is null
- * they are counted. The bytes are there until it answers, and the handle is busy meanwhile. */
+ * they are counted. The bytes are there until it answers, and the handle is busy meanwhile: for good where `each` jumps out. With another
+ * answer than REDO_OK some may have been told, and `count` is as it was. */
 typedef int (*redo_each_t)(void *with, const void *key, size_t key_length, const void *value, size_t length);
 int32_t redo_hash_each(redo_t *db, redo_range_t hash, redo_each_t each, void *with, uint64_t *count);
 
