@@ -115,7 +115,7 @@ enum { REDO_FAILED_OPEN = 1, REDO_FAILED_READ = 2, REDO_FAILED_WRITE = 3, REDO_F
 const char *redo_strerror(int32_t answer);      /* a constant text for each number */
 /* What the last answer of this handle that was not 0, and not REDO_BUSY, says in words: the numbers beside it, and of a fault the file,
  * what failed and the system's reason. It is put into the room, where 160 bytes are enough, and `into` is the answer; where there is
- * no room, the constant text is. After redo_close there was none. */
+ * no room, the constant text is. After redo_close there was none. It is that of the handle, not of a thread, as the detail is. */
 const char *redo_last_error(const redo_t *db, char *into, size_t room);
 /* What the last answer of this handle that was not 0 says beside its number; zeros where it says nothing. */
 int32_t redo_last_detail(const redo_t *db, redo_detail_t *detail);
