@@ -48,7 +48,7 @@ struct bytes {
     std::size_t length;
     template <class C> requires std::same_as<std::remove_const_t<C>, char> bytes(C *const &text) : bytes(std::string_view(text)) {}
     template <size_t n> bytes(const char (&text)[n]) : at(text), length(std::min(std::string_view(text, n).find('\0'), n)) {}
-    template <std::ranges::contiguous_range R> requires(sizeof(std::ranges::range_value_t<R>) == 1 && !std::is_array_v<R>)
+    template <std::ranges::contiguous_range R> requires(sizeof(std::ranges::range_value_t<R>) == 1 && !std::same_as<std::remove_extent_t<R>, char>)
     bytes(const R &range) : at(std::ranges::data(range)), length(std::ranges::size(range)) {}
 };
 
@@ -60,6 +60,8 @@ std::string value_of(const redo_t *db, auto &&call) {
         if (length <= value.size()) return value.resize(length), value;
     }
 }
+
+inline uint64_t counted(const redo_t *db, auto &&call) { uint64_t n = 0; return check(db, call(&n)), n; }
 
 /* What is begun, and is given up at the end of the scope unless it was ended before. */
 template <int32_t (*give_up)(redo_t *)> class scope {
@@ -81,23 +83,23 @@ struct group : scope<redo_group_abort> {
 
 struct transaction : scope<redo_txn_abort> {
     explicit transaction(redo_t *of) : scope(of, redo_txn_begin(of)) {}
-    void commit() { end(redo_txn_commit(db)); }
-    void commit_lazily() { end(redo_txn_commit_lazily(db)); }
+    void commit() { ended(redo_txn_commit(db)); }     // REDO_LOG_FULL and REDO_BUSY alone leave it open
+    void commit_lazily() { ended(redo_txn_commit_lazily(db)); }
+
+  private:
+    void ended(int32_t answer) { check(answer == REDO_LOG_FULL || answer == REDO_BUSY ? db : std::exchange(db, nullptr), answer); }
 };
 
 struct snapshot : scope<redo_snapshot_end> {
     explicit snapshot(redo_t *of) : scope(of, redo_snapshot_begin(of)) {}
-    std::string get(uint32_t x) const {
-        return value_of(db, [&](auto... room) { return redo_snapshot_get(db, x, room...); });
-    }
+    std::string get(uint32_t x) const { return value_of(db, [&](auto... room) { return redo_snapshot_get(db, x, room...); }); }
 };
 
 struct backup : scope<redo_backup_give_up> {
     backup(redo_t *of, const std::filesystem::path &folder) : scope(of, redo_backup_start(of, folder.c_str())) {}
-    uint64_t copy(uint32_t count, uint64_t copied = 0) { return check(db, redo_backup_copy(db, count, &copied)), copied; }
-    uint64_t finish(uint64_t commands = 0) {        // copies what is left, and says how many commands there are
-        return copy(UINT32_MAX), end(redo_backup_finish(db, &commands)), commands;
-    }
+    uint64_t copy(uint32_t count) { return counted(db, [&](uint64_t *n) { return redo_backup_copy(db, count, n); }); }
+    /* copies what is left, and says how many commands there are */
+    uint64_t finish() { uint64_t n = 0; return copy(UINT32_MAX), end(redo_backup_finish(db, &n)), n; }
 };
 
 /* A map in a range of objects, by its three calls in redo.h. */
@@ -169,9 +171,7 @@ class store {
     }
     redo_t *handle() const { return db(); }         // for the other calls of redo.h
     void put(uint32_t x, bytes value) { made(redo_put(db(), x, value.at, value.length)); }
-    std::string get(uint32_t x) const {
-        return value_of(db(), [&](auto... room) { return redo_get(db(), x, room...); });
-    }
+    std::string get(uint32_t x) const { return value_of(db(), [&](auto... room) { return redo_get(db(), x, room...); }); }
     uint64_t get(uint32_t x, std::span<std::byte> into) const {     // as much as there is room for, and how long it is
         uint64_t length = 0;
         return made(redo_get(db(), x, into.data(), into.size(), &length)), length;
@@ -181,12 +181,12 @@ class store {
     void cut(uint32_t from, uint32_t to, uint32_t place) { made(redo_cut(db(), from, to, place)); }
     void sort(uint32_t from, uint32_t to, uint32_t width) { made(redo_sort(db(), from, to, width)); }
     void swap(uint32_t first, uint32_t second) { made(redo_swap(db(), first, second)); }
-    uint64_t force(uint64_t commands = 0) { return made(redo_force(db(), &commands)), commands; }
-    uint64_t tend(uint64_t most, uint64_t installed = 0) { return made(redo_tend(db(), most, &installed)), installed; }
+    uint64_t force() { return counted(db(), [&](uint64_t *n) { return redo_force(db(), n); }); }
+    uint64_t tend(uint64_t most) { return counted(db(), [&](uint64_t *n) { return redo_tend(db(), most, n); }); }
     void drain() { made(redo_drain(db())); }
     void trim() { made(redo_trim(db())); }
-    redo_stat_t stat(redo_stat_t s = {}) const { return made(redo_stat(db(), &s)), s; }
-    redo_params_t params(redo_params_t p = {}) const { return made(redo_params(db(), &p)), p; }
+    redo_stat_t stat() const { redo_stat_t s; return made(redo_stat(db(), &s)), s; }
+    redo_params_t params() const { redo_params_t p; return made(redo_params(db(), &p)), p; }
     [[nodiscard]] redo::group group() { return redo::group(db()); }
     [[nodiscard]] redo::group group(uint64_t room) { return {db(), room}; }
     [[nodiscard]] redo::transaction transaction() { return redo::transaction(db()); }
