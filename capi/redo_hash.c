@@ -51,7 +51,7 @@ static int32_t walk_all(redo_t *db, redo_range_t hash, walk_t *walk) {
         return is_bad(db, hash.low);
     for (uint32_t i = 0; i < 1u << depth && answer == REDO_OK && !walk->is_over; i++) {
         uint32_t x = entry(&directory, i);
-        if (x <= hash.low || x > hash.high) return is_bad(db, hash.low);
+        if (x <= hash.low || x > hash.high) return is_bad(db, x);
         if (is_first(&directory, i)) answer = walk_bucket(db, x, walk);
     }
     return answer;

@@ -239,7 +239,7 @@ def as_the_program(folder):
 
 
 def random_line(chance):
-    form = chance.choice([form for form in forms.LINES if not form.word.startswith("b") or form.word == "begin"])
+    form = chance.choice([form for form in forms.LINES if form.word not in explain.OTHERS])
     if form.word in ("begin", "force", "trim", "checkpoint") and chance.random() < 0.5:
         return "end"
     low = chance.choice([0, 2, 4])
