@@ -16,9 +16,10 @@
 
 enum { OBJECTS = 26000, LENGTH = 1024, KEYS = 100000, NODES = 39000, BATCH = 1000, TRANSACTIONS = 1000, PUTS = 10, SHORT = 16 };
 
-/* How many nodes a piece of upkeep has at most: behind a commit, and behind the last one, piece by piece to the end. */
-typedef struct { uint64_t behind, last; } pieces_t;
-static const pieces_t even = {64, 64}, small = {16, 1024};
+/* Upkeep: by the library itself after each command, or in pieces of so many nodes at most before each commit; and behind the last commit
+ * in pieces of so many, to the end. */
+typedef struct { int itself; uint64_t before, last; } upkeep_t;
+static const upkeep_t by_itself = {1, 0, 1024}, in_pieces = {0, 16, 1024};
 typedef struct { uint8_t at[8]; } word_t;
 
 static void fail(const char *what) {
@@ -39,12 +40,12 @@ int fdatasync(int file) { return count_sync(), (int)syscall(SYS_fdatasync, file)
 int msync(void *at, size_t length, int flags) { return count_sync(), (int)syscall(SYS_msync, at, length, flags); }
 
 /* What the work needs. `settle` brings to its place what is durable already; `tend` does a piece of that, and says whether any was
- * left; `sync` makes durable what `commit` did not. Null is what a library has not. */
+ * left; `keep_up` has the library do so by itself; `sync` makes durable what `commit` did not. Null is what a library has not. */
 typedef struct {
     void (*open)(void), (*begin)(void), (*put)(uint32_t, const void *, size_t), (*set)(word_t, word_t), (*commit)(int durable);
     void (*sync)(void), (*settle)(void);
     int (*tend)(uint64_t most);
-    void (*close)(void);
+    void (*keep_up)(void), (*close)(void);
 } peer_t;
 
 #ifdef WITH_REDO
@@ -75,9 +76,10 @@ static void redo_commit(int durable) {
 #define redo_turn 0
 #endif
 static void redo_settle(void) { redo_do(redo_drain(&db)); }
+static void redo_keep_up(void) { redo_do(redo_upkeep(&db, 1)); }
 static void redo_stop(void) { redo_do(redo_close(&db)); }
 static const peer_t redo_peer = {redo_start, redo_start_commands, redo_set_object, redo_set, redo_commit, redo_sync, redo_settle, redo_turn,
-                                 redo_stop};
+                                 redo_keep_up, redo_stop};
 #endif
 
 #ifdef WITH_SQLITE3
@@ -125,7 +127,7 @@ static void sqlite_stop(void) {
     sqlite3_close(base);
 }
 static const peer_t sqlite_peer = {sqlite_start, sqlite_begin, sqlite_put, sqlite_set, sqlite_commit, sqlite_sync, sqlite_settle, 0,
-                                   sqlite_stop};
+                                   0, sqlite_stop};
 #endif
 
 #ifdef WITH_LMDB
@@ -149,7 +151,7 @@ static void lmdb_commit(int durable) {
 }
 static void lmdb_sync(void) { MUST("sync", !mdb_env_sync(env, 1)); }
 static void lmdb_stop(void) { mdb_env_close(env); }
-static const peer_t lmdb_peer = {lmdb_start, lmdb_begin, lmdb_put, lmdb_set, lmdb_commit, lmdb_sync, 0, 0, lmdb_stop};
+static const peer_t lmdb_peer = {lmdb_start, lmdb_begin, lmdb_put, lmdb_set, lmdb_commit, lmdb_sync, 0, 0, 0, lmdb_stop};
 #endif
 
 /* The i-th key: a bijection, so that no two are the same. */
@@ -211,9 +213,10 @@ static int by_length(const void *a, const void *b) {
     return (x > y) - (x < y);
 }
 
-/* Keys into an index, a commit after each thousand and a piece of upkeep behind it, to the end of the last upkeep. */
-static void index_keys(const peer_t *peer, int is_redo, pieces_t pieces, const char *work) {
+/* Keys into an index, a commit after each thousand, and upkeep, to the end of the last piece. */
+static void index_keys(const peer_t *peer, int is_redo, upkeep_t upkeep, const char *work) {
     size_t calls = 0;
+    if (peer->keep_up && upkeep.itself) peer->keep_up();
     start();
     for (uint32_t i = 0; i < KEYS; i++) {
         double at = now();
@@ -221,13 +224,13 @@ static void index_keys(const peer_t *peer, int is_redo, pieces_t pieces, const c
         peer->set(key_of(i), key_of(i + KEYS));
         took[calls++] = now() - at;
         if ((i + 1) % BATCH == 0) {
+            if (peer->tend && upkeep.before) at = now(), peer->tend(upkeep.before), took[calls++] = now() - at;
             at = now();
             if (is_redo) peer->sync(); else peer->commit(1);
             took[calls++] = now() - at;
-            if (peer->tend) at = now(), peer->tend(pieces.behind), took[calls++] = now() - at;
         }
     }
-    while (peer->tend && peer->tend(pieces.last)) {}
+    while (peer->tend && peer->tend(upkeep.last)) {}
     if (peer->settle) peer->settle();
     double end = now() - began;
     qsort(took, calls, sizeof *took, by_length);
@@ -242,9 +245,9 @@ static void in_folder(const char *name, const peer_t *peer, void (*work)(const p
 
 static void durable(const peer_t *peer) { transactions(peer, 1); }
 static void in_a_force(const peer_t *peer) { transactions(peer, 0); }
-static void keys_of_redo(const peer_t *peer) { index_keys(peer, 1, even, "index"); }
-static void keys_in_small_pieces(const peer_t *peer) { index_keys(peer, 1, small, "index in small pieces"); }
-static void keys(const peer_t *peer) { index_keys(peer, 0, even, "index"); }
+static void keys_of_redo(const peer_t *peer) { index_keys(peer, 1, by_itself, "index"); }
+static void keys_in_small_pieces(const peer_t *peer) { index_keys(peer, 1, in_pieces, "index in small pieces"); }
+static void keys(const peer_t *peer) { index_keys(peer, 0, by_itself, "index"); }
 
 /* The bytes of a drain, written and synced once. */
 static void write_once(void) {

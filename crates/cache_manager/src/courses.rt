@@ -111,8 +111,9 @@ pub fn a_turn_goes_on<O: Oper>()
         IsTrue (is_next_workless m w) → IsFalse (is_next_due m copied w) × ((turn_course m copied most w used).stop ≡ Through) }
 {}
 
-/// Where the next node may not be finished yet, a turn makes as many nodes ready as it may have, or all minimal ones that may not be
-/// finished either: identity writes are logged of each of them, of all that it has to flush but one object at most.
+/// The nodes that a turn may make ready are as many as it may have, or all minimal ones that may not be finished yet. Where the next node
+/// may not be finished, identity writes are logged of each of them, of all that it has to flush but one object at most; where it may,
+/// of none.
 pub fn a_turn_readies_all<O: Oper>()
     ensures all { (b : Bounds) (copied most : ℕ) (w : World O) (n : ℕ) → let m = O.meaning b in let names = unready_nodes m copied most w in
         n < end_of w → IsTrue (is_unready m copied w n) → (length names ≡ most) ⊎ IsTrue (is_among n names) }

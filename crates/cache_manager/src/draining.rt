@@ -45,7 +45,7 @@ pub(crate) fn take_full_turn<O: Oper, M: Machine>(
 }
 
 /// Installs nodes until none is left, beside a copy of the slots as [`install_one`](crate::install_one) does: in turns as of
-/// [`tend`](crate::tend), each of as many nodes as a full round has, with four syncs at most for all nodes that are installed together.
+/// [`tend`](crate::tend), each of as many nodes as a full round has.
 /// It answers how many nodes were installed.
 pub fn drain<O: Oper, M: Machine>(
     store: &mut Store<O>,

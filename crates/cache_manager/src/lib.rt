@@ -1,6 +1,6 @@
 //! How the objects of a running store reach their slots: one node of the write graph at a time, or the minimal nodes
-//! that have one object to flush together, in a round of four syncs at most. Of nodes that have several the others are logged
-//! before, so that they have one.
+//! that have one object to flush together, in a round of three syncs at most behind the force. Of nodes that have several the
+//! others are logged before, so that they have one.
 //!
 //! What an install, a turn and a drain do is a course, a function of a world and of the log's length; functions without
 //! parameters and with an empty body say that its steps may be taken, and what bounds them. [`install_one`], [`tend`]

@@ -36,11 +36,11 @@ fn count_of(found: Option<u64>) -> u64
 }
 
 /// A turn: where the minimal node of the least name has one object to flush, that and others like it are installed together, so
-/// many at most (of 0 it is one) and with four syncs at most for all of them. Where it may not be finished yet, beside a copy of the
-/// slots too, identity writes of its objects and of those of others like it are logged first, so that they are installed together; where
-/// it still may not be, it is installed as by [`install_one`](crate::install_one). Behind them those leave the graph that have no object
-/// to flush, while the minimal node of the least name is such a one, so many together at most. It answers how many nodes were installed:
-/// none exactly where none was left.
+/// many at most (of 0 it is one): all that waits is forced, and three syncs at most serve all of them. Where it may not be finished yet,
+/// beside a copy of the slots too, identity writes of its objects and of those of others like it are logged first, so that they are
+/// installed together; where it still may not be, it is installed as by [`install_one`](crate::install_one). Behind them those leave the
+/// graph that have no object to flush, while the minimal node of the least name is such a one, so many together at most. It answers how
+/// many nodes were installed: none exactly where none was left.
 pub fn tend<O: Oper, M: Machine>(
     store: &mut Store<O>,
     machine: &mut M,

@@ -15,7 +15,7 @@ within false n most le = tt
 module _ (pace : Pace) (at : Load) (p : Params) where
   -- of an empty log no trim is due
   untrimmed : at.used ≡ 0 → wants_trim pace at ≡ false
-  untrimmed empty = ap (λ (b : Bool). b && ((nat_le pace.from at.used || (at.uninstalled == 0)) && (is_urgent at || not (wants_turn pace at)))) (ap (λ (n : ℕ). nat_lt (at.limit / 3) n) empty ∙ le-ltb (at.limit / 3) 0 (omega arith))
+  untrimmed empty = ap (λ (b : Bool). b && ((nat_le pace.from at.used || (at.uninstalled == 0)) && (is_urgent at || (nat_le at.dirty at.round && not (wants_turn pace at))))) (ap (λ (n : ℕ). nat_lt (at.limit / 3) n) empty ∙ le-ltb (at.limit / 3) 0 (omega arith))
 
   turn_within : at.round ≡ full_round p → IfSome (due_at pace at).turn (λ most. most ≤ full_round p)
   turn_within round = within (wants_turn pace at) at.round (full_round p) (omega (arith, round))

@@ -1,5 +1,5 @@
 ghost use Rattle.std.specs.Prelude.{◌≡◌};
-ghost use Rattle.store_engine.specs.Paces.{due_at, first_pace, is_long, is_urgent, pace_after, wants_trim, wants_turn};
+ghost use Rattle.store_engine.specs.Paces.{due_at, first_pace, is_heavy, is_long, is_urgent, pace_after, wants_trim, wants_turn};
 
 use crate::load::Load;
 use checkpointing::{Due, TaskOutcome, UpkeepReport};
@@ -11,6 +11,9 @@ const REST: u64 = 16;
 // A trim leaves so many bytes at most.
 const ROOM: u64 = 1 << 20;
 
+// More records than these are not left to wait.
+const MANY: u64 = 1 << 17;
+
 impl Load {
     fn is_long(&self) -> bool
         ensures { result ≡ is_long self.now }
@@ -21,17 +24,27 @@ impl Load {
     fn is_urgent(&self) -> bool
         ensures { result ≡ is_urgent self.now }
     {
-        self.used / 2 > self.limit / 3 || self.dirty / 4 > self.round as u64
+        self.used / 2 > self.limit / 3 || self.dirty / 2 > self.allowed as u64
+    }
+
+    fn is_heavy(&self) -> bool
+        ensures { result ≡ is_heavy self.now }
+    {
+        self.dirty > self.allowed as u64 || self.uninstalled > MANY
     }
 }
 
 /// When upkeep is worth what it costs: a value that a caller of [`keep_up`](crate::Engine::keep_up) keeps from call to call.
 ///
-/// A turn costs a few syncs. So it is due where more objects are dirty than a round installs, or the log has more than a third of
-/// what it may have, and then in one of some calls; in each where four rounds are dirty, or the log has more than two thirds. A
-/// trim reads the log. So it is due where that has more than a third, and twice what the last trim left, or, where that was
-/// refused, a quarter more of what was left up to the limit; and where all is installed. Unless it is urgent, a call in which a turn
-/// is due takes no trim.
+/// A turn costs a few syncs, and the later an object is installed, the fewer of its versions are. So it is due where what waits takes
+/// much memory or could take much of the log: where more objects are dirty than have half as many bytes together as the log may have
+/// (1 MiB at least, and 32 MiB at most), or more than 2^17 records are not installed; or where the log has more than a third of what
+/// it may have; and then in one of some calls. It is due in each where twice as many objects are dirty, or the log has more than two
+/// thirds.
+///
+/// A trim reads the log. So it is due where that has more than a third, and twice what the last trim left, or, where that was refused, a
+/// quarter more of what was left up to the limit; and where all is installed. Unless it is urgent it waits until a round at most is
+/// dirty, so that the new log is short, and a call in which a turn is due takes none.
 #[derive(Clone, Copy, Debug)]
 pub struct Pace {
     // No trim is tried of a shorter log in which something is not installed.
@@ -51,7 +64,7 @@ impl Pace {
     fn wants_turn(&self, at: &Load) -> bool
         ensures { result ≡ wants_turn self.now at.now }
     {
-        let due = at.is_long() || at.dirty > at.round as u64;
+        let due = at.is_long() || at.is_heavy();
         at.uninstalled > 0 && (at.is_urgent() || self.rest == 0 && due)
     }
 
@@ -59,7 +72,8 @@ impl Pace {
         ensures { result ≡ wants_trim self.now at.now }
     {
         let worth = at.used >= self.from || at.uninstalled == 0;
-        at.is_long() && worth && (at.is_urgent() || !self.wants_turn(at))
+        let few = at.dirty <= at.round as u64;
+        at.is_long() && worth && (at.is_urgent() || few && !self.wants_turn(at))
     }
 
     // What is due.

@@ -6,7 +6,7 @@ ghost use Rattle.explain_core.specs.World.{World};
 ghost use Rattle.running_store.specs.Parts.{ShowsVolatile};
 ghost use Rattle.checkpointing.specs.Courses.{IsModest};
 ghost use Rattle.store_engine.specs.Engine.{group_size, params_of, used_in};
-ghost use Rattle.store_engine.specs.Paces.{charged, due_at, full_round, load_of};
+ghost use Rattle.store_engine.specs.Paces.{charged, due_at, full_round, load_of, most_dirty};
 ghost use Rattle.store_engine.specs.Store.{meaning_in};
 ghost use Rattle.store_engine.specs.Upkept.{IsKeptUp, IsLeftAlone, TakesDue};
 
@@ -23,12 +23,24 @@ const LEAST: usize = 64;
 
 const BYTES: usize = 1 << 20;
 
+// As many objects may be dirty as have half as many bytes together as the log may have, so many at most and a round's at least.
+const DIRTY: usize = 1 << 25;
+
 impl<O: Oper> Engine<O> {
     // How many nodes a full round installs.
     fn round(&self) -> usize
         ensures { result ≡ full_round (params_of self.now) }
     {
         objects_within(LEAST, BYTES, self.params())
+    }
+
+    // How many objects may be dirty before a turn is due.
+    fn allowed(&self) -> usize
+        ensures { result ≡ most_dirty (params_of self.now) }
+    {
+        let params = self.params();
+        let half = params.limit as usize / 2;
+        objects_within(LEAST, half.min(DIRTY).max(BYTES), params)
     }
 
     // How long the log counts.
@@ -51,6 +63,7 @@ impl<O: Oper> Engine<O> {
             used: self.charged(),
             limit: self.params().limit as u64,
             dirty: self.dirty(),
+            allowed: self.allowed(),
             round: self.round(),
             uninstalled: self.store.graph().len(),
         }

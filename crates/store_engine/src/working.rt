@@ -117,10 +117,11 @@ impl<O: Oper> Engine<O> {
 
     /// One turn of upkeep: where the minimal node of the least name may not be finished yet, the identity writes of it and of others
     /// like it, so many at most (of 0 it is one), are logged together. Where that node has one object to flush then, it and others
-    /// like it are installed together, so many at most and with four syncs at most for all of them; else it is installed as by
-    /// [`install_one`](Self::install_one), and then, for which nothing is synced, those that have no object to flush while the
-    /// minimal node of the least name is such a one, so many together at most. It answers how many nodes were installed: none
-    /// exactly where none was left, and then nothing was done. In a group it answers `InGroup`.
+    /// like it are installed together, so many at most: all that waits is forced, so that a force behind the turn has nothing to do,
+    /// and three syncs at most serve all of them. Else it is installed as by [`install_one`](Self::install_one). Behind them go, for
+    /// which nothing is synced, those that have no object to flush while the minimal node of the least name is such a one, so many
+    /// together at most. It answers how many nodes were installed: none exactly where none was left, and then nothing was done. In a
+    /// group it answers `InGroup`.
     pub fn tend<M: Machine>(&mut self, machine: &mut M, most: usize) -> Result<u64, WorkErr>
         requires unbroken { self.old.broken ≡ false }
         ensures in_group { IfSome (group_size self.old) (λ size. IsRefused size machine.old machine.new self.old self.new result) }

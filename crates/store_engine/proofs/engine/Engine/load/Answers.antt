@@ -5,7 +5,7 @@ use Rattle.install_order.specs.declared.entry.Entry.{Entry}
 use Rattle.write_graph.specs.Graph.{lsns}
 use Rattle.running_store.specs.Counted.{entries_counted}
 use Rattle.store_engine.specs.Engine.{EngineView}
-use Rattle.store_engine.specs.Paces.{full_round}
+use Rattle.store_engine.specs.Paces.{full_round, most_dirty}
 use Rattle.store_engine.specs.Store.{meaning_in}
 use Rattle.store_engine.proofs.engine.Engine.load.Goals as goal
 
@@ -17,6 +17,7 @@ returns-clause-shown g c = λ p file w sound shows.
       used = c.charged.ensures i;
       limit = (ap (λ (q : Params). q.limit) (c.params.ensures.value ∙ shows.params)) i;
       dirty = c.dirty.ensures p file w shows i;
+      allowed = (c.allowed.ensures ∙ ap most_dirty shows.params) i;
       round = (c.round.ensures ∙ ap full_round shows.params) i;
       uninstalled = (c.len.ensures.count ∙ ap (λ (l : List Entry). length l) listed ∙ entries_counted (meaning_in g.O.Oper.meaning p) w sound p file c.args.self.now.parts.volatile shows rising) i;
     }
