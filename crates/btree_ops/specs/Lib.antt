@@ -1,4 +1,5 @@
 pub mod Node
+pub mod Head
 pub mod NodeLaws
 pub mod Effects
 pub mod Operation

@@ -3,8 +3,9 @@
 //!
 //! The one contract is that of the trait `Oper`, at the meaning that specs/ gives: a put and a delete act on a leaf as
 //! on an ordered map, a split cuts a full node in its middle and keeps all, and bytes are read as a node or as an
-//! operation exactly where they are its one code. Nothing but the bytes that are written takes memory. It depends on
-//! oper_core, on key_entries for the entries of a node and the codes, and on arrayvec for lists of entries.
+//! operation exactly where they are its one code. A put and a delete work on the bytes of their leaf, a split on nodes.
+//! Nothing but the bytes that are written takes memory. It depends on oper_core, on key_entries for the entries of a node
+//! and the codes, and on arrayvec for lists of entries.
 #![tactic(auto)]
 
 mod coding;
@@ -25,3 +26,4 @@ pub use node_laws::{
     nodes_have_one_code,
 };
 pub use node_op::NodeOp;
+pub use reading::{InnerHead, inner_head};

@@ -3,7 +3,7 @@ ghost use Rattle.btree_ops.specs.Node.{node_code};
 ghost use Rattle.btree_ops.specs.Operation.{bytes_of};
 
 use crate::Node;
-use oper_core::{Memory, Values};
+use oper_core::{ByteList, Memory, Values};
 use std::alloc::Global;
 
 /// The new nodes that an operation makes, in the order of the objects that it writes.
@@ -38,7 +38,6 @@ fn push_node(alloc: Global, values: &mut Values, node: &Node) -> Result<(), Memo
     requires { length values.old < 4 }
     ensures { OnOk result (values.new ≡ values.old ++ node_code node.now ∷ []) }
 {
-    let bytes = node.bytes(alloc)?;
-    values.push(bytes.as_slice())?;
+    values.push_list(ByteList::new(node.bytes(alloc)?));
     Ok(())
 }

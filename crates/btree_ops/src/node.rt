@@ -1,11 +1,11 @@
-ghost use Rattle.std.specs.Prelude.{◌≡◌, IfOk, IfSome, IfNone};
+ghost use Rattle.std.specs.Prelude.{◌≡◌, IfOk, IfSome, IfNone, length};
 ghost use Rattle.btree_ops.specs.Node.{node_code, node_in, IsNode};
 ghost use Rattle.btree_ops.specs.NodeLaws.{IsNodeOf};
 ghost use Rattle.btree_ops.specs.declared.node.Node.{Node};
 
 use crate::reading;
 use arrayvec::ArrayVec;
-use key_entries::{Pairs, Short, write_entries};
+use key_entries::{Pairs, Short, entries_len, write_entries};
 use oper_core::Memory;
 use std::alloc::Global;
 
@@ -37,6 +37,7 @@ impl Node {
         ensures { IfOk result (λ out. out.items ≡ node_code self.now) }
     {
         let mut out = Vec::new(alloc);
+        out.reserve(self.code_len())?;
         match self {
             Node::Leaf(pairs) => {
                 out.push(LEAF)?;
@@ -51,6 +52,16 @@ impl Node {
             }
         }
         Ok(out)
+    }
+
+    /// How many bytes it has.
+    fn code_len(&self) -> usize
+        ensures { result ≡ length (node_code self.now) }
+    {
+        match self {
+            Node::Leaf(pairs) => 2 + entries_len(pairs.as_slice()),
+            Node::Inner(_, branches) => 6 + entries_len(branches.as_slice()),
+        }
     }
 }
 

@@ -1,15 +1,15 @@
-ghost use Rattle.std.specs.Prelude.{◌≡◌, length};
+ghost use Rattle.std.specs.Prelude.{◌≡◌, ◌∷◌, [], ℕ, IfOk, length};
 ghost use Rattle.std.specs.Result.{result_err};
-ghost use Rattle.key_entries.specs.Objects.{where_roomy};
+ghost use Rattle.key_entries.specs.Objects.{values_of};
 ghost use Rattle.btree_ops.specs.Effects.{made_by};
-ghost use Rattle.btree_ops.specs.Operation.{read_by};
+ghost use Rattle.btree_ops.specs.Operation.{bytes_of, objects_of, read_by};
 
 use crate::coding::{self, DELETE, PUT, SPLIT_CHILD, SPLIT_ROOT};
 use crate::{Made, leaf, split};
 use key_entries::{
     LEAST_CAP, Short, no_values, require_three, three, write_delete, write_put, write_three,
 };
-use oper_core::{Bounds, Family, Memory, Objs, Oper, Refusal, Values};
+use oper_core::{Bounds, ByteList, Family, Memory, Objs, Oper, Refusal, Values};
 use std::alloc::Global;
 
 /// An operation on the nodes of a B-tree, which names the objects that hold them.
@@ -41,47 +41,68 @@ pub enum NodeOp {
 }
 
 impl NodeOp {
-    /// The nodes that it makes of the values that it reads, or why it makes none.
-    fn outcome(&self, b: Bounds, values: &Values) -> Result<Made, Refusal>
-        requires { length values.now ≡ length (read_by self.now) }
-        ensures { result ≡ where_roomy b.cap (made_by self.now values.now) }
-    {
-        let made = self.made_of(values)?;
-        if b.cap < LEAST_CAP {
-            return Err(Refusal::TooLarge);
-        }
-        Ok(made)
-    }
-
-    /// The same, whatever the length of values may be.
-    fn made_of(&self, values: &Values) -> Result<Made, Refusal>
-        requires { length values.now ≡ length (read_by self.now) }
-        ensures { result ≡ made_by self.now values.now }
-    {
-        match self {
-            NodeOp::Put { key, value, .. } => leaf::put(values.get(0), *key, *value),
-            NodeOp::Delete { key, .. } => leaf::delete(values.get(0), *key),
-            NodeOp::SplitChild { child, new, .. } => {
-                split::split_child(values.get(0), values.get(1), *child, *new)
-            }
-            NodeOp::SplitRoot { left, right, .. } => split::split_root(
-                values.get(0),
-                *left,
-                *right,
-            ),
-        }
-    }
-
     /// Why it makes nothing of the values that it reads, whatever the length of values may be.
     fn may_make(&self, values: &Values) -> Result<(), Refusal>
         requires { length values.now ≡ length (read_by self.now) }
         ensures { result_err result ≡ result_err (made_by self.now values.now) }
     {
-        if let NodeOp::Put { key, .. } = self {
-            return leaf::may_put(values.get(0), *key);
+        match self {
+            NodeOp::Put { key, .. } => leaf::may_put(values.get(0), *key),
+            NodeOp::Delete { key, .. } => leaf::may_delete(values.get(0), *key),
+            NodeOp::SplitChild { child, new, .. } => {
+                let _made = split::split_child(values.get(0), values.get(1), *child, *new)?;
+                Ok(())
+            }
+            NodeOp::SplitRoot { left, right, .. } => {
+                let _made = split::split_root(values.get(0), *left, *right)?;
+                Ok(())
+            }
         }
-        let _made = self.made_of(values)?;
-        Ok(())
+    }
+
+    /// The bytes of the nodes that it makes of the values that it reads, whatever the length of values may be. They are
+    /// none where it makes no node.
+    fn make(&self, alloc: Global, values: &Values) -> Result<Values, Memory>
+        requires { length values.now ≡ length (read_by self.now) }
+        ensures { IfOk result (λ made. made ≡ values_of bytes_of (objects_of self.now) (made_by self.now values.now)) }
+    {
+        match self {
+            NodeOp::Put { key, value, .. } => {
+                let bytes = leaf::put(alloc, values.get(0), *key, *value)?;
+                Ok(one_value(alloc, bytes))
+            }
+            NodeOp::Delete { key, .. } => {
+                let bytes = leaf::delete(alloc, values.get(0), *key)?;
+                Ok(one_value(alloc, bytes))
+            }
+            NodeOp::SplitChild { child, new, .. } => {
+                let made = split::split_child(values.get(0), values.get(1), *child, *new);
+                three_values(alloc, &made)
+            }
+            NodeOp::SplitRoot { left, right, .. } => {
+                let made = split::split_root(values.get(0), *left, *right);
+                three_values(alloc, &made)
+            }
+        }
+    }
+}
+
+/// The bytes as the one value.
+fn one_value(alloc: Global, bytes: Vec<u8>) -> Values
+    ensures { result ≡ bytes.items ∷ [] }
+{
+    let mut values = Values::new(alloc);
+    values.push_list(ByteList::new(bytes));
+    values
+}
+
+/// The bytes of the nodes of a split, or three empty values where there are none.
+fn three_values(alloc: Global, made: &Result<Made, Refusal>) -> Result<Values, Memory>
+    ensures { (x y z : ℕ) → IfOk result (λ values. values ≡ values_of bytes_of (x ∷ y ∷ z ∷ []) made.now) }
+{
+    match made {
+        Ok(made) => made.values(alloc),
+        Err(_) => no_values(alloc, &[0, 0, 0]),
     }
 }
 
@@ -144,10 +165,10 @@ impl Oper for NodeOp {
     }
 
     fn apply(&self, alloc: Global, b: Bounds, values: &Values) -> Result<Values, Memory> {
-        match self.outcome(b, values) {
-            Ok(made) => made.values(alloc),
-            Err(_) => no_values(alloc, self.writes().as_slice()),
+        if b.cap < LEAST_CAP {
+            return no_values(alloc, self.writes().as_slice());
         }
+        self.make(alloc, values)
     }
 
     fn code_length(&self) -> u64 {

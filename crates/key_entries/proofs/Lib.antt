@@ -2,3 +2,4 @@ pub mod Copied
 pub mod OneByOne
 pub mod PlaceLemmas
 pub mod NoValues
+pub mod SpotLemmas

@@ -1,12 +1,11 @@
 -- Entries that are read one by one.
 use Rattle.std.proofs.Common.{◌≡◌, ◌≤◌, ◌<◌, ℕ, zero, suc, ◌-◌, Bool, true, false, ◌&&◌, T, Option, None, Some, List, [], ◌∷◌, ◌++◌, length, drop, get_or, refl, sym, ap, ◌∙◌, subst, arith, append_assoc, append-nil, option_map, option_and_then, Ordering, Less, Equal, Greater, is_lt, is_ge, true≢false, ◌==◌, inl, inr}
 use Rattle.std.proofs.lemmas.Bool.Decides.{eqb_tells}
-use Rattle.std.specs.Cmp.Lexicographic.{nat_list_cmp_total}
 use Rattle.std.specs.FinMap.Entries.{is_sorted, below_all}
 use Rattle.key_entries.specs.RisingLaws.{truth}
 use Rattle.key_entries.specs.Short.{short_code, short_in}
 use Rattle.key_entries.specs.Entries.{Field, byte_order, beside, entry_code, entry_in, entries_in}
-use Rattle.key_entries.specs.KeyLaws.{both, first, second, less_if}
+use Rattle.key_entries.specs.KeyLaws.{both, first, if_less, below_less}
 
 module _ {X : Type 0} (field : Field X) where
   -- a key and a field give an entry
@@ -76,9 +75,6 @@ module _ {X : Type 0} (field : Field X) where
   read_past count bytes front left (b ∷ rest) so_far last some =
       so_far ∙ ap (λ (n : ℕ). option_map (λ (es : List (List ℕ × X)). front ++ es) (entries_in field n (b ∷ rest))) last
 
-pub if_less : (o : Ordering) → o ≡ Less → T (is_lt o)
-if_less o e = subst (λ (o : Ordering). T (is_lt o)) (sym e) tt
-
 false_second : (a : Bool) → (a && false) ≡ false
 false_second true = refl
 false_second false = refl
@@ -89,13 +85,6 @@ not_below Equal e = refl
 not_below Greater e = refl
 
 module _ {X : Type 0} where
-  pub below_less : (x y : List ℕ) (es : List (List ℕ × X)) → byte_order x y ≡ Less → T (below_all byte_order y es) → T (below_all byte_order x es)
-  below_less x y [] less below = tt
-  below_less x y (e ∷ es) less below =
-      both (is_lt (byte_order x e.0)) (below_all byte_order x es)
-      (if_less (byte_order x e.0) (nat_list_cmp_total.trans x y e.0 less (less_if (byte_order y e.0) (first (is_lt (byte_order y e.0)) (below_all byte_order y es) below))))
-      (below_less x y es less (second (is_lt (byte_order y e.0)) (below_all byte_order y es) below))
-
   rise_all : (es : List (List ℕ × X)) → ((k : ℕ) (d : List ℕ × X) → suc k < length es → byte_order (get_or es k d).0 (get_or es (suc k) d).0 ≡ Less) → T (is_sorted byte_order es)
   rise_all [] next = tt
   rise_all (e ∷ []) next = tt

@@ -4,8 +4,7 @@ use Rattle.std.specs.FinMap.Entries.{by_order, put, find, is_sorted, below_all}
 use Rattle.key_entries.specs.Entries.{byte_order, listed}
 use Rattle.key_entries.specs.Places.{one_on, place_in}
 use Rattle.key_entries.specs.Pairs.{has, without, with_pair, without_pair}
-use Rattle.key_entries.specs.KeyLaws.{first, second, less_if, same_key}
-use Rattle.key_entries.proofs.OneByOne.{below_less}
+use Rattle.key_entries.specs.KeyLaws.{first, second, less_if, same_key, below_less}
 
 -- so many places on
 abbrev pub moved : ℕ → Result ℕ ℕ → Result ℕ ℕ
@@ -97,13 +96,13 @@ module _ {X : Type 0} where
       ] refl
 
   -- a key below all is not found
-  not_found : (key : List ℕ) (es : List (List ℕ × X)) → T (below_all byte_order key es) → find byte_order key es ≡ None
+  pub not_found : (key : List ℕ) (es : List (List ℕ × X)) → T (below_all byte_order key es) → find byte_order key es ≡ None
   not_found key [] below = refl
   not_found key (e ∷ es) below =
       ap (λ (o : Ordering). cond (is_eq o) (Some e.1) (find byte_order key es)) (less_if (byte_order key e.0) (first (is_lt (byte_order key e.0)) (below_all byte_order key es) below))
       ∙ not_found key es (second (is_lt (byte_order key e.0)) (below_all byte_order key es) below)
 
-  all_kept : (key : List ℕ) (es : List (List ℕ × X)) → T (below_all byte_order key es) → without key es ≡ es
+  pub all_kept : (key : List ℕ) (es : List (List ℕ × X)) → T (below_all byte_order key es) → without key es ≡ es
   all_kept key [] below = refl
   all_kept key (e ∷ es) below =
       ap (λ (o : Ordering). cond (not (is_eq o)) (e ∷ without key es) (without key es)) (less_if (byte_order key e.0) (first (is_lt (byte_order key e.0)) (below_all byte_order key es) below))

@@ -6,6 +6,7 @@ pub mod KeyLaws
 pub mod RisingLaws
 pub mod Places
 pub mod Pairs
+pub mod Spots
 pub mod Codes
 pub mod CodeLaws
 pub mod Objects

@@ -1,8 +1,8 @@
 -- Entries whose keys rise are read exactly where their code is.
-use Rattle.std.proofs.Common.{◌≡◌, ◌≤◌, ℕ, zero, suc, ◌*◌, Bool, true, false, T, Option, None, Some, List, [], ◌∷◌, All, length, drop, refl, sym, ap, ◌∙◌, subst, arith, option_map, option_and_then}
+use Rattle.std.proofs.Common.{◌≡◌, ◌≤◌, ℕ, zero, suc, ◌*◌, Bool, true, false, ◌&&◌, T, Ordering, Less, is_lt, Option, None, Some, List, [], ◌∷◌, All, length, drop, refl, sym, ap, ◌∙◌, subst, arith, option_map, option_and_then}
 use Rattle.std.specs.Prelude.{IsTrue}
-use Rattle.std.specs.FinMap.Entries.{is_sorted}
-use Rattle.std.proofs.lemmas.List.Elements.{All-cons, All-nil}
+use Rattle.std.specs.FinMap.Entries.{is_sorted, below_all}
+use Rattle.std.proofs.lemmas.List.Elements.{All-cons, All-head, All-nil, All-tail}
 use Rattle.key_entries.specs.Short.{is_short, short_code, short_in}
 use Rattle.key_entries.specs.Entries.{Field, AreEntries, byte_order, short_field, beside, entry_code, entry_in, entries_code, entries_in, rising}
 use Rattle.key_entries.specs.EntryLaws.{IsExact, AreBytes, if_some, if_true, and_then_some, map_some, same_some, short_begins, entries_found, entries_are, entries_small}
@@ -83,3 +83,14 @@ pub pairs_known : (n : ℕ) (bytes : List ℕ) (es : List (List ℕ × List ℕ)
 pairs_known n bytes es few is =
     let known = rising_known short_field (λ v. IsTrue (is_short v)) (λ bytes x e. (short_begins bytes x e).1) n bytes es is in
     record { few = omega (arith, known.0.count, few); short = known.0.short; fit = known.0.fit; rise = known.1 }
+
+empty_less : (key : List ℕ) → IsTrue (is_short key) → byte_order [] key ≡ Less
+empty_less [] short = cc
+empty_less (b ∷ key) short = refl
+
+-- no short key is at or below the empty one
+pub empty_below : {X : Type 0} (es : List (List ℕ × X)) → All (λ e. IsTrue (is_short e.0)) es → below_all byte_order [] es ≡ true
+empty_below [] short = refl
+empty_below (e ∷ es) short =
+    ap (λ (o : Ordering). is_lt o && below_all byte_order [] es) (empty_less e.0 (All-head (λ e. IsTrue (is_short e.0)) e es short))
+    ∙ empty_below es (All-tail (λ e. IsTrue (is_short e.0)) e es short)

@@ -5,12 +5,13 @@ ghost use Rattle.std.specs.Cmp.Lexicographic.{pointwise, slice_cmp, nat_list_eq_
 ghost use Rattle.key_entries.specs.Short.{is_short};
 
 use crate::entry_field::EntryField;
+use crate::standing::order_of;
 use oper_core::Memory;
 use std::cmp::Ordering;
 use std::marker::Model;
 
 /// The most bytes that it holds.
-const MOST: usize = 32;
+pub(crate) const MOST: usize = 32;
 
 /// A key of a node, or the value beside one: 1 to 32 bytes, which contracts see as that list.
 /// It takes no memory, so the check of a command, which has no allocator, reads a node by it.
@@ -83,7 +84,7 @@ impl Ord for Short {
     ghost matches_eq = { texts_ties };
 
     fn cmp(&self, other: &Self) -> Ordering {
-        self.as_slice().cmp(&other.as_slice())
+        order_of(self.as_slice(), other.as_slice())
     }
 }
 

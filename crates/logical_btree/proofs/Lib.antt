@@ -24,3 +24,4 @@ pub mod SplitsKeepLaws
 pub mod CutLemmas
 pub mod WayLemmas
 pub mod AlikeLemmas
+pub mod BelowLemmas

@@ -3,12 +3,14 @@ ghost use Rattle.std.specs.List.{list_all};
 ghost use Rattle.oper_core.specs.State.{State};
 ghost use Rattle.logical_btree.specs.Walk as walks;
 ghost use Rattle.logical_btree.specs.Walk.{children_of, node_at};
+ghost use Rattle.logical_btree.specs.Below as below;
 ghost use Rattle.logical_btree.specs.Below.{below_in};
+ghost use Rattle.btree_ops.specs.Head.{branches_in};
 
-use crate::{Below, child_for, is_full};
+use crate::Below;
 use arrayvec::ArrayVec;
-use btree_ops::Node;
-use key_entries::Short;
+use btree_ops::{InnerHead, Node, inner_head};
+use key_entries::{EntryField, MOST_ENTRIES, Short, entry_at, is_below};
 use std::marker::Model;
 
 /// A range of objects for an ordered map. Its first object is the root.
@@ -72,27 +74,37 @@ impl Tree {
     pub fn below(&self, object: u32, value: &[u8], key: Short) -> Option<Below>
         ensures { (s : State) → s object ≡ value.now → result ≡ below_in key (node_at self.now.lo self.now.hi s object) }
     {
-        let read = self.read(object, value);
-        match &read {
-            Some(node) => self.below_node(node, key),
-            None => None,
-        }
+        let head = inner_head(value)?;
+        let child = self.child_below(&head, key.as_slice())?;
+        Some(Below {
+            child,
+            full: head.count == MOST_ENTRIES,
+        })
     }
 
-    /// The same for a node that was read, which stays where it is.
-    fn below_node(&self, node: &Node, key: Short) -> Option<Below>
-        ensures { result ≡ below_in key (walks.if_sound self.now.lo self.now.hi node.now) }
+    /// The child of an inner node under which a key stands, unless the rest of the node is bad. Nothing of it is copied.
+    fn child_below(&self, head: &InnerHead, key: &[u8]) -> Option<u32>
+        requires { head.now.count ≤ 7 }
+        ensures { result ≡ below.child_below self.now.lo self.now.hi key.now head.now.first (branches_in head.now.count head.now.branches.now) }
     {
-        if !self.names_children(node) {
+        if !self.is_child(head.first) {
             return None;
         }
-        match node {
-            Node::Leaf(_) => None,
-            Node::Inner(first, branches) => Some(Below {
-                child: child_for(key, *first, branches.as_slice()),
-                full: is_full(node),
-            }),
+        let mut child = head.first;
+        let mut last: &[u8] = &[];
+        let mut rest = head.branches;
+        for _read in 0..head.count {
+            let (separator, next): (&[u8], u32) = entry_at(rest)?;
+            if !is_below(last, separator) || !self.is_child(next) {
+                return None;
+            }
+            if !is_below(key, separator) {
+                child = next;
+            }
+            last = separator;
+            rest = &rest[1 + separator.len() + next.code_len()..];
         }
+        if rest.is_empty() { Some(child) } else { None }
     }
 
     /// The node of an object of this value, whatever children it names.
