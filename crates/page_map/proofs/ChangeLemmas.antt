@@ -33,7 +33,7 @@ use Rattle.page_map.specs.Deletes.{NoneIsEmpty}
 use Rattle.page_map.specs.Map.{Span, is_within, is_below, all_within, all_past, all_keys, pairs_in, bytes_at, IsMap, content_of, objects_in, times}
 use Rattle.page_map.specs.Plan.{Admits, delete_command, set_command, OnlyTooLarge, set_at, set_in, delete_at, delete_in, at_leaf, at_place, SetMakes, DeleteMakes}
 use Rattle.page_map.specs.Sets.{AreShortPairs, is_short_pair}
-use Rattle.page_map.proofs.MapLemmas.{Needs, Searches, less_is, turned, IsLeafFor, map_leaf, moved, walk_is, leaf_tells, past_is_above, within_parts}
+use Rattle.page_map.proofs.MapLemmas.{HasCells, Needs, Searches, less_is, turned, IsLeafFor, map_leaf, moved, walk_is, leaf_tells, past_is_above, within_parts}
 
 -- ---- lists of cells
 
@@ -68,6 +68,11 @@ out_front key span (c ∷ cells) past below all =
     ]
 
 -- a test that the cells meet, and the new one does, is met by all
+pub put_some : (key value : List ℕ) (cells : List Cell) → 0 < length (put byte_order key value cells)
+put_some key value [] = omega arith
+put_some key value (c ∷ cells) =
+    elim (byte_order key c.0) as (λ o. 0 < length (by_order o ((key, value) ∷ c ∷ cells) ((c.0, value) ∷ cells) (c ∷ put byte_order key value cells))) [ Less ↦ omega arith | Equal ↦ omega arith | Greater ↦ omega arith ]
+
 pub all_put : (test : Cell → Bool) (key value : List ℕ) (cells : List Cell) → IsTrue (test (key, value)) → IsTrue (list_all test cells) → IsTrue (list_all test (put byte_order key value cells))
 all_put test key value [] here all = true_both (test (key, value)) true here refl
 all_put test key value (c ∷ cells) here all =
@@ -241,6 +246,7 @@ module _ (searches : Searches) (changes : Changes) (lo hi : ℕ) (small : hi < 2
       (kept : IsMap lo hi (after (page_meaning b) s op)) × ((q : List ℕ) → get (content_of kept) q ≡ (if eq_by_cmp byte_order q key then v else get (content_of is) q))
       × ((room : ℕ) → IsTrue (new_short room v) → AreShortPairs room is.level is.tree → AreShortPairs room kept.level kept.tree)
       × (kept.level ≡ is.level) × (NoneIsEmpty is.level is.tree → Needs key 2 kept.level kept.tree)
+      × (IsTrue (is_some v) → Needs key 2 is.level is.tree → HasCells kept.level kept.tree)
 
   abbrev pub set_op : Bool → List ℕ → PageOp
   set_op there value = if there then Set object place value else Put object place key value
@@ -251,8 +257,8 @@ module _ (searches : Searches) (changes : Changes) (lo hi : ℕ) (small : hi < 2
   -- the map where the leaf has other cells
   changed : (op : PageOp) (cells : List Cell) (v : Option (List ℕ)) → after (page_meaning b) s op ≡ with_values s (object ∷ []) (page_of 0 (cells ++ past) ∷ [])
       → AreShort (cells ++ past) → T (is_sorted byte_order (cells ++ past)) → IsTrue (all_within here.leaf_span cells) → IsUpdate key v here.leaf.cells cells
-      → ((room : ℕ) → IsTrue (new_short room v) → IsTrue (list_all (is_short_pair room) here.leaf.cells) → IsTrue (list_all (is_short_pair room) cells)) → IsDone v op
-  changed op cells v written short rise within update shorts =
+      → ((room : ℕ) → IsTrue (new_short room v) → IsTrue (list_all (is_short_pair room) here.leaf.cells) → IsTrue (list_all (is_short_pair room) cells)) → (IsTrue (is_some v) → 0 < length cells) → IsDone v op
+  changed op cells v written short rise within update shorts some =
       let new : State = after (page_meaning b) s op in
       let value : List ℕ = page_of 0 (cells ++ past) in
       let there : new object ≡ value = ap (λ (t : State). t object) written ∙ written_there s object value in
@@ -278,19 +284,20 @@ module _ (searches : Searches) (changes : Changes) (lo hi : ℕ) (small : hi < 2
         λ room new all. again.short room (shorts room new (here.short_there room all)) all,
         refl,
         again.needs,
+        λ there. again.full (some there),
       )
 
   -- an operation that makes a leaf of other cells, where it is accepted
   applied : (op : PageOp) (places : Bool) (target cells : List Cell) (v : Option (List ℕ)) → (page_meaning b).check op (read_values (page_meaning b) s op) ≡ result_err (leaf_made b.cap places target)
       → after (page_meaning b) s op ≡ with_values s (object ∷ []) (written_on (leaf_made b.cap places target) ∷ []) → target ≡ cells ++ past → T (is_sorted byte_order (cells ++ past))
       → IsTrue (all_within here.leaf_span cells) → IsUpdate key v here.leaf.cells cells
-      → ((room : ℕ) → IsTrue (new_short room v) → IsTrue (list_all (is_short_pair room) here.leaf.cells) → IsTrue (list_all (is_short_pair room) cells)) → Accepts (page_meaning b) s op → IsDone v op
-  applied op places target cells v check effect is_target rise within update shorts accepted =
+      → ((room : ℕ) → IsTrue (new_short room v) → IsTrue (list_all (is_short_pair room) here.leaf.cells) → IsTrue (list_all (is_short_pair room) cells)) → (IsTrue (is_some v) → 0 < length cells) → Accepts (page_meaning b) s op → IsDone v op
+  applied op places target cells v check effect is_target rise within update shorts some accepted =
       let made = made_tells b.cap places target (sym check ∙ no_check ((page_meaning b).shape op) ((page_meaning b).check op (read_values (page_meaning b) s op)) accepted) in
       let short : AreShort target = changes.short (record { level = 0; cells = target }) made.1 in
       changed op cells v
       (effect ∙ ap (λ (r : Result (List ℕ) Refusal). with_values s (object ∷ []) (written_on r ∷ [])) made.0 ∙ ap (λ (l : List Cell). with_values s (object ∷ []) (page_of 0 l ∷ [])) is_target)
-      (subst (λ (l : List Cell). AreShort l) is_target short) rise within update shorts
+      (subst (λ (l : List Cell). AreShort l) is_target short) rise within update shorts some
 
   pages_short : All IsShortPage (page ∷ [])
   pages_short = All-cons IsShortPage page [] here.held.short (All-nil IsShortPage)
@@ -429,7 +436,7 @@ module _ (searches : Searches) (changes : Changes) (lo hi : ℕ) (small : hi < 2
       (ap (with_values s (object ∷ [])) (ap ((page_meaning b).effect op) values ∙ changes.effect b op (page ∷ []) pages_short refl))
       (changes.set key value whole here.held.rise there ∙ put_rises value) (sorted_put value)
       (all_put (λ c. is_within here.leaf_span c.0) key value here.leaf.cells here.within here.stands) (put_updates key value here.leaf.cells)
-      (λ room new all. all_put (is_short_pair room) key value here.leaf.cells new all) accepted
+      (λ room new all. all_put (is_short_pair room) key value here.leaf.cells new all) (λ there. put_some key value here.leaf.cells) accepted
 
   put_done : (value : List ℕ) → has key whole ≡ false → Accepts (page_meaning b) s (Put object place key value) → IsDone (Some value) (Put object place key value)
   put_done value none accepted =
@@ -439,7 +446,7 @@ module _ (searches : Searches) (changes : Changes) (lo hi : ℕ) (small : hi < 2
       (ap (with_values s (object ∷ [])) (read_for_put ((page_meaning b).effect op) (changes.empty_effect b object place key value) ∙ changes.effect b op (page ∷ []) pages_short refl))
       (changes.put_new key value whole here.held.rise none ∙ put_rises value) (sorted_put value)
       (all_put (λ c. is_within here.leaf_span c.0) key value here.leaf.cells here.within here.stands) (put_updates key value here.leaf.cells)
-      (λ room new all. all_put (is_short_pair room) key value here.leaf.cells new all) accepted
+      (λ room new all. all_put (is_short_pair room) key value here.leaf.cells new all) (λ there. put_some key value here.leaf.cells) accepted
 
   pub set_is_done : (value : List ℕ) → Accepts (page_meaning b) s (set_op (has key whole) value) → IsDone (Some value) (set_op (has key whole) value)
   set_is_done value =
@@ -482,7 +489,7 @@ module _ (searches : Searches) (changes : Changes) (lo hi : ℕ) (small : hi < 2
       (ap (with_values s (object ∷ [])) (ap ((page_meaning b).effect op) values ∙ changes.effect b op (page ∷ []) pages_short refl))
       (changes.delete key whole here.held.rise there ∙ out_of_whole)
       (subst (λ (l : List Cell). T (is_sorted byte_order l)) out_of_whole (is_sorted-where_key byte_order (λ x. not (eq_by_cmp byte_order key x)) whole here.held.rise))
-      (all_out (λ c. is_within here.leaf_span c.0) key here.leaf.cells here.stands) (delete_updates key here.leaf.cells) (λ room new all. all_out (is_short_pair room) key here.leaf.cells all) accepted
+      (all_out (λ c. is_within here.leaf_span c.0) key here.leaf.cells here.stands) (delete_updates key here.leaf.cells) (λ room new all. all_out (is_short_pair room) key here.leaf.cells all) (λ none. cc) accepted
 
   -- the map has the key where the leaf has it
   pub has_too : is_some (get (content_of is) key) ≡ has key whole

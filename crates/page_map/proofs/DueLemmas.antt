@@ -1,9 +1,9 @@
 -- Which page is cut first: it can be cut, and the page above it has room for the name of the new one.
-use Rattle.std.proofs.Common.{◌≡◌, ℕ, zero, suc, ◌+◌, ◌-◌, ◌*◌, ◌/◌, ◌^◌, ◌<◌, ◌≤◌, ◌==◌, Bool, true, false, ◌&&◌, if◌then◌else◌, Some, Ok, Err, Result, List, [], ◌∷◌, ◌++◌, T, map, length, take, drop, Less, Equal, Greater, is_lt, refl, sym, ap, ◌∙◌, subst, arith, option_map, length-append, slice_index_or}
+use Rattle.std.proofs.Common.{◌≡◌, ℕ, zero, suc, ◌+◌, ◌-◌, ◌*◌, ◌/◌, ◌^◌, ◌<◌, ◌≤◌, ◌==◌, Bool, true, false, ◌&&◌, if◌then◌else◌, Some, Ok, Err, Result, List, [], ◌∷◌, ◌++◌, T, map, length, take, drop, Less, is_lt, refl, sym, ap, ◌∙◌, subst, arith, option_map, length-append, length-drop, length-take-le, slice_index_or}
 use Rattle.std.specs.Prelude.{IsTrue, is_none, nat_lt, nat_le}
 use Rattle.std.specs.List.{list_all}
 use Rattle.std.specs.Cmp.Lexicographic.{nat_list_cmp_total}
-use Rattle.std.specs.FinMap.Entries.{by_order, put, is_sorted, is_sorted-put}
+use Rattle.std.specs.FinMap.Entries.{put, is_sorted, is_sorted-put}
 use Rattle.std.proofs.lemmas.List.{append-nil, length-map}
 use Rattle.std.proofs.lemmas.Bool.{eqb-true, leb-true, leb-false, le-leb, ltb-false}
 use Rattle.oper_core.specs.LittleEndian.{length-little_bytes}
@@ -21,11 +21,11 @@ use Rattle.page_map.specs.Splits.{Split, Due, fits, asks, granted, ask_above, ce
 use Rattle.page_map.specs.Sets.{AreShortPairs, is_short_key, is_short_pair}
 use Rattle.page_map.proofs.MapLemmas.{Searches, within_parts, IsAt, each_at, span_of, child_found, child_named, on_level, pairs_within}
 use Rattle.page_map.proofs.CutLemmas.{ReadsCells, all_at, all_sizes, all_weaker, cut_inside, front_is, last_two, middle_inside, middle_is, next_above, page_size, pair_size, size_at, size_put, size_taken, separator_above, separator_reached, separator_short, three_there}
-use Rattle.page_map.proofs.CellLemmas.{put_here}
-use Rattle.page_map.proofs.ChangeLemmas.{all_put}
+use Rattle.page_map.proofs.CellLemmas.{place_inside, put_here}
+use Rattle.page_map.proofs.ChangeLemmas.{all_put, put_some}
 use Rattle.page_map.proofs.TreeLemmas.{HoldsChild, IsCut, live_in, past_in, whole_is, leaf_cut, inner_cut}
 use Rattle.page_map.proofs.TwoLemmas.{at_inside}
-use Rattle.page_map.proofs.HalfLemmas.{place_is, put_high, put_low}
+use Rattle.page_map.proofs.HalfLemmas.{place_is, place_kept, place_stays, put_high, put_low}
 use Rattle.page_map.proofs.WayLemmas.{above_from, due_down, ends_with, from_below, page_cells}
 use Rattle.page_map.proofs.PlaceLemmas.{IsPlace, place_here, place_below}
 
@@ -61,11 +61,6 @@ pub none_past : (level : ℕ) (t : Tree level) → nat_lt (length (live_in level
 none_past level t e =
     nothing (past_in level t)
     (omega (arith, ltb-false (length (live_in level t)) (length (cells_in level t)) e, ap (λ (l : List Cell). length l) (whole_is level t), length-append (live_in level t) (past_in level t)))
-
-put_some : (key value : List ℕ) (cells : List Cell) → 0 < length (put byte_order key value cells)
-put_some key value [] = omega arith
-put_some key value (c ∷ cells) =
-    elim (byte_order key c.0) as (λ o. 0 < length (by_order o ((key, value) ∷ c ∷ cells) ((c.0, value) ∷ cells) (c ∷ put byte_order key value cells))) [ Less ↦ omega arith | Equal ↦ omega arith | Greater ↦ omega arith ]
 
 -- where the pair is not alone others are there
 others_there : (key value : List ℕ) (cells : List Cell) (m : ℕ) → 0 < m → m < length (put byte_order key value cells) → 0 < length cells
@@ -107,11 +102,12 @@ module _ (lo hi : ℕ) (s : State) (room : ℕ) (key value : List ℕ) where
     pub first : 4 + size_of (take w.place (live_in (suc l) t)) + room / 8 ≤ room
     pub last : 4 + size_of (drop w.place (live_in (suc l) t)) + room / 8 ≤ room
 
-  -- the half of a leaf that the key goes to has room for the pair
+  -- the half of a leaf that the key goes to has room for the pair, and the other one has cells
   abbrev pub Halves : (level : ℕ) → Tree level → Split → Type 0
   Halves zero t w =
       (is_lt (byte_order key w.key) ≡ true → 4 + size_of (put byte_order key value (take w.place t.cells)) ≤ room)
       × (is_lt (byte_order key w.key) ≡ false → 4 + size_of (put byte_order key value (drop w.place t.cells)) ≤ room)
+      × (is_lt (byte_order key w.key) ≡ true → 0 < length (drop w.place t.cells)) × (is_lt (byte_order key w.key) ≡ false → 0 < length (take w.place t.cells))
   Halves (suc l) t w = AreHalves l t w
 
   -- the key of a cut, by the cells that count
@@ -239,6 +235,8 @@ module _ (lo hi : ℕ) (s : State) (room : ℕ) (key value : List ℕ) (pair : I
         place_is cut want (m - 1) rises (omega (arith, before, mid.inside)) (separator_above low high less) (ap (λ (i : ℕ). is_lt (byte_order (key_at want i) cut)) before ∙ separator_reached low high) ∙ before in (
           λ e. omega (arith, ap size_of (put_low cut key value t.cells e ∙ ap (λ (n : ℕ). take n want) place), mid.before),
           λ e. omega (arith, ap size_of (put_high cut key value t.cells e ∙ ap (λ (n : ℕ). drop n want) place), mid.behind),
+          λ e. omega (arith, length-drop (place_for cut t.cells) t.cells, place_stays cut key value t.cells e (omega (arith, place, mid.inside))),
+          λ e. omega (arith, length-take-le (place_for cut t.cells) t.cells (place_inside cut t.cells), place_kept cut key value t.cells e, place, mid.some),
         )
 
     pub leaf_asked : IsAsked lo hi s room key value 0 span t (leaf_split t.object span.to key value (t.cells ++ t.past) t.cells)

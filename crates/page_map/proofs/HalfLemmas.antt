@@ -10,7 +10,7 @@ use Rattle.page_ops.specs.Seen.{child_cell}
 use Rattle.page_ops.specs.OnCells.{key_at}
 use Rattle.page_ops.specs.Search.{last_under, next_under, place_for}
 use Rattle.page_map.specs.Map.{Span}
-use Rattle.page_map.proofs.MapLemmas.{IsAt, below_both, lower, span_of, turned, upper}
+use Rattle.page_map.proofs.MapLemmas.{IsAt, below_both, lower, not_below_through, not_both, span_of, turned, upper}
 use Rattle.page_map.proofs.TwoLemmas.{below_at, with_two}
 
 -- ---- a leaf that is cut where a key stands: the pair comes into one half
@@ -208,6 +208,43 @@ under_high q (suc k) (c ∷ d ∷ cells) zero rise inside high e =
 under_high q (suc k) (c ∷ d ∷ cells) (suc j) rise inside high e =
     let rest = under_high q k (d ∷ cells) j (cells_rise c (d ∷ cells) rise).1 (omega (arith, inside)) high (next_some (last_under q (d ∷ cells)) j (under_first q c (d ∷ cells) (suc j) e).1) in
     record { behind = rest.behind; sum = omega (arith, rest.sum); under = rest.under }
+
+-- ---- the place of a cut, without the pair
+
+-- a pair from the key of the cut on does not move its place
+pub place_kept : (cut key value : List ℕ) (cells : List Cell) → is_lt (byte_order key cut) ≡ false → place_for cut (put byte_order key value cells) ≡ place_for cut cells
+place_kept cut key value [] high = place_none cut (key, value) [] high
+place_kept cut key value (c ∷ cells) high =
+    elim (byte_order key c.0) as (λ o. byte_order key c.0 ≡ o → place_for cut (put byte_order key value (c ∷ cells)) ≡ place_for cut (c ∷ cells)) [
+      | Less ↦ λ e.
+          ap (place_for cut) (put_by key value c cells Less e) ∙ place_none cut (key, value) (c ∷ cells) high
+          ∙ sym (place_none cut c cells (not_below_through c.0 key cut (not_both key c.0 (ap is_lt e)) high))
+      | Equal ↦ λ e. ap (place_for cut) (put_by key value c cells Equal e)
+      | Greater ↦ λ e. ap (place_for cut) (put_by key value c cells Greater e) ∙ ap (λ (n : ℕ). if is_lt (byte_order c.0 cut) then suc n else 0) (place_kept cut key value cells high)
+    ] refl
+
+-- where a pair before it leaves cells behind the place, they were there
+pub place_stays : (cut key value : List ℕ) (cells : List Cell) → is_lt (byte_order key cut) ≡ true → place_for cut (put byte_order key value cells) < length (put byte_order key value cells) → place_for cut cells < length cells
+place_stays cut key value [] low inside = absurd (omega (arith, inside, place_first cut (key, value) [] low))
+place_stays cut key value (c ∷ cells) low inside =
+    elim (byte_order key c.0) as (λ o. byte_order key c.0 ≡ o → place_for cut (c ∷ cells) < suc (length cells)) [
+      | Less ↦ λ e.
+          let is = put_by key value c cells Less e in
+          omega (arith, inside, ap (place_for cut) is, ap (λ (l : List Cell). length l) is, place_first cut (key, value) (c ∷ cells) low)
+      | Equal ↦ λ e.
+          let is = put_by key value c cells Equal e in
+          let same : place_for cut ((c.0, value) ∷ cells) ≡ place_for cut (c ∷ cells) = refl in
+          omega (arith, inside, ap (place_for cut) is, ap (λ (l : List Cell). length l) is, same)
+      | Greater ↦ λ e.
+          let is = put_by key value c cells Greater e in
+          let rest : List Cell = put byte_order key value cells in
+          elim (is_lt (byte_order c.0 cut)) as (λ t. is_lt (byte_order c.0 cut) ≡ t → place_for cut (c ∷ cells) < suc (length cells)) [
+            | true ↦ λ below.
+                let behind = place_stays cut key value cells low (omega (arith, inside, ap (place_for cut) is, ap (λ (l : List Cell). length l) is, place_first cut c rest below)) in
+                omega (arith, behind, place_first cut c cells below)
+            | false ↦ λ above. omega (arith, place_none cut c cells above)
+          ] refl
+    ] refl
 
 -- ---- children of the halves, with their spans
 

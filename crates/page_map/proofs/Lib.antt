@@ -24,3 +24,10 @@ pub mod TidyLemmas
 pub mod DeleteLemmas
 pub mod DescentLemmas
 pub mod SeekBound
+pub mod PageLemmas
+pub mod CheckLemmas
+pub mod ReachedLemmas
+pub mod SweepLemmas
+pub mod FullLemmas
+pub mod FittingLemmas
+pub mod MeetLemmas

@@ -281,17 +281,33 @@ module _ {Child : Type 0} where
   with_all P (c ∷ children) (suc i) zero new kid at one two = two at
   with_all P (c ∷ children) (suc i) (suc j) new kid at one two = with_all P children i j new kid at one two
 
-  at_other : (children : List (List ℕ × Child)) (i j : ℕ) (new kid : Child) → IsAt j kid (with_child i new children) → j ≢ i → IsAt j kid children
+  pub at_other : (children : List (List ℕ × Child)) (i j : ℕ) (new kid : Child) → IsAt j kid (with_child i new children) → j ≢ i → IsAt j kid children
   at_other [] i j new kid at apart = absurd at
   at_other (c ∷ children) zero zero new kid at apart = absurd (apart refl)
   at_other (c ∷ children) zero (suc j) new kid at apart = at
   at_other (c ∷ children) (suc i) zero new kid at apart = at
   at_other (c ∷ children) (suc i) (suc j) new kid at apart = at_other children i j new kid at (λ e. apart (ap suc e))
 
-  length_with : (children : List (List ℕ × Child)) (i : ℕ) (new : Child) → length (with_child i new children) ≡ length children
+  pub length_with : (children : List (List ℕ × Child)) (i : ℕ) (new : Child) → length (with_child i new children) ≡ length children
   length_with [] i new = refl
   length_with (c ∷ children) zero new = refl
   length_with (c ∷ children) (suc i) new = ap suc (length_with children i new)
+
+  -- each child, with another one in the place of one
+  each_new : (P : Child → Type 0) (children : List (List ℕ × Child)) (i : ℕ) (new : Child) → P new → ((j : ℕ) (kid : Child) → IsAt j kid children → j ≢ i → P kid) → Each P (with_child i new children)
+  each_new P [] i new here others = tt
+  each_new P (c ∷ children) zero new here others = (here, each_behind children (λ j kid at. others (suc j) kid at (λ e. absurd (omega (arith, e)))))
+    where
+      each_behind : (children : List (List ℕ × Child)) → ((j : ℕ) (kid : Child) → IsAt j kid children → P kid) → Each P children
+      each_behind [] all = tt
+      each_behind (d ∷ children) all = (all 0 d.1 refl, each_behind children (λ j kid at. all (suc j) kid at))
+  each_new P (c ∷ children) (suc i) new here others =
+      (others 0 c.1 refl (λ e. absurd (omega (arith, e))), each_new P children i new here (λ j kid at apart. others (suc j) kid at (λ e. apart (omega (arith, e)))))
+
+-- a leaf has cells, or the leaves below a page do
+abbrev pub HasCells : (level : ℕ) → Tree level → Type 0
+HasCells zero leaf = 0 < length leaf.cells
+HasCells (suc level) page = NoneIsEmpty (suc level) page
 
 -- ---- how many turns tidy the way to a key
 
@@ -347,6 +363,15 @@ module _ (key : List ℕ) where
       each_at (λ (leaf : Leaf). 0 < length leaf.cells) t.children j leaf (at_other t.children i j new leaf there (λ e. apart (cells ∙ under ∙ ap (λ (p : ℕ). Some p) (sym e)))) each)
   needs_changed (suc level) t i child new at root under below none =
       needs_below 2 level t i child new at root under (λ j kid there apart. each_at (NoneIsEmpty (suc level)) t.children j kid there none) (below (each_at (NoneIsEmpty (suc level)) t.children i child at none))
+
+  -- where only the leaf of the key may be empty, and one with cells has come in
+  full_changed : (level : ℕ) (t : Tree (suc level)) (i : ℕ) (child new : Tree level) → IsAt i child t.children → last_under key (cells_in (suc level) t) ≡ Some i → (Needs 2 level child → HasCells level new) → Needs 2 (suc level) t
+      → NoneIsEmpty (suc level) (record { object = t.object; children = with_child i new t.children; past = t.past })
+  full_changed zero t i child new at under goes (inl few) = inl (omega (arith, few, length_with t.children i new))
+  full_changed zero t i child new at under goes (inr each) =
+      inr (each_new (λ (leaf : Leaf). 0 < length leaf.cells) t.children i new (goes tt) (λ j leaf there apart. each j leaf there (λ e. apart (same_some j i (sym e ∙ under)))))
+  full_changed (suc level) t i child new at under goes needs =
+      each_new (NoneIsEmpty (suc level)) t.children i new (goes ((needs i child at).0 under)) (λ j kid there apart. (needs j kid there).1 (λ e. apart (same_some j i (sym e ∙ under))))
 
 -- ---- the child under which a key stands
 
@@ -527,6 +552,7 @@ module _ (searches : Searches) (lo hi : ℕ) (small : hi < 2 ^ 32) (s : State) (
     pub pairs_are : pairs_in level tree ≡ pairs
     pub short : (room : ℕ) → IsTrue (list_all (is_short_pair room) cells) → AreShortPairs room level t → AreShortPairs room level tree
     pub needs : NoneIsEmpty level t → Needs key 2 level tree
+    pub full : 0 < length cells → Needs key 2 level t → HasCells level tree
 
   -- the leaf of the key: the pairs of the other leaves do not have it, and another state may have others in it
   pub record IsLeafFor (level : ℕ) (outer : Span) (t : Tree level) : Type 0 where
@@ -581,6 +607,7 @@ module _ (searches : Searches) (lo hi : ℕ) (small : hi < 2 ^ 32) (s : State) (
       pairs_are = sym (append-nil cells);
       short = λ room there short. there;
       needs = λ none. tt;
+      full = λ some needs. some;
     };
     short_there = λ room short. short;
     walk = ap (λ (b : Bool). if b then Ok t.object else Err t.object) (on_level 0 (bytes_at lo s t.object) (t.cells ++ t.past) holds);
@@ -631,6 +658,7 @@ module _ (searches : Searches) (lo hi : ℕ) (small : hi < 2 ^ 32) (s : State) (
                 each_with (AreShortPairs room level) t.children found.place changed.tree short.1 (changed.short room there (each_at (AreShortPairs room level) t.children found.place found.child found.at short.1)),
               );
               needs = needs_changed key level t found.place found.child changed.tree found.at changed.root found.under changed.needs;
+              full = λ some. full_changed key level t found.place found.child changed.tree found.at found.under (changed.full some);
             };
         short_there = λ room short. rest.short_there room (each_at (AreShortPairs room level) t.children found.place found.child found.at short.1);
         walk =

@@ -138,6 +138,7 @@ module _ (reads : ReadsCells) (lo hi : ℕ) (small : hi < 2 ^ 32) (room : ℕ) (
     pub in_range : (s : State) → Holds lo hi s level t → root_of level t ≤ hi → root_of l page ≤ hi
     pub stand : StandIn l inner page
     pub short : AreShortPairs room level t → AreShortPairs room l page
+    pub needed : (n : ℕ) → Needs key n level t → Needs key n l page
     pub before : List Cell
     pub after : List Cell
     pub split : pairs_in level t ≡ before ++ (pairs_in l page ++ after)
@@ -153,6 +154,7 @@ module _ (reads : ReadsCells) (lo hi : ℕ) (small : hi < 2 ^ 32) (room : ℕ) (
     in_range = λ s holds low. low;
     stand = stand;
     short = λ short. short;
+    needed = λ n needs. needs;
     before = [];
     after = [];
     split = sym (append-nil (pairs_in level t));
@@ -222,6 +224,10 @@ module _ (reads : ReadsCells) (lo hi : ℕ) (small : hi < 2 ^ 32) (room : ℕ) (
           needs = λ more m n old rest. needs_up key m n level l t i child changed.tree at changed.root under (omega (arith, more)) place.depth old (λ below. changed.needs more m n below rest);
         }
 
+    child_needs : (level : ℕ) (t : Tree (suc level)) (i : ℕ) (child : Tree level) → IsAt i child t.children → last_under key (cells_in (suc level) t) ≡ Some i → (n : ℕ) → Needs key n (suc level) t → Needs key n level child
+    child_needs zero t i child at under n needs = tt
+    child_needs (suc level) t i child at under n needs = (needs i child at).0 under
+
     pub place_below : IsPlace (suc level) outer t l inner page
     place_below = record {
       depth = omega (arith, place.depth);
@@ -232,6 +238,7 @@ module _ (reads : ReadsCells) (lo hi : ℕ) (small : hi < 2 ^ 32) (room : ℕ) (
           place.in_range s here.1 (leb-true (root_of level child) hi (both_true (nat_lt lo (root_of level child)) (nat_le (root_of level child) hi) here.0).1);
       stand = place.stand;
       short = λ short. place.short (each_at (AreShortPairs room level) t.children i child at short.1);
+      needed = λ n needs. place.needed n (child_needs level t i child at under n needs);
       before = front ++ place.before;
       after = place.after ++ back;
       split = joined front place.before (pairs_in l page) place.after back (pairs_in (suc level) t) (pairs_in level child) split place.split;

@@ -22,6 +22,7 @@ use Rattle.page_ops.specs.Operation.{page_meaning, value_made, written_by}
 use Rattle.page_ops.specs.OperationLaws.{short_made}
 use Rattle.page_ops.specs.declared.page_op.PageOp.{PageOp}
 use Rattle.page_ops.specs.declared.page_op.PageOp.TheVariants.{Put, Set, Part, Keep, TurnTwo, Root}
+use Rattle.page_map.specs.Deletes.{IsFull, NoneIsEmpty}
 use Rattle.page_map.specs.Map.{IsHeld, Tree, StandIn, all_keys, all_past, bytes_at, cells_in, content_of, root_of}
 use Rattle.page_map.specs.Plan.{Admits, set_at}
 use Rattle.page_map.specs.Walk.{walk}
@@ -29,16 +30,17 @@ use Rattle.page_map.specs.Splits.{Split, Due, fits, asks, granted, bad_from, cel
 use Rattle.page_map.specs.Sets.{Turn, does, ends, refuses, Inserts, IsCause, IsKept, IsTurn, Keeps, child_split, is_pair, is_short_key, is_short_pair, room_of, cut_turn, due_in, by_turn, length_with, put_turn, root_split, set_by, set_from, set_plan, set_turn, Sets, unless_bad}
 use Rattle.page_map.specs.declared.refusal.MapRefusal.{MapRefusal}
 use Rattle.page_map.specs.declared.refusal.MapRefusal.TheVariants.{BadMap, MapFull, TooLong}
-use Rattle.page_map.proofs.MapLemmas.{Searches, IsLeafFor, in_all, map_leaf, root_held, walk_is}
+use Rattle.page_map.proofs.MapLemmas.{HasCells, Needs, Searches, IsLeafFor, in_all, map_leaf, root_held, walk_is}
 use Rattle.page_map.proofs.CutLemmas.{ReadsCells, cells_are, page_size}
 use Rattle.page_map.proofs.ChangeLemmas.{Changes, found_place, read_as, set_content, set_fits, set_is_done, set_op, stands, whole}
 use Rattle.page_map.proofs.TreeLemmas.{live_in, past_in, whole_is}
 use Rattle.page_map.proofs.OpLemmas.{fits_room, room_low}
 use Rattle.page_map.proofs.WayLemmas.{IsLess, Settled, rank}
 use Rattle.page_map.proofs.SettleLemmas.{rank_low}
+use Rattle.page_map.proofs.FullLemmas.{full_two}
 use Rattle.page_map.proofs.DueLemmas.{DueFound, IsAsked, IsDue, IsGranted, due_found, none_past}
 use Rattle.page_map.proofs.RoomLemmas.{length_is, none_bad}
-use Rattle.page_map.proofs.TurnLemmas.{IsTree, cut_keeps, cut_settles, kept_by, made3, page_fits, root_keeps, root_settles, top_pairs, top_tree, tree_of, trim_keeps, trim_settles, trim_tree}
+use Rattle.page_map.proofs.TurnLemmas.{IsTree, cut_full, cut_keeps, cut_settles, kept_by, made3, page_fits, root_full, root_keeps, root_settles, top_pairs, top_tree, tree_of, trim_full, trim_keeps, trim_settles, trim_tree}
 
 -- no cell is past the span of the root
 nothing_past : (past : List Cell) → IsTrue (all_past all_keys past) → past ≡ []
@@ -48,6 +50,14 @@ nothing_past (c ∷ past) all = cc
 pub root_ends : (level : ℕ) (t : Tree level) → StandIn level all_keys t → past_in level t ≡ []
 root_ends zero t stand = nothing_past t.past stand.1
 root_ends (suc level) t stand = nothing_past t.past stand.1
+
+none_empty : (level : ℕ) (t : Tree level) → HasCells level t → NoneIsEmpty level t
+none_empty zero t some = tt
+none_empty (suc level) t none = none
+
+pub all_after : (b : Bounds) (ops others : List PageOp) (s : State) → after_all (page_meaning b) s (ops ++ others) ≡ after_all (page_meaning b) (after_all (page_meaning b) s ops) others
+all_after b [] others s = refl
+all_after b (op ∷ ops) others s = all_after b ops others (after (page_meaning b) s op)
 
 -- a free object of a range behind its first
 pub record IsFreeIn (lo hi : ℕ) (s : State) (x : ℕ) : Type 0 where
@@ -124,10 +134,15 @@ module _ (searches : Searches) (changes : Changes) (reads : ReadsCells) (b : Bou
     pub same : content_of next.map ≡ content_of is.map
     pub less : LessAt n (after_all (page_meaning b) s ops)
     pub few : length ops ≤ 3
+    pub needs : Needs key 2 level t → Needs key 2 next.map.level next.map.tree
+
+  -- where no leaf was without cells but that of the key, none is behind the command
+  abbrev pub Fills : PageOp → Type 0
+  Fills op = Needs key 2 level t → IsFull b lo hi (after (page_meaning b) s op)
 
   abbrev pub Goes : ℕ → Turn → Type 0
   Goes n (does ops) = Cuts n ops
-  Goes n (ends op) = Inserts b lo hi s is key value op
+  Goes n (ends op) = Inserts b lo hi s is key value op × Fills op
   Goes n (refuses r) = IsCause b lo hi s is key value r
 
   child_turn : (w : Split) (q i : ℕ) → IsGranted reads lo hi small s room key value leaf level all_keys t w q i → w.has_past ≡ false → (free' : List ℕ) → free ≡ free' → Goes (rank w) (child_split w q i free')
@@ -149,6 +164,9 @@ module _ (searches : Searches) (changes : Changes) (reads : ReadsCells) (b : Bou
             (cut_settles changes reads b lo hi small admits key value s level t tree given.l given.inner given.page given.place i given.child given.at none w (given.asked.cut clean) given.asked.key_short roomy new one.above one.low one.empty
             given.asked clean given.under given.ends);
         few = omega arith;
+        needs =
+            cut_full changes reads b lo hi small admits key value s level t tree given.l given.inner given.page given.place i given.child given.at none w (given.asked.cut clean) given.asked.key_short roomy new one.above one.low one.empty
+            given.asked clean given.under given.ends;
       })
 
   trim_turn : (w : Split) (q i : ℕ) → IsGranted reads lo hi small s room key value leaf level all_keys t w q i → w.has_past ≡ true → Cuts (rank w) (Keep w.object w.count ∷ [])
@@ -164,6 +182,9 @@ module _ (searches : Searches) (changes : Changes) (reads : ReadsCells) (b : Bou
             (trim_settles changes reads b lo hi small admits key value s level t tree given.l given.inner given.page given.place i given.child given.at w given.asked there given.under given.within given.ends
             (subst (λ (y : ℕ). IsTrue (has_room room (length (bytes_at lo s y)) w.key)) given.object given.room_is));
         few = omega arith;
+        needs =
+            trim_full changes reads b lo hi small admits key value s level t tree given.l given.inner given.page given.place i given.child given.at w given.asked there given.under given.within given.ends
+            (subst (λ (y : ℕ). IsTrue (has_room room (length (bytes_at lo s y)) w.key)) given.object given.room_is);
       })
 
   root_turn : (w : Split) → IsAsked lo hi s room key value level all_keys t w → (free' : List ℕ) → free ≡ free' → Goes (rank w) (root_split w free')
@@ -199,6 +220,9 @@ module _ (searches : Searches) (changes : Changes) (reads : ReadsCells) (b : Bou
                   (root_settles changes reads b lo hi small admits key value s level t tree none (asked.some clean) w (asked.cut clean) asked.key_short left right one.above one.low one.empty two.0.above two.0.low two.0.empty apart levels
                   asked clean);
               few = omega arith;
+              needs =
+                  root_full changes reads b lo hi small admits key value s level t tree none (asked.some clean) w (asked.cut clean) asked.key_short left right one.above one.low one.empty two.0.above two.0.low two.0.empty apart levels
+                  asked clean;
             })
         | false ↦ λ c. inr (omega (arith, ltb-false w.level 255 c, asked.level_is))
       ] refl
@@ -241,14 +265,13 @@ module _ (searches : Searches) (changes : Changes) (reads : ReadsCells) (b : Bou
         set_fits searches changes lo hi small b s key is.map value admits key_length value_length
         (fits_room (length (page_of 0 (put byte_order key value cells))) b.cap (omega (arith, roomy, page_size 0 (put byte_order key value cells))))
 
-    puts_in : Accepts (page_meaning b) s op → Inserts b lo hi s is key value op
+    puts_in : Accepts (page_meaning b) s op → Inserts b lo hi s is key value op × Fills op
     puts_in accepted =
         let done = set_is_done searches changes lo hi small b s key is.map value accepted in
-        record {
-          accepted = accepted;
-          kept = record { map = done.0; short = done.2 room short_pair is.short; values_fit = fits_too b s op is.values_fit };
-          content = set_content searches changes lo hi small b s key is.map value op done;
-        }
+        let kept : IsKept b lo hi (after (page_meaning b) s op) = record { map = done.0; short = done.2 room short_pair is.short; values_fit = fits_too b s op is.values_fit } in (
+          record { accepted = accepted; kept = kept; content = set_content searches changes lo hi small b s key is.map value op done },
+          λ needs. record { kept = kept; full = none_empty done.0.level done.0.tree (done.5 refl needs) },
+        )
 
     cut_goes : (d : Due) → IsDue reads lo hi small s room key value leaf level all_keys t d → room < new_size → Goes (rank_of d) (cut_turn lo free (Ok d))
     cut_goes fits roomy full = absurd (omega (arith, roomy, full, ap (λ (l : List Cell). size_of (put byte_order key value l)) read))
@@ -318,7 +341,7 @@ module _ (searches : Searches) (changes : Changes) (reads : ReadsCells) (b : Bou
 
   only_turn : (n : ℕ) (r : Turn) → Goes n r → IsTurn b lo hi s is key value r
   only_turn n (does ops) goes = goes.keeps
-  only_turn n (ends last) goes = goes
+  only_turn n (ends last) goes = goes.0
   only_turn n (refuses r) goes = goes
 
   pub set_is_turn : IsTurn b lo hi s is key value (set_turn b lo hi key value s)
@@ -449,7 +472,7 @@ module _ (searches : Searches) (changes : Changes) (reads : ReadsCells) (b : Bou
         let plan : Plan PageOp MapRefusal = behind n s ops in
         with_ops b lo hi key value ops s is goes.keeps goes.next goes.same plan.commands plan.refusal (3 * k + 1) (3 * m + 1)
         (rest k (after_all (page_meaning b) s ops) goes.next goes.less.0 goes.less.1 goes.less.2 low) (omega (arith, goes.few, less))
-    one_turn n m k s is rest (ends op) goes less low = fewer b lo hi key value s is (op ∷ []) None 1 (3 * m + 1) (ended_at b lo hi key value s is op goes) (omega arith)
+    one_turn n m k s is rest (ends op) goes less low = fewer b lo hi key value s is (op ∷ []) None 1 (3 * m + 1) (ended_at b lo hi key value s is op goes.0) (omega arith)
     one_turn n m k s is rest (refuses r) goes less low = fewer b lo hi key value s is [] (Some r) 0 (3 * m + 1) (refused_at b lo hi key value s is r goes) (omega arith)
 
     -- the turn of what is due, where the leaf has no room
@@ -466,7 +489,7 @@ module _ (searches : Searches) (changes : Changes) (reads : ReadsCells) (b : Bou
         (λ roomy.
         fewer b lo hi key value s is (op_at s is ∷ []) None 1 (3 * k + 1)
         (ended_at b lo hi key value s is (op_at s is)
-        (puts_in searches changes reads b lo hi small admits s is key value pair (accepted searches changes reads b lo hi small admits s is key value pair roomy))) (omega arith))
+        (puts_in searches changes reads b lo hi small admits s is key value pair (accepted searches changes reads b lo hi small admits s is key value pair roomy)).0) (omega arith))
         (λ full.
         cut_due n k s is rest (found_at s is).due (cut_goes searches changes reads b lo hi small admits s is key value pair (found_at s is).due (found_at s is).is full) less low)
 
@@ -487,6 +510,66 @@ module _ (searches : Searches) (changes : Changes) (reads : ReadsCells) (b : Bou
         subst (λ (most : ℕ). Sets b lo hi s is key value (set_plan b lo hi key value s) most) bound
         (subst (λ (k : ℕ). Sets b lo hi s is key value (planned k s) (3 * n + 1)) fuel
         (one_turn n n (rank_at s is here.due) s is (sets_from n) (set_turn b lo hi key value s) (set_goes searches changes reads b lo hi small admits s is key value pair) (omega (arith, first)) (omega (arith, first))))
+
+    -- ---- where the call is done no leaf is left without cells
+
+    abbrev Filled : State → Plan PageOp MapRefusal → Type 0
+    Filled s plan = plan.refusal ≡ None → IsFull b lo hi (after_all (page_meaning b) s plan.commands)
+
+    abbrev FillsRest : ℕ → Type 0
+    FillsRest n =
+        (k : ℕ) (s : State) (is : IsKept b lo hi s) (d : Due) → due_of searches changes reads b lo hi small admits s is key value s ≡ Some d → IsLess k d → k < n → Needs key 2 is.map.level is.map.tree → Filled s (planned n s)
+
+    fills_turn : (n k : ℕ) (s : State) (is : IsKept b lo hi s) → FillsRest n → (r : Turn) → GoesAt s is k r → k < n → Needs key 2 is.map.level is.map.tree → Filled s (by_turn b lo hi (behind n s) r)
+    fills_turn n k s is rest (does ops) goes low needs = λ done.
+        subst (λ (new : State). IsFull b lo hi new) (sym (all_after b ops (behind n s ops).commands s))
+        (rest k (after_all (page_meaning b) s ops) goes.next goes.less.0 goes.less.1 goes.less.2 low (goes.needs needs) done)
+    fills_turn n k s is rest (ends op) goes low needs = λ done. goes.1 needs
+    fills_turn n k s is rest (refuses r) goes low needs = λ done. cc
+
+    fills_due : (n k : ℕ) (s : State) (is : IsKept b lo hi s) → FillsRest n → (d : Due) → GoesAt s is (rank_at s is d) (cut_turn lo (free_from s (suc lo) (hi - lo)) (Ok d)) → IsLess k d → k < suc n
+        → Needs key 2 is.map.level is.map.tree → Filled s (by_turn b lo hi (behind n s) (cut_turn lo (free_from s (suc lo) (hi - lo)) (Ok d)))
+    fills_due n k s is rest fits goes less low needs = λ done. cc
+    fills_due n k s is rest (asks w) goes less low needs = absurd less
+    fills_due n k s is rest (granted w q i) goes less low needs =
+        fills_turn n (rank w) s is rest (cut_turn lo (free_from s (suc lo) (hi - lo)) (Ok (granted w q i))) goes (omega (arith, less, low)) needs
+
+    fills_from : (n : ℕ) → FillsRest n
+    fills_from zero k s is d comes less low needs = absurd (omega (arith, low))
+    fills_from (suc n) k s is d comes less low needs =
+        let here = found_at s is in
+        let same : d ≡ here.due = same_some d here.due (sym comes ∙ due_root searches changes reads b lo hi small admits s is key value pair) in
+        by_room searches changes reads b lo hi small admits s is key value pair (λ r. Filled s (by_turn b lo hi (behind n s) r))
+        (λ roomy done. (puts_in searches changes reads b lo hi small admits s is key value pair (accepted searches changes reads b lo hi small admits s is key value pair roomy)).1 needs)
+        (λ full.
+        fills_due n k s is (fills_from n) here.due (cut_goes searches changes reads b lo hi small admits s is key value pair here.due here.is full) (subst (λ (d : Due). IsLess k d) same less) low needs)
+
+    fills_pair : (s : State) (is : IsKept b lo hi s) → Needs key 2 is.map.level is.map.tree → Filled s (set_plan b lo hi key value s)
+    fills_pair s is needs =
+        let n : ℕ = 2 * is.map.level + 2 in
+        let first = at_first searches changes reads b lo hi small admits s is key value pair in
+        let here = found_at s is in
+        let fuel : suc n ≡ 2 * level_in (bytes_at lo s lo) + 3 = omega (arith, top_level searches changes reads b lo hi small admits s is key value) in
+        subst (λ (k : ℕ). Filled s (planned k s)) fuel
+        (fills_turn n (rank_at s is here.due) s is (fills_from n) (set_turn b lo hi key value s) (set_goes searches changes reads b lo hi small admits s is key value pair) (omega (arith, first)) needs)
+
+  -- a call with a key or a value that is too long
+  too_long : (s : State) → is_pair (room_of b.cap) (key, value) ≡ false → (set_plan b lo hi key value s).refusal ≡ Some TooLong
+  too_long s p =
+      let n : ℕ = 2 * level_in (bytes_at lo s lo) + 2 in
+      let fuel : suc n ≡ 2 * level_in (bytes_at lo s lo) + 3 = omega arith in
+      (λ k. (set_from b lo hi key value (sym fuel k) s).refusal)
+      ∙ ap (λ (q : Bool). (by_turn b lo hi (λ ops. set_from b lo hi key value n (after_all (page_meaning b) s ops)) (if q then set_by b lo hi key value s (walk lo hi s key) else refuses TooLong)).refusal) p
+
+  pub set_fills : (s : State) (is : IsKept b lo hi s) → NoneIsEmpty is.map.level is.map.tree → (set_plan b lo hi key value s).refusal ≡ None → IsFull b lo hi (after_all (page_meaning b) s (set_plan b lo hi key value s).commands)
+  set_fills s is none =
+      elim (is_pair (room_of b.cap) (key, value)) as (λ p. is_pair (room_of b.cap) (key, value) ≡ p → (set_plan b lo hi key value s).refusal ≡ None → IsFull b lo hi (after_all (page_meaning b) s (set_plan b lo hi key value s).commands)) [
+        | true ↦ λ p. fills_pair p s is (full_two key is.map.level is.map.tree none)
+        | false ↦ λ p done. absurd (refused_not (sym (too_long s p) ∙ done))
+      ] refl
+    where
+      refused_not : Some TooLong ≡ None → ⊥
+      refused_not e = cc
 
   pub set_is_planned : (s : State) (is : IsKept b lo hi s) → Sets b lo hi s is key value (set_plan b lo hi key value s) (6 * is.map.level + 7)
   set_is_planned s is =

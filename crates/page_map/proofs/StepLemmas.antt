@@ -92,7 +92,7 @@ front_key to (c ∷ cells) (suc i) inside =
     ] inside
 
 -- behind a cell past the end all are
-past_behind : (to : Option (List ℕ)) (x : List ℕ) (cells : List Cell) → T (below_all byte_order x cells) → is_below x to ≡ false → IsTrue (list_all (λ c. not (is_below c.0 to)) cells)
+pub past_behind : (to : Option (List ℕ)) (x : List ℕ) (cells : List Cell) → T (below_all byte_order x cells) → is_below x to ≡ false → IsTrue (list_all (λ c. not (is_below c.0 to)) cells)
 past_behind None x cells all past = absurd (true≢false past)
 past_behind (Some end) x cells all past = not_below_behind end x cells all past
 

@@ -42,7 +42,7 @@ use Rattle.page_map.proofs.DueLemmas.{none_past}
 use Rattle.page_map.proofs.OpLemmas.{IsWritten, bytes_else, bytes_there, fits_after, free_done, part_done, read_child, read_inner, room_cap, turn_done}
 use Rattle.page_map.proofs.TurnLemmas.{IsTree, keeps_more, keeps_none, kept_by, page_fits, tree_of, trim_keeps, trim_tree}
 use Rattle.page_map.proofs.GoneLemmas.{cells_one, child_there, each_by, each_one, each_one_but, joined_span, keys_one, pairs_one, rise_one, share_one, size_one, times_one, two_inside, with_one}
-use Rattle.page_map.proofs.SetLemmas.{fits_too, root_ends}
+use Rattle.page_map.proofs.SetLemmas.{all_after, fits_too, root_ends}
 
 -- ---- spans beside each other
 
@@ -103,7 +103,7 @@ module _ (searches : Searches) (changes : Changes) (reads : ReadsCells) (b : Bou
 
   -- ---- an object that is not reached is given back
 
-  over_free : (s : State) (x : ℕ) → x ≤ hi → (level : ℕ) (t : Tree level) → times x (objects_in level t) ≡ 0 → IsTree b lo hi s level t → Accepts meaning s (Free x) × IsTree b lo hi (after meaning s (Free x)) level t
+  pub over_free : (s : State) (x : ℕ) → x ≤ hi → (level : ℕ) (t : Tree level) → times x (objects_in level t) ≡ 0 → IsTree b lo hi s level t → Accepts meaning s (Free x) × IsTree b lo hi (after meaning s (Free x)) level t
   over_free s x low level t none tree =
       let done = free_done changes b hi small admits s x low in
       let new : State = after meaning s (Free x) in
@@ -982,10 +982,6 @@ module _ (searches : Searches) (changes : Changes) (reads : ReadsCells) (b : Bou
   idle zero s none = refl
   idle (suc n) s none = ap (λ (r : Result (List PageOp) ℕ). (by_tidying (λ ops. tidied b lo hi key n (after_all meaning s ops)) r).commands) none ∙ idle n s none
 
-  all_after : (ops others : List PageOp) (s : State) → after_all meaning s (ops ++ others) ≡ after_all meaning (after_all meaning s ops) others
-  all_after [] others s = refl
-  all_after (op ∷ ops) others s = all_after ops others (after meaning s op)
-
   -- behind so many turns
   abbrev pub IsRest : State → Type 0
   IsRest s = (tidy_turn lo hi s key ≡ Ok []) × IsFull b lo hi s
@@ -1007,7 +1003,7 @@ module _ (searches : Searches) (changes : Changes) (reads : ReadsCells) (b : Bou
           let ops : List PageOp = goes.op ∷ goes.ops in
           let others : List PageOp = (tidied b lo hi key n (after_all meaning s ops)).commands in
           subst IsRest
-          (sym (ap (λ (r : Result (List PageOp) ℕ). after_all meaning s (by_tidying (λ ops. tidied b lo hi key n (after_all meaning s ops)) r).commands) goes.turn_is ∙ all_after ops others s)) (on goes)
+          (sym (ap (λ (r : Result (List PageOp) ℕ). after_all meaning s (by_tidying (λ ops. tidied b lo hi key n (after_all meaning s ops)) r).commands) goes.turn_is ∙ all_after b ops others s)) (on goes)
 
 -- ---- how many commands they are
 

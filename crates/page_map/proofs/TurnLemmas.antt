@@ -33,6 +33,7 @@ use Rattle.page_map.proofs.TwoLemmas.{above_cell, cell_inside, cells_two, each_t
 use Rattle.page_map.proofs.HalfLemmas.{at_left, at_right, end_left, end_right, under_two}
 use Rattle.page_map.proofs.WayLemmas.{Settled, due_at, due_down, from_below, rank, settled_up}
 use Rattle.page_map.proofs.DueLemmas.{IsAsked}
+use Rattle.page_map.proofs.FullLemmas.{bare_needs, cut_needs, on_way, one_needs, top_needs, two_needs}
 use Rattle.page_map.proofs.SettleLemmas.{bare_settles, left_settles, right_settles}
 use Rattle.page_map.proofs.OpLemmas.{IsWritten, bytes_else, bytes_there, fits_after, keep_done, part_done, read_child, read_inner, root_done, room_cap, room_fits, room_low, two_done, value_else}
 
@@ -365,15 +366,16 @@ module _ (changes : Changes) (reads : ReadsCells) (b : Bounds) (lo hi : ℕ) (sm
           shared_two (StandIn l) inner children i child (left past) key right at place.stand.0 (parts_within span key (not_both span.from key cut.above) cut.below) (cut.before x past all) (cut.from new)
 
       -- the tree with it
-      pub record IsMade (new_s : State) : Type 0 where
+      pub record IsMade (new_s : State) (past : List Cell) : Type 0 where
         pub made : Tree level
         pub is : IsTree b lo hi new_s level made
         pub pairs : pairs_in level made ≡ pairs_in level t
         pub settled : (n : ℕ) → Settled reads lo hi small room sought value new_s n (suc l) q inner.to → Settled reads lo hi small room sought value new_s n level (root_of level made) None
+        pub needs : (m n : ℕ) → Needs sought m level t → Needs sought n (suc l) (with_new past) → Needs sought n level made
 
       made_with : (new_s : State) (past : List Cell) → IsTrue (all_past (lower span key) past) → IsHeld (suc l) (bytes_at lo new_s q) (cells_in (suc l) (with_new past))
           → Each (HoldsChild lo hi new_s l) (with_child i (left past) children) → HoldsChild lo hi new_s l right
-          → ((y : ℕ) → 1 ≤ times y (objects_in level t) → times y (objects_in (suc l) page) ≡ 0 → SameAt lo hi s1 new_s y) → ((y : ℕ) → length (new_s y) ≤ b.cap) → IsMade new_s
+          → ((y : ℕ) → 1 ≤ times y (objects_in level t) → times y (objects_in (suc l) page) ≡ 0 → SameAt lo hi s1 new_s y) → ((y : ℕ) → length (new_s y) ≤ b.cap) → IsMade new_s past
       made_with new_s past all held each new_held same fits =
           let changed =
           place.again s1 new_s (with_new past) tree.once tree1.holds refl same (held, each_two (HoldsChild lo hi new_s l) children i (left past) key right each new_held) (shares past all, place.stand.1) in
@@ -399,9 +401,10 @@ module _ (changes : Changes) (reads : ReadsCells) (b : Bounds) (lo hi : ℕ) (sm
                 ∙ ap (λ (c : List Cell). place.before ++ (c ++ place.after)) (pairs_two (pairs_in l) children i child (left past) key right at (parts_pairs l x new k past child))
                 ∙ sym place.split;
             settled = changed.settled;
+            needs = changed.needs (omega arith);
           }
 
-      made2 : IsMade s2
+      made2 : IsMade s2 (drop k live)
       made2 =
           made_with s2 (drop k live) cut.behind held2 (each_with (HoldsChild lo hi s2 l) children i (left (drop k live)) each2 left2) right2
           (λ y there out. else2 y (λ e. absurd (omega (arith, out, root_reached (suc l) page, ap (λ (z : ℕ). times z (objects_in (suc l) page)) e))))
@@ -461,7 +464,7 @@ module _ (changes : Changes) (reads : ReadsCells) (b : Bounds) (lo hi : ℕ) (sm
       held3 =
           held_again (suc l) (bytes_at lo s2 q) (bytes_at lo s3 q) names (cells_in (suc l) (with_new [])) held2 (else3 q (λ e. x_apart_q (sym e))) (put_is [] ∙ sym (put_is (drop k live)))
 
-      pub made3 : IsMade s3
+      pub made3 : IsMade s3 []
       made3 =
           made_with s3 [] refl held3 each3 right3
           (λ y there out.
@@ -502,6 +505,14 @@ module _ (changes : Changes) (reads : ReadsCells) (b : Bounds) (lo hi : ℕ) (sm
 
         pub cut_settles : Settled reads lo hi small room sought value s3 (rank w) level (root_of level made3.made) None
         cut_settles = made3.settled (rank w) page_settles
+
+        -- no leaf is without cells but that of the key
+        pub cut_full : Needs sought 2 level t → Needs sought 2 level made3.made
+        cut_full needs =
+            let here : Needs sought 2 (suc l) page = place.needed 2 needs in
+            made3.needs 2 2 needs
+            (two_needs sought l page i child (left []) key right at under here
+            (cut_needs sought lo hi s room value x new l span child w asked clean live_held.rise (on_way sought l page i child at under here)))
 
       pub cut_keeps : (is : IsKept b lo hi s) → from_entries (pairs_in level t) ≡ content_of is.map → Keeps b lo hi s is (part ∷ name ∷ keep ∷ [])
       cut_keeps is same =
@@ -613,6 +624,11 @@ module _ (changes : Changes) (reads : ReadsCells) (b : Bounds) (lo hi : ℕ) (sm
                 (ap (last_under sought) other_cells ∙ under) (omega (arith, x_low, bare_root l child)) ∙ ap (option_map (ask_above room size q i own)) below;
             less = here.goes size q i own (subst (λ (n : ℕ). IsTrue (has_room room n w.key)) same roomy);
           })
+
+      pub trim_full : Needs sought 2 level t → Needs sought 2 level trim_tree.made
+      trim_full needs =
+          let here : Needs sought 2 (suc l) page = place.needed 2 needs in
+          trim_tree.needs 2 2 needs (one_needs sought l page i child (bare l child) at (bare_root l child) under here (bare_needs sought lo hi s room value x x l span child w asked))
 
     pub trim_keeps : (is : IsKept b lo hi s) → from_entries (pairs_in level t) ≡ content_of is.map → Keeps b lo hi s is (trim ∷ [])
     trim_keeps is same =
@@ -822,6 +838,13 @@ module _ (changes : Changes) (reads : ReadsCells) (b : Bounds) (lo hi : ℕ) (sm
                 settled_up reads lo hi small room sought value t3 (rank w) level all_keys above_both top_held top_share refl refl 1 back_half refl goes (omega (arith, right_low, last_root level right w.place t))
                 (settled_as t3 (rank w) level (sym (last_root level right w.place t)) refl (right_settles reads lo hi small room sought value s t3 w clean level all_keys t asked tree.holds tree.stand tree.once root_same right back_part reached))
           ] refl goes
+
+      pub root_full : Needs sought 2 level t → Needs sought 2 (suc level) above_both
+      root_full needs =
+          top_needs sought level above_both front_half w.key back_half refl
+          (ap (λ (e : Bool). if e then None else next_under (if is_lt (byte_order sought w.key) then None else Some 0)) (not_below_none sought)
+          ∙ elim (is_lt (byte_order sought w.key)) as (λ e. next_under (if e then None else Some 0) ≡ (if e then Some 0 else Some 1)) [ true ↦ refl | false ↦ refl ])
+          (cut_needs sought lo hi s room value left right level all_keys t w asked clean root_is_held.rise needs)
 
     pub root_keeps : (is : IsKept b lo hi s) → from_entries (pairs_in level t) ≡ content_of is.map → Keeps b lo hi s is (Part left lo 0 w.place ∷ Part right lo w.place (length cells) ∷ top ∷ [])
     root_keeps is same =

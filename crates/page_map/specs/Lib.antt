@@ -9,3 +9,6 @@ pub mod Reads
 pub mod Steps
 pub mod Ranges
 pub mod Deletes
+pub mod Checks
+pub mod Sweeps
+pub mod Worked

@@ -2,7 +2,7 @@
 ghost use Rattle.std.specs.Ordering.{is_eq, is_lt};
 ghost use Rattle.std.specs.Prelude.{◌≡◌, ◌<◌, ◌≤◌, ◌^◌, ◌&&◌, [], IfSome, is_some, length, nat_lt, slice_index_or, take};
 ghost use Rattle.key_entries.specs.Entries.{byte_order};
-ghost use Rattle.page_ops.specs.OnCells.{key_at};
+ghost use Rattle.page_ops.specs.OnCells.{beside_at, key_at};
 ghost use Rattle.page_ops.specs.Search.{last_under, place_for};
 ghost use Rattle.page_map.specs.Steps.{one_before};
 ghost use Rattle.page_map.specs.Splits.{all_there, cell_size, cells_read, front_of};
@@ -62,6 +62,19 @@ impl<'p, 'a> Cells<'p, 'a> {
         }
         match self.page.key(i) {
             Some(key) => key,
+            None => &[],
+        }
+    }
+
+    /// What is beside the key of a cell, and no bytes behind the last one.
+    pub(crate) fn beside(&self, i: usize) -> &'a [u8]
+        ensures { result.now ≡ beside_at self.now i }
+    {
+        if i >= self.count {
+            return &[];
+        }
+        match self.page.cell(i) {
+            Some((_key, beside)) => beside,
             None => &[],
         }
     }
@@ -144,7 +157,7 @@ fn before(i: usize) -> Option<usize>
 }
 
 /// Whether a key is below another.
-fn is_below(key: &[u8], other: &[u8]) -> bool
+pub(crate) fn is_below(key: &[u8], other: &[u8]) -> bool
     ensures { result ≡ is_lt (byte_order key.now other.now) }
 {
     match key.cmp(other) {
@@ -154,7 +167,7 @@ fn is_below(key: &[u8], other: &[u8]) -> bool
 }
 
 /// Whether a key is another.
-fn is_same(key: &[u8], other: &[u8]) -> bool
+pub(crate) fn is_same(key: &[u8], other: &[u8]) -> bool
     ensures { result ≡ is_eq (byte_order key.now other.now) }
 {
     match key.cmp(other) {

@@ -1,6 +1,6 @@
 //! What holds of maps, as laws on definitions.
 
-ghost use Rattle.std.specs.Prelude.{◌≡◌, ◌<◌, ◌≤◌, ◌^◌, ◌+◌, ◌*◌, ℕ, IsTrue, None, Ok, List, [], length, slice_get};
+ghost use Rattle.std.specs.Prelude.{◌≡◌, ◌<◌, ◌≤◌, ◌^◌, ◌+◌, ◌*◌, ℕ, true, false, IsTrue, None, Ok, Err, List, [], length, slice_get};
 ghost use Rattle.std.specs.List.{list_all};
 ghost use Rattle.std.specs.FinMap.{FinMap, empty, entries, get};
 ghost use Rattle.oper_core.specs.State.{State};
@@ -10,13 +10,17 @@ ghost use Rattle.key_entries.specs.Entries.{byte_order};
 ghost use Rattle.call_plans.specs.Laws.{AreAlike, after_all};
 ghost use Rattle.page_ops.specs.Operation.{page_meaning, written_by};
 ghost use Rattle.page_ops.specs.declared.page_op.PageOp.{PageOp};
+ghost use Rattle.page_map.specs.Checks.{Checking, Met, before, check, check_from, is_met, met_on, taken};
 ghost use Rattle.page_map.specs.Deletes.{Deletes, IsFull, NoneIsEmpty, delete_plan, tidy_plan, tidy_turn};
-ghost use Rattle.page_map.specs.Map.{IsMap, Span, all_keys, content_of, objects_in, times};
+ghost use Rattle.page_map.specs.Map.{IsMap, Range, Span, all_keys, bytes_at, content_of, objects_in, times};
 ghost use Rattle.page_map.specs.Plan.{Admits, DeleteMakes, SetMakes};
 ghost use Rattle.page_map.specs.Ranges.{back_answer, count_answer, range_answer};
 ghost use Rattle.page_map.specs.Reads.{above, are_bytes, back_of, below, count_of, first_of, last_of, next_of, pairs_of, prefix_of, prefix_span, prev_of, range_of};
 ghost use Rattle.page_map.specs.Sets.{IsKept, IsTurn, Keeps, Sets, set_plan, set_turn};
+ghost use Rattle.page_map.specs.Splits.{cells_read};
+ghost use Rattle.page_map.specs.Sweeps.{Sweeps, sweep_plan};
 ghost use Rattle.page_map.specs.Walk.{get_answer};
+ghost use Rattle.page_map.specs.declared.awaited.Awaited.{Awaited};
 
 use page_ops::{a_search_finds_the_place, operations_are_on_cells};
 
@@ -94,6 +98,17 @@ pub fn a_set_is_done_or_refused()
     operations_are_on_cells();
 }
 
+/// Where no leaf of a map is without cells but only children, a set that is done leaves it so; within the set a cut may leave the
+/// leaf of the key without cells, until the pair is put there. A delete that is done leaves it so, too (`tidied`), and a map of one
+/// leaf has none: so behind sets and deletes that are done a delete leaves nothing to tidy.
+pub fn whole_sets_leave_no_leaf_empty()
+    ensures { (b : Bounds) (lo hi : ℕ) (s : State) (key value : List ℕ) → hi < 2 ^ 32 → Admits b hi → (is : IsKept b lo hi s) → NoneIsEmpty is.map.level is.map.tree → (set_plan b lo hi key value s).refusal ≡ None
+        → IsFull b lo hi (after_all (page_meaning b) s (set_plan b lo hi key value s).commands) }
+{
+    a_search_finds_the_place();
+    operations_are_on_cells();
+}
+
 /// On a map ranges are read from its leaves: the pairs of a span from its beginning on, or from its end back, at most so many, and
 /// how many there are.
 pub fn ranges_are_read_from_leaves()
@@ -113,3 +128,29 @@ pub fn reads_are_ranges()
     ensures prev { (m : FinMap byte_order (List ℕ)) (key : List ℕ) → prev_of m key ≡ slice_get (back_of m (below key) 1) 0 }
     ensures prefix { (m : FinMap byte_order (List ℕ)) (bytes : List ℕ) → IsTrue (list_all (λ c. are_bytes c.0) (entries m)) → prefix_of m bytes ≡ pairs_of m (prefix_span bytes) }
 {}
+
+/// Where a check comes to the end it has found a map, with the objects, pairs and cells past spans that it has met; and of each map
+/// it finds these. So it names a bad object exactly where the range is no map.
+pub fn a_check_finds_a_map()
+    ensures sound { (range : Range) (s : State) (met : Met) → range.lo ≤ range.hi → check range s ≡ Ok met → (is : IsMap range.lo range.hi s) × (met_on is ≡ met) }
+    ensures complete { (range : Range) (s : State) → range.hi < 2 ^ 32 → (is : IsMap range.lo range.hi s) → check range s ≡ Ok (met_on is) }
+{
+    a_search_finds_the_place();
+}
+
+/// A check goes page by page: where the page that comes next is met, what is below it comes next; else it is bad.
+pub fn a_check_goes_page_by_page()
+    ensures met { (s : State) (x : Awaited) (c : Checking) → is_met x (bytes_at c.range.lo s x.object) c ≡ true
+        → check_from s (before x c) ≡ check_from s (taken x (cells_read (bytes_at c.range.lo s x.object)) c) }
+    ensures bad { (s : State) (x : Awaited) (c : Checking) → is_met x (bytes_at c.range.lo s x.object) c ≡ false → check_from s (before x c) ≡ Err x.object }
+    ensures done { (s : State) (c : Checking) → c.waiting ≡ [] → check_from s c ≡ Ok c.met }
+{}
+
+/// On a map a sweep frees the objects of the range that hold something and are not reached: each of its commands keeps what the map
+/// holds, and behind them every object that is not reached is empty.
+pub fn a_sweep_leaves_nothing_over()
+    ensures { (b : Bounds) (lo hi : ℕ) (s : State) → hi < 2 ^ 32 → Admits b hi → (is : IsKept b lo hi s) → Sweeps b lo hi s is (sweep_plan (record { lo = lo; hi = hi }) s) }
+{
+    a_search_finds_the_place();
+    operations_are_on_cells();
+}
