@@ -1,5 +1,5 @@
 -- How many steps are accepted, as they are counted one after the other.
-use Rattle.std.proofs.Common.{◌≡◌, ◌∙◌, sym, ap, ℕ, zero, suc, ◌+◌, ◌-◌, ◌<◌, List, [], ◌∷◌, ◌++◌, replicate, refl, inl, inr, Option, None, Some, arith, append_assoc}
+use Rattle.std.proofs.Common.{◌≡◌, ◌∙◌, sym, ap, ℕ, zero, suc, ◌+◌, ◌-◌, ◌<◌, List, [], ◌∷◌, ◌++◌, replicate, refl, Option, None, Some, arith, append_assoc}
 use Rattle.std.specs.Prelude.{is_some}
 use Rattle.std.proofs.lemmas.Bool.{cond-true, cond-false}
 use Rattle.std.proofs.lemmas.List.{append-nil, replicate-append-replicate}
@@ -7,7 +7,6 @@ use Rattle.oper_core.specs.declared.refusal.Refusal.{Refusal}
 use Rattle.formats.specs.declared.params.Params.{Params}
 use Rattle.op_codec.specs.AllOps.{AllOps, all_meaning}
 use Rattle.store_engine.specs.Store.{refusal_after}
-use Rattle.store_engine.specs.Lists.{ComesNext}
 use Rattle.app_steps.specs.Steps.{steps, steps_accepted}
 
 -- one step after others
@@ -64,7 +63,7 @@ module _ (p : Params) (commands : List AllOps) (op : AllOps) (n : ℕ) where
   all_refused done refusal is refused = omega (arith, is.left, none_count p (after done) op refusal refused (n - done))
 
   -- these steps are those that are done, and others
-  pub behind_done : (done : ℕ) → IsUnderWay p commands op n done → steps p commands op n ≡ replicate done op ++ replicate (steps_accepted p (after done) op (n - done)) op
+  behind_done : (done : ℕ) → IsUnderWay p commands op n done → steps p commands op n ≡ replicate done op ++ replicate (steps_accepted p (after done) op (n - done)) op
   behind_done done is = ap (λ (k : ℕ). replicate k op) is.left ∙ sym (replicate-append-replicate done (steps_accepted p (after done) op (n - done)) op)
 
   -- where nothing refuses the next, it is the first of those that are left
@@ -74,13 +73,6 @@ module _ (p : Params) (commands : List AllOps) (op : AllOps) (n : ℕ) where
       let k = n - (done + 1) in
       let count : n - done ≡ suc k = omega (arith, more) in
       ap (λ (i : ℕ). replicate i op) (ap (λ (i : ℕ). steps_accepted p (after done) op i) count ∙ step_counts p (after done) op k none)
-
-  pub comes_next : (done : ℕ) → done < n → ComesNext all_meaning p (after done) op (replicate (steps_accepted p (after done) op (n - done)) op)
-  comes_next done more = by_refusal (refusal_after all_meaning p (after done) op) refl
-    where
-      by_refusal : (o : Option Refusal) → refusal_after all_meaning p (after done) op ≡ o → ComesNext all_meaning p (after done) op (replicate (steps_accepted p (after done) op (n - done)) op)
-      by_refusal None none = inr (replicate (steps_accepted p (after done ++ op ∷ []) op (n - (done + 1))) op, left_next done more none)
-      by_refusal (Some refusal) is = inl (refusal, is)
 
   -- or, where nothing refuses the next, this one and others
   pub behind_next : (done : ℕ) → done < n → IsUnderWay p commands op n done → refusal_after all_meaning p (after done) op ≡ None

@@ -2,15 +2,16 @@ ghost use Rattle.std.specs.Prelude.{◌≡◌, false, List};
 ghost use Rattle.std.specs.Result.{result_err};
 ghost use Rattle.formats.specs.declared.params.Params.{Params};
 ghost use Rattle.op_codec.specs.AllOps.{AllOps as Command, all_meaning};
-ghost use Rattle.store_engine.specs.Engine.{Holds};
-ghost use Rattle.store_engine.specs.Lists.{AddsFront, AreCalls, ending_of};
+ghost use Rattle.store_engine.specs.Lists.{AreCalls, ending_of};
 ghost use Rattle.store_engine.specs.Commands.{HasRun};
+ghost use Rattle.store_calls.specs.Making.{Calls};
 ghost use Rattle.app_steps.specs.Steps.{HasAnswer, drain_of, feed_of, step_of, steps};
 
 use crate::steps::{self, Steps};
 use disk_model::Machine;
 use op_codec::{AllOps, plain_op};
 use op_meaning::PlainOp;
+use store_calls::Store;
 use store_engine::{Engine, ExecErr};
 
 /// An application: the object that holds its state.
@@ -87,21 +88,21 @@ impl App {
     /// Does steps until `most` are done or one is refused. It answers how many were done.
     ///
     /// Where the first is refused for another reason than `NoInput`, and `most` is not 0, it answers that: `Refused` with
-    /// `NoObject` or `NotApp`. Where a step is stopped or fails it answers as `Engine::exec` does, and the steps before it
+    /// `NoObject` or `NotApp`. Where a step is stopped or fails it answers as `exec` of the store does, and the steps before it
     /// stay.
-    pub fn run<M: Machine>(
+    pub fn run<S: Store<AllOps>, M: Machine>(
         &self,
-        engine: &mut Engine<AllOps>,
+        store: &mut S,
         machine: &mut M,
         most: u64,
     ) -> Result<u64, ExecErr>
-        requires unbroken { engine.old.broken ≡ false }
-        ensures calls { AreCalls all_meaning (M.disk machine.old) (M.disk machine.new) engine.old engine.new (result_err result) }
-        ensures adds { (p : Params) (commands : List Command) → (holds : Holds all_meaning p (M.disk machine.old) engine.old commands) →
-            AddsFront all_meaning p (M.disk machine.old) (M.disk machine.new) engine.old engine.new holds.world commands (steps p commands (step_of self.now.app) most) (ending_of (result_err result)) }
-        ensures answer { (p : Params) (commands : List Command) → Holds all_meaning p (M.disk machine.old) engine.old commands →
+        requires unbroken { S.view.unbroken store.old }
+        ensures calls { Calls S.view (M.disk machine.old) (M.disk machine.new) store.old store.new (result_err result) }
+        ensures adds { (p : Params) (commands : List Command) → S.view.holds p (M.disk machine.old) store.old commands →
+            S.view.adds p (M.disk machine.old) (M.disk machine.new) store.old store.new commands (steps p commands (step_of self.now.app) most) (ending_of (result_err result)) }
+        ensures answer { (p : Params) (commands : List Command) → S.view.holds p (M.disk machine.old) store.old commands →
             HasAnswer p commands (step_of self.now.app) most result }
     {
-        steps::run(self, engine, machine, most)
+        steps::run(self, store, machine, most)
     }
 }

@@ -13,7 +13,7 @@ ghost use Rattle.app_program.specs.State.{HasDone};
 ghost use Rattle.explain_core.specs.History.{IsHistory, Member, commands_of};
 ghost use Rattle.store_engine.specs.Engine.{Holds};
 ghost use Rattle.store_engine.specs.Store.{Stands, refusal_after, state_of};
-ghost use Rattle.app_steps.specs.Programs.{AreOfBytes, AreOfProgram, HasOnlyThese, IsValue, fed_to, steps_done};
+ghost use Rattle.app_steps.specs.Programs.{AreOfBytes, AreOfProgram, HasOnlyThese, IsValue, RunsOn, RunsOnBytes, fed_to, steps_done};
 ghost use Rattle.app_steps.specs.Runs.{IsRunnable, after_steps, has_read};
 ghost use Rattle.app_steps.specs.Steps.{step_of, steps_accepted};
 
@@ -70,7 +70,16 @@ pub fn values_are_bytes<M: Machine>(machine: &M, engine: &Engine<AllOps>)
     let _ = engine.params();
 }
 
-/// The same of the values of files that stand for commands, such as a crash leaves.
+/// So a run that goes on with what the program does on all that was fed asks no more of the commands before it than that they
+/// consist of bytes.
+pub fn runs_ask_for_bytes<M: Machine>(machine: &M, engine: &Engine<AllOps>)
+    ensures { (p : Params) (commands : List Command) (app program k : ℕ) → Holds all_meaning p (M.disk machine.now) engine.now commands →
+        RunsOn p app program commands k → RunsOnBytes p app program commands k }
+{
+    values_are_bytes(machine, engine);
+}
+
+/// The values of files that stand for commands, such as a crash leaves, are such lists, too.
 pub fn stored_values_are_bytes()
     ensures { (p : Params) (files : Files) (commands before since : List Command) → Stands all_meaning p files commands →
         commands ≡ before ++ since → AreOfBytes p before → (x : ℕ) → IsValue p (state_of all_meaning p before x) }

@@ -3,15 +3,16 @@ ghost use Rattle.std.specs.Prelude.{◌≡◌, false, List};
 ghost use Rattle.std.specs.Result.{result_err};
 ghost use Rattle.formats.specs.declared.params.Params.{Params};
 ghost use Rattle.op_codec.specs.AllOps.{AllOps as Command, all_meaning};
-ghost use Rattle.store_engine.specs.Engine.{Holds};
-ghost use Rattle.store_engine.specs.Lists.{AddsFront, AreCalls, ending_of};
+ghost use Rattle.store_engine.specs.Lists.{AreCalls, ending_of};
 ghost use Rattle.store_engine.specs.Commands.{HasRun};
+ghost use Rattle.store_calls.specs.Making.{Calls};
 ghost use Rattle.app_steps.specs.Steps.{EndsSo, HasAnswer, ends_a_run, steps};
 
 use disk_model::Machine;
 use op_codec::AllOps;
 use oper_core::Refusal;
-use store_engine::{Engine, ExecErr, calls_go_on, exec_goes_on, nothing_is_made};
+use store_calls::Store;
+use store_engine::{Engine, ExecErr};
 
 /// What takes steps, each of which is the same command.
 pub(crate) trait Steps {
@@ -43,38 +44,37 @@ fn ended(done: u64, e: ExecErr) -> Result<u64, ExecErr>
     }
 }
 
-/// Does one step. It answers as `Engine::exec` does.
-pub(crate) fn step<S: Steps, M: Machine>(
-    app: &S,
+/// Does one step. It answers as `exec` of the store does.
+pub(crate) fn step<A: Steps, M: Machine>(
+    app: &A,
     engine: &mut Engine<AllOps>,
     machine: &mut M,
 ) -> Result<u64, ExecErr>
     requires unbroken { engine.old.broken ≡ false }
-    ensures run { HasRun all_meaning (M.disk machine.old) (M.disk machine.new) engine.old engine.new (S.command app.now) result }
+    ensures run { HasRun all_meaning (M.disk machine.old) (M.disk machine.new) engine.old engine.new (A.command app.now) result }
     ensures calls { AreCalls all_meaning (M.disk machine.old) (M.disk machine.new) engine.old engine.new (result_err result) }
 {
     engine.exec(machine, app.next())
 }
 
 /// Does steps until `most` are done or one is refused, and answers how many were done, or why none was, as `ended` says.
-pub(crate) fn run<S: Steps, M: Machine>(
-    app: &S,
-    engine: &mut Engine<AllOps>,
+pub(crate) fn run<A: Steps, S: Store<AllOps>, M: Machine>(
+    app: &A,
+    store: &mut S,
     machine: &mut M,
     most: u64,
 ) -> Result<u64, ExecErr>
-    requires unbroken { engine.old.broken ≡ false }
-    ensures calls { AreCalls all_meaning (M.disk machine.old) (M.disk machine.new) engine.old engine.new (result_err result) }
-    ensures adds { (p : Params) (commands : List Command) → (holds : Holds all_meaning p (M.disk machine.old) engine.old commands) →
-        AddsFront all_meaning p (M.disk machine.old) (M.disk machine.new) engine.old engine.new holds.world commands (steps p commands (S.command app.now) most) (ending_of (result_err result)) }
-    ensures answer { (p : Params) (commands : List Command) → Holds all_meaning p (M.disk machine.old) engine.old commands →
-        HasAnswer p commands (S.command app.now) most result }
+    requires unbroken { S.view.unbroken store.old }
+    ensures calls { Calls S.view (M.disk machine.old) (M.disk machine.new) store.old store.new (result_err result) }
+    ensures adds { (p : Params) (commands : List Command) → S.view.holds p (M.disk machine.old) store.old commands →
+        S.view.adds p (M.disk machine.old) (M.disk machine.new) store.old store.new commands (steps p commands (A.command app.now) most) (ending_of (result_err result)) }
+    ensures answer { (p : Params) (commands : List Command) → S.view.holds p (M.disk machine.old) store.old commands →
+        HasAnswer p commands (A.command app.now) most result }
 {
-    exec_goes_on::<AllOps, M>();
-    calls_go_on::<AllOps, M>();
-    nothing_is_made(machine, engine);
+    S::calls_go_on::<M>();
+    store.nothing_is_made(machine);
     for done in 0..most {
-        if let Err(e) = step(app, engine, machine) {
+        if let Err(e) = store.exec(machine, app.next()) {
             return ended(done, e);
         }
     }

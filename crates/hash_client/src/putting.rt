@@ -1,17 +1,18 @@
 // A pair is put.
-ghost use Rattle.std.specs.Prelude.{◌≡◌, ◌<◌, List, [], None, suc, false, map, refl};
+ghost use Rattle.std.specs.Prelude.{◌≡◌, ◌<◌, List, [], None, suc, map, refl};
 ghost use Rattle.std.specs.Result.{result_err};
 ghost use Rattle.formats.specs.Objects.{bounds_of};
 ghost use Rattle.formats.specs.declared.params.Params.{Params};
-ghost use Rattle.op_codec.specs.AllOps.{all_meaning, hash};
+ghost use Rattle.op_codec.specs.AllOps.{hash};
 ghost use Rattle.running_store.specs.Taking.Ending.{Done};
-ghost use Rattle.store_engine.specs.Lists.{AddsFront, AreCalls, ending_of};
+ghost use Rattle.store_engine.specs.Lists.{ending_of};
+ghost use Rattle.store_calls.specs.Making.{Calls};
 ghost use Rattle.hash_ops.specs.Operation.{hash_meaning};
 ghost use Rattle.hash_file.specs.Find as finding;
 ghost use Rattle.hash_file.specs.Plan.{put_next, put_on, put_plan};
 ghost use Rattle.range_calls.specs.Answers.{cause_in, made_of, refused_in};
 ghost use Rattle.range_calls.specs.Free.{free_between};
-ghost use Rattle.range_calls.specs.Store.{Command, Holds, state_of};
+ghost use Rattle.range_calls.specs.Store.{Command, state_of};
 ghost use Rattle.range_calls.specs.Turns.{turn_answer};
 ghost use Rattle.hash_client.specs.Finding.{free_answer};
 
@@ -22,7 +23,7 @@ use hash_ops::{HashOp, MOST_DEPTH};
 use key_entries::Short;
 use op_codec::{AllOps, hash_op};
 use range_calls::{CallErr, Turn, Turns, least_free, reads_go_on, take_turns};
-use store_engine::{Engine, nothing_is_made};
+use store_calls::Store;
 
 /// At most so many commands: six splits, each of which makes the key's bucket deeper, and the put.
 const MOST_COMMANDS: u64 = 7;
@@ -35,7 +36,7 @@ struct NewPair<'a> {
     value: Short,
 }
 
-impl<'a> Turns for NewPair<'a> {
+impl<'a, S: Store<AllOps>> Turns<S> for NewPair<'a> {
     type Op = HashOp;
 
     type Refusal = HashRefusal;
@@ -55,16 +56,12 @@ impl<'a> Turns for NewPair<'a> {
         let _value = self.value.as_slice();
     }
 
-    fn next_turn<M: Machine>(
-        &self,
-        engine: &mut Engine<AllOps>,
-        machine: &mut M,
-    ) -> Result<Turn, HashErr> {
-        reads_go_on::<M>();
-        let met = find_bucket(self.file, engine, machine, self.key)?;
+    fn next_turn<M: Machine>(&self, store: &mut S, machine: &mut M) -> Result<Turn, HashErr> {
+        reads_go_on::<S, M>();
+        let met = find_bucket(self.file, store, machine, self.key)?;
         match met {
-            Some(found) => put_turn(self, engine, machine, found),
-            None => begin_turn(self.file, engine, machine),
+            Some(found) => put_turn(self, store, machine, found),
+            None => begin_turn(self.file, store, machine),
         }
     }
 
@@ -72,33 +69,33 @@ impl<'a> Turns for NewPair<'a> {
 }
 
 /// The least free object of the range behind the directory.
-fn free_object<M: Machine>(
+fn free_object<S: Store<AllOps>, M: Machine>(
     file: &HashFile,
-    engine: &Engine<AllOps>,
+    store: &S,
     machine: &M,
 ) -> Result<u32, HashErr>
     ensures found { cause_in result ≡ None }
-    ensures answer { (p : Params) (commands : List Command) → Holds p (M.disk machine.now) engine.now commands → file.now.hi < p.objects →
+    ensures answer { (p : Params) (commands : List Command) → S.view.holds p (M.disk machine.now) store.now commands → file.now.hi < p.objects →
         result ≡ free_answer (free_between (state_of p commands) (suc file.now.lo) file.now.hi) }
 {
     let last = file.last();
-    match least_free(engine, machine, file.directory() + 1, last) {
+    match least_free(store, machine, file.directory() + 1, last) {
         Some(object) => Ok(object),
         None => Err(CallErr::Refused(HashRefusal::NoRoom { free: 0 })),
     }
 }
 
 /// The beginning of a file.
-fn begin_turn<M: Machine>(
+fn begin_turn<S: Store<AllOps>, M: Machine>(
     file: &HashFile,
-    engine: &Engine<AllOps>,
+    store: &S,
     machine: &M,
 ) -> Result<Turn, HashErr>
     ensures found { cause_in result ≡ None }
-    ensures answer { (p : Params) (commands : List Command) → Holds p (M.disk machine.now) engine.now commands → file.now.hi < p.objects →
+    ensures answer { (p : Params) (commands : List Command) → S.view.holds p (M.disk machine.now) store.now commands → file.now.hi < p.objects →
         result ≡ turn_answer hash (put_on file.now.lo [] [] (free_between (state_of p commands) (suc file.now.lo) file.now.hi) finding.unused) }
 {
-    let bucket = free_object(file, engine, machine)?;
+    let bucket = free_object(file, store, machine)?;
     let op = hash_op(HashOp::Init {
         directory: file.directory(),
         bucket,
@@ -107,14 +104,14 @@ fn begin_turn<M: Machine>(
 }
 
 /// The put where the key's bucket has room for it, or else a split of the bucket.
-fn put_turn<M: Machine>(
+fn put_turn<S: Store<AllOps>, M: Machine>(
     pair: &NewPair,
-    engine: &Engine<AllOps>,
+    store: &S,
     machine: &M,
     found: Found,
 ) -> Result<Turn, HashErr>
     ensures found { cause_in result ≡ None }
-    ensures answer { (p : Params) (commands : List Command) → Holds p (M.disk machine.now) engine.now commands → pair.now.file.now.hi < p.objects →
+    ensures answer { (p : Params) (commands : List Command) → S.view.holds p (M.disk machine.now) store.now commands → pair.now.file.now.hi < p.objects →
         result ≡ turn_answer hash (put_on pair.now.file.now.lo pair.now.key pair.now.value (free_between (state_of p commands) (suc pair.now.file.now.lo) pair.now.file.now.hi)
         (finding.found found.object found.bucket)) }
 {
@@ -133,7 +130,7 @@ fn put_turn<M: Machine>(
     if bucket.depth == MOST_DEPTH {
         return Err(CallErr::Refused(HashRefusal::HashFull { object }));
     }
-    let new = free_object(pair.file, engine, machine)?;
+    let new = free_object(pair.file, store, machine)?;
     let op = hash_op(HashOp::Split {
         directory: pair.file.directory(),
         bucket: object,
@@ -149,25 +146,25 @@ fn put_turn<M: Machine>(
 /// exactly where the range ends past the last object, as `BadHash` exactly where the first object is neither empty nor a
 /// directory, or the one that the key's entry names is no bucket of the range; the one met first is reported. It is refused
 /// as `HashFull` exactly where the full bucket is as deep as can be, and as `NoRoom` exactly where an object is needed and
-/// none is free. `Exec` has what the engine answered to a fetch or to a command: `Refused(TooLarge)` exactly where a value
+/// none is free. `Exec` has what the store answered to a fetch or to a command: `Refused(TooLarge)` exactly where a value
 /// may hold fewer than 1,024 bytes and a command is due, and nothing else is refused. The splits made before stay.
-pub fn put<M: Machine>(
+pub fn put<S: Store<AllOps>, M: Machine>(
     file: &HashFile,
-    engine: &mut Engine<AllOps>,
+    store: &mut S,
     machine: &mut M,
     key: &Short,
     value: &Short,
 ) -> Result<(), HashErr>
-    requires unbroken { engine.old.broken ≡ false }
-    ensures calls { AreCalls all_meaning (M.disk machine.old) (M.disk machine.new) engine.old engine.new (cause_in result) }
-    ensures adds { (p : Params) (commands : List Command) → (holds : Holds p (M.disk machine.old) engine.old commands) →
-        AddsFront all_meaning p (M.disk machine.old) (M.disk machine.new) engine.old engine.new holds.world commands
+    requires unbroken { S.view.unbroken store.old }
+    ensures calls { Calls S.view (M.disk machine.old) (M.disk machine.new) store.old store.new (cause_in result) }
+    ensures adds { (p : Params) (commands : List Command) → S.view.holds p (M.disk machine.old) store.old commands →
+        S.view.adds p (M.disk machine.old) (M.disk machine.new) store.old store.new commands
         (made_of p.cap (map hash (put_plan (bounds_of p) file.now.lo file.now.hi (state_of p commands) key.now value.now).commands)) (ending_of (cause_in result)) }
-    ensures answer { (p : Params) (commands : List Command) → Holds p (M.disk machine.old) engine.old commands → ending_of (cause_in result) ≡ Done →
+    ensures answer { (p : Params) (commands : List Command) → S.view.holds p (M.disk machine.old) store.old commands → ending_of (cause_in result) ≡ Done →
         result_err result ≡ refused_in p.cap (put_plan (bounds_of p) file.now.lo file.now.hi (state_of p commands) key.now value.now) }
 {
-    nothing_is_made(machine, engine);
-    if file.last() >= engine.params().objects {
+    store.nothing_is_made(machine);
+    if file.last() >= store.params().objects {
         return Err(CallErr::Refused(HashRefusal::NoObject));
     }
     let pair = NewPair {
@@ -175,5 +172,5 @@ pub fn put<M: Machine>(
         key: *key,
         value: *value,
     };
-    take_turns(&pair, engine, machine, MOST_COMMANDS)
+    take_turns(&pair, store, machine, MOST_COMMANDS)
 }

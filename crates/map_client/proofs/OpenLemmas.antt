@@ -5,15 +5,15 @@ use Rattle.std.proofs.lemmas.Bool.{cond-true, leb-true, ltb-true, le-leb, lt-ltb
 use Rattle.disk_model.specs.Disk.{Disk}
 use Rattle.formats.specs.Objects.{bounds_of}
 use Rattle.formats.specs.declared.params.Params.{Params}
-use Rattle.explain_core.specs.World.{World}
 use Rattle.running_store.specs.Taking.Ending.{Done}
-use Rattle.store_engine.specs.Engine.{EngineView, params_of}
-use Rattle.store_engine.specs.Lists.{AddsFront, AreCalls, ending_of}
+use Rattle.store_engine.specs.Lists.{ending_of}
 use Rattle.oper_core.specs.declared.bounds.Bounds.{Bounds}
 use Rattle.key_entries.specs.EntryLaws.{both_true, map_some, true_both}
-use Rattle.op_codec.specs.AllOps.{all_meaning, page}
+use Rattle.op_codec.specs.AllOps.{page}
 use Rattle.page_ops.specs.declared.page_op.PageOp.{PageOp}
-use Rattle.range_calls.specs.Store.{Command, Holds}
+use Rattle.store_calls.specs.Making.{Calls}
+use Rattle.store_calls.specs.View.{View}
+use Rattle.range_calls.specs.Store.{Command}
 use Rattle.range_calls.specs.declared.call_err.CallErr.TheVariants.{Refused}
 use Rattle.map_client.specs.Answers.{MapErr, cause_of}
 use Rattle.map_client.specs.Changing.{Due, admits, closed_by, found, unless_closed}
@@ -79,20 +79,21 @@ found_is (Err refusal) command is = cc
 pub due_in : (b : Bounds) (hi : ℕ) (due : Due) → closed_by b hi ≡ None → unless_closed (closed_by b hi) due ≡ due
 due_in b hi due is = ap (λ (o : Option CallRefusal). unless_closed o due) is
 
-module _ {old : Disk} {engine : EngineView} {p : Params} {commands : List Command} (holds : Holds p old engine commands) (hi : ℕ) where
-  -- the store that the engine shows is open, or closed
-  pub open_in : None ≡ option_map Refused (closed_by (bounds_of (params_of engine)) hi) → IsOpen (bounds_of p) hi
-  open_in is = subst (λ (q : Params). IsOpen (bounds_of q) hi) holds.shows.shows.store.params (open_is (bounds_of (params_of engine)) hi is)
+module _ {mine p : Params} (are : mine ≡ p) (hi : ℕ) where
+  -- a store with these numbers is open, or closed
+  pub open_in : None ≡ option_map Refused (closed_by (bounds_of mine) hi) → IsOpen (bounds_of p) hi
+  open_in is = subst (λ (q : Params). IsOpen (bounds_of q) hi) are (open_is (bounds_of mine) hi is)
 
-  pub closed_in : (e : MapErr) → Some e ≡ option_map Refused (closed_by (bounds_of (params_of engine)) hi) → IsClosed (bounds_of p) hi e
-  closed_in e is = subst (λ (q : Params). IsClosed (bounds_of q) hi e) holds.shows.shows.store.params (closed_is (bounds_of (params_of engine)) hi e is)
+  pub closed_in : (e : MapErr) → Some e ≡ option_map Refused (closed_by (bounds_of mine) hi) → IsClosed (bounds_of p) hi e
+  closed_in e is = subst (λ (q : Params). IsClosed (bounds_of q) hi e) are (closed_is (bounds_of mine) hi e is)
 
 -- nothing is made where it is closed
-pub closed_calls : {old : Disk} {engine : EngineView} {b : Bounds} {hi : ℕ} {e : MapErr} → IsClosed b hi e → AreCalls all_meaning old old engine engine None → AreCalls all_meaning old old engine engine (cause_of e)
-closed_calls {old} {engine} closed calls = subst (λ (x : MapErr). AreCalls all_meaning old old engine engine (cause_of x)) closed.error calls
+module _ {S : Type 0} (view : View Command S) (d : Disk) (store : S) where
+  pub closed_calls : {b : Bounds} {hi : ℕ} {e : MapErr} → IsClosed b hi e → Calls view d d store store None → Calls view d d store store (cause_of e)
+  closed_calls closed calls = subst (λ (x : MapErr). Calls view d d store store (cause_of x)) closed.error calls
 
-pub closed_adds : {old : Disk} {engine : EngineView} {b : Bounds} {hi : ℕ} {e : MapErr} {p : Params} {w : World Command} {commands : List Command} → IsClosed b hi e → (ops : List Command) → ops ≡ []
-    → AddsFront all_meaning p old old engine engine w commands [] Done → AddsFront all_meaning p old old engine engine w commands ops (ending_of (cause_of e))
-closed_adds {old} {engine} {p = p} {w = w} {commands = commands} closed ops none adds =
-    subst (λ (x : MapErr). AddsFront all_meaning p old old engine engine w commands ops (ending_of (cause_of x))) closed.error
-    (subst (λ (l : List Command). AddsFront all_meaning p old old engine engine w commands l Done) (sym none) adds)
+  pub closed_adds : {b : Bounds} {hi : ℕ} {e : MapErr} (p : Params) (commands : List Command) → IsClosed b hi e → (ops : List Command) → ops ≡ [] → view.adds p d d store store commands [] Done
+      → view.adds p d d store store commands ops (ending_of (cause_of e))
+  closed_adds p commands closed ops none adds =
+      subst (λ (x : MapErr). view.adds p d d store store commands ops (ending_of (cause_of x))) closed.error
+      (subst (λ (l : List Command). view.adds p d d store store commands l Done) (sym none) adds)

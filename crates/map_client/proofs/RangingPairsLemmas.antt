@@ -15,9 +15,10 @@ use Rattle.page_map.specs.Steps.{Places, cells_at, cells_from, first_places, las
 use Rattle.page_map.specs.Walk.{is_on}
 use Rattle.range_calls.specs.JoinLaws.{memory_is_short}
 use Rattle.range_calls.specs.Joining.{ReadsShort}
-use Rattle.range_calls.specs.Making.{Reads}
+use Rattle.range_calls.specs.Store.{Command}
+use Rattle.store_calls.specs.Making.{Reads}
+use Rattle.store_calls.specs.View.{View}
 use Rattle.running_store.specs.Taking.Ending.{Done}
-use Rattle.store_engine.specs.Engine.{EngineView}
 use Rattle.store_engine.specs.Lists.{ending_of}
 use Rattle.map_client.specs.Answers.{MapErr, bad_map, cause_in, cause_of, told}
 use Rattle.map_client.specs.Ranging.{Fails, behind, cells_behind, pairs_on, with_left}
@@ -46,11 +47,12 @@ lacks_same object (Ok value) one two same fails = tt
 lacks_same object (Err e) one two same fails = is_bad object e (fails_so object e (λ none. sym same ∙ none) fails)
 
 -- calls that only read, and then read an object to its end or not
-pub reads_or_fails : {T U : Type 0} (Bad : Type 0) (disk : T → Disk) → ReadsShort disk → (old now : T) (first last : EngineView) (object : ℕ) (r : Result U MapErr) → Reads (disk old) (disk now) first last None
-    → IfErr r (λ e. Fails object Bad e) → Reads (disk old) (disk now) first last (cause_in r)
-reads_or_fails Bad disk short old now first last object (Ok value) reads fails = reads
-reads_or_fails Bad disk short old now first last object (Err e) reads (inl memory) = subst (λ (x : MapErr). Reads (disk old) (disk now) first last (cause_of x)) (sym memory) (short old now first last reads)
-reads_or_fails Bad disk short old now first last object (Err e) reads (inr bad) = subst (λ (x : MapErr). Reads (disk old) (disk now) first last (cause_of x)) (sym bad.1) reads
+pub reads_or_fails : {S T U : Type 0} (view : View Command S) (Bad : Type 0) (disk : T → Disk) → ReadsShort view disk → (old now : T) (first last : S) (object : ℕ) (r : Result U MapErr)
+    → Reads view (disk old) (disk now) first last None → IfErr r (λ e. Fails object Bad e) → Reads view (disk old) (disk now) first last (cause_in r)
+reads_or_fails view Bad disk short old now first last object (Ok value) reads fails = reads
+reads_or_fails view Bad disk short old now first last object (Err e) reads (inl memory) =
+    subst (λ (x : MapErr). Reads view (disk old) (disk now) first last (cause_of x)) (sym memory) (short old now first last reads)
+reads_or_fails view Bad disk short old now first last object (Err e) reads (inr bad) = subst (λ (x : MapErr). Reads view (disk old) (disk now) first last (cause_of x)) (sym bad.1) reads
 
 -- ---- cell by cell
 

@@ -8,8 +8,6 @@ use Rattle.oper_core.specs.Meaning.{after}
 use Rattle.oper_core.specs.declared.bounds.Bounds.{Bounds}
 use Rattle.formats.specs.Objects.{bounds_of}
 use Rattle.formats.specs.declared.params.Params.{Params}
-use Rattle.disk_model.specs.Disk.{Disk}
-use Rattle.store_engine.specs.Engine.{EngineView, params_of}
 use Rattle.key_entries.specs.EntryLaws.{if_some, same_some}
 use Rattle.call_plans.specs.Free.{free_from}
 use Rattle.call_plans.specs.Laws.{AllAccepted, after_all}
@@ -28,7 +26,7 @@ use Rattle.page_map.specs.declared.refusal.MapRefusal.{MapRefusal}
 use Rattle.page_map.specs.declared.refusal.MapRefusal.TheVariants.{BadMap, TooLong}
 use Rattle.range_calls.specs.Answers as answers
 use Rattle.range_calls.specs.Rounds.{behind, by_round, in_rounds, rounds_from, tried}
-use Rattle.range_calls.specs.Store.{Command, Holds, state_of}
+use Rattle.range_calls.specs.Store.{Command, state_of}
 use Rattle.range_calls.specs.declared.call_err.CallErr.TheVariants.{Refused}
 use Rattle.range_calls.specs.declared.round.Round.{Round}
 use Rattle.map_client.specs.Answers.{MapErr, bad_map, told}
@@ -137,16 +135,15 @@ module _ (b : Bounds) where
           by_put (Ok None) = refl
           by_put (Err bad) = refl
 
--- the store that the engine shows is ready for the pair
+-- the store is ready for the pair
 pub record Ready (hi room : ℕ) (key value : List ℕ) (b : Bounds) : Type 0 where
   pub there : hi < b.objects
   pub room_is : room ≡ room_of b.cap
   pub short : is_pair (room_of b.cap) (key, value) ≡ true
 
-pub ready_in : {old : Disk} {engine : EngineView} {p : Params} {commands : List Command} {hi room : ℕ} {key value : List ℕ} → Holds p old engine commands
-    → IsReady hi room key value (params_of engine) → Ready hi room key value (bounds_of p)
-ready_in {p = p} {hi = hi} {room = room} {key = key} {value = value} holds ready =
-    let here = subst (λ (q : Params). IsReady hi room key value q) holds.shows.shows.store.params ready in
+pub ready_in : {mine p : Params} {hi room : ℕ} {key value : List ℕ} → mine ≡ p → IsReady hi room key value mine → Ready hi room key value (bounds_of p)
+ready_in {p = p} {hi = hi} {room = room} {key = key} {value = value} are ready =
+    let here = subst (λ (q : Params). IsReady hi room key value q) are ready in
     record { there = here.there; room_is = here.room_is; short = ap (λ (n : ℕ). is_pair n (key, value)) (sym here.room_is) ∙ here.pair }
 
 -- what comes of a set that is refused at once

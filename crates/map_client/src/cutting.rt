@@ -3,7 +3,6 @@ ghost use Rattle.std.specs.Prelude.{◌≡◌, ◌<◌, ◌-◌, List, ℕ, None
 ghost use Rattle.formats.specs.Objects.{bounds_of};
 ghost use Rattle.formats.specs.declared.params.Params.{Params};
 ghost use Rattle.running_store.specs.Taking.Ending.{Done};
-ghost use Rattle.store_engine.specs.Engine.{params_of};
 ghost use Rattle.store_engine.specs.Lists.{ending_of};
 ghost use Rattle.call_plans.specs.Free.{free_from};
 ghost use Rattle.op_codec.specs.AllOps.{page};
@@ -11,8 +10,8 @@ ghost use Rattle.page_map.specs.Cutting.{GoesOn, commands_in, due_seen, if_there
 ghost use Rattle.page_map.specs.Sets.{cut_turn, due_in, room_of};
 ghost use Rattle.range_calls.specs.Answers as answers;
 ghost use Rattle.range_calls.specs.Few.{if_any};
-ghost use Rattle.range_calls.specs.Making.{Reads};
-ghost use Rattle.range_calls.specs.Store.{Command, Holds, state_of};
+ghost use Rattle.store_calls.specs.Making.{Reads};
+ghost use Rattle.range_calls.specs.Store.{Command, state_of};
 ghost use Rattle.map_client.specs.Answers.{cause_in, cause_of, told};
 ghost use Rattle.map_client.specs.Turning.{GoesDown, round_of};
 
@@ -25,30 +24,30 @@ use op_codec::{AllOps, page_op};
 use page_map::{Descent, Due, Few as Turn, Further, Map, MapRefusal, commands_of};
 use page_ops::PageOp;
 use range_calls::{CallErr, Few, Round, least_free, reads_go_on, reads_run_short, see};
-use store_engine::Engine;
+use store_calls::Store;
 
 /// Looks at the page to which the search for the one that is cut has come.
-fn look<M: Machine>(
+fn look<S: Store<AllOps>, M: Machine>(
     pair: &NewPair,
-    engine: &mut Engine<AllOps>,
+    store: &mut S,
     machine: &mut M,
     descent: Descent,
 ) -> Result<Further, MapErr>
-    requires unbroken { engine.old.broken ≡ false }
-    requires there { descent.object < (params_of engine.old).objects }
-    ensures reads { Reads (M.disk machine.old) (M.disk machine.new) engine.old engine.new (cause_in result) }
+    requires unbroken { S.view.unbroken store.old }
+    requires there { descent.object < (S.view.params store.old).objects }
+    ensures reads { Reads S.view (M.disk machine.old) (M.disk machine.new) store.old store.new (cause_in result) }
     ensures failed { OnErr result (ending_of (cause_in result) ≡ Done → ⊥) }
     ensures down { IfOk result (λ further. GoesDown pair.now.map.now.hi descent further) }
-    ensures found { (p : Params) (commands : List Command) → Holds p (M.disk machine.old) engine.old commands →
+    ensures found { (p : Params) (commands : List Command) → S.view.holds p (M.disk machine.old) store.old commands →
         IfOk result (λ further. GoesOn pair.now.room pair.now.map.now.lo pair.now.map.now.hi (state_of p commands) pair.now.key pair.now.value descent further) }
 {
-    reads_run_short::<M>();
+    reads_run_short::<S, M>();
     let object = descent.object;
-    let there = see(engine, machine, object)?;
+    let there = see(store, machine, object)?;
     if !there {
         return Err(CallErr::Refused(CallRefusal::NoObject));
     }
-    let bytes = pair.map.bytes(object, engine.get(object));
+    let bytes = pair.map.bytes(object, store.get(object));
     match descent.step(
         pair.alloc,
         pair.map,
@@ -63,27 +62,27 @@ fn look<M: Machine>(
 }
 
 /// What is due before the leaf has room. Each page on the way is looked at once.
-fn due<M: Machine>(
+fn due<S: Store<AllOps>, M: Machine>(
     pair: &NewPair,
-    engine: &mut Engine<AllOps>,
+    store: &mut S,
     machine: &mut M,
 ) -> Result<Due, MapErr>
-    requires unbroken { engine.old.broken ≡ false }
-    requires there { pair.now.map.now.hi < (params_of engine.old).objects }
-    ensures reads { Reads (M.disk machine.old) (M.disk machine.new) engine.old engine.new (cause_in result) }
-    ensures found { (p : Params) (commands : List Command) → Holds p (M.disk machine.old) engine.old commands → pair.now.room ≡ room_of p.cap →
+    requires unbroken { S.view.unbroken store.old }
+    requires there { pair.now.map.now.hi < (S.view.params store.old).objects }
+    ensures reads { Reads S.view (M.disk machine.old) (M.disk machine.new) store.old store.new (cause_in result) }
+    ensures found { (p : Params) (commands : List Command) → S.view.holds p (M.disk machine.old) store.old commands → pair.now.room ≡ room_of p.cap →
         IfOk result (λ due. due_in (bounds_of p) pair.now.map.now.lo pair.now.map.now.hi pair.now.key pair.now.value (state_of p commands) ≡ Ok (due_seen due)) }
-    ensures bad { (p : Params) (commands : List Command) → Holds p (M.disk machine.old) engine.old commands → pair.now.room ≡ room_of p.cap →
+    ensures bad { (p : Params) (commands : List Command) → S.view.holds p (M.disk machine.old) store.old commands → pair.now.room ≡ room_of p.cap →
         IfErr result (λ e. ending_of (cause_of e) ≡ Done → told (due_in (bounds_of p) pair.now.map.now.lo pair.now.map.now.hi pair.now.key pair.now.value (state_of p commands)) ≡ Err e) }
 {
-    reads_go_on::<M>();
+    reads_go_on::<S, M>();
     let _last = pair.map.last();
     let root = pair.map.root();
-    let levels = root_level(pair.map, engine, machine)?;
+    let levels = root_level(pair.map, store, machine)?;
     let mut descent = Descent::new(root, levels);
     for _step in 0..levels as u16 + 1 {
         let object = descent.object;
-        let further = look(pair, engine, machine, descent)?;
+        let further = look(pair, store, machine, descent)?;
         match further {
             Further::On(next) => descent = next,
             Further::Found(due) => return Ok(due),
@@ -96,19 +95,19 @@ fn due<M: Machine>(
 }
 
 /// The first two free objects behind the root, where they are there.
-fn first_free<M: Machine>(
+fn first_free<S: Store<AllOps>, M: Machine>(
     map: &Map,
-    engine: &Engine<AllOps>,
+    store: &S,
     machine: &M,
 ) -> (Option<u32>, Option<u32>)
-    requires there { map.now.hi < (params_of engine.now).objects }
-    ensures { (p : Params) (commands : List Command) → Holds p (M.disk machine.now) engine.now commands →
+    requires there { map.now.hi < (S.view.params store.now).objects }
+    ensures { (p : Params) (commands : List Command) → S.view.holds p (M.disk machine.now) store.now commands →
         take 2 (free_from (state_of p commands) (suc map.now.lo) (map.now.hi - map.now.lo)) ≡ two_of result.0 result.1 }
 {
-    let _objects = engine.params().objects;
+    let _objects = store.params().objects;
     let last = map.last();
-    match least_free(engine, machine, map.root() + 1, last) {
-        Some(first) => (Some(first), least_free(engine, machine, first + 1, last)),
+    match least_free(store, machine, map.root() + 1, last) {
+        Some(first) => (Some(first), least_free(store, machine, first + 1, last)),
         None => (None, None),
     }
 }
@@ -149,19 +148,20 @@ fn round_due(root: u32, due: Due, first: Option<u32>, second: Option<u32>) -> Re
 }
 
 /// The round that cuts a page.
-pub(crate) fn cut<M: Machine>(
+pub(crate) fn cut<S: Store<AllOps>, M: Machine>(
     pair: &NewPair,
-    engine: &mut Engine<AllOps>,
+    store: &mut S,
     machine: &mut M,
 ) -> Result<Round, MapErr>
-    requires unbroken { engine.old.broken ≡ false }
-    requires there { pair.now.map.now.hi < (params_of engine.old).objects }
-    ensures reads { Reads (M.disk machine.old) (M.disk machine.new) engine.old engine.new (cause_in result) }
-    ensures answer { (p : Params) (commands : List Command) → Holds p (M.disk machine.old) engine.old commands → pair.now.room ≡ room_of p.cap → ending_of (cause_in result) ≡ Done →
+    requires unbroken { S.view.unbroken store.old }
+    requires there { pair.now.map.now.hi < (S.view.params store.old).objects }
+    ensures reads { Reads S.view (M.disk machine.old) (M.disk machine.new) store.old store.new (cause_in result) }
+    ensures answer { (p : Params) (commands : List Command) → S.view.holds p (M.disk machine.old) store.old commands → pair.now.room ≡ room_of p.cap → ending_of (cause_in result) ≡ Done →
         result ≡ answers.told (round_of (cut_turn pair.now.map.now.lo (free_from (state_of p commands) (suc pair.now.map.now.lo) (pair.now.map.now.hi - pair.now.map.now.lo))
         (due_in (bounds_of p) pair.now.map.now.lo pair.now.map.now.hi pair.now.key pair.now.value (state_of p commands)))) }
 {
-    let due = due(pair, engine, machine)?;
-    let (first, second) = first_free(pair.map, engine, machine);
+    reads_go_on::<S, M>();
+    let due = due(pair, store, machine)?;
+    let (first, second) = first_free(pair.map, store, machine);
     round_due(pair.map.root(), due, first, second)
 }

@@ -1,13 +1,12 @@
 // The value of a key.
-ghost use Rattle.std.specs.Prelude.{◌≡◌, ◌<◌, [], List, false, Ok, Err, IfErr, IfOk, option_map};
+ghost use Rattle.std.specs.Prelude.{◌≡◌, ◌<◌, [], List, Ok, Err, IfErr, IfOk, option_map};
 ghost use Rattle.formats.specs.Objects.{bounds_of};
 ghost use Rattle.formats.specs.declared.params.Params.{Params};
-ghost use Rattle.op_codec.specs.AllOps.{all_meaning};
 ghost use Rattle.running_store.specs.Taking.Ending.{Done};
-ghost use Rattle.store_engine.specs.Lists.{AddsFront, AreCalls, ending_of};
+ghost use Rattle.store_engine.specs.Lists.{ending_of};
 ghost use Rattle.page_map.specs.Walk as walks;
-ghost use Rattle.range_calls.specs.Making.{Reads};
-ghost use Rattle.range_calls.specs.Store.{Command, Holds, state_of};
+ghost use Rattle.store_calls.specs.Making.{Calls, Reads};
+ghost use Rattle.range_calls.specs.Store.{Command, state_of};
 ghost use Rattle.range_calls.specs.declared.call_err.CallErr.TheVariants.{Memory as OutOfMemory};
 ghost use Rattle.map_client.specs.Answers.{cause_in, cause_of, get_told, told};
 ghost use Rattle.map_client.specs.Reading as reading;
@@ -20,7 +19,7 @@ use op_codec::AllOps;
 use page_map::{Map, MapRefusal, page_on, value_in};
 use range_calls::{CallErr, reads_go_on, reads_run_short, see};
 use std::alloc::Global;
-use store_engine::{Engine, nothing_is_made};
+use store_calls::Store;
 
 /// What a leaf has at a key. None where a cell that is asked does not fit, or the bytes are no leaf.
 fn found_on<'a>(bytes: &'a [u8], key: &[u8]) -> Option<Option<&'a [u8]>>
@@ -42,28 +41,28 @@ fn copied(alloc: Global, found: Option<&[u8]>) -> Result<Option<Vec<u8>>, MapErr
 }
 
 /// What the leaf of a key has at it.
-fn value_at<M: Machine>(
+fn value_at<S: Store<AllOps>, M: Machine>(
     alloc: Global,
     map: &Map,
-    engine: &mut Engine<AllOps>,
+    store: &mut S,
     machine: &mut M,
     leaf: u32,
     key: &[u8],
 ) -> Result<Option<Vec<u8>>, MapErr>
-    requires unbroken { engine.old.broken ≡ false }
-    ensures reads { Reads (M.disk machine.old) (M.disk machine.new) engine.old engine.new (cause_in result) }
-    ensures found { (p : Params) (commands : List Command) → Holds p (M.disk machine.old) engine.old commands →
+    requires unbroken { S.view.unbroken store.old }
+    ensures reads { Reads S.view (M.disk machine.old) (M.disk machine.new) store.old store.new (cause_in result) }
+    ensures found { (p : Params) (commands : List Command) → S.view.holds p (M.disk machine.old) store.old commands →
         IfOk result (λ found. walks.get_at map.now.lo (state_of p commands) key.now (walks.walk_from map.now.lo map.now.hi (state_of p commands) key.now 0 leaf) ≡ Ok (option_map (λ v. v.items) found)) }
-    ensures bad { (p : Params) (commands : List Command) → Holds p (M.disk machine.old) engine.old commands → leaf < p.objects →
+    ensures bad { (p : Params) (commands : List Command) → S.view.holds p (M.disk machine.old) store.old commands → leaf < p.objects →
         IfErr result (λ e. ending_of (cause_of e) ≡ Done →
         told (walks.get_at map.now.lo (state_of p commands) key.now (walks.walk_from map.now.lo map.now.hi (state_of p commands) key.now 0 leaf)) ≡ Err e) }
 {
-    reads_run_short::<M>();
-    let there = see(engine, machine, leaf)?;
+    reads_run_short::<S, M>();
+    let there = see(store, machine, leaf)?;
     if !there {
         return Err(CallErr::Refused(CallRefusal::NoObject));
     }
-    match found_on(map.bytes(leaf, engine.get(leaf)), key) {
+    match found_on(map.bytes(leaf, store.get(leaf)), key) {
         Some(found) => copied(alloc, found),
         None => Err(CallErr::Refused(CallRefusal::Map(MapRefusal::BadMap { object: leaf }))),
     }
@@ -72,29 +71,29 @@ fn value_at<M: Machine>(
 /// The value of a key, if it is there. No command is added.
 ///
 /// It answers `NoObject` exactly where the range ends past the last object, `BadMap` exactly where the way to the key meets a
-/// bad object, the one met first, `Exec` with what the engine answered to a fetch: `DiskFault`, `Damaged` or `Memory`, and
+/// bad object, the one met first, `Exec` with what the store answered to a fetch: `DiskFault`, `Damaged` or `Memory`, and
 /// `Memory`, where the copy of the value can't be made.
-pub fn get<M: Machine>(
+pub fn get<S: Store<AllOps>, M: Machine>(
     alloc: Global,
     map: &Map,
-    engine: &mut Engine<AllOps>,
+    store: &mut S,
     machine: &mut M,
     key: &[u8],
 ) -> Result<Option<Vec<u8>>, MapErr>
-    requires unbroken { engine.old.broken ≡ false }
-    ensures calls { AreCalls all_meaning (M.disk machine.old) (M.disk machine.new) engine.old engine.new (cause_in result) }
-    ensures adds { (p : Params) (commands : List Command) → (holds : Holds p (M.disk machine.old) engine.old commands) →
-        AddsFront all_meaning p (M.disk machine.old) (M.disk machine.new) engine.old engine.new holds.world commands [] (ending_of (cause_in result)) }
-    ensures found { (p : Params) (commands : List Command) → Holds p (M.disk machine.old) engine.old commands →
+    requires unbroken { S.view.unbroken store.old }
+    ensures calls { Calls S.view (M.disk machine.old) (M.disk machine.new) store.old store.new (cause_in result) }
+    ensures adds { (p : Params) (commands : List Command) → S.view.holds p (M.disk machine.old) store.old commands →
+        S.view.adds p (M.disk machine.old) (M.disk machine.new) store.old store.new commands [] (ending_of (cause_in result)) }
+    ensures found { (p : Params) (commands : List Command) → S.view.holds p (M.disk machine.old) store.old commands →
         IfOk result (λ found. get_told (bounds_of p) map.now.lo map.now.hi (state_of p commands) key.now ≡ Ok (option_map (λ v. v.items) found)) }
-    ensures refused { (p : Params) (commands : List Command) → Holds p (M.disk machine.old) engine.old commands →
+    ensures refused { (p : Params) (commands : List Command) → S.view.holds p (M.disk machine.old) store.old commands →
         IfErr result (λ e. ending_of (cause_of e) ≡ Done → get_told (bounds_of p) map.now.lo map.now.hi (state_of p commands) key.now ≡ Err e) }
 {
-    nothing_is_made(machine, engine);
-    reads_go_on::<M>();
-    if map.last() >= engine.params().objects {
+    store.nothing_is_made(machine);
+    reads_go_on::<S, M>();
+    if map.last() >= store.params().objects {
         return Err(CallErr::Refused(CallRefusal::NoObject));
     }
-    let leaf = walk(map, engine, machine, key)?;
-    value_at(alloc, map, engine, machine, leaf, key)
+    let leaf = walk(map, store, machine, key)?;
+    value_at(alloc, map, store, machine, leaf, key)
 }

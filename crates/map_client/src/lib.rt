@@ -1,9 +1,10 @@
 //! The calls of an ordered map of wide pages that stands in a range of a store's objects: `get`, `set`, `delete`, and reads of ranges
-//! of keys. No line of a script and no call of the library has them yet.
+//! of keys. The lines of a script that begin with `m` (`mget`, `mset`, ..) and the library's calls on maps run them.
 //!
-//! The one contract: on an engine that stands for a list of commands each call answers what the definitions of `page_map` say on
-//! the map of these commands, whatever bytes the objects hold (`get_answer`, `delete_plan`, `set_plan`), and adds the commands
-//! that they name, as far as the engine accepts each, or a beginning of them where the log, memory or the disk ends the call. Where
+//! The one contract: on a store that stands for a list of commands, an engine or one with a transaction that is open on it, each
+//! call answers what the definitions of `page_map` say on the map of these commands, whatever bytes the objects hold (`get_answer`,
+//! `delete_plan`, `set_plan`), and adds the commands that they name, as far as the store accepts each, or a beginning of them where
+//! the log, memory or the disk ends the call. Where
 //! the range is a map all are accepted, and the calls act as on an ordered map: whenever one is cut short, the range is a map with
 //! the old content or the new one (`calls_act_as_on_an_ordered_map`). A set goes by rounds: it ends with the command that puts the
 //! pair into its leaf, and where that has no room a page is cut first, and the way is gone again. A delete takes the key out first,

@@ -4,8 +4,8 @@ ghost use Rattle.formats.specs.declared.params.Params.{Params};
 ghost use Rattle.page_map.specs.Map.{bytes_at};
 ghost use Rattle.running_store.specs.Taking.Ending.{Done};
 ghost use Rattle.store_engine.specs.Lists.{ending_of};
-ghost use Rattle.range_calls.specs.Making.{Reads};
-ghost use Rattle.range_calls.specs.Store.{Command, Holds, state_of};
+ghost use Rattle.store_calls.specs.Making.{Reads};
+ghost use Rattle.range_calls.specs.Store.{Command, state_of};
 ghost use Rattle.range_calls.specs.declared.call_err.CallErr.TheVariants.{Memory as OutOfMemory};
 ghost use Rattle.map_client.specs.Answers.{cause_in, told};
 ghost use Rattle.map_client.specs.Reading as reading;
@@ -19,7 +19,7 @@ use page_map::{MapRefusal, has_room, page_on, set_in};
 use page_ops::{PageOp, Text};
 use range_calls::{CallErr, reads_run_short, see};
 use std::alloc::Global;
-use store_engine::Engine;
+use store_calls::Store;
 
 /// A copy of bytes.
 fn copied(alloc: Global, text: &Text) -> Result<Text, MapErr>
@@ -65,23 +65,23 @@ fn put_on(pair: &NewPair, object: u32, bytes: &[u8]) -> Result<Result<Option<Pag
 }
 
 /// The command that puts the pair into the leaf at the end of its way, where it has room.
-pub(crate) fn put_in<M: Machine>(
+pub(crate) fn put_in<S: Store<AllOps>, M: Machine>(
     pair: &NewPair,
-    engine: &mut Engine<AllOps>,
+    store: &mut S,
     machine: &mut M,
     leaf: u32,
 ) -> Result<Option<PageOp>, MapErr>
-    requires unbroken { engine.old.broken ≡ false }
-    ensures reads { Reads (M.disk machine.old) (M.disk machine.new) engine.old engine.new (cause_in result) }
-    ensures answer { (p : Params) (commands : List Command) → Holds p (M.disk machine.old) engine.old commands → leaf < p.objects → ending_of (cause_in result) ≡ Done →
+    requires unbroken { S.view.unbroken store.old }
+    ensures reads { Reads S.view (M.disk machine.old) (M.disk machine.new) store.old store.new (cause_in result) }
+    ensures answer { (p : Params) (commands : List Command) → S.view.holds p (M.disk machine.old) store.old commands → leaf < p.objects → ending_of (cause_in result) ≡ Done →
         result ≡ told (reading.put_on pair.now.room leaf (bytes_at pair.now.map.now.lo (state_of p commands) leaf) pair.now.key pair.now.value) }
 {
-    reads_run_short::<M>();
-    let there = see(engine, machine, leaf)?;
+    reads_run_short::<S, M>();
+    let there = see(store, machine, leaf)?;
     if !there {
         return Err(CallErr::Refused(CallRefusal::NoObject));
     }
-    let found = put_on(pair, leaf, pair.map.bytes(leaf, engine.get(leaf)))?;
+    let found = put_on(pair, leaf, pair.map.bytes(leaf, store.get(leaf)))?;
     match found {
         Ok(op) => Ok(op),
         Err(object) => Err(CallErr::Refused(CallRefusal::Map(MapRefusal::BadMap { object }))),

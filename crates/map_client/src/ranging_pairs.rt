@@ -7,8 +7,8 @@ ghost use Rattle.page_map.specs.Map.{bytes_at};
 ghost use Rattle.page_map.specs.Steps.{cells_from};
 ghost use Rattle.running_store.specs.Taking.Ending.{Done};
 ghost use Rattle.store_engine.specs.Lists.{ending_of};
-ghost use Rattle.range_calls.specs.Making.{Reads};
-ghost use Rattle.range_calls.specs.Store.{Command, Holds, state_of};
+ghost use Rattle.store_calls.specs.Making.{Adds, Reads};
+ghost use Rattle.range_calls.specs.Store.{Command, state_of};
 ghost use Rattle.range_calls.specs.declared.call_err.CallErr.TheVariants.{Memory as OutOfMemory};
 ghost use Rattle.map_client.specs.Answers.{bad_map, cause_in, cause_of};
 ghost use Rattle.map_client.specs.Ranging as ranging;
@@ -27,7 +27,7 @@ use page_map::{Map, MapRefusal, Places, page_on, places_in};
 use page_ops::Page;
 use range_calls::{CallErr, reads_run_short, see};
 use std::alloc::Global;
-use store_engine::Engine;
+use store_calls::Store;
 
 /// Adds a pair.
 fn push_pair(
@@ -189,9 +189,9 @@ fn gather(
 }
 
 /// Gathers the pairs of the leaf of an object.
-pub(crate) fn gather_leaf<M: Machine>(
+pub(crate) fn gather_leaf<S: Store<AllOps>, M: Machine>(
     map: &Map,
-    engine: &mut Engine<AllOps>,
+    store: &mut S,
     machine: &mut M,
     leaf: &Stop,
     from: &[u8],
@@ -199,24 +199,24 @@ pub(crate) fn gather_leaf<M: Machine>(
     order: Order,
     gathered: &mut Gathered,
 ) -> Result<(), MapErr>
-    requires unbroken { engine.old.broken ≡ false }
-    ensures reads { Reads (M.disk machine.old) (M.disk machine.new) engine.old engine.new (cause_in result) }
-    ensures pairs { (p : Params) (commands : List Command) → Holds p (M.disk machine.old) engine.old commands →
+    requires unbroken { S.view.unbroken store.old }
+    ensures reads { Reads S.view (M.disk machine.old) (M.disk machine.new) store.old store.new (cause_in result) }
+    ensures pairs { (p : Params) (commands : List Command) → S.view.holds p (M.disk machine.old) store.old commands →
         OnOk result (pairs_on order (bytes_at map.now.lo (state_of p commands) leaf.now.object) (record { from = from.now; to = option_map (λ end. end.now) to.entry }) (option_map (λ v. v.items) leaf.now.to) gathered.old.pairs.items gathered.old.left
         ≡ Some (gathered.new.pairs.items, gathered.new.left)) }
-    ensures bad { (p : Params) (commands : List Command) → Holds p (M.disk machine.old) engine.old commands → leaf.now.object < p.objects →
+    ensures bad { (p : Params) (commands : List Command) → S.view.holds p (M.disk machine.old) store.old commands → leaf.now.object < p.objects →
         IfErr result (λ e. ending_of (cause_of e) ≡ Done →
         (pairs_on order (bytes_at map.now.lo (state_of p commands) leaf.now.object) (record { from = from.now; to = option_map (λ end. end.now) to.entry }) (option_map (λ v. v.items) leaf.now.to) gathered.old.pairs.items gathered.old.left ≡ None) × (e ≡ bad_map leaf.now.object)) }
 {
-    reads_run_short::<M>();
+    reads_run_short::<S, M>();
     let object = leaf.object;
-    let there = see(engine, machine, object)?;
+    let there = see(store, machine, object)?;
     if !there {
         return Err(CallErr::Refused(CallRefusal::NoObject));
     }
     gather(
         object,
-        map.bytes(object, engine.get(object)),
+        map.bytes(object, store.get(object)),
         from,
         to,
         end_bytes(&leaf.to),

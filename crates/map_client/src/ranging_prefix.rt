@@ -1,12 +1,12 @@
 // The pairs of keys that begin with some bytes.
-ghost use Rattle.std.specs.Prelude.{◌≡◌, ◌<◌, ◌++◌, ◌∷◌, [], suc, List, false, Some, Ok, Err, IfErr, IfOk, option_map};
+ghost use Rattle.std.specs.Prelude.{◌≡◌, ◌<◌, ◌++◌, ◌∷◌, [], suc, List, Some, Ok, Err, IfErr, IfOk, option_map};
 ghost use Rattle.formats.specs.Objects.{bounds_of};
 ghost use Rattle.formats.specs.declared.params.Params.{Params};
-ghost use Rattle.op_codec.specs.AllOps.{all_meaning};
 ghost use Rattle.page_map.specs.Reads as reads;
 ghost use Rattle.running_store.specs.Taking.Ending.{Done};
-ghost use Rattle.store_engine.specs.Lists.{AddsFront, AreCalls, ending_of};
-ghost use Rattle.range_calls.specs.Store.{Command, Holds, state_of};
+ghost use Rattle.store_engine.specs.Lists.{ending_of};
+ghost use Rattle.store_calls.specs.Making.{Calls};
+ghost use Rattle.range_calls.specs.Store.{Command, state_of};
 ghost use Rattle.range_calls.specs.declared.call_err.CallErr.TheVariants.{Memory as OutOfMemory};
 ghost use Rattle.map_client.specs.Answers.{cause_in, cause_of};
 ghost use Rattle.map_client.specs.Ranging.{prefix_told};
@@ -20,7 +20,7 @@ use oper_core::ByteList;
 use page_map::Map;
 use range_calls::reads_run_short;
 use std::alloc::Global;
-use store_engine::{Engine, nothing_is_made};
+use store_calls::Store;
 
 /// A key whose last byte is raised by one.
 fn raised(alloc: Global, front: &[u8], last: u8) -> Result<Option<Vec<u8>>, MapErr>
@@ -53,25 +53,25 @@ fn prefix_end(alloc: Global, bytes: &[u8]) -> Result<Option<Vec<u8>>, MapErr>
 /// The first pairs whose keys begin with these bytes, at most so many, by rising key. No command is added.
 ///
 /// It answers `NoObject`, `BadMap`, `Exec` and `Memory` where `range` does.
-pub fn prefix<M: Machine>(
+pub fn prefix<S: Store<AllOps>, M: Machine>(
     alloc: Global,
     map: &Map,
-    engine: &mut Engine<AllOps>,
+    store: &mut S,
     machine: &mut M,
     bytes: &[u8],
     limit: u32,
 ) -> Result<Vec<(ByteList, ByteList)>, MapErr>
-    requires unbroken { engine.old.broken ≡ false }
-    ensures calls { AreCalls all_meaning (M.disk machine.old) (M.disk machine.new) engine.old engine.new (cause_in result) }
-    ensures adds { (p : Params) (commands : List Command) → (holds : Holds p (M.disk machine.old) engine.old commands) →
-        AddsFront all_meaning p (M.disk machine.old) (M.disk machine.new) engine.old engine.new holds.world commands [] (ending_of (cause_in result)) }
-    ensures found { (p : Params) (commands : List Command) → Holds p (M.disk machine.old) engine.old commands →
+    requires unbroken { S.view.unbroken store.old }
+    ensures calls { Calls S.view (M.disk machine.old) (M.disk machine.new) store.old store.new (cause_in result) }
+    ensures adds { (p : Params) (commands : List Command) → S.view.holds p (M.disk machine.old) store.old commands →
+        S.view.adds p (M.disk machine.old) (M.disk machine.new) store.old store.new commands [] (ending_of (cause_in result)) }
+    ensures found { (p : Params) (commands : List Command) → S.view.holds p (M.disk machine.old) store.old commands →
         IfOk result (λ found. prefix_told (bounds_of p) map.now.lo map.now.hi (state_of p commands) bytes.now limit ≡ Ok found.items) }
-    ensures refused { (p : Params) (commands : List Command) → Holds p (M.disk machine.old) engine.old commands →
+    ensures refused { (p : Params) (commands : List Command) → S.view.holds p (M.disk machine.old) store.old commands →
         IfErr result (λ e. ending_of (cause_of e) ≡ Done → prefix_told (bounds_of p) map.now.lo map.now.hi (state_of p commands) bytes.now limit ≡ Err e) }
 {
-    nothing_is_made(machine, engine);
-    reads_run_short::<M>();
+    store.nothing_is_made(machine);
+    reads_run_short::<S, M>();
     let to = prefix_end(alloc, bytes)?;
-    range(alloc, map, engine, machine, bytes, end_bytes(&to), limit)
+    range(alloc, map, store, machine, bytes, end_bytes(&to), limit)
 }

@@ -6,8 +6,8 @@ ghost use Rattle.page_map.specs.Map.{bytes_at};
 ghost use Rattle.page_map.specs.Steps.{Step as StepDown, ended, step_seen};
 ghost use Rattle.running_store.specs.Taking.Ending.{Done};
 ghost use Rattle.store_engine.specs.Lists.{ending_of};
-ghost use Rattle.range_calls.specs.Making.{Reads};
-ghost use Rattle.range_calls.specs.Store.{Command, Holds, state_of};
+ghost use Rattle.store_calls.specs.Making.{Reads};
+ghost use Rattle.range_calls.specs.Store.{Command, state_of};
 ghost use Rattle.range_calls.specs.declared.call_err.CallErr.TheVariants.{Memory as OutOfMemory};
 ghost use Rattle.map_client.specs.Answers.{bad_map, cause_in, cause_of};
 ghost use Rattle.map_client.specs.Ranging as ranging;
@@ -22,7 +22,7 @@ use page_map::{Map, MapRefusal, Step, page_on};
 use range_calls::{CallErr, reads_run_short, see};
 use std::alloc::Global;
 use std::cmp::Ordering;
-use store_engine::Engine;
+use store_calls::Store;
 
 /// The bytes of an end, if there is one.
 pub(crate) fn end_bytes(end: &Option<Vec<u8>>) -> Option<&[u8]>
@@ -82,35 +82,35 @@ pub(crate) fn further(alloc: Global, step: Step, to: Option<Vec<u8>>) -> Result<
 }
 
 /// Goes from an inner page to the child under which a key stands.
-pub(crate) fn go_down<M: Machine>(
+pub(crate) fn go_down<S: Store<AllOps>, M: Machine>(
     alloc: Global,
     map: &Map,
-    engine: &mut Engine<AllOps>,
+    store: &mut S,
     machine: &mut M,
     at: Stop,
     level: u8,
     key: &[u8],
 ) -> Result<Stop, MapErr>
-    requires unbroken { engine.old.broken ≡ false }
-    ensures reads { Reads (M.disk machine.old) (M.disk machine.new) engine.old engine.new (cause_in result) }
-    ensures found { (p : Params) (commands : List Command) → Holds p (M.disk machine.old) engine.old commands →
+    requires unbroken { S.view.unbroken store.old }
+    ensures reads { Reads S.view (M.disk machine.old) (M.disk machine.new) store.old store.new (cause_in result) }
+    ensures found { (p : Params) (commands : List Command) → S.view.holds p (M.disk machine.old) store.old commands →
         IfOk result (λ next. (step : StepDown)
         × (ranging.step_on map.now.lo map.now.hi level (bytes_at map.now.lo (state_of p commands) at.object) (option_map (λ v. v.items) at.to) key.now ≡ Some step)
         × (next.object ≡ step.object) × (option_map (λ v. v.items) next.to ≡ ended (option_map (λ v. v.items) at.to) step.end)) }
-    ensures bad { (p : Params) (commands : List Command) → Holds p (M.disk machine.old) engine.old commands → at.object < p.objects →
+    ensures bad { (p : Params) (commands : List Command) → S.view.holds p (M.disk machine.old) store.old commands → at.object < p.objects →
         IfErr result (λ e. ending_of (cause_of e) ≡ Done →
         (ranging.step_on map.now.lo map.now.hi level (bytes_at map.now.lo (state_of p commands) at.object) (option_map (λ v. v.items) at.to) key.now ≡ None) × (e ≡ bad_map at.object)) }
 {
-    reads_run_short::<M>();
+    reads_run_short::<S, M>();
     let object = at.object;
-    let there = see(engine, machine, object)?;
+    let there = see(store, machine, object)?;
     if !there {
         return Err(CallErr::Refused(CallRefusal::NoObject));
     }
     match step_on(
         map,
         level,
-        map.bytes(object, engine.get(object)),
+        map.bytes(object, store.get(object)),
         end_bytes(&at.to),
         key,
     ) {
@@ -145,37 +145,37 @@ fn spanned(alloc: Global, step: Step, to: Option<Vec<u8>>) -> Result<Spanned, Ma
 }
 
 /// Goes from an inner page to the last child that begins below an end.
-pub(crate) fn go_below<M: Machine>(
+pub(crate) fn go_below<S: Store<AllOps>, M: Machine>(
     alloc: Global,
     map: &Map,
-    engine: &mut Engine<AllOps>,
+    store: &mut S,
     machine: &mut M,
     at: Spanned,
     level: u8,
     end: Option<&[u8]>,
 ) -> Result<Spanned, MapErr>
-    requires unbroken { engine.old.broken ≡ false }
-    ensures reads { Reads (M.disk machine.old) (M.disk machine.new) engine.old engine.new (cause_in result) }
-    ensures found { (p : Params) (commands : List Command) → Holds p (M.disk machine.old) engine.old commands →
+    requires unbroken { S.view.unbroken store.old }
+    ensures reads { Reads S.view (M.disk machine.old) (M.disk machine.new) store.old store.new (cause_in result) }
+    ensures found { (p : Params) (commands : List Command) → S.view.holds p (M.disk machine.old) store.old commands →
         IfOk result (λ next. (step : StepDown)
         × (ranging.below_on map.now.lo map.now.hi level (bytes_at map.now.lo (state_of p commands) at.stop.object) (option_map (λ v. v.items) at.stop.to) (option_map (λ end. end.now) end.entry) ≡ Some step)
         × (next.stop.object ≡ step.object) × (next.from.items ≡ step.from) × (option_map (λ v. v.items) next.stop.to ≡ ended (option_map (λ v. v.items) at.stop.to) step.end)) }
-    ensures bad { (p : Params) (commands : List Command) → Holds p (M.disk machine.old) engine.old commands → at.stop.object < p.objects →
+    ensures bad { (p : Params) (commands : List Command) → S.view.holds p (M.disk machine.old) store.old commands → at.stop.object < p.objects →
         IfErr result (λ e. ending_of (cause_of e) ≡ Done →
         (ranging.below_on map.now.lo map.now.hi level (bytes_at map.now.lo (state_of p commands) at.stop.object) (option_map (λ v. v.items) at.stop.to) (option_map (λ end. end.now) end.entry) ≡ None)
         × (e ≡ bad_map at.stop.object)) }
 {
-    reads_run_short::<M>();
+    reads_run_short::<S, M>();
     let Spanned { from: _from, stop } = at;
     let object = stop.object;
-    let there = see(engine, machine, object)?;
+    let there = see(store, machine, object)?;
     if !there {
         return Err(CallErr::Refused(CallRefusal::NoObject));
     }
     match below_on(
         map,
         level,
-        map.bytes(object, engine.get(object)),
+        map.bytes(object, store.get(object)),
         end_bytes(&stop.to),
         end,
     ) {

@@ -1,13 +1,13 @@
 // What is read where the way to a key is tidied, page by page.
-ghost use Rattle.std.specs.Prelude.{◌≡◌, ◌<◌, ◌≤◌, List, None, Err, IfErr, IfOk, false, map as map_list, option_map};
+ghost use Rattle.std.specs.Prelude.{◌≡◌, ◌<◌, ◌≤◌, List, None, Err, IfErr, IfOk, map as map_list, option_map};
 ghost use Rattle.formats.specs.declared.params.Params.{Params};
 ghost use Rattle.op_codec.specs.AllOps.{page};
 ghost use Rattle.page_map.specs.Deletes.{listed, tidy_from};
 ghost use Rattle.page_map.specs.Steps.{ended, step_seen};
 ghost use Rattle.running_store.specs.Taking.Ending.{Done};
 ghost use Rattle.store_engine.specs.Lists.{ending_of};
-ghost use Rattle.range_calls.specs.Making.{Reads};
-ghost use Rattle.range_calls.specs.Store.{Command, Holds, state_of};
+ghost use Rattle.store_calls.specs.Making.{Reads};
+ghost use Rattle.range_calls.specs.Store.{Command, state_of};
 ghost use Rattle.range_calls.specs.declared.call_err.CallErr.TheVariants.{Memory as OutOfMemory};
 ghost use Rattle.map_client.specs.Answers.{cause_in, cause_of, told};
 ghost use Rattle.map_client.specs.Tidying as tidying;
@@ -27,7 +27,7 @@ use page_map::{
 use page_ops::{Page, PageOp};
 use range_calls::{CallErr, Few, reads_go_on, reads_run_short, see};
 use std::alloc::Global;
-use store_engine::{Engine, nothing_is_made};
+use store_calls::Store;
 
 /// Two commands on pages, or one, as commands of the store.
 pub(crate) fn both_stored(ops: (PageOp, Option<PageOp>)) -> Few
@@ -118,23 +118,23 @@ fn leaf_of(alloc: Global, step: Step, beside: Beside, above: Stop) -> Result<Emp
 }
 
 /// The page above the leaf of the key, from a root of this level, which isn't a leaf.
-pub(crate) fn page_above<M: Machine>(
+pub(crate) fn page_above<S: Store<AllOps>, M: Machine>(
     way: &Way,
-    engine: &mut Engine<AllOps>,
+    store: &mut S,
     machine: &mut M,
     levels: u8,
 ) -> Result<Stop, MapErr>
-    requires unbroken { engine.old.broken ≡ false }
+    requires unbroken { S.view.unbroken store.old }
     requires inner { 0 < levels }
-    ensures reads { Reads (M.disk machine.old) (M.disk machine.new) engine.old engine.new (cause_in result) }
-    ensures found { (p : Params) (commands : List Command) → Holds p (M.disk machine.old) engine.old commands → way.now.map.now.hi < p.objects →
+    ensures reads { Reads S.view (M.disk machine.old) (M.disk machine.new) store.old store.new (cause_in result) }
+    ensures found { (p : Params) (commands : List Command) → S.view.holds p (M.disk machine.old) store.old commands → way.now.map.now.hi < p.objects →
         IfOk result (λ at. (at.object ≤ way.now.map.now.hi) × (tidy_from way.now.map.now.lo way.now.map.now.hi (state_of p commands) way.now.key.now levels way.now.map.now.lo None
         ≡ tidy_from way.now.map.now.lo way.now.map.now.hi (state_of p commands) way.now.key.now 1 at.object (option_map (λ v. v.items) at.to))) }
-    ensures bad { (p : Params) (commands : List Command) → Holds p (M.disk machine.old) engine.old commands → way.now.map.now.hi < p.objects →
+    ensures bad { (p : Params) (commands : List Command) → S.view.holds p (M.disk machine.old) store.old commands → way.now.map.now.hi < p.objects →
         IfErr result (λ e. ending_of (cause_of e) ≡ Done → told (tidy_from way.now.map.now.lo way.now.map.now.hi (state_of p commands) way.now.key.now levels way.now.map.now.lo None) ≡ Err e) }
 {
-    nothing_is_made(machine, engine);
-    reads_go_on::<M>();
+    store.nothing_is_made(machine);
+    reads_go_on::<S, M>();
     let _last = way.map.last();
     let mut at = Stop {
         object: way.map.root(),
@@ -144,7 +144,7 @@ pub(crate) fn page_above<M: Machine>(
         at = go_down(
             way.alloc,
             way.map,
-            engine,
+            store,
             machine,
             at,
             levels - step,
@@ -155,29 +155,29 @@ pub(crate) fn page_above<M: Machine>(
 }
 
 /// The leaf of the key under the page above it.
-pub(crate) fn leaf_under<M: Machine>(
+pub(crate) fn leaf_under<S: Store<AllOps>, M: Machine>(
     way: &Way,
-    engine: &mut Engine<AllOps>,
+    store: &mut S,
     machine: &mut M,
     at: Stop,
 ) -> Result<Emptied, MapErr>
-    requires unbroken { engine.old.broken ≡ false }
-    ensures reads { Reads (M.disk machine.old) (M.disk machine.new) engine.old engine.new (cause_in result) }
-    ensures found { (p : Params) (commands : List Command) → Holds p (M.disk machine.old) engine.old commands →
+    requires unbroken { S.view.unbroken store.old }
+    ensures reads { Reads S.view (M.disk machine.old) (M.disk machine.new) store.old store.new (cause_in result) }
+    ensures found { (p : Params) (commands : List Command) → S.view.holds p (M.disk machine.old) store.old commands →
         IfOk result (λ found. (found.leaf.object ≤ way.now.map.now.hi) × StandsIn way.now.map.now.hi found.beside × (tidy_from way.now.map.now.lo way.now.map.now.hi (state_of p commands) way.now.key.now 1 at.object (option_map (λ v. v.items) at.to)
         ≡ leaf_turn way.now.map.now.lo way.now.map.now.hi (state_of p commands) found.above found.place found.leaf.object found.from.items (option_map (λ v. v.items) found.leaf.to) found.beside)) }
-    ensures bad { (p : Params) (commands : List Command) → Holds p (M.disk machine.old) engine.old commands → at.object < p.objects →
+    ensures bad { (p : Params) (commands : List Command) → S.view.holds p (M.disk machine.old) store.old commands → at.object < p.objects →
         IfErr result (λ e. ending_of (cause_of e) ≡ Done → told (tidy_from way.now.map.now.lo way.now.map.now.hi (state_of p commands) way.now.key.now 1 at.object (option_map (λ v. v.items) at.to)) ≡ Err e) }
 {
-    reads_run_short::<M>();
+    reads_run_short::<S, M>();
     let object = at.object;
-    let there = see(engine, machine, object)?;
+    let there = see(store, machine, object)?;
     if !there {
         return Err(CallErr::Refused(CallRefusal::NoObject));
     }
     match both_on(
         way.map,
-        way.map.bytes(object, engine.get(object)),
+        way.map.bytes(object, store.get(object)),
         end_bytes(&at.to),
         way.key,
     ) {

@@ -7,22 +7,18 @@ use Rattle.oper_core.specs.State.{State}
 use Rattle.oper_core.specs.declared.bounds.Bounds.{Bounds}
 use Rattle.formats.specs.Objects.{bounds_of}
 use Rattle.formats.specs.declared.params.Params.{Params}
-use Rattle.op_codec.specs.AllOps.{all_meaning}
-use Rattle.explain_core.specs.History.{commands_of}
-use Rattle.explain_core.specs.World.{World}
 use Rattle.running_store.specs.Taking.Ending.{Done}
-use Rattle.store_engine.specs.Engine.{EngineView}
 use Rattle.store_engine.specs.Lists.{ending_of}
-use Rattle.store_engine.specs.ListSteps.{CallsBehind}
+use Rattle.store_calls.specs.Laws.{GoOn}
+use Rattle.store_calls.specs.Making.{Reads}
+use Rattle.store_calls.specs.View.{View}
 use Rattle.call_plans.specs.Laws.{after_all}
 use Rattle.call_plans.specs.Plan.{Plan, refused_by}
 use Rattle.range_calls.specs.Answers.{cause_in, cause_of, told}
 use Rattle.range_calls.specs.ComesLaws.{Plans, comes_as, comes_ended, comes_ok, comes_on, comes_passed, comes_read, comes_refused, failed, ran, state_behind, then_nothing}
-use Rattle.range_calls.specs.Joining.{AddsOn, ReadsBehind}
-use Rattle.range_calls.specs.Making.{Reads}
 use Rattle.range_calls.specs.RoundLaws.{and_then, begins_behind, tried_append}
 use Rattle.range_calls.specs.Rounds.{Comes, behind, by_round, in_rounds, is_last_round, no_plan, rounds_from, tried, tried_all, tried_round}
-use Rattle.range_calls.specs.Store.{Command, Holds, ShowsIn, meaning_in, state_of}
+use Rattle.range_calls.specs.Store.{Command, meaning_in, state_of}
 use Rattle.range_calls.specs.declared.call_err.CallErr.{CallErr}
 use Rattle.range_calls.specs.declared.call_err.CallErr.TheVariants.{Refused}
 use Rattle.range_calls.specs.declared.round.Round.{Round}
@@ -101,63 +97,61 @@ module _ {R : Type 0} where
         by_next (Ok round) is last = ap (and_then (tried_all p s round.ops None)) (nothing_behind round is round.last last)
         by_next (Err refusal) is last = refl
 
+  abbrev pub step : (Bounds → State → Result Round R) → Plans R
+  step next p commands = tried_round p (state_of p commands) (next (bounds_of p) (state_of p commands))
+
   -- of a call by rounds
-  module _ {T : Type 0} (disk : T → Disk) (next : Bounds → State → Result Round R) where
-    abbrev pub step : Plans R
-    step p commands = tried_round p (state_of p commands) (next (bounds_of p) (state_of p commands))
+  module _ {S T : Type 0} (view : View Command S) (disk : T → Disk) (next : Bounds → State → Result Round R) where
+    abbrev pub IsLast : T → S → Bool → Type 0
+    IsLast old before last = (p : Params) (commands : List Command) → view.holds p (disk old) before commands → last ≡ is_last_round (next (bounds_of p) (state_of p commands))
 
-    abbrev pub IsLast : T → EngineView → Bool → Type 0
-    IsLast old before last = (p : Params) (commands : List Command) → Holds p (disk old) before commands → last ≡ is_last_round (next (bounds_of p) (state_of p commands))
+    abbrev pub IsTold : T → S → Result Round (CallErr R) → Type 0
+    IsTold old before r = (p : Params) (commands : List Command) → view.holds p (disk old) before commands → ending_of (cause_in r) ≡ Done → r ≡ told (next (bounds_of p) (state_of p commands))
 
-    shown : (p : Params) {old : Disk} {before : EngineView} (w : World Command) → ShowsIn p old before w → Holds p old before (commands_of w.history)
-    shown p w shows = record { world = w; shows = shows; commands_are = refl }
-
-    abbrev pub IsTold : T → EngineView → Result Round (CallErr R) → Type 0
-    IsTold old before r = (p : Params) (commands : List Command) → Holds p (disk old) before commands → ending_of (cause_in r) ≡ Done → r ≡ told (next (bounds_of p) (state_of p commands))
-
-    module _ (old mid : T) (before between : EngineView) where
+    module _ (old mid : T) (before between : S) where
       -- no round is found
-      pub none_found : {V : Type 0} (r : Result V (CallErr R)) (e : CallErr R) → r ≡ Err e → Reads (disk old) (disk mid) before between (cause_of e) → IsTold old before (Err e)
-          → Comes (disk old) (disk mid) before between step r
+      pub none_found : {V : Type 0} (r : Result V (CallErr R)) (e : CallErr R) → r ≡ Err e → Reads view (disk old) (disk mid) before between (cause_of e) → IsTold old before (Err e)
+          → Comes view (disk old) (disk mid) before between (step next) r
       none_found r e is reads answer =
-          comes_refused step r e is reads
-          (λ p w shows done.
-          let s = state_of p (commands_of w.history) in
-          round_refused p s (next (bounds_of p) s) e (answer p (commands_of w.history) (shown p w shows) done))
+          comes_refused view (step next) r e is reads
+          (λ p commands holds done.
+          let s = state_of p commands in
+          round_refused p s (next (bounds_of p) s) e (answer p commands holds done))
 
       -- the commands of the round that is found
-      pub found_ran : {V : Type 0} → ReadsBehind disk → (new : T) (after : EngineView) (round : Round) (r : Result V (CallErr R)) → Reads (disk old) (disk mid) before between None → IsTold old before (Ok round)
-          → Comes (disk mid) (disk new) between after (ran round.ops) r → Comes (disk old) (disk new) before after step r
-      found_ran behind new after round r reads answer =
-          comes_read disk old mid new before between after behind (ran round.ops) step r reads
-          (λ p w shows.
-          let s = state_of p (commands_of w.history) in
-          sym (ap (tried_round p s) (round_found (next (bounds_of p) s) round (answer p (commands_of w.history) (shown p w shows) refl))))
+      pub found_ran : {V : Type 0} → GoOn view disk → (new : T) (after : S) (round : Round) (r : Result V (CallErr R)) → Reads view (disk old) (disk mid) before between None → IsTold old before (Ok round)
+          → Comes view (disk mid) (disk new) between after (ran round.ops) r → Comes view (disk old) (disk new) before after (step next) r
+      found_ran laws new after round r reads answer =
+          comes_read view disk laws old mid new before between after (ran round.ops) (step next) r reads
+          (λ p commands holds.
+          let s = state_of p commands in
+          sym (ap (tried_round p s) (round_found (next (bounds_of p) s) round (answer p commands holds refl))))
 
       pub found_last : (round : Round) → IsTold old before (Ok round) → IsLast old before (round.last || (length round.ops == 0))
       found_last round answer p commands holds = sym (ap is_last_round (round_found (next (bounds_of p) (state_of p commands)) round (answer p commands holds refl)))
 
-    module _ (old mid : T) (before between : EngineView) (n : ℕ) where
-      pub rounds_go_on : {V : Type 0} → AddsOn disk → CallsBehind all_meaning disk → (new : T) (after : EngineView) (r : Result V (CallErr R)) → IsLast old before false
-          → (flag : Bool) → Comes (disk old) (disk mid) before between step (Ok flag) → Comes (disk mid) (disk new) between after (in_rounds next n) r → Comes (disk old) (disk new) before after (in_rounds next (suc n)) r
-      rounds_go_on on calls new after r last flag done more =
-          comes_on disk old mid new before between after on calls step (in_rounds next n) (in_rounds next (suc n)) flag r
-          (λ p w shows.
-          let c = commands_of w.history in
-          let q = step p c in
-          ap (λ (s : State). and_then q (tried p s (rounds_from (meaning_in p) (next (bounds_of p)) n s))) (state_behind p c q.commands)
-          ∙ round_goes_on p (next (bounds_of p)) n (state_of p c) (sym (last p c (shown p w shows)))) done more
+    module _ (old mid : T) (before between : S) (n : ℕ) where
+      pub rounds_go_on : {V : Type 0} → GoOn view disk → (new : T) (after : S) (r : Result V (CallErr R)) → IsLast old before false
+          → (flag : Bool) → Comes view (disk old) (disk mid) before between (step next) (Ok flag) → Comes view (disk mid) (disk new) between after (in_rounds next n) r
+          → Comes view (disk old) (disk new) before after (in_rounds next (suc n)) r
+      rounds_go_on laws new after r last flag done more =
+          comes_on view disk laws old mid new before between after (step next) (in_rounds next n) (in_rounds next (suc n)) flag r
+          (λ p commands holds.
+          let q = step next p commands in
+          ap (λ (s : State). and_then q (tried p s (rounds_from (meaning_in p) (next (bounds_of p)) n s))) (state_behind p commands q.commands)
+          ∙ round_goes_on p (next (bounds_of p)) n (state_of p commands) (sym (last p commands holds))) done more
 
-      pub rounds_end : {V : Type 0} (value : V) → IsLast old before true → (flag : Bool) → Comes (disk old) (disk mid) before between step (Ok flag)
-          → Comes (disk old) (disk mid) before between (in_rounds next (suc n)) (Ok value)
-      rounds_end value last flag done = comes_ok value (comes_as step (in_rounds next (suc n)) (Ok flag) (λ p w shows. round_ends p (next (bounds_of p)) n (state_of p (commands_of w.history)) (sym (last p (commands_of w.history) (shown p w shows)))) done)
+      pub rounds_end : {V : Type 0} (value : V) → IsLast old before true → (flag : Bool) → Comes view (disk old) (disk mid) before between (step next) (Ok flag)
+          → Comes view (disk old) (disk mid) before between (in_rounds next (suc n)) (Ok value)
+      rounds_end value last flag done =
+          comes_ok view value (comes_as view (step next) (in_rounds next (suc n)) (Ok flag) (λ p commands holds. round_ends p (next (bounds_of p)) n (state_of p commands) (sym (last p commands holds))) done)
 
-      pub rounds_fail : {U V : Type 0} (r : Result V (CallErr R)) (e : CallErr R) → r ≡ Err e → Comes (disk old) (disk mid) before between step (failed U e)
-          → Comes (disk old) (disk mid) before between (in_rounds next (suc n)) r
+      pub rounds_fail : {U V : Type 0} (r : Result V (CallErr R)) (e : CallErr R) → r ≡ Err e → Comes view (disk old) (disk mid) before between (step next) (failed U e)
+          → Comes view (disk old) (disk mid) before between (in_rounds next (suc n)) r
       rounds_fail {U} {V} r e is failed =
-          comes_passed r e is (comes_ended {U = U} {V = U} step (in_rounds next (suc n)) e (λ p commands. rest_of p (next (bounds_of p)) n (state_of p commands) (next (bounds_of p) (state_of p commands)))
-          (λ p w shows. first_round p (next (bounds_of p)) n (state_of p (commands_of w.history))) failed)
+          comes_passed view {V = U} r e is (comes_ended view {U = U} {V = U} (step next) (in_rounds next (suc n)) e (λ p commands. rest_of p (next (bounds_of p)) n (state_of p commands) (next (bounds_of p) (state_of p commands)))
+          (λ p commands holds. first_round p (next (bounds_of p)) n (state_of p commands)) failed)
 
     -- what comes of the rounds that are left is what comes of the call
-    abbrev pub LeadsOn : (V : Type 0) → T → T → EngineView → EngineView → ℕ → ℕ → Type 0
-    LeadsOn V old mid before between most left = (new : T) (after : EngineView) (r : Result V (CallErr R)) → Comes (disk mid) (disk new) between after (in_rounds next left) r → Comes (disk old) (disk new) before after (in_rounds next most) r
+    abbrev pub LeadsOn : (V : Type 0) → T → T → S → S → ℕ → ℕ → Type 0
+    LeadsOn V old mid before between most left = (new : T) (after : S) (r : Result V (CallErr R)) → Comes view (disk mid) (disk new) between after (in_rounds next left) r → Comes view (disk old) (disk new) before after (in_rounds next most) r

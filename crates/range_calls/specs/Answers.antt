@@ -14,7 +14,7 @@ module _ {R : Type 0} where
   told (Ok value) = Ok value
   told (Err refusal) = Err (Refused refusal)
 
-  -- the engine's error that a call ended with, or none: the range's own refusals are none
+  -- the store's error that a call ended with, or none: the range's own refusals are none
   abbrev pub cause_of : CallErr R → Option ExecErr
   cause_of (Refused refusal) = None
   cause_of (Exec cause) = Some cause

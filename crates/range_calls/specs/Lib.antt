@@ -1,6 +1,5 @@
 pub mod Store
 pub mod Answers
-pub mod Making
 pub mod Joining
 pub mod Due
 pub mod Few

@@ -1,4 +1,4 @@
--- Calls that find at each moment the commands that come next, all of them on one state. The engine may refuse any of them.
+-- Calls that find at each moment the commands that come next, all of them on one state. The store may refuse any of them.
 use Rattle.std.specs.Prelude.{◌≡◌, ◌==◌, ◌||◌, ℕ, zero, suc, Bool, true, Option, None, Some, Result, Ok, Err, List, [], ◌∷◌, ◌++◌, length, if◌then◌else◌, option_map}
 use Rattle.std.specs.Result.{result_err}
 use Rattle.disk_model.specs.Disk.{Disk}
@@ -8,17 +8,15 @@ use Rattle.oper_core.specs.declared.refusal.Refusal.{Refusal}
 use Rattle.oper_core.specs.declared.bounds.Bounds.{Bounds}
 use Rattle.formats.specs.Objects.{bounds_of}
 use Rattle.formats.specs.declared.params.Params.{Params}
-use Rattle.explain_core.specs.History.{commands_of}
-use Rattle.explain_core.specs.World.{World}
 use Rattle.running_store.specs.Taking.Ending.{Done}
 use Rattle.execution.specs.declared.exec_err.ExecErr.TheVariants as exec
-use Rattle.store_engine.specs.Engine.{EngineView}
 use Rattle.store_engine.specs.Lists.{ending_of}
+use Rattle.store_calls.specs.Making.{Makes}
+use Rattle.store_calls.specs.View.{View}
 use Rattle.call_plans.specs.Laws.{after_all}
 use Rattle.call_plans.specs.Plan.{Plan, refused_by, with_command}
 use Rattle.range_calls.specs.Answers.{cause_in}
-use Rattle.range_calls.specs.Making.{Makes}
-use Rattle.range_calls.specs.Store.{Command, ShowsIn, meaning_in, state_of}
+use Rattle.range_calls.specs.Store.{Command, meaning_in, state_of}
 use Rattle.range_calls.specs.declared.call_err.CallErr.{CallErr}
 use Rattle.range_calls.specs.declared.call_err.CallErr.TheVariants.{Refused, Exec}
 use Rattle.range_calls.specs.declared.round.Round.{Round}
@@ -71,9 +69,8 @@ module _ {R : Type 0} (p : Params) where
 abbrev pub in_rounds : {R : Type 0} → (Bounds → State → Result Round R) → ℕ → Params → List Command → Plan Command (CallErr R)
 in_rounds next most p commands = tried p (state_of p commands) (rounds_from (meaning_in p) (next (bounds_of p)) most (state_of p commands))
 
-module _ {R : Type 0} (old new : Disk) (before after : EngineView) where
-  -- What a call leaves and answers on every machine; in each world that engine and files show this is a function of the commands
-  -- that are there.
+module _ {R S : Type 0} (view : View Command S) (old new : Disk) (before after : S) where
+  -- What a call leaves and answers on every machine; where the store stands for commands this is a function of them.
   pub record Comes {T : Type 0} (plan : Params → List Command → Plan Command (CallErr R)) (result : Result T (CallErr R)) : Type 0 where
-    pub makes : Makes old new before after (λ p commands. (plan p commands).commands) (cause_in result)
-    pub answer : (p : Params) (w : World Command) → ShowsIn p old before w → ending_of (cause_in result) ≡ Done → result_err result ≡ (plan p (commands_of w.history)).refusal
+    pub makes : Makes view old new before after (λ p commands. (plan p commands).commands) (cause_in result)
+    pub answer : (p : Params) (commands : List Command) → view.holds p old before commands → ending_of (cause_in result) ≡ Done → result_err result ≡ (plan p commands).refusal

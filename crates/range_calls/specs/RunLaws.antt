@@ -1,24 +1,22 @@
 -- A call under way.
-use Rattle.std.proofs.Common.{◌≡◌, ◌<◌, refl, sym, ap, ◌∙◌, subst, ◌⊎◌, inl, inr, ℕ, suc, ◌+◌, ◌-◌, true, false, Option, None, Some, List, [], ◌∷◌, ◌++◌, map, take, arith}
-use Rattle.std.proofs.Math.Seq.{take-length}
+use Rattle.std.proofs.Common.{◌≡◌, ◌<◌, refl, sym, ◌∙◌, subst, ◌⊎◌, inl, inr, ℕ, suc, ◌+◌, ◌-◌, true, false, Option, None, Some, List, [], ◌∷◌, ◌++◌, map, arith}
 use Rattle.disk_model.specs.Disk.{Disk}
 use Rattle.oper_core.specs.State.{State}
 use Rattle.oper_core.specs.Meaning.{Meaning, after}
 use Rattle.formats.specs.Objects.{bounds_of}
 use Rattle.formats.specs.declared.params.Params.{Params}
 use Rattle.op_codec.specs.AllOps.{all_meaning}
-use Rattle.explain_core.specs.History.{commands_of}
-use Rattle.explain_core.specs.World.{World}
 use Rattle.running_store.specs.Taking.{Ending}
 use Rattle.running_store.specs.Taking.Ending.{Done, Stopped, Short, Failed}
 use Rattle.execution.specs.declared.exec_err.ExecErr.{ExecErr}
-use Rattle.store_engine.specs.Engine.{EngineView}
-use Rattle.store_engine.specs.Lists.{AddsFront, IsUnfinished, ending_of}
+use Rattle.store_engine.specs.Lists.{IsUnfinished, ending_of}
+use Rattle.store_calls.specs.Laws.{GoOn}
+use Rattle.store_calls.specs.Making.{Makes}
+use Rattle.store_calls.specs.View.{View}
 use Rattle.call_plans.specs.Plan.{Next, Plan, plan_from}
 use Rattle.range_calls.specs.Answers.{cause_of, made_of, refused_in}
-use Rattle.range_calls.specs.Joining.{AddsOn}
-use Rattle.range_calls.specs.Making.{Makes}
-use Rattle.range_calls.specs.Store.{Command, Holds, state_of}
+use Rattle.range_calls.specs.JoinLaws.{adds_on}
+use Rattle.range_calls.specs.Store.{Command, state_of}
 use Rattle.range_calls.specs.TurnLaws.{IsGoing, going_begins, goes_further, all_made, out_of_turns, last_made, rest_is, turn_ends, turn_goes_on, turn_refuses}
 use Rattle.range_calls.specs.Turns.{is_last, turn_plan}
 use Rattle.range_calls.specs.declared.call_err.CallErr.{CallErr}
@@ -36,21 +34,8 @@ early_is_not (Stopped stop) early done = cc done
 early_is_not Short early done = cc done
 early_is_not Failed early done = cc done
 
--- engine and files stand for the front after the commands that were there
-pub holds_on : {old mid : Disk} {before between : EngineView} {p : Params} {w : World Command} {ops : List Command} → AddsFront all_meaning p old mid before between w (commands_of w.history) ops Done
-    → Holds p mid between (commands_of w.history ++ ops)
-holds_on {old} {mid} {before} {between} {p} {w} {ops} adds =
-    elim adds.kept [
-      | inl failed ↦ absurd failed
-      | inr reached ↦ record {
-        world = reached.world;
-        shows = reached.shows;
-        commands_are = reached.commands_are ∙ ap (λ (n : ℕ). commands_of w.history ++ take n ops) (adds.all refl) ∙ ap (λ (l : List Command). commands_of w.history ++ l) (take-length ops);
-      }
-    ]
-
 module _ {O R : Type 0} (kind : O → Command) (p : Params) (m : Meaning O) (means : (s : State) (op : O) → after (all_meaning (bounds_of p)) s (kind op) ≡ after m s op)
-    (next : State → Next O R) (most : ℕ) where
+    (next : State → Next O R) (most : ℕ) {S : Type 0} (view : View Command S) where
   -- what the call makes on a store with these commands
   abbrev pub planned : List Command → Plan O R
   planned commands = plan_from m next most (state_of p commands)
@@ -58,46 +43,45 @@ module _ {O R : Type 0} (kind : O → Command) (p : Params) (m : Meaning O) (mea
   abbrev pub all_of : List Command → List Command
   all_of commands = made_of p.cap (map kind (planned commands).commands)
 
-  -- A front of the plan's commands is made: engine and files stand for these too, and so many turns are left.
-  pub record IsUnderWay (old mid : Disk) (before between : EngineView) (w : World Command) (left : ℕ) : Type 0 where
+  -- A front of the plan's commands is made: the store stands for these too, and so many turns are left.
+  pub record IsUnderWay (old mid : Disk) (before between : S) (commands : List Command) (left : ℕ) : Type 0 where
     pub front : List O
-    pub adds : AddsFront all_meaning p old mid before between w (commands_of w.history) (map kind front) Done
-    pub going : IsGoing kind p m means next most (commands_of w.history) front left
+    pub adds : view.adds p old mid before between commands (map kind front) Done
+    pub going : IsGoing kind p m means next most commands front left
 
-  pub begins_under_way : {old : Disk} {before : EngineView} (w : World Command) (left : ℕ) → left ≡ most
-      → AddsFront all_meaning p old old before before w (commands_of w.history) [] Done → IsUnderWay old old before before w left
-  begins_under_way w left is adds = record {
+  pub begins_under_way : {old : Disk} {before : S} (commands : List Command) (left : ℕ) → left ≡ most
+      → view.adds p old old before before commands [] Done → IsUnderWay old old before before commands left
+  begins_under_way commands left is adds = record {
     front = [];
     adds = adds;
-    going = subst (λ (n : ℕ). IsGoing kind p m means next most (commands_of w.history) [] n) (sym is) (going_begins kind p m means next most (commands_of w.history));
+    going = subst (λ (n : ℕ). IsGoing kind p m means next most commands [] n) (sym is) (going_begins kind p m means next most commands);
   }
 
-  module _ {T : Type 0} (disk : T → Disk) (on : AddsOn disk) (old mid new : T) (before between after : EngineView) (w : World Command) (n : ℕ)
-      (way : IsUnderWay (disk old) (disk mid) before between w (suc n)) where
+  module _ {T : Type 0} (disk : T → Disk) (laws : GoOn view disk) (old mid new : T) (before between after : S) (commands : List Command) (n : ℕ)
+      (way : IsUnderWay (disk old) (disk mid) before between commands (suc n)) (holds : view.holds p (disk old) before commands) where
     abbrev c : List Command
-    c = commands_of w.history
+    c = commands
 
     abbrev pub now : List Command
     now = c ++ map kind way.front
 
-    pub holds_now : Holds p (disk mid) between (commands_of w.history ++ map kind way.front)
-    holds_now = holds_on way.adds
+    pub holds_now : view.holds p (disk mid) between now
+    holds_now = laws.holds old mid before between p commands (map kind way.front) holds way.adds
 
     abbrev Front : List Command → Ending → Type 0
-    Front made ending = AddsFront all_meaning p (disk old) (disk new) before after w c made ending
+    Front made ending = view.adds p (disk old) (disk new) before after c made ending
 
     module _ (ops : Params → List Command → List Command) (same : (commands : List Command) → ops p commands ≡ made_of p.cap (map kind (turn_plan (next (state_of p commands))).commands)) where
       -- the turn's commands after the front
-      behind : (error : Option ExecErr) (rest : List Command) → Makes (disk mid) (disk new) between after ops error → (ending_of error ≡ Done → rest ≡ [])
+      behind : (error : Option ExecErr) (rest : List Command) → Makes view (disk mid) (disk new) between after ops error → (ending_of error ≡ Done → rest ≡ [])
           → Front (map kind way.front ++ (made_of p.cap (map kind (turn_plan (next (state_of p now))).commands) ++ rest)) (ending_of error)
       behind error rest makes ended =
           subst (λ (l : List Command). Front (map kind way.front ++ (l ++ rest)) (ending_of error)) (same now)
-          (on old mid new before between after error p w (map kind way.front) (ops p now) rest way.adds
-          (λ v shows is more stops. subst (λ (l : List Command). AddsFront all_meaning p (disk mid) (disk new) between after v (commands_of v.history) (ops p l ++ more) (ending_of error)) is (makes.adds p v shows more stops)) ended)
+          (adds_on view disk laws old mid new before between after error p commands (map kind way.front) (ops p now) rest way.adds (makes.adds p now holds_now) ended)
 
       -- a command is made, and the turns go on
-      pub goes_on : Makes (disk mid) (disk new) between after ops None → None ≡ refused_in p.cap (turn_plan (next (state_of p now))) → is_last (next (state_of p now)) ≡ false
-          → IsUnderWay (disk old) (disk new) before after w n
+      pub goes_on : Makes view (disk mid) (disk new) between after ops None → None ≡ refused_in p.cap (turn_plan (next (state_of p now))) → is_last (next (state_of p now)) ≡ false
+          → IsUnderWay (disk old) (disk new) before after commands n
       goes_on makes answer last =
           let turned = turn_goes_on kind p m means next most c way.front n way.going answer last in
           let op = turned.0 in record {
@@ -107,8 +91,8 @@ module _ {O R : Type 0} (kind : O → Command) (p : Params) (m : Meaning O) (mea
           }
 
       -- the last is made, and that is all
-      pub ends : Makes (disk mid) (disk new) between after ops None → None ≡ refused_in p.cap (turn_plan (next (state_of p now))) → is_last (next (state_of p now)) ≡ true
-          → AddsFront all_meaning p (disk old) (disk new) before after w (commands_of w.history) (all_of (commands_of w.history)) Done × (None ≡ refused_in p.cap (planned (commands_of w.history)))
+      pub ends : Makes view (disk mid) (disk new) between after ops None → None ≡ refused_in p.cap (turn_plan (next (state_of p now))) → is_last (next (state_of p now)) ≡ true
+          → view.adds p (disk old) (disk new) before after commands (all_of commands) Done × (None ≡ refused_in p.cap (planned commands))
       ends makes answer last =
           let turned = turn_ends kind p m means next most c way.front n way.going answer last in
           let op = turned.0 in
@@ -118,10 +102,10 @@ module _ {O R : Type 0} (kind : O → Command) (p : Params) (m : Meaning O) (mea
           )
 
       -- the turn is refused, or ends early
-      pub refused_on : (error : Option ExecErr) (e : CallErr R) → error ≡ cause_of e → Makes (disk mid) (disk new) between after ops error
+      pub refused_on : (error : Option ExecErr) (e : CallErr R) → error ≡ cause_of e → Makes view (disk mid) (disk new) between after ops error
           → (ending_of error ≡ Done → Some e ≡ refused_in p.cap (turn_plan (next (state_of p now))))
-          → AddsFront all_meaning p (disk old) (disk new) before after w (commands_of w.history) (all_of (commands_of w.history)) (ending_of error)
-          × (ending_of error ≡ Done → Some e ≡ refused_in p.cap (planned (commands_of w.history)))
+          → view.adds p (disk old) (disk new) before after commands (all_of commands) (ending_of error)
+          × (ending_of error ≡ Done → Some e ≡ refused_in p.cap (planned commands))
       refused_on error e is makes answer = (
         elim (done_or_not (ending_of error)) [
           | inl done ↦ subst (λ (l : List Command). Front l (ending_of error)) (turn_refuses kind p m means next most c way.front n way.going e (answer done)).1 (behind error [] makes (λ d. refl))
@@ -133,24 +117,13 @@ module _ {O R : Type 0} (kind : O → Command) (p : Params) (m : Meaning O) (mea
       )
 
   -- no turn is left
-  pub none_left : {old mid : Disk} {before between : EngineView} {w : World Command} → IsUnderWay old mid before between w 0
-      → AddsFront all_meaning p old mid before between w (commands_of w.history) (all_of (commands_of w.history)) Done × (None ≡ refused_in p.cap (planned (commands_of w.history)))
-  none_left {old} {mid} {before} {between} {w} way =
-      let all = out_of_turns kind p m means next most (commands_of w.history) way.front way.going in (
-        subst (λ (l : List Command). AddsFront all_meaning p old mid before between w (commands_of w.history) l Done) all.0 way.adds,
+  pub none_left : {old mid : Disk} {before between : S} {commands : List Command} → IsUnderWay old mid before between commands 0
+      → view.adds p old mid before between commands (all_of commands) Done × (None ≡ refused_in p.cap (planned commands))
+  none_left {old} {mid} {before} {between} {commands} way =
+      let all = out_of_turns kind p m means next most commands way.front way.going in (
+        subst (λ (l : List Command). view.adds p old mid before between commands l Done) all.0 way.adds,
         all.1,
       )
-
-  -- what is made of the whole plan, as the contract says it
-  pub as_planned : {old new : Disk} {before after : EngineView} {commands : List Command} (holds : Holds p old before commands) (ending : Ending)
-      → AddsFront all_meaning p old new before after holds.world (commands_of holds.world.history) (all_of (commands_of holds.world.history)) ending
-      → AddsFront all_meaning p old new before after holds.world commands (all_of commands) ending
-  as_planned {old} {new} {before} {after} {commands} holds ending adds =
-      subst (λ (l : List Command). AddsFront all_meaning p old new before after holds.world l (all_of l) ending) holds.commands_are adds
-
-  pub answer_planned : {old : Disk} {before : EngineView} {commands : List Command} (holds : Holds p old before commands) (x : Option (CallErr R))
-      → x ≡ refused_in p.cap (planned (commands_of holds.world.history)) → x ≡ refused_in p.cap (planned commands)
-  answer_planned {old} {before} {commands} holds x is = subst (λ (l : List Command). x ≡ refused_in p.cap (planned l)) holds.commands_are is
 
 -- one turn less is left
 pub turn_less : (most turn : ℕ) → turn < most → most - turn ≡ suc (most - (turn + 1))

@@ -11,7 +11,7 @@ use store_engine::ExecErr;
 pub enum CallErr<R> {
     /// The range refuses the call.
     Refused(R),
-    /// What the engine answered to a fetch or to a command. It refuses none but for `TooLarge`.
+    /// What the store answered to a fetch or to a command. It refuses none but for `TooLarge`.
     Exec(ExecErr),
     /// Out of memory.
     Memory,

@@ -3,38 +3,29 @@ ghost use Rattle.std.specs.Prelude.{◌≡◌, List};
 ghost use Rattle.disk_model.specs.Disk.{Files};
 ghost use Rattle.formats.specs.declared.params.Params.{Params};
 ghost use Rattle.op_codec.specs.AllOps.{all_meaning};
-ghost use Rattle.store_engine.specs.ListSteps.{CallsBehind};
 ghost use Rattle.store_engine.specs.Store.{Stands};
 ghost use Rattle.store_engine.specs.Uniqueness.{HaveOneState};
-ghost use Rattle.range_calls.specs.Joining.{AddsOn, ReadsBehind, ReadsShort};
+ghost use Rattle.range_calls.specs.Joining.{HoldsBehind, ReadsBehind, ReadsShort};
 ghost use Rattle.range_calls.specs.Store.{Command, meaning_in};
 
 use disk_model::Machine;
 use op_codec::AllOps;
-use store_engine::{calls_go_on, fetch_goes_on, fronts_are_joined, one_state};
+use store_calls::Store;
+use store_engine::one_state;
 
-/// A call after calls that only read makes what it makes alone.
-pub fn reads_go_on<M: Machine>()
-    ensures { ReadsBehind M.disk }
+/// A call after calls that only read makes what it makes alone, and the store stands for the same commands.
+pub fn reads_go_on<S: Store<AllOps>, M: Machine>()
+    ensures behind { ReadsBehind S.view M.disk }
+    ensures holds { HoldsBehind S.view M.disk }
 {
-    calls_go_on::<AllOps, M>();
-    fronts_are_joined::<AllOps, M>();
-}
-
-/// A call after calls that have added commands adds its own after them.
-pub fn makes_go_on<M: Machine>()
-    ensures calls { CallsBehind all_meaning M.disk }
-    ensures front { AddsOn M.disk }
-{
-    calls_go_on::<AllOps, M>();
-    fronts_are_joined::<AllOps, M>();
+    S::calls_go_on::<M>();
 }
 
 /// Calls that only read may run out of memory after it.
-pub fn reads_run_short<M: Machine>()
-    ensures { ReadsShort M.disk }
+pub fn reads_run_short<S: Store<AllOps>, M: Machine>()
+    ensures { ReadsShort S.view M.disk }
 {
-    fetch_goes_on::<AllOps, M>();
+    S::calls_go_on::<M>();
 }
 
 /// Files stand for one store, and for one state of it.

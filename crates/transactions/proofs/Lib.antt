@@ -10,3 +10,4 @@ mod Reading
 mod Staging
 mod Kept
 mod GoingOn
+mod WithinLemmas

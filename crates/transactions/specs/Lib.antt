@@ -6,3 +6,4 @@ pub mod Admitted
 pub mod Whole
 pub mod Snapshots
 pub mod Keeping
+pub mod Within

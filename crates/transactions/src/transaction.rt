@@ -33,7 +33,7 @@ pub struct Transaction<O: Oper> {
     // So many bytes have their records.
     bytes: u64,
     // The values that they make.
-    made: Cache,
+    pub(crate) made: Cache,
 }
 
 // So many bytes have the records with that of one command more; none where no number of 64 bits says it.

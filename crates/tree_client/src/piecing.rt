@@ -1,17 +1,15 @@
 // The pairs of one leaf, for a walk through all pairs of a tree that holds few of them at a time.
-ghost use Rattle.std.specs.Prelude.{◌≡◌, ◌+◌, ◌<◌, ◌≤◌, ◌++◌, ◌∷◌, [], List, Ok, Err, true, false, IfErr, IfOk};
+ghost use Rattle.std.specs.Prelude.{◌≡◌, ◌+◌, ◌<◌, ◌≤◌, ◌++◌, ◌∷◌, [], List, Ok, Err, true, IfErr, IfOk};
 ghost use Rattle.std.specs.List.{filter};
 ghost use Rattle.arrayvec.specs.ArrayVec.{array_vec_len};
 ghost use Rattle.formats.specs.Objects.{bounds_of};
 ghost use Rattle.formats.specs.declared.params.Params.{Params};
-ghost use Rattle.op_codec.specs.AllOps.{all_meaning};
 ghost use Rattle.running_store.specs.Taking.Ending.{Done};
-ghost use Rattle.store_engine.specs.Engine.{params_of};
-ghost use Rattle.store_engine.specs.Lists.{AddsFront, AreCalls, ending_of};
+ghost use Rattle.store_engine.specs.Lists.{ending_of};
 ghost use Rattle.logical_btree.specs.Plan.{get_answer, get_on};
 ghost use Rattle.logical_btree.specs.Walk as walks;
-ghost use Rattle.range_calls.specs.Making.{Reads};
-ghost use Rattle.range_calls.specs.Store.{Command, Holds, state_of};
+ghost use Rattle.store_calls.specs.Making.{Calls, Reads};
+ghost use Rattle.range_calls.specs.Store.{Command, state_of};
 ghost use Rattle.tree_client.specs.Answers.{cause_in, cause_of, told};
 ghost use Rattle.tree_client.specs.Pieces.{end_below, span_answer};
 
@@ -26,7 +24,7 @@ use key_entries::{Pairs, Short};
 use logical_btree::{Tree, TreeRefusal, child_for};
 use op_codec::AllOps;
 use range_calls::{CallErr, reads_go_on};
-use store_engine::{Engine, nothing_is_made};
+use store_calls::Store;
 
 /// Some pairs of a tree, from a key on, and the key at which the next piece begins; none where this is the last.
 #[derive(Drop)]
@@ -100,27 +98,27 @@ fn asked_pairs(leaf: &Pairs, from: Short, end: &Option<Short>) -> Pairs
 
 /// Goes from the root to the leaf under which a key stands, and gives its pairs from the key on. Each node on the way is fetched
 /// once.
-fn leaf_piece<M: Machine>(
+fn leaf_piece<S: Store<AllOps>, M: Machine>(
     tree: &Tree,
-    engine: &mut Engine<AllOps>,
+    store: &mut S,
     machine: &mut M,
     key: Short,
 ) -> Result<Piece, TreeErr>
-    requires unbroken { engine.old.broken ≡ false }
-    requires there { tree.now.hi < (params_of engine.old).objects }
-    ensures reads { Reads (M.disk machine.old) (M.disk machine.new) engine.old engine.new (cause_in result) }
-    ensures pairs { (p : Params) (commands : List Command) → Holds p (M.disk machine.old) engine.old commands →
+    requires unbroken { S.view.unbroken store.old }
+    requires there { tree.now.hi < (S.view.params store.old).objects }
+    ensures reads { Reads S.view (M.disk machine.old) (M.disk machine.new) store.old store.new (cause_in result) }
+    ensures pairs { (p : Params) (commands : List Command) → S.view.holds p (M.disk machine.old) store.old commands →
         IfOk result (λ piece. walks.scan tree.now.lo tree.now.hi (state_of p commands) (record { from = key; to = piece.next }) ≡ Ok piece.pairs.items) }
     ensures rising { IfOk result (λ piece. walks.is_below key piece.next ≡ true) }
-    ensures bad { (p : Params) (commands : List Command) → Holds p (M.disk machine.old) engine.old commands →
+    ensures bad { (p : Params) (commands : List Command) → S.view.holds p (M.disk machine.old) store.old commands →
         IfErr result (λ e. ending_of (cause_of e) ≡ Done → told (get_on key (walks.walk tree.now.lo tree.now.hi (state_of p commands) key)) ≡ Err e) }
 {
-    nothing_is_made(machine, engine);
-    reads_go_on::<M>();
+    store.nothing_is_made(machine);
+    reads_go_on::<S, M>();
     let mut object = tree.root();
     let mut end: Option<Short> = None;
     for _step in 0..size(tree) {
-        let node = node_of(tree, engine, machine, object)?;
+        let node = node_of(tree, store, machine, object)?;
         match node {
             Node::Leaf(leaf) => {
                 let pairs = asked_pairs(&leaf, key, &end);
@@ -143,29 +141,29 @@ fn leaf_piece<M: Machine>(
 /// It fails as [`get`](crate::get) of the key does.
 ///
 /// At most seven pairs, so it takes no memory and keeps no stack that a change of the tree would break.
-pub fn piece_from<M: Machine>(
+pub fn piece_from<S: Store<AllOps>, M: Machine>(
     tree: &Tree,
-    engine: &mut Engine<AllOps>,
+    store: &mut S,
     machine: &mut M,
     from: &Short,
 ) -> Result<Piece, TreeErr>
-    requires unbroken { engine.old.broken ≡ false }
-    ensures calls { AreCalls all_meaning (M.disk machine.old) (M.disk machine.new) engine.old engine.new (cause_in result) }
-    ensures adds { (p : Params) (commands : List Command) → (holds : Holds p (M.disk machine.old) engine.old commands) →
-        AddsFront all_meaning p (M.disk machine.old) (M.disk machine.new) engine.old engine.new holds.world commands [] (ending_of (cause_in result)) }
+    requires unbroken { S.view.unbroken store.old }
+    ensures calls { Calls S.view (M.disk machine.old) (M.disk machine.new) store.old store.new (cause_in result) }
+    ensures adds { (p : Params) (commands : List Command) → S.view.holds p (M.disk machine.old) store.old commands →
+        S.view.adds p (M.disk machine.old) (M.disk machine.new) store.old store.new commands [] (ending_of (cause_in result)) }
 
     // They are all the pairs from the key on to where the next piece begins, as `range` gives them, or to the last.
-    ensures pairs { (p : Params) (commands : List Command) → Holds p (M.disk machine.old) engine.old commands →
+    ensures pairs { (p : Params) (commands : List Command) → S.view.holds p (M.disk machine.old) store.old commands →
         IfOk result (λ piece. span_answer (bounds_of p) tree.now.lo tree.now.hi (state_of p commands) (record { from = from.now; to = piece.next }) ≡ Ok piece.pairs.items) }
 
     ensures rising { IfOk result (λ piece. walks.is_below from.now piece.next ≡ true) }
-    ensures refused { (p : Params) (commands : List Command) → Holds p (M.disk machine.old) engine.old commands →
+    ensures refused { (p : Params) (commands : List Command) → S.view.holds p (M.disk machine.old) store.old commands →
         IfErr result (λ e. ending_of (cause_of e) ≡ Done → told (get_answer (bounds_of p) tree.now.lo tree.now.hi (state_of p commands) from.now) ≡ Err e) }
 {
-    nothing_is_made(machine, engine);
-    if tree.last() >= engine.params().objects {
+    store.nothing_is_made(machine);
+    if tree.last() >= store.params().objects {
         return Err(CallErr::Refused(TreeRefusal::NoObject));
     }
-    let found = leaf_piece(tree, engine, machine, *from)?;
+    let found = leaf_piece(tree, store, machine, *from)?;
     Ok(found)
 }

@@ -1,13 +1,13 @@
 // The pairs of a range of keys of a tree.
-ghost use Rattle.std.specs.Prelude.{◌≡◌, [], List, false, Ok, Err, IfOk, IfErr};
+ghost use Rattle.std.specs.Prelude.{◌≡◌, [], List, Ok, Err, IfOk, IfErr};
 ghost use Rattle.formats.specs.Objects.{bounds_of};
 ghost use Rattle.formats.specs.declared.params.Params.{Params};
-ghost use Rattle.op_codec.specs.AllOps.{all_meaning};
 ghost use Rattle.running_store.specs.Taking.Ending.{Done};
-ghost use Rattle.store_engine.specs.Lists.{AddsFront, AreCalls, ending_of};
+ghost use Rattle.store_engine.specs.Lists.{ending_of};
+ghost use Rattle.store_calls.specs.Making.{Calls};
 ghost use Rattle.logical_btree.specs.Plan.{range_answer};
 ghost use Rattle.tree_client.specs.Answers.{cause_in, cause_of, told};
-ghost use Rattle.range_calls.specs.Store.{Command, Holds, state_of};
+ghost use Rattle.range_calls.specs.Store.{Command, state_of};
 
 use crate::part::Scan;
 use crate::scanning::{meet, meet_part};
@@ -19,33 +19,33 @@ use logical_btree::{Tree, TreeRefusal};
 use op_codec::AllOps;
 use range_calls::{CallErr, reads_go_on};
 use std::alloc::Global;
-use store_engine::{Engine, nothing_is_made};
+use store_calls::Store;
 
 /// The pairs whose keys are not below `from` and are below `to`, rising. No command is added.
 ///
 /// It answers `NoObject` exactly where the range ends past the last object, `BadTree` exactly where the scan meets a bad
-/// object, the one met first, `Exec` with what the engine answered to a fetch, and `Memory`.
-pub fn range<M: Machine>(
+/// object, the one met first, `Exec` with what the store answered to a fetch, and `Memory`.
+pub fn range<S: Store<AllOps>, M: Machine>(
     alloc: Global,
     tree: &Tree,
-    engine: &mut Engine<AllOps>,
+    store: &mut S,
     machine: &mut M,
     from: &Short,
     to: &Short,
 ) -> Result<Vec<(Short, Short)>, TreeErr>
-    requires unbroken { engine.old.broken ≡ false }
-    ensures calls { AreCalls all_meaning (M.disk machine.old) (M.disk machine.new) engine.old engine.new (cause_in result) }
-    ensures adds { (p : Params) (commands : List Command) → (holds : Holds p (M.disk machine.old) engine.old commands) →
-        AddsFront all_meaning p (M.disk machine.old) (M.disk machine.new) engine.old engine.new holds.world commands [] (ending_of (cause_in result)) }
-    ensures pairs { (p : Params) (commands : List Command) → Holds p (M.disk machine.old) engine.old commands →
+    requires unbroken { S.view.unbroken store.old }
+    ensures calls { Calls S.view (M.disk machine.old) (M.disk machine.new) store.old store.new (cause_in result) }
+    ensures adds { (p : Params) (commands : List Command) → S.view.holds p (M.disk machine.old) store.old commands →
+        S.view.adds p (M.disk machine.old) (M.disk machine.new) store.old store.new commands [] (ending_of (cause_in result)) }
+    ensures pairs { (p : Params) (commands : List Command) → S.view.holds p (M.disk machine.old) store.old commands →
         IfOk result (λ pairs. range_answer (bounds_of p) tree.now.lo tree.now.hi (state_of p commands) from.now to.now ≡ Ok pairs.items) }
-    ensures refused { (p : Params) (commands : List Command) → Holds p (M.disk machine.old) engine.old commands →
+    ensures refused { (p : Params) (commands : List Command) → S.view.holds p (M.disk machine.old) store.old commands →
         IfErr result (λ e. ending_of (cause_of e) ≡ Done → told (range_answer (bounds_of p) tree.now.lo tree.now.hi (state_of p commands) from.now to.now) ≡ Err e) }
 {
-    nothing_is_made(machine, engine);
-    reads_go_on::<M>();
+    store.nothing_is_made(machine);
+    reads_go_on::<S, M>();
     let last = tree.last();
-    if last >= engine.params().objects {
+    if last >= store.params().objects {
         return Err(CallErr::Refused(TreeRefusal::NoObject));
     }
     let parts = Vec::new(alloc);
@@ -53,7 +53,7 @@ pub fn range<M: Machine>(
     let mut scan = Scan { parts, pairs };
     meet(
         tree,
-        engine,
+        store,
         machine,
         tree.root(),
         size(tree),
@@ -62,7 +62,7 @@ pub fn range<M: Machine>(
         &mut scan,
     )?;
     while let Some(part) = scan.parts.pop() {
-        meet_part(tree, engine, machine, part, &mut scan)?;
+        meet_part(tree, store, machine, part, &mut scan)?;
     }
     let Scan {
         parts: _parts,

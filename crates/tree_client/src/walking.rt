@@ -1,14 +1,13 @@
 // The way from the root to a leaf.
-ghost use Rattle.std.specs.Prelude.{◌≡◌, ◌<◌, ◌≤◌, List, false, None};
+ghost use Rattle.std.specs.Prelude.{◌≡◌, ◌<◌, ◌≤◌, List, None};
 ghost use Rattle.formats.specs.declared.params.Params.{Params};
 ghost use Rattle.running_store.specs.Taking.Ending.{Done};
-ghost use Rattle.store_engine.specs.Engine.{params_of};
 ghost use Rattle.store_engine.specs.Lists.{ending_of};
 ghost use Rattle.logical_btree.specs.Walk as walks;
 ghost use Rattle.tree_client.specs.Answers.{cause_in};
 ghost use Rattle.tree_client.specs.Finding.{first_of, full_at, leaf_end, way_end};
-ghost use Rattle.range_calls.specs.Making.{Reads};
-ghost use Rattle.range_calls.specs.Store.{Command, Holds, state_of};
+ghost use Rattle.store_calls.specs.Making.{Reads};
+ghost use Rattle.range_calls.specs.Store.{Command, state_of};
 
 use crate::full::Full;
 use crate::nodes::{below_of, node_of};
@@ -19,7 +18,7 @@ use key_entries::{Pairs, Short};
 use logical_btree::{Tree, TreeRefusal, is_full};
 use op_codec::AllOps;
 use range_calls::{CallErr, reads_go_on};
-use store_engine::{Engine, nothing_is_made};
+use store_calls::Store;
 
 /// The leaf at the end of a way, with its pairs, and the first full node on the way.
 #[derive(Drop)]
@@ -55,20 +54,20 @@ fn note_full(seen: Option<Full>, parent: Option<u32>, object: u32, is_full: bool
 }
 
 /// The end of a way at an object that is no inner node.
-fn end_at<M: Machine>(
+fn end_at<S: Store<AllOps>, M: Machine>(
     tree: &Tree,
-    engine: &mut Engine<AllOps>,
+    store: &mut S,
     machine: &mut M,
     object: u32,
     seen: Option<Full>,
     parent: Option<u32>,
 ) -> Result<WayEnd, TreeErr>
-    requires unbroken { engine.old.broken ≡ false }
-    ensures reads { Reads (M.disk machine.old) (M.disk machine.new) engine.old engine.new (cause_in result) }
-    ensures answer { (p : Params) (commands : List Command) → Holds p (M.disk machine.old) engine.old commands → object < p.objects →
+    requires unbroken { S.view.unbroken store.old }
+    ensures reads { Reads S.view (M.disk machine.old) (M.disk machine.new) store.old store.new (cause_in result) }
+    ensures answer { (p : Params) (commands : List Command) → S.view.holds p (M.disk machine.old) store.old commands → object < p.objects →
         ending_of (cause_in result) ≡ Done → result ≡ leaf_end seen parent object (walks.node_at tree.now.lo tree.now.hi (state_of p commands) object) }
 {
-    let node = node_of(tree, engine, machine, object)?;
+    let node = node_of(tree, store, machine, object)?;
     let full = note_full(seen, parent, object, is_full(&node));
     match node {
         Node::Leaf(pairs) => Ok(WayEnd {
@@ -81,27 +80,27 @@ fn end_at<M: Machine>(
 }
 
 /// Goes from the root to the leaf under which a key stands. Of an inner node only the child is read where the way goes on.
-pub(crate) fn walk<M: Machine>(
+pub(crate) fn walk<S: Store<AllOps>, M: Machine>(
     tree: &Tree,
-    engine: &mut Engine<AllOps>,
+    store: &mut S,
     machine: &mut M,
     key: Short,
 ) -> Result<WayEnd, TreeErr>
-    requires unbroken { engine.old.broken ≡ false }
-    requires there { tree.now.hi < (params_of engine.old).objects }
-    ensures reads { Reads (M.disk machine.old) (M.disk machine.new) engine.old engine.new (cause_in result) }
-    ensures answer { (p : Params) (commands : List Command) → Holds p (M.disk machine.old) engine.old commands → ending_of (cause_in result) ≡ Done →
+    requires unbroken { S.view.unbroken store.old }
+    requires there { tree.now.hi < (S.view.params store.old).objects }
+    ensures reads { Reads S.view (M.disk machine.old) (M.disk machine.new) store.old store.new (cause_in result) }
+    ensures answer { (p : Params) (commands : List Command) → S.view.holds p (M.disk machine.old) store.old commands → ending_of (cause_in result) ≡ Done →
         result ≡ way_end None None (walks.walk tree.now.lo tree.now.hi (state_of p commands) key) }
 {
-    nothing_is_made(machine, engine);
-    reads_go_on::<M>();
+    store.nothing_is_made(machine);
+    reads_go_on::<S, M>();
     let mut object = tree.root();
     let mut parent = None;
     let mut full = None;
     for _step in 0..size(tree) {
-        let found = below_of(tree, engine, machine, object, key)?;
+        let found = below_of(tree, store, machine, object, key)?;
         match found {
-            None => return end_at(tree, engine, machine, object, full, parent),
+            None => return end_at(tree, store, machine, object, full, parent),
             Some(below) => {
                 full = note_full(full, parent, object, below.full);
                 parent = Some(object);

@@ -2,7 +2,6 @@ use Rattle.std.proofs.Common.{◌≡◌, sym, ap, ◌∙◌, subst, refl, ℕ, [
 use Rattle.hash_ops.specs.declared.directory.Directory.{Directory}
 use Rattle.hash_file.specs.Find as finding
 use Rattle.range_calls.specs.Answers.{cause_of}
-use Rattle.range_calls.specs.JoinLaws.{holds_behind}
 use Rattle.range_calls.specs.ReadLaws.{answers_passed, makes_err, passed}
 use Rattle.range_calls.specs.Store.{state_of}
 use Rattle.hash_client.specs.Finding.{directory_answer, met_answer}
@@ -36,7 +35,7 @@ returns-in-None-clause-answer g c = λ p commands holds done.
 pub returns-in_err-bucket-in-Some-clause-reads : goal.returns-in_err-bucket-in-Some-clause-reads
 returns-in_err-bucket-in-Some-clause-reads g c =
     makes_err c.from_residual-in_err-bucket-in-Some.result c.in_err-bucket-in-Some.field-0.0 (passed c.from_residual-in_err-bucket-in-Some.result c.in_err-bucket-in-Some.field-0.0 c.from_residual-in_err-bucket-in-Some.ensures.1)
-    (c.reads_go_on.ensures c.args.machine.now c.directory_of.new.machine c.bucket_of.new.machine c.args.engine.now c.directory_of.new.engine c.bucket_of.new.engine (λ p commands. []) (cause_of c.in_err-bucket-in-Some.field-0.0)
+    (c.reads_go_on.ensures.behind c.args.machine.now c.directory_of.new.machine c.bucket_of.new.machine c.args.store.now c.directory_of.new.store c.bucket_of.new.store (λ p commands. []) (cause_of c.in_err-bucket-in-Some.field-0.0)
     c.in_ok-begun.ensures.reads c.in_err-bucket-in-Some.ensures.reads)
 
 pub returns-in_err-bucket-in-Some-clause-answer : goal.returns-in_err-bucket-in-Some-clause-answer
@@ -49,11 +48,11 @@ returns-in_err-bucket-in-Some-clause-answer g c = λ p commands holds.
     answers_passed c.from_residual-in_err-bucket-in-Some.result c.in_err-bucket-in-Some.field-0.0 (met_answer (finding.find_bucket lo hi s c.args.key))
     (passed c.from_residual-in_err-bucket-in-Some.result c.in_err-bucket-in-Some.field-0.0 c.from_residual-in_err-bucket-in-Some.ensures.1)
     (λ done. met_worse lo hi s c.args.key c.in-Some.directory c.entry_for-object.result begun c.entry_for-object.ensures c.in_err-bucket-in-Some.field-0.0
-    (c.in_err-bucket-in-Some.ensures.answer p commands (holds_behind c.in_ok-begun.ensures.reads holds) done))
+    (c.in_err-bucket-in-Some.ensures.answer p commands (c.reads_go_on.ensures.holds p c.args.machine.now c.directory_of.new.machine c.args.store.now c.directory_of.new.store commands c.in_ok-begun.ensures.reads holds) done))
 
 pub returns-in_ok-bucket-in-Some-clause-reads : goal.returns-in_ok-bucket-in-Some-clause-reads
 returns-in_ok-bucket-in-Some-clause-reads g c =
-    c.reads_go_on.ensures c.args.machine.now c.directory_of.new.machine c.bucket_of.new.machine c.args.engine.now c.directory_of.new.engine c.bucket_of.new.engine (λ p commands. []) None
+    c.reads_go_on.ensures.behind c.args.machine.now c.directory_of.new.machine c.bucket_of.new.machine c.args.store.now c.directory_of.new.store c.bucket_of.new.store (λ p commands. []) None
     c.in_ok-begun.ensures.reads c.in_ok-bucket-in-Some.ensures.reads
 
 pub returns-in_ok-bucket-in-Some-clause-answer : goal.returns-in_ok-bucket-in-Some-clause-answer
@@ -64,4 +63,4 @@ returns-in_ok-bucket-in-Some-clause-answer g c = λ p commands holds done.
     let told = c.in_ok-begun.ensures.answer p commands holds refl ∙ ap (λ (x : ℕ). directory_answer x (s x)) c.directory.ensures in
     let begun = subst (λ (o : Option Directory). Ok o ≡ directory_answer lo (s lo)) c.in-Some.is told in
     met_found lo hi s c.args.key c.in-Some.directory c.entry_for-object.result begun c.entry_for-object.ensures c.in_ok-bucket-in-Some.bucket
-    (c.in_ok-bucket-in-Some.ensures.answer p commands (holds_behind c.in_ok-begun.ensures.reads holds) refl)
+    (c.in_ok-bucket-in-Some.ensures.answer p commands (c.reads_go_on.ensures.holds p c.args.machine.now c.directory_of.new.machine c.args.store.now c.directory_of.new.store commands c.in_ok-begun.ensures.reads holds) refl)

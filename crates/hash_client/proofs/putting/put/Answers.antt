@@ -1,9 +1,9 @@
 use Rattle.std.proofs.Common.{◌≤◌, sym, ap, ◌∙◌, subst, List, map, arith}
 use Rattle.formats.specs.Objects.{bounds_of}
 use Rattle.formats.specs.declared.params.Params.{Params}
-use Rattle.op_codec.specs.AllOps.{all_meaning, hash}
+use Rattle.op_codec.specs.AllOps.{hash}
 use Rattle.running_store.specs.Taking.Ending.{Done}
-use Rattle.store_engine.specs.Lists.{AddsFront, ending_of}
+use Rattle.store_engine.specs.Lists.{ending_of}
 use Rattle.hash_file.specs.Plan.{HashPlan}
 use Rattle.range_calls.specs.Answers.{cause_in, made_of, refused_in}
 use Rattle.range_calls.specs.MakeLaws.{made_none}
@@ -18,10 +18,10 @@ returns-then-last-params-clause-adds g c = λ p commands holds.
     let lo = c.args.file.now.lo in
     let hi = c.args.file.now.hi in
     let key = c.args.key.now in
-    let fits = ap (λ (q : Params). q.objects) (c.params.ensures.value ∙ holds.shows.shows.store.params) in
+    let fits = ap (λ (q : Params). q.objects) (c.params.ensures.value ∙ (g.S.Store.view.numbers p (g.M.Machine.disk c.args.machine.now) c.args.store.now commands holds)) in
     let past : p.objects ≤ hi = omega (arith, c.if-last-params.true, c.last.ensures.value, fits) in
     let plan = put_past b lo hi s key past c.args.value.now in
-    subst (λ (l : List Command). AddsFront all_meaning p (g.M.Machine.disk c.args.machine.now) (g.M.Machine.disk c.args.machine.now) c.args.engine.now c.args.engine.now holds.world commands l Done)
+    subst (λ (l : List Command). g.S.Store.view.adds p (g.M.Machine.disk c.args.machine.now) (g.M.Machine.disk c.args.machine.now) c.args.store.now c.args.store.now commands l Done)
     (sym (ap (λ (q : HashPlan). made_of p.cap (map hash q.commands)) plan ∙ made_none p.cap)) (c.nothing_is_made.ensures.front p commands holds)
 
 pub returns-then-last-params-clause-answer : goal.returns-then-last-params-clause-answer
@@ -31,7 +31,7 @@ returns-then-last-params-clause-answer g c = λ p commands holds done.
     let lo = c.args.file.now.lo in
     let hi = c.args.file.now.hi in
     let key = c.args.key.now in
-    let fits = ap (λ (q : Params). q.objects) (c.params.ensures.value ∙ holds.shows.shows.store.params) in
+    let fits = ap (λ (q : Params). q.objects) (c.params.ensures.value ∙ (g.S.Store.view.numbers p (g.M.Machine.disk c.args.machine.now) c.args.store.now commands holds)) in
     let past : p.objects ≤ hi = omega (arith, c.if-last-params.true, c.last.ensures.value, fits) in
     sym (ap (refused_in p.cap) (put_past b lo hi s key past c.args.value.now))
 
@@ -42,9 +42,9 @@ returns-clause-adds g c = λ p commands holds.
     let lo = c.args.file.now.lo in
     let hi = c.args.file.now.hi in
     let key = c.args.key.now in
-    let fits = ap (λ (q : Params). q.objects) (c.params.ensures.value ∙ holds.shows.shows.store.params) in
+    let fits = ap (λ (q : Params). q.objects) (c.params.ensures.value ∙ (g.S.Store.view.numbers p (g.M.Machine.disk c.args.machine.now) c.args.store.now commands holds)) in
     let there = is_within b lo hi (omega (arith, c.last.ensures.order, c.last.ensures.value)) (omega (arith, c.if-last-params.false, c.last.ensures.value, fits)) in
-    subst (λ (q : HashPlan). AddsFront all_meaning p (g.M.Machine.disk c.args.machine.now) (g.M.Machine.disk c.take_turns.new.machine) c.args.engine.now c.take_turns.new.engine holds.world commands (made_of p.cap (map hash q.commands)) (ending_of (cause_in c.take_turns.result)))
+    subst (λ (q : HashPlan). g.S.Store.view.adds p (g.M.Machine.disk c.args.machine.now) (g.M.Machine.disk c.take_turns.new.machine) c.args.store.now c.take_turns.new.store commands (made_of p.cap (map hash q.commands)) (ending_of (cause_in c.take_turns.result)))
     (sym (put_there b lo hi s key there c.args.value.now)) (c.take_turns.ensures.adds p commands holds)
 
 pub returns-clause-answer : goal.returns-clause-answer
@@ -54,6 +54,6 @@ returns-clause-answer g c = λ p commands holds done.
     let lo = c.args.file.now.lo in
     let hi = c.args.file.now.hi in
     let key = c.args.key.now in
-    let fits = ap (λ (q : Params). q.objects) (c.params.ensures.value ∙ holds.shows.shows.store.params) in
+    let fits = ap (λ (q : Params). q.objects) (c.params.ensures.value ∙ (g.S.Store.view.numbers p (g.M.Machine.disk c.args.machine.now) c.args.store.now commands holds)) in
     let there = is_within b lo hi (omega (arith, c.last.ensures.order, c.last.ensures.value)) (omega (arith, c.if-last-params.false, c.last.ensures.value, fits)) in
     c.take_turns.ensures.answer p commands holds done ∙ sym (ap (refused_in p.cap) (put_there b lo hi s key there c.args.value.now))

@@ -6,8 +6,7 @@ use Rattle.page_map.specs.Cutting.{due_seen}
 use Rattle.page_map.specs.Sets.{cut_turn, due_in}
 use Rattle.page_map.specs.Splits.{Due}
 use Rattle.range_calls.specs.Answers as answers
-use Rattle.range_calls.specs.JoinLaws.{holds_behind}
-use Rattle.range_calls.specs.Making.{Reads}
+use Rattle.store_calls.specs.Making.{Reads}
 use Rattle.range_calls.specs.ReadLaws.{answers_passed, passed}
 use Rattle.range_calls.specs.Store.{state_of}
 use Rattle.map_client.specs.Turning.{round_of}
@@ -28,7 +27,7 @@ returns-in_err-due-clause-answer g c = λ p commands holds room.
 
 pub returns-clause-reads : goal.returns-clause-reads
 returns-clause-reads g c =
-    subst (λ (e : Option ExecErr). Reads (g.M.Machine.disk c.args.machine.now) (g.M.Machine.disk c.due.new.machine) c.args.engine.now c.due.new.engine e) (sym c.round_due.ensures.found) c.in_ok-due.ensures.reads
+    subst (λ (e : Option ExecErr). Reads g.S.Store.view (g.M.Machine.disk c.args.machine.now) (g.M.Machine.disk c.due.new.machine) c.args.store.now c.due.new.store e) (sym c.round_due.ensures.found) c.in_ok-due.ensures.reads
 
 pub returns-clause-answer : goal.returns-clause-answer
 returns-clause-answer g c = λ p commands holds room done.
@@ -37,6 +36,6 @@ returns-clause-answer g c = λ p commands holds room done.
     let hi = pair.map.now.hi in
     let s = state_of p commands in
     let free = free_from s (suc lo) (hi - lo) in
-    c.round_due.ensures.answer free (c.first_free-first.ensures p commands (holds_behind c.in_ok-due.ensures.reads holds))
+    c.round_due.ensures.answer free (c.first_free-first.ensures p commands (c.reads_go_on.ensures.holds p c.args.machine.now c.due.new.machine c.args.store.now c.due.new.store commands c.in_ok-due.ensures.reads holds))
     ∙ ap (λ (x : ℕ). answers.told (round_of (cut_turn x free (Ok (due_seen c.in_ok-due.due))))) c.root.ensures
     ∙ sym (ap (λ (d : Result Due ℕ). answers.told (round_of (cut_turn lo free d))) (c.in_ok-due.ensures.found p commands holds room))

@@ -1,6 +1,5 @@
-use Rattle.std.proofs.Common.{◌≡◌, refl, sym, ◌∙◌, ℕ, List, [], true≢false}
+use Rattle.std.proofs.Common.{◌≡◌, refl, sym, ◌∙◌, ℕ, List, true≢false}
 use Rattle.std.proofs.lemmas.Bool.{lt-ltb}
-use Rattle.store_engine.specs.Engine.{params_of}
 use Rattle.page_map.specs.Cutting.{GoesOn}
 use Rattle.range_calls.specs.ReadLaws.{nothing_passed, passed}
 use Rattle.range_calls.specs.Store.{state_of}
@@ -21,7 +20,7 @@ returns-in_err-there-clause-found g c = λ p commands holds.
 
 pub returns-then-not-there-clause-failed : goal.returns-then-not-there-clause-failed
 returns-then-not-there-clause-failed g c = λ done.
-    absurd (true≢false (sym (lt-ltb c.args.descent.object (params_of c.args.engine.now).objects c.requires.there) ∙ sym c.in_ok-there.ensures.there ∙ c.if-not-there.true))
+    absurd (true≢false (sym (lt-ltb c.args.descent.object (g.S.Store.view.params c.args.store.now).objects c.requires.there) ∙ sym c.in_ok-there.ensures.there ∙ c.if-not-there.true))
 
 pub returns-in-Ok-clause-down : goal.returns-in-Ok-clause-down
 returns-in-Ok-clause-down g c =
@@ -32,9 +31,9 @@ returns-in-Ok-clause-down g c =
 pub returns-in-Ok-clause-found : goal.returns-in-Ok-clause-found
 returns-in-Ok-clause-found g c = λ p commands holds.
     let pair = c.args.pair.now in
-    let value : c.get.result.now ≡ state_of p commands c.args.descent.object = c.get.ensures.value [] ∙ c.in_ok-there.ensures.value p commands holds c.if-not-there.false [] in
+    let value : c.get.result.now ≡ state_of p commands c.args.descent.object = c.get.ensures.value ∙ c.in_ok-there.ensures.value p commands holds c.if-not-there.false in
     c.in-Ok.ensures (state_of p commands) (c.bytes-bytes.ensures (state_of p commands) (sym value))
 
 pub returns-in-Err-clause-reads : goal.returns-in-Err-clause-reads
 returns-in-Err-clause-reads g c =
-    c.reads_run_short.ensures c.args.machine.now c.see.new.machine c.args.engine.now c.see.new.engine c.in_ok-there.ensures.reads
+    c.reads_run_short.ensures c.args.machine.now c.see.new.machine c.args.store.now c.see.new.store c.in_ok-there.ensures.reads

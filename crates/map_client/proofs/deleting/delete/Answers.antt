@@ -1,11 +1,9 @@
-use Rattle.std.proofs.Common.{refl, sym, ap, ◌∙◌, Some}
+use Rattle.std.proofs.Common.{sym, ap, ◌∙◌, Some}
 use Rattle.formats.specs.Objects.{bounds_of}
-use Rattle.explain_core.specs.History.{commands_of}
-use Rattle.store_engine.specs.Engine.{params_of}
 use Rattle.call_plans.specs.Plan.{Plan}
-use Rattle.range_calls.specs.ComesLaws.{adds_of, answer_of, comes_as}
+use Rattle.range_calls.specs.ComesLaws.{adds_of, comes_as}
 use Rattle.range_calls.specs.ReadLaws.{adds_passed, calls_passed, passed, refuses_passed}
-use Rattle.range_calls.specs.Store.{Command, Holds}
+use Rattle.range_calls.specs.Store.{Command}
 use Rattle.map_client.specs.Answers.{MapErr}
 use Rattle.map_client.specs.Changing.{delete_comes, delete_made}
 use Rattle.map_client.proofs.OpenLemmas.{closed_adds, closed_calls, closed_in, closed_is, open_in, open_is}
@@ -15,17 +13,17 @@ use Rattle.map_client.proofs.deleting.delete.Goals as goal
 pub returns-in_err-require_open-clause-calls : goal.returns-in_err-require_open-clause-calls
 returns-in_err-require_open-clause-calls g c =
     let e = c.in_err-require_open.field-0.0 in
-    calls_passed c.from_residual.result e (passed c.from_residual.result e c.from_residual.ensures.1)
-    (closed_calls (closed_is (bounds_of (params_of c.args.engine.now)) c.args.map.now.hi e c.in_err-require_open.ensures) (c.nothing_is_made.ensures.calls c.requires.unbroken))
+    calls_passed g.S.Store.view c.from_residual.result e (passed c.from_residual.result e c.from_residual.ensures.1)
+    (closed_calls g.S.Store.view (g.M.Machine.disk c.args.machine.now) c.args.store.now (closed_is (bounds_of (g.S.Store.view.params c.args.store.now)) c.args.map.now.hi e c.in_err-require_open.ensures) (c.nothing_is_made.ensures.calls c.requires.unbroken))
 
 pub returns-in_err-require_open-clause-adds : goal.returns-in_err-require_open-clause-adds
 returns-in_err-require_open-clause-adds g c = λ p commands holds.
     let lo = c.args.map.now.lo in
     let hi = c.args.map.now.hi in
     let e = c.in_err-require_open.field-0.0 in
-    let closed = closed_in holds hi e c.in_err-require_open.ensures in
-    adds_passed c.from_residual.result e (passed c.from_residual.result e c.from_residual.ensures.1)
-    (closed_adds closed (delete_comes lo hi c.args.key.now p commands).commands
+    let closed = closed_in (g.S.Store.view.numbers p (g.M.Machine.disk c.args.machine.now) c.args.store.now commands holds) hi e c.in_err-require_open.ensures in
+    adds_passed g.S.Store.view c.from_residual.result e (passed c.from_residual.result e c.from_residual.ensures.1)
+    (closed_adds g.S.Store.view (g.M.Machine.disk c.args.machine.now) c.args.store.now p commands closed (delete_comes lo hi c.args.key.now p commands).commands
     (ap (λ (q : Plan Command MapErr). q.commands) (closed_comes lo hi c.args.key.now p commands closed.refusal closed.is)) (c.nothing_is_made.ensures.front p commands holds))
 
 pub returns-in_err-require_open-clause-answer : goal.returns-in_err-require_open-clause-answer
@@ -33,12 +31,12 @@ returns-in_err-require_open-clause-answer g c = λ p commands holds.
     let lo = c.args.map.now.lo in
     let hi = c.args.map.now.hi in
     let e = c.in_err-require_open.field-0.0 in
-    let closed = closed_in holds hi e c.in_err-require_open.ensures in
+    let closed = closed_in (g.S.Store.view.numbers p (g.M.Machine.disk c.args.machine.now) c.args.store.now commands holds) hi e c.in_err-require_open.ensures in
     refuses_passed c.from_residual.result e (delete_comes lo hi c.args.key.now p commands).refusal (passed c.from_residual.result e c.from_residual.ensures.1)
     (λ done. ap (λ (x : MapErr). Some x) (sym closed.error) ∙ sym (ap (λ (q : Plan Command MapErr). q.refusal) (closed_comes lo hi c.args.key.now p commands closed.refusal closed.is)))
 
 pub delete_and_tidy-requires-clause-there : goal.delete_and_tidy-requires-clause-there
-delete_and_tidy-requires-clause-there g c = (open_is (bounds_of (params_of c.args.engine.now)) c.args.map.now.hi c.in_ok-require_open.ensures).there
+delete_and_tidy-requires-clause-there g c = (open_is (bounds_of (g.S.Store.view.params c.args.store.now)) c.args.map.now.hi c.in_ok-require_open.ensures).there
 
 pub returns-clause-calls : goal.returns-clause-calls
 returns-clause-calls g c = c.delete_and_tidy.ensures.makes.calls
@@ -47,18 +45,15 @@ pub returns-clause-adds : goal.returns-clause-adds
 returns-clause-adds g c =
     let lo = c.args.map.now.lo in
     let hi = c.args.map.now.hi in
-    adds_of (delete_comes lo hi c.args.key.now) c.delete_and_tidy.result
-    (comes_as (delete_made lo hi c.args.key.now) (delete_comes lo hi c.args.key.now) c.delete_and_tidy.result
-    (λ p w shows.
-    let holds : Holds p (g.M.Machine.disk c.args.machine.now) c.args.engine.now (commands_of w.history) = record { world = w; shows = shows; commands_are = refl } in
-    sym (open_comes lo hi c.args.key.now p (commands_of w.history) (open_in holds hi c.in_ok-require_open.ensures).open_for_all)) c.delete_and_tidy.ensures)
+    adds_of g.S.Store.view (delete_comes lo hi c.args.key.now) c.delete_and_tidy.result
+    (comes_as g.S.Store.view (delete_made lo hi c.args.key.now) (delete_comes lo hi c.args.key.now) c.delete_and_tidy.result
+    (λ p commands holds.
+    sym (open_comes lo hi c.args.key.now p commands (open_in (g.S.Store.view.numbers p (g.M.Machine.disk c.args.machine.now) c.args.store.now commands holds) hi c.in_ok-require_open.ensures).open_for_all)) c.delete_and_tidy.ensures)
 
 pub returns-clause-answer : goal.returns-clause-answer
 returns-clause-answer g c =
     let lo = c.args.map.now.lo in
     let hi = c.args.map.now.hi in
-    answer_of (delete_comes lo hi c.args.key.now) c.delete_and_tidy.result
-    (comes_as (delete_made lo hi c.args.key.now) (delete_comes lo hi c.args.key.now) c.delete_and_tidy.result
-    (λ p w shows.
-    let holds : Holds p (g.M.Machine.disk c.args.machine.now) c.args.engine.now (commands_of w.history) = record { world = w; shows = shows; commands_are = refl } in
-    sym (open_comes lo hi c.args.key.now p (commands_of w.history) (open_in holds hi c.in_ok-require_open.ensures).open_for_all)) c.delete_and_tidy.ensures)
+    (comes_as g.S.Store.view (delete_made lo hi c.args.key.now) (delete_comes lo hi c.args.key.now) c.delete_and_tidy.result
+    (λ p commands holds.
+    sym (open_comes lo hi c.args.key.now p commands (open_in (g.S.Store.view.numbers p (g.M.Machine.disk c.args.machine.now) c.args.store.now commands holds) hi c.in_ok-require_open.ensures).open_for_all)) c.delete_and_tidy.ensures).answer

@@ -5,8 +5,7 @@ use Rattle.formats.specs.declared.params.Params.{Params}
 use Rattle.running_store.specs.Taking.Ending.{Done}
 use Rattle.store_engine.specs.Lists.{ending_of}
 use Rattle.page_map.specs.Walk.{get_at, walk_from}
-use Rattle.range_calls.specs.JoinLaws.{holds_behind}
-use Rattle.range_calls.specs.ReadLaws.{adds_passed, passed, read_adds, refused_passed}
+use Rattle.range_calls.specs.ReadLaws.{adds_passed, passed, refused_passed}
 use Rattle.range_calls.specs.Store.{state_of}
 use Rattle.map_client.specs.Answers.{cause_of, get_told, told}
 use Rattle.map_client.proofs.WalkLemmas.{get_bad, get_leaf, get_past, if_err_then}
@@ -14,12 +13,12 @@ use Rattle.map_client.proofs.getting.get.Goals as goal
 
 pub returns-then-last-params-clause-refused : goal.returns-then-last-params-clause-refused
 returns-then-last-params-clause-refused g c = λ p commands holds done.
-    let fits = ap (λ (q : Params). q.objects) (c.params.ensures.value ∙ holds.shows.shows.store.params) in
+    let fits = ap (λ (q : Params). q.objects) (c.params.ensures.value ∙ (g.S.Store.view.numbers p (g.M.Machine.disk c.args.machine.now) c.args.store.now commands holds)) in
     get_past c.args.map.now.lo c.args.map.now.hi (state_of p commands) c.args.key.now (bounds_of p) (omega (arith, c.if-last-params.true, c.last.ensures.value, fits))
 
 pub returns-in_err-leaf-clause-adds : goal.returns-in_err-leaf-clause-adds
 returns-in_err-leaf-clause-adds g c = λ p commands holds.
-    adds_passed c.from_residual.result c.in_err-leaf.field-0.0 (passed c.from_residual.result c.in_err-leaf.field-0.0 c.from_residual.ensures.1) (read_adds c.in_err-leaf.ensures.reads holds [] (λ done. refl))
+    adds_passed g.S.Store.view c.from_residual.result c.in_err-leaf.field-0.0 (passed c.from_residual.result c.in_err-leaf.field-0.0 c.from_residual.ensures.1) (c.in_err-leaf.ensures.reads.adds p commands holds [] (λ done. refl))
 
 pub returns-in_err-leaf-clause-refused : goal.returns-in_err-leaf-clause-refused
 returns-in_err-leaf-clause-refused g c = λ p commands holds.
@@ -27,7 +26,7 @@ returns-in_err-leaf-clause-refused g c = λ p commands holds.
     let lo = c.args.map.now.lo in
     let hi = c.args.map.now.hi in
     let s = state_of p commands in
-    let fits = ap (λ (q : Params). q.objects) (c.params.ensures.value ∙ holds.shows.shows.store.params) in
+    let fits = ap (λ (q : Params). q.objects) (c.params.ensures.value ∙ (g.S.Store.view.numbers p (g.M.Machine.disk c.args.machine.now) c.args.store.now commands holds)) in
     let within : hi < b.objects = omega (arith, c.if-last-params.false, c.last.ensures.value, fits) in
     refused_passed c.from_residual.result c.in_err-leaf.field-0.0 (λ e. ending_of (cause_of e) ≡ Done → get_told b lo hi s c.args.key.now ≡ Err e)
     (passed c.from_residual.result c.in_err-leaf.field-0.0 c.from_residual.ensures.1)
@@ -35,12 +34,11 @@ returns-in_err-leaf-clause-refused g c = λ p commands holds.
 
 pub returns-clause-calls : goal.returns-clause-calls
 returns-clause-calls g c =
-    (c.reads_go_on.ensures c.args.machine.now c.walk.new.machine c.value_at.new.machine c.args.engine.now c.walk.new.engine c.value_at.new.engine (λ p commands. []) _ c.in_ok-leaf.ensures.reads c.value_at.ensures.reads).calls
+    (c.reads_go_on.ensures.behind c.args.machine.now c.walk.new.machine c.value_at.new.machine c.args.store.now c.walk.new.store c.value_at.new.store (λ p commands. []) _ c.in_ok-leaf.ensures.reads c.value_at.ensures.reads).calls
 
 pub returns-clause-adds : goal.returns-clause-adds
 returns-clause-adds g c = λ p commands holds.
-    read_adds (c.reads_go_on.ensures c.args.machine.now c.walk.new.machine c.value_at.new.machine c.args.engine.now c.walk.new.engine c.value_at.new.engine (λ p commands. []) _ c.in_ok-leaf.ensures.reads c.value_at.ensures.reads)
-    holds [] (λ done. refl)
+    (c.reads_go_on.ensures.behind c.args.machine.now c.walk.new.machine c.value_at.new.machine c.args.store.now c.walk.new.store c.value_at.new.store (λ p commands. []) _ c.in_ok-leaf.ensures.reads c.value_at.ensures.reads).adds p commands holds [] (λ done. refl)
 
 -- what the leaf has at the key
 pub returns-clause-found : goal.returns-clause-found
@@ -51,11 +49,11 @@ returns-clause-found g c = λ p commands holds.
     let s = state_of p commands in
     let key = c.args.key.now in
     let leaf = c.in_ok-leaf.leaf in
-    let fits = ap (λ (q : Params). q.objects) (c.params.ensures.value ∙ holds.shows.shows.store.params) in
+    let fits = ap (λ (q : Params). q.objects) (c.params.ensures.value ∙ (g.S.Store.view.numbers p (g.M.Machine.disk c.args.machine.now) c.args.store.now commands holds)) in
     let within : hi < b.objects = omega (arith, c.if-last-params.false, c.last.ensures.value, fits) in
     IfOk-weaker c.value_at.result (λ found. get_at lo s key (walk_from lo hi s key 0 leaf) ≡ Ok (option_map (λ v. v.items) found)) (λ found. get_told b lo hi s key ≡ Ok (option_map (λ v. v.items) found))
     (λ found is. get_leaf lo hi s key b within leaf (c.in_ok-leaf.ensures.leaf p commands holds) (Ok (option_map (λ v. v.items) found)) (ap told is))
-    (c.value_at.ensures.found p commands (holds_behind c.in_ok-leaf.ensures.reads holds))
+    (c.value_at.ensures.found p commands (c.reads_go_on.ensures.holds p c.args.machine.now c.walk.new.machine c.args.store.now c.walk.new.store commands c.in_ok-leaf.ensures.reads holds))
 
 pub returns-clause-refused : goal.returns-clause-refused
 returns-clause-refused g c = λ p commands holds.
@@ -65,9 +63,9 @@ returns-clause-refused g c = λ p commands holds.
     let s = state_of p commands in
     let key = c.args.key.now in
     let leaf = c.in_ok-leaf.leaf in
-    let fits = ap (λ (q : Params). q.objects) (c.params.ensures.value ∙ holds.shows.shows.store.params) in
+    let fits = ap (λ (q : Params). q.objects) (c.params.ensures.value ∙ (g.S.Store.view.numbers p (g.M.Machine.disk c.args.machine.now) c.args.store.now commands holds)) in
     let within : hi < b.objects = omega (arith, c.if-last-params.false, c.last.ensures.value, fits) in
     let there : leaf < p.objects = omega (arith, within, c.in_ok-leaf.ensures.within) in
     if_err_then c.value_at.result (λ e. ending_of (cause_of e) ≡ Done → told (get_at lo s key (walk_from lo hi s key 0 leaf)) ≡ Err e) (λ e. ending_of (cause_of e) ≡ Done → get_told b lo hi s key ≡ Err e)
     (λ e is done. get_leaf lo hi s key b within leaf (c.in_ok-leaf.ensures.leaf p commands holds) (Err e) (is done))
-    (c.value_at.ensures.bad p commands (holds_behind c.in_ok-leaf.ensures.reads holds) there)
+    (c.value_at.ensures.bad p commands (c.reads_go_on.ensures.holds p c.args.machine.now c.walk.new.machine c.args.store.now c.walk.new.store commands c.in_ok-leaf.ensures.reads holds) there)

@@ -1,4 +1,4 @@
-use Rattle.std.proofs.Common.{◌≡◌, ap, ◌∙◌, sym, ℕ, List, [], Option, Ok, Err, option_map}
+use Rattle.std.proofs.Common.{◌≡◌, ap, ◌∙◌, sym, ℕ, List, Option, Ok, Err, option_map}
 use Rattle.std.proofs.lemmas.Result.{IfOk-weaker}
 use Rattle.running_store.specs.Taking.Ending.{Done}
 use Rattle.store_engine.specs.Lists.{ending_of}
@@ -23,18 +23,18 @@ returns-in_err-there-clause-bad g c = λ p commands holds below.
 
 pub returns-then-not-there-clause-bad : goal.returns-then-not-there-clause-bad
 returns-then-not-there-clause-bad g c = λ p commands holds below done.
-    absurd (object_is_there c.args.leaf holds below (sym c.if-not-there.true ∙ c.in_ok-there.ensures.there))
+    absurd (object_is_there _ p c.args.leaf (g.S.Store.view.numbers p (g.M.Machine.disk c.args.machine.now) c.args.store.now commands holds) below (sym c.if-not-there.true ∙ c.in_ok-there.ensures.there))
 
 pub returns-in-Some-clause-reads : goal.returns-in-Some-clause-reads
 returns-in-Some-clause-reads g c =
-    reads_then g.M.Machine.disk c.reads_run_short.ensures c.args.machine.now c.see.new.machine c.args.engine.now c.see.new.engine c.copied.result c.in_ok-there.ensures.reads c.copied.ensures.memory
+    reads_then g.S.Store.view g.M.Machine.disk c.reads_run_short.ensures c.args.machine.now c.see.new.machine c.args.store.now c.see.new.store c.copied.result c.in_ok-there.ensures.reads c.copied.ensures.memory
 
 pub returns-in-Some-clause-found : goal.returns-in-Some-clause-found
 returns-in-Some-clause-found g c = λ p commands holds.
     let lo = c.args.map.now.lo in
     let hi = c.args.map.now.hi in
     let s = state_of p commands in
-    let value : c.get.result.now ≡ state_of p commands c.args.leaf = c.get.ensures.value [] ∙ c.in_ok-there.ensures.value p commands holds c.if-not-there.false [] in
+    let value : c.get.result.now ≡ state_of p commands c.args.leaf = c.get.ensures.value ∙ c.in_ok-there.ensures.value p commands holds c.if-not-there.false in
     let bytes : c.bytes.result.now ≡ bytes_at c.args.map.now.lo (state_of p commands) c.args.leaf = c.bytes.ensures (state_of p commands) (sym value) in
     let found = leaf_found lo hi s c.args.key.now c.args.leaf (option_map (λ v. v.now) c.in-Some.found) (sym (c.in-Some.ensures ∙ ap (λ (l : List ℕ). found_on l c.args.key.now) bytes)) in
     IfOk-weaker c.copied.result (λ copy. option_map (λ v. v.items) copy ≡ option_map (λ v. v.now) c.in-Some.found)
@@ -53,6 +53,6 @@ returns-in-None-clause-bad g c = λ p commands holds below done.
     let lo = c.args.map.now.lo in
     let hi = c.args.map.now.hi in
     let s = state_of p commands in
-    let value : c.get.result.now ≡ state_of p commands c.args.leaf = c.get.ensures.value [] ∙ c.in_ok-there.ensures.value p commands holds c.if-not-there.false [] in
+    let value : c.get.result.now ≡ state_of p commands c.args.leaf = c.get.ensures.value ∙ c.in_ok-there.ensures.value p commands holds c.if-not-there.false in
     let bytes : c.bytes.result.now ≡ bytes_at c.args.map.now.lo (state_of p commands) c.args.leaf = c.bytes.ensures (state_of p commands) (sym value) in
     ap told (leaf_bad lo hi s c.args.key.now c.args.leaf (sym (c.in-None.ensures ∙ ap (λ (l : List ℕ). found_on l c.args.key.now) bytes)))

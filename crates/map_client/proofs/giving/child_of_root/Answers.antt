@@ -1,4 +1,4 @@
-use Rattle.std.proofs.Common.{◌≡◌, ◌<◌, ap, ◌∙◌, sym, subst, ℕ, None, []}
+use Rattle.std.proofs.Common.{◌≡◌, ◌<◌, ap, ◌∙◌, sym, subst, ℕ, None}
 use Rattle.page_map.specs.Map.{bytes_at}
 use Rattle.range_calls.specs.JoinLaws.{object_is_there}
 use Rattle.range_calls.specs.ReadLaws.{answers_passed, passed}
@@ -15,7 +15,7 @@ returns-in_err-there-clause-answer g c = λ p commands holds below.
 
 pub returns-then-not-there-clause-answer : goal.returns-then-not-there-clause-answer
 returns-then-not-there-clause-answer g c = λ p commands holds below done.
-    absurd (object_is_there c.root-object.result holds (subst (λ (x : ℕ). x < p.objects) (sym c.root-object.ensures) below) (sym c.if-not-there.true ∙ c.in_ok-there.ensures.there))
+    absurd (object_is_there _ p c.root-object.result (g.S.Store.view.numbers p (g.M.Machine.disk c.args.machine.now) c.args.store.now commands holds) (subst (λ (x : ℕ). x < p.objects) (sym c.root-object.ensures) below) (sym c.if-not-there.true ∙ c.in_ok-there.ensures.there))
 
 -- what the root's bytes say
 pub returns-in-Some-clause-answer : goal.returns-in-Some-clause-answer
@@ -23,7 +23,7 @@ returns-in-Some-clause-answer g c = λ p commands holds below done.
     let lo = c.args.way.now.map.now.lo in
     let hi = c.args.way.now.map.now.hi in
     let s = state_of p commands in
-    let value : c.get.result.now ≡ s c.root-object.result = c.get.ensures.value [] ∙ c.in_ok-there.ensures.value p commands holds c.if-not-there.false [] in
+    let value : c.get.result.now ≡ s c.root-object.result = c.get.ensures.value ∙ c.in_ok-there.ensures.value p commands holds c.if-not-there.false in
     let bytes : c.bytes.result.now ≡ bytes_at lo s lo = c.bytes.ensures s (sym value) ∙ ap (bytes_at lo s) c.root-object.ensures in
     ap (or_bad lo) (c.in-Some.ensures ∙ ap (only_child_of lo hi) bytes)
 
@@ -32,6 +32,6 @@ returns-in-None-clause-answer g c = λ p commands holds below done.
     let lo = c.args.way.now.map.now.lo in
     let hi = c.args.way.now.map.now.hi in
     let s = state_of p commands in
-    let value : c.get.result.now ≡ s c.root-object.result = c.get.ensures.value [] ∙ c.in_ok-there.ensures.value p commands holds c.if-not-there.false [] in
+    let value : c.get.result.now ≡ s c.root-object.result = c.get.ensures.value ∙ c.in_ok-there.ensures.value p commands holds c.if-not-there.false in
     let bytes : c.bytes.result.now ≡ bytes_at lo s lo = c.bytes.ensures s (sym value) ∙ ap (bytes_at lo s) c.root-object.ensures in
     ap (λ x. or_bad x None) c.root-object.ensures ∙ ap (or_bad lo) (c.in-None.ensures ∙ ap (only_child_of lo hi) bytes)

@@ -10,7 +10,7 @@ use Rattle.map_client.proofs.giving.gives_way.Goals as goal
 
 pub returns-in-Only-clause-reads : goal.returns-in-Only-clause-reads
 returns-in-Only-clause-reads g c =
-    nothing_reads g.M.Machine.disk c.args.machine.now c.args.machine.now c.args.engine.now c.args.engine.now c.nothing_is_made.ensures.front (c.nothing_is_made.ensures.calls c.requires.unbroken)
+    nothing_reads g.S.Store.view (g.M.Machine.disk c.args.machine.now) c.args.store.now c.nothing_is_made.ensures.front (c.nothing_is_made.ensures.calls c.requires.unbroken)
 
 pub returns-in-Only-clause-answer : goal.returns-in-Only-clause-answer
 returns-in-Only-clause-answer g c = λ p commands holds within stands done.
@@ -21,7 +21,7 @@ returns-in-Only-clause-answer g c = λ p commands holds within stands done.
 
 pub returns-in-Next-clause-reads : goal.returns-in-Next-clause-reads
 returns-in-Next-clause-reads g c =
-    nothing_reads g.M.Machine.disk c.args.machine.now c.args.machine.now c.args.engine.now c.args.engine.now c.nothing_is_made.ensures.front (c.nothing_is_made.ensures.calls c.requires.unbroken)
+    nothing_reads g.S.Store.view (g.M.Machine.disk c.args.machine.now) c.args.store.now c.nothing_is_made.ensures.front (c.nothing_is_made.ensures.calls c.requires.unbroken)
 
 pub returns-in-Next-clause-answer : goal.returns-in-Next-clause-answer
 returns-in-Next-clause-answer g c = λ p commands holds within stands done.

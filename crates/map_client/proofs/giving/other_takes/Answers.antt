@@ -1,4 +1,4 @@
-use Rattle.std.proofs.Common.{◌≡◌, ap, ◌∙◌, sym, List, ℕ, ◌-◌, [], Some, Result, Ok, map}
+use Rattle.std.proofs.Common.{◌≡◌, ap, ◌∙◌, sym, List, ℕ, ◌-◌, Some, Result, Ok, map}
 use Rattle.page_map.specs.Deletes.{gives_way, listed}
 use Rattle.page_map.specs.Map.{bytes_at}
 use Rattle.page_map.specs.declared.beside.Beside.TheVariants.{Before}
@@ -21,7 +21,7 @@ returns-in_err-there-clause-answer g c = λ p commands holds below.
 
 pub returns-then-not-there-clause-answer : goal.returns-then-not-there-clause-answer
 returns-then-not-there-clause-answer g c = λ p commands holds below done.
-    absurd (object_is_there c.args.other holds below (sym c.if-not-there.true ∙ c.in_ok-there.ensures.there))
+    absurd (object_is_there _ p c.args.other (g.S.Store.view.numbers p (g.M.Machine.disk c.args.machine.now) c.args.store.now commands holds) below (sym c.if-not-there.true ∙ c.in_ok-there.ensures.there))
 
 -- what the other leaf's bytes say
 pub returns-in-Some-clause-answer : goal.returns-in-Some-clause-answer
@@ -32,7 +32,7 @@ returns-in-Some-clause-answer g c = λ p commands holds below done.
     let s = state_of p commands in
     let found = c.args.found.now in
     let x : ℕ = c.args.other in
-    let value : c.get.result.now ≡ s x = c.get.ensures.value [] ∙ c.in_ok-there.ensures.value p commands holds c.if-not-there.false [] in
+    let value : c.get.result.now ≡ s x = c.get.ensures.value ∙ c.in_ok-there.ensures.value p commands holds c.if-not-there.false in
     let bytes : c.bytes-bytes.result.now ≡ bytes_at lo s x = c.bytes-bytes.ensures s (sym value) in
     let is : Some (listed c.in-Some.ops) ≡ takes_on found.above (found.place - 1) x found.leaf.object (bytes_at lo s x) found.from.items =
     c.in-Some.ensures ∙ (λ k. takes_on found.above (c.saturating_sub-place.ensures k) x found.leaf.object (bytes k) (c.as_slice.ensures.value k)) in
@@ -47,7 +47,7 @@ returns-in-None-clause-answer g c = λ p commands holds below done.
     let s = state_of p commands in
     let found = c.args.found.now in
     let x : ℕ = c.args.other in
-    let value : c.get.result.now ≡ s x = c.get.ensures.value [] ∙ c.in_ok-there.ensures.value p commands holds c.if-not-there.false [] in
+    let value : c.get.result.now ≡ s x = c.get.ensures.value ∙ c.in_ok-there.ensures.value p commands holds c.if-not-there.false in
     let bytes : c.bytes-bytes.result.now ≡ bytes_at lo s x = c.bytes-bytes.ensures s (sym value) in
     ap (stored_at lo hi s x) (c.in-None.ensures ∙ (λ k. takes_on found.above (c.saturating_sub-place.ensures k) x found.leaf.object (bytes k) (c.as_slice.ensures.value k)))
     ∙ sym (other_is lo hi s found.above found.place found.leaf.object x found.from.items)

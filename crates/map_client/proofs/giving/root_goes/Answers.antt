@@ -1,7 +1,6 @@
 use Rattle.std.proofs.Common.{◌<◌, refl, ap, ◌∙◌, sym, List, ℕ, ◌-◌, [], Option, None, Some, Result, Ok, Err, arith}
 use Rattle.page_map.specs.Deletes.{root_goes}
 use Rattle.page_map.specs.Map.{bytes_at}
-use Rattle.range_calls.specs.JoinLaws.{holds_behind}
 use Rattle.range_calls.specs.ReadLaws.{answers_passed, passed}
 use Rattle.range_calls.specs.Store.{Command, state_of}
 use Rattle.map_client.specs.Answers.{MapErr}
@@ -25,7 +24,7 @@ returns-in_err-child-clause-answer g c = λ p commands holds within opened.
 
 pub returns-in-Some-clause-reads : goal.returns-in-Some-clause-reads
 returns-in-Some-clause-reads g c =
-    c.reads_go_on.ensures c.args.machine.now c.child_of_root.new.machine c.child_goes.new.machine c.args.engine.now c.child_of_root.new.engine c.child_goes.new.engine (λ p commands. []) _ c.in_ok-child.ensures.reads c.child_goes.ensures.reads
+    c.reads_go_on.ensures.behind c.args.machine.now c.child_of_root.new.machine c.child_goes.new.machine c.args.store.now c.child_of_root.new.store c.child_goes.new.store (λ p commands. []) _ c.in_ok-child.ensures.reads c.child_goes.ensures.reads
 
 pub returns-in-Some-clause-answer : goal.returns-in-Some-clause-answer
 returns-in-Some-clause-answer g c = λ p commands holds within opened done.
@@ -37,7 +36,7 @@ returns-in-Some-clause-answer g c = λ p commands holds within opened done.
     let is = was_read lo (only_child_of lo hi (bytes_at lo s lo)) c.in_ok-child.child (c.in_ok-child.ensures.answer p commands holds below refl) ∙ ap (λ (o : Option ℕ). Some o) c.in-Some.is in
     let inside = only_within lo hi s c.in-Some.child is in
     let there : c.in-Some.child < p.objects = omega (arith, inside, within) in
-    c.child_goes.ensures.answer p commands (holds_behind c.in_ok-child.ensures.reads holds) there done
+    c.child_goes.ensures.answer p commands (c.reads_go_on.ensures.holds p c.args.machine.now c.child_of_root.new.machine c.args.store.now c.child_of_root.new.store commands c.in_ok-child.ensures.reads holds) there done
     ∙ sym (ap stored (root_found lo hi s c.args.levels c.requires.inner opened (Some (Some c.in-Some.child)) is))
 
 pub returns-in-None-clause-answer : goal.returns-in-None-clause-answer

@@ -6,7 +6,6 @@ use Rattle.page_map.specs.Map.{Span}
 use Rattle.page_map.specs.Ranges.{count_answer}
 use Rattle.running_store.specs.Taking.Ending.{Done}
 use Rattle.store_engine.specs.Lists.{ending_of}
-use Rattle.range_calls.specs.ReadLaws.{read_adds}
 use Rattle.range_calls.specs.Store.{state_of}
 use Rattle.map_client.specs.Answers.{cause_of, told}
 use Rattle.map_client.specs.Ranging.{count_told}
@@ -17,14 +16,14 @@ use Rattle.map_client.proofs.ranging_count.count.Goals as goal
 pub returns-then-last-params-clause-refused : goal.returns-then-last-params-clause-refused
 returns-then-last-params-clause-refused g c = λ p commands holds done.
     let span : Span = record { from = c.args.from.now; to = option_map (λ end. end.now) c.args.to } in
-    let fits = ap (λ (q : Params). q.objects) (c.params.ensures.value ∙ holds.shows.shows.store.params) in
+    let fits = ap (λ (q : Params). q.objects) (c.params.ensures.value ∙ (g.S.Store.view.numbers p (g.M.Machine.disk c.args.machine.now) c.args.store.now commands holds)) in
     count_past (bounds_of p) c.args.map.now.lo c.args.map.now.hi (state_of p commands) span (omega (arith, c.if-last-params.true, c.last.ensures.value, fits))
 
 pub returns-clause-calls : goal.returns-clause-calls
 returns-clause-calls g c = c.count_leaves.ensures.reads.calls
 
 pub returns-clause-adds : goal.returns-clause-adds
-returns-clause-adds g c = λ p commands holds. read_adds c.count_leaves.ensures.reads holds [] (λ done. refl)
+returns-clause-adds g c = λ p commands holds. c.count_leaves.ensures.reads.adds p commands holds [] (λ done. refl)
 
 pub returns-clause-found : goal.returns-clause-found
 returns-clause-found g c = λ p commands holds.
@@ -33,7 +32,7 @@ returns-clause-found g c = λ p commands holds.
     let hi = c.args.map.now.hi in
     let s = state_of p commands in
     let span : Span = record { from = c.args.from.now; to = option_map (λ end. end.now) c.args.to } in
-    let fits = ap (λ (q : Params). q.objects) (c.params.ensures.value ∙ holds.shows.shows.store.params) in
+    let fits = ap (λ (q : Params). q.objects) (c.params.ensures.value ∙ (g.S.Store.view.numbers p (g.M.Machine.disk c.args.machine.now) c.args.store.now commands holds)) in
     let within : hi < b.objects = omega (arith, c.if-last-params.false, c.last.ensures.value, fits) in
     IfOk-weaker c.count_leaves.result (λ count. count_answer lo hi s span ≡ Ok count) (λ count. count_told b lo hi s span ≡ Ok count)
     (λ count is. count_within b lo hi s span within ∙ ap told is) (c.count_leaves.ensures.found p commands holds)
@@ -45,7 +44,7 @@ returns-clause-refused g c = λ p commands holds.
     let hi = c.args.map.now.hi in
     let s = state_of p commands in
     let span : Span = record { from = c.args.from.now; to = option_map (λ end. end.now) c.args.to } in
-    let fits = ap (λ (q : Params). q.objects) (c.params.ensures.value ∙ holds.shows.shows.store.params) in
+    let fits = ap (λ (q : Params). q.objects) (c.params.ensures.value ∙ (g.S.Store.view.numbers p (g.M.Machine.disk c.args.machine.now) c.args.store.now commands holds)) in
     let within : hi < b.objects = omega (arith, c.if-last-params.false, c.last.ensures.value, fits) in
     if_err_then c.count_leaves.result (λ e. ending_of (cause_of e) ≡ Done → told (count_answer lo hi s span) ≡ Err e) (λ e. ending_of (cause_of e) ≡ Done → count_told b lo hi s span ≡ Err e)
     (λ e is done. count_within b lo hi s span within ∙ is done) (c.count_leaves.ensures.bad p commands holds)

@@ -4,7 +4,7 @@ use Rattle.formats.specs.declared.params.Params.{Params}
 use Rattle.page_ops.specs.Page.{Cell}
 use Rattle.page_map.specs.Map.{Span}
 use Rattle.page_map.specs.Ranges.{and_then, back_answer}
-use Rattle.range_calls.specs.ReadLaws.{adds_passed, calls_passed, passed, read_adds, refused_passed}
+use Rattle.range_calls.specs.ReadLaws.{adds_passed, calls_passed, passed, refused_passed}
 use Rattle.range_calls.specs.Store.{state_of}
 use Rattle.running_store.specs.Taking.Ending.{Done}
 use Rattle.store_engine.specs.Lists.{ending_of}
@@ -16,14 +16,14 @@ use Rattle.map_client.proofs.ranging_fall.back.Goals as goal
 pub returns-then-last-params-clause-refused : goal.returns-then-last-params-clause-refused
 returns-then-last-params-clause-refused g c = λ p commands holds done.
     let span : Span = record { from = c.args.from.now; to = option_map (λ end. end.now) c.args.to } in
-    let fits = ap (λ (q : Params). q.objects) (c.params.ensures.value ∙ holds.shows.shows.store.params) in
+    let fits = ap (λ (q : Params). q.objects) (c.params.ensures.value ∙ (g.S.Store.view.numbers p (g.M.Machine.disk c.args.machine.now) c.args.store.now commands holds)) in
     back_past (bounds_of p) c.args.map.now.lo c.args.map.now.hi (state_of p commands) span c.args.limit (omega (arith, c.if-last-params.true, c.last.ensures.value, fits))
 
 pub returns-in_err-back_leaves-clause-calls : goal.returns-in_err-back_leaves-clause-calls
-returns-in_err-back_leaves-clause-calls g c = calls_passed c.from_residual.result c.in_err-back_leaves.field-0.0 (passed c.from_residual.result c.in_err-back_leaves.field-0.0 c.from_residual.ensures.1) c.in_err-back_leaves.ensures.reads.calls
+returns-in_err-back_leaves-clause-calls g c = calls_passed g.S.Store.view c.from_residual.result c.in_err-back_leaves.field-0.0 (passed c.from_residual.result c.in_err-back_leaves.field-0.0 c.from_residual.ensures.1) c.in_err-back_leaves.ensures.reads.calls
 
 pub returns-in_err-back_leaves-clause-adds : goal.returns-in_err-back_leaves-clause-adds
-returns-in_err-back_leaves-clause-adds g c = λ p commands holds. adds_passed c.from_residual.result c.in_err-back_leaves.field-0.0 (passed c.from_residual.result c.in_err-back_leaves.field-0.0 c.from_residual.ensures.1) (read_adds c.in_err-back_leaves.ensures.reads holds [] (λ done. refl))
+returns-in_err-back_leaves-clause-adds g c = λ p commands holds. adds_passed g.S.Store.view c.from_residual.result c.in_err-back_leaves.field-0.0 (passed c.from_residual.result c.in_err-back_leaves.field-0.0 c.from_residual.ensures.1) (c.in_err-back_leaves.ensures.reads.adds p commands holds [] (λ done. refl))
 
 pub returns-in_err-back_leaves-clause-refused : goal.returns-in_err-back_leaves-clause-refused
 returns-in_err-back_leaves-clause-refused g c = λ p commands holds.
@@ -32,7 +32,7 @@ returns-in_err-back_leaves-clause-refused g c = λ p commands holds.
     let hi = c.args.map.now.hi in
     let s = state_of p commands in
     let span : Span = record { from = c.args.from.now; to = option_map (λ end. end.now) c.args.to } in
-    let fits = ap (λ (q : Params). q.objects) (c.params.ensures.value ∙ holds.shows.shows.store.params) in
+    let fits = ap (λ (q : Params). q.objects) (c.params.ensures.value ∙ (g.S.Store.view.numbers p (g.M.Machine.disk c.args.machine.now) c.args.store.now commands holds)) in
     let within : hi < b.objects = omega (arith, c.if-last-params.false, c.last.ensures.value, fits) in
     let whole : back_told b lo hi s span c.args.limit ≡ told (and_then (Ok c.new-pairs.result.items) (back_answer lo hi s span c.args.limit)) =
     back_within b lo hi s span c.args.limit within ∙ ap told (sym (ap (λ (l : List Cell). and_then (Ok l) (back_answer lo hi s span c.args.limit)) c.new-pairs.ensures.items ∙ none_before (back_answer lo hi s span c.args.limit))) in
@@ -43,7 +43,7 @@ pub returns-clause-calls : goal.returns-clause-calls
 returns-clause-calls g c = c.in_ok-back_leaves.ensures.reads.calls
 
 pub returns-clause-adds : goal.returns-clause-adds
-returns-clause-adds g c = λ p commands holds. read_adds c.in_ok-back_leaves.ensures.reads holds [] (λ done. refl)
+returns-clause-adds g c = λ p commands holds. c.in_ok-back_leaves.ensures.reads.adds p commands holds [] (λ done. refl)
 
 pub returns-clause-found : goal.returns-clause-found
 returns-clause-found g c = λ p commands holds.
@@ -52,7 +52,7 @@ returns-clause-found g c = λ p commands holds.
     let hi = c.args.map.now.hi in
     let s = state_of p commands in
     let span : Span = record { from = c.args.from.now; to = option_map (λ end. end.now) c.args.to } in
-    let fits = ap (λ (q : Params). q.objects) (c.params.ensures.value ∙ holds.shows.shows.store.params) in
+    let fits = ap (λ (q : Params). q.objects) (c.params.ensures.value ∙ (g.S.Store.view.numbers p (g.M.Machine.disk c.args.machine.now) c.args.store.now commands holds)) in
     let within : hi < b.objects = omega (arith, c.if-last-params.false, c.last.ensures.value, fits) in
     let whole : back_told b lo hi s span c.args.limit ≡ told (and_then (Ok c.new-pairs.result.items) (back_answer lo hi s span c.args.limit)) =
     back_within b lo hi s span c.args.limit within ∙ ap told (sym (ap (λ (l : List Cell). and_then (Ok l) (back_answer lo hi s span c.args.limit)) c.new-pairs.ensures.items ∙ none_before (back_answer lo hi s span c.args.limit))) in

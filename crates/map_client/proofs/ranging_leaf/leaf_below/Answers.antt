@@ -3,7 +3,6 @@ use Rattle.formats.specs.declared.params.Params.{Params}
 use Rattle.page_map.specs.Map.{Span, all_keys}
 use Rattle.page_map.specs.Ranges.{stop as stop_at}
 use Rattle.page_map.specs.Steps.{last_below}
-use Rattle.range_calls.specs.JoinLaws.{holds_behind}
 use Rattle.range_calls.specs.ReadLaws.{makes_err, passed, refused_passed}
 use Rattle.range_calls.specs.Store.{state_of}
 use Rattle.running_store.specs.Taking.Ending.{Done}
@@ -19,7 +18,7 @@ returns-in_err-levels-clause-bad g c = λ p commands holds.
     let lo = c.args.map.now.lo in
     let hi = c.args.map.now.hi in
     let end : Option (List ℕ) = option_map (λ end. end.now) c.args.end in
-    let fits = ap (λ (q : Params). q.objects) holds.shows.shows.store.params in
+    let fits = ap (λ (q : Params). q.objects) (g.S.Store.view.numbers p (g.M.Machine.disk c.args.machine.now) c.args.store.now commands holds) in
     let below : lo < p.objects = omega (arith, c.last-last.ensures.value, c.last-last.ensures.order, c.requires.there, fits) in
     refused_passed c.from_residual.result c.in_err-levels.field-0.0 (λ e. ending_of (cause_of e) ≡ Done → told (stop_at lo hi s (last_below end)) ≡ Err e)
     (passed c.from_residual.result c.in_err-levels.field-0.0 c.from_residual.ensures.1)
@@ -34,7 +33,7 @@ loop-step-init g c = record {
       let hi = c.args.map.now.hi in
       let levels = c.in_ok-levels.levels in
       let end : Option (List ℕ) = option_map (λ end. end.now) c.args.end in
-      let fits = ap (λ (q : Params). q.objects) holds.shows.shows.store.params in
+      let fits = ap (λ (q : Params). q.objects) (g.S.Store.view.numbers p (g.M.Machine.disk c.args.machine.now) c.args.store.now commands holds) in
       let below : lo < p.objects = omega (arith, c.last-last.ensures.value, c.last-last.ensures.order, c.requires.there, fits) in
       let order : lo ≤ hi = omega (arith, c.last-last.ensures.value, c.last-last.ensures.order) in
       let all : levels ≡ levels - 0 = omega arith in
@@ -46,7 +45,7 @@ loop-step-init g c = record {
 pub returns-in_err-at-clause-reads : goal.returns-in_err-at-clause-reads
 returns-in_err-at-clause-reads g c =
     makes_err c.from_residual-in_err-at.result c.in_err-at.field-0.0 (passed c.from_residual-in_err-at.result c.in_err-at.field-0.0 c.from_residual-in_err-at.ensures.1)
-    (c.reads_go_on.ensures c.args.machine.now c.loop-step.machine c.go_below.new.machine c.args.engine.now c.loop-step.engine c.go_below.new.engine (λ p commands. []) _ c.loop-step.invariant.reads c.in_err-at.ensures.reads)
+    (c.reads_go_on.ensures.behind c.args.machine.now c.loop-step.machine c.go_below.new.machine c.args.store.now c.loop-step.store c.go_below.new.store (λ p commands. []) _ c.loop-step.invariant.reads c.in_err-at.ensures.reads)
 
 pub returns-in_err-at-clause-bad : goal.returns-in_err-at-clause-bad
 returns-in_err-at-clause-bad g c = λ p commands holds.
@@ -58,20 +57,20 @@ returns-in_err-at-clause-bad g c = λ p commands holds.
     let within = way.within in
     let end : Option (List ℕ) = option_map (λ end. end.now) c.args.end in
     let span : Span = record { from = c.loop-step.at.from.items; to = option_map (λ v. v.items) c.loop-step.at.stop.to } in
-    let fits = ap (λ (q : Params). q.objects) holds.shows.shows.store.params in
+    let fits = ap (λ (q : Params). q.objects) (g.S.Store.view.numbers p (g.M.Machine.disk c.args.machine.now) c.args.store.now commands holds) in
     let below : c.loop-step.at.stop.object < p.objects = omega (arith, within, c.requires.there, fits) in
     refused_passed c.from_residual-in_err-at.result c.in_err-at.field-0.0 (λ e. ending_of (cause_of e) ≡ Done → told (stop_at lo hi s (last_below end)) ≡ Err e)
     (passed c.from_residual-in_err-at.result c.in_err-at.field-0.0 c.from_residual-in_err-at.ensures.1)
     (λ done. way_bad lo hi s (last_below end) c.in_ok-levels.levels c.loop-step.step c.loop-step.at.stop.object span c.loop-step-test.true way c.in_err-at.field-0.0
-    (c.in_err-at.ensures.bad p commands (holds_behind inv.reads holds) below done))
+    (c.in_err-at.ensures.bad p commands (c.reads_go_on.ensures.holds p c.args.machine.now c.loop-step.machine c.args.store.now c.loop-step.store commands inv.reads holds) below done))
 
 pub loop-step-preserved : goal.loop-step-preserved
 loop-step-preserved g c =
     let inv = c.loop-step.invariant in
     record {
-      reads = c.reads_go_on.ensures c.args.machine.now c.loop-step.machine c.go_below.new.machine c.args.engine.now c.loop-step.engine c.go_below.new.engine (λ p commands. []) None inv.reads c.in_ok-at.ensures.reads;
+      reads = c.reads_go_on.ensures.behind c.args.machine.now c.loop-step.machine c.go_below.new.machine c.args.store.now c.loop-step.store c.go_below.new.store (λ p commands. []) None inv.reads c.in_ok-at.ensures.reads;
       way = λ p commands holds.
-          let found = c.in_ok-at.ensures.found p commands (holds_behind inv.reads holds) in
+          let found = c.in_ok-at.ensures.found p commands (c.reads_go_on.ensures.holds p c.args.machine.now c.loop-step.machine c.args.store.now c.loop-step.store commands inv.reads holds) in
           let end : Option (List ℕ) = option_map (λ end. end.now) c.args.end in
           let span : Span = record { from = c.loop-step.at.from.items; to = option_map (λ v. v.items) c.loop-step.at.stop.to } in
           let next : Span = record { from = c.in_ok-at.at.from.items; to = option_map (λ v. v.items) c.in_ok-at.at.stop.to } in

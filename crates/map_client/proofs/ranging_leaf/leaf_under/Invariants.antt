@@ -1,14 +1,14 @@
 use Rattle.std.proofs.Common.{◌-◌, ℕ, None, List, option_map}
 use Rattle.formats.specs.declared.params.Params.{Params}
 use Rattle.page_map.specs.Ranges.{under_key}
-use Rattle.range_calls.specs.Making.{Reads}
-use Rattle.range_calls.specs.Store.{Command, Holds, state_of}
+use Rattle.store_calls.specs.Making.{Reads}
+use Rattle.range_calls.specs.Store.{Command, state_of}
 use Rattle.map_client.specs.RangingWay.{IsOnWay}
 use Rattle.map_client.proofs.ranging_leaf.leaf_under.Given as goal
 
 abbrev pub invariant-loop-step : goal.invariant-loop-step
 invariant-loop-step g l = record {
-  reads : Reads (g.M.Machine.disk l.fn.machine) (g.M.Machine.disk l.machine) l.fn.engine l.engine None;
-  way : (p : Params) (commands : List Command) → Holds p (g.M.Machine.disk l.fn.machine) l.fn.engine commands
+  reads : Reads g.S.Store.view (g.M.Machine.disk l.fn.machine) (g.M.Machine.disk l.machine) l.fn.store l.store None;
+  way : (p : Params) (commands : List Command) → g.S.Store.view.holds p (g.M.Machine.disk l.fn.machine) l.fn.store commands
       → (from : List ℕ) × IsOnWay l.map.lo l.map.hi (state_of p commands) (under_key l.key) (l.levels - l.step) l.at.object (record { from = from; to = option_map (λ v. v.items) l.at.to });
 }

@@ -3,7 +3,7 @@ use Rattle.std.specs.Prelude.{IfErr, IfOk}
 use Rattle.formats.specs.Objects.{bounds_of}
 use Rattle.page_map.specs.Reads.{prefix_end}
 use Rattle.range_calls.specs.JoinLaws.{memory_is_short, nothing_reads, reads_then}
-use Rattle.range_calls.specs.ReadLaws.{adds_passed, calls_passed, passed, read_adds, refused_passed}
+use Rattle.range_calls.specs.ReadLaws.{adds_passed, calls_passed, passed, refused_passed}
 use Rattle.range_calls.specs.Store.{state_of}
 use Rattle.running_store.specs.Taking.Ending.{Done}
 use Rattle.store_engine.specs.Lists.{ending_of}
@@ -14,16 +14,16 @@ use Rattle.map_client.proofs.ranging_prefix.prefix.Goals as goal
 pub returns-in_err-to-clause-calls : goal.returns-in_err-to-clause-calls
 returns-in_err-to-clause-calls g c =
     let failed : Result ℕ MapErr = Err c.in_err-to.field-0.0 in
-    let reads = reads_then g.M.Machine.disk c.reads_run_short.ensures c.args.machine.now c.args.machine.now c.args.engine.now c.args.engine.now failed
-    (nothing_reads g.M.Machine.disk c.args.machine.now c.args.machine.now c.args.engine.now c.args.engine.now c.nothing_is_made.ensures.front (c.nothing_is_made.ensures.calls c.requires.unbroken)) c.in_err-to.ensures.memory in
-    calls_passed c.from_residual.result c.in_err-to.field-0.0 (passed c.from_residual.result c.in_err-to.field-0.0 c.from_residual.ensures.1) reads.calls
+    let reads = reads_then g.S.Store.view g.M.Machine.disk c.reads_run_short.ensures c.args.machine.now c.args.machine.now c.args.store.now c.args.store.now failed
+    (nothing_reads g.S.Store.view (g.M.Machine.disk c.args.machine.now) c.args.store.now c.nothing_is_made.ensures.front (c.nothing_is_made.ensures.calls c.requires.unbroken)) c.in_err-to.ensures.memory in
+    calls_passed g.S.Store.view c.from_residual.result c.in_err-to.field-0.0 (passed c.from_residual.result c.in_err-to.field-0.0 c.from_residual.ensures.1) reads.calls
 
 pub returns-in_err-to-clause-adds : goal.returns-in_err-to-clause-adds
 returns-in_err-to-clause-adds g c = λ p commands holds.
     let failed : Result ℕ MapErr = Err c.in_err-to.field-0.0 in
-    let reads = reads_then g.M.Machine.disk c.reads_run_short.ensures c.args.machine.now c.args.machine.now c.args.engine.now c.args.engine.now failed
-    (nothing_reads g.M.Machine.disk c.args.machine.now c.args.machine.now c.args.engine.now c.args.engine.now c.nothing_is_made.ensures.front (c.nothing_is_made.ensures.calls c.requires.unbroken)) c.in_err-to.ensures.memory in
-    adds_passed c.from_residual.result c.in_err-to.field-0.0 (passed c.from_residual.result c.in_err-to.field-0.0 c.from_residual.ensures.1) (read_adds reads holds [] (λ done. refl))
+    let reads = reads_then g.S.Store.view g.M.Machine.disk c.reads_run_short.ensures c.args.machine.now c.args.machine.now c.args.store.now c.args.store.now failed
+    (nothing_reads g.S.Store.view (g.M.Machine.disk c.args.machine.now) c.args.store.now c.nothing_is_made.ensures.front (c.nothing_is_made.ensures.calls c.requires.unbroken)) c.in_err-to.ensures.memory in
+    adds_passed g.S.Store.view c.from_residual.result c.in_err-to.field-0.0 (passed c.from_residual.result c.in_err-to.field-0.0 c.from_residual.ensures.1) (reads.adds p commands holds [] (λ done. refl))
 
 pub returns-in_err-to-clause-refused : goal.returns-in_err-to-clause-refused
 returns-in_err-to-clause-refused g c = λ p commands holds.

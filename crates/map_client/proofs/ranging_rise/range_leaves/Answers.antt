@@ -1,7 +1,6 @@
 use Rattle.std.proofs.Common.{◌≡◌, sym, ap, ◌∙◌, ℕ, suc, ◌-◌, None, List, [], Option, Ok, Err, arith, option_map}
 use Rattle.page_map.specs.Map.{Span}
 use Rattle.page_map.specs.Ranges.{and_then, from_end, range_answer, range_from}
-use Rattle.range_calls.specs.JoinLaws.{holds_behind}
 use Rattle.range_calls.specs.ReadLaws.{makes_err, passed, refused_passed}
 use Rattle.range_calls.specs.Store.{state_of}
 use Rattle.running_store.specs.Taking.Ending.{Done}
@@ -42,7 +41,7 @@ loop-leaves-init g c = record {
 pub returns-in_err-further-in-Some-clause-reads : goal.returns-in_err-further-in-Some-clause-reads
 returns-in_err-further-in-Some-clause-reads g c =
     makes_err c.from_residual-in_err-further-in-Some.result c.in_err-further-in-Some.field-0.0 (passed c.from_residual-in_err-further-in-Some.result c.in_err-further-in-Some.field-0.0 c.from_residual-in_err-further-in-Some.ensures.1)
-    (c.reads_go_on.ensures c.args.machine.now c.loop-leaves.machine c.range_turn-in-Some.new.machine c.args.engine.now c.loop-leaves.engine c.range_turn-in-Some.new.engine (λ p commands. []) _ c.loop-leaves.invariant.reads c.in_err-further-in-Some.ensures.reads)
+    (c.reads_go_on.ensures.behind c.args.machine.now c.loop-leaves.machine c.range_turn-in-Some.new.machine c.args.store.now c.loop-leaves.store c.range_turn-in-Some.new.store (λ p commands. []) _ c.loop-leaves.invariant.reads c.in_err-further-in-Some.ensures.reads)
 
 pub returns-in_err-further-in-Some-clause-bad : goal.returns-in_err-further-in-Some-clause-bad
 returns-in_err-further-in-Some-clause-bad g c = λ p commands holds.
@@ -62,11 +61,11 @@ returns-in_err-further-in-Some-clause-bad g c = λ p commands holds.
     (λ e. ending_of (cause_of e) ≡ Done → told (and_then (Ok c.args.gathered.now.pairs.items) (range_answer lo hi s span c.args.gathered.now.left)) ≡ Err e)
     (passed c.from_residual-in_err-further-in-Some.result c.in_err-further-in-Some.field-0.0 c.from_residual-in_err-further-in-Some.ensures.1)
     (λ done. ap told goes ∙ meets_bad (λ (n : ℕ). range_from lo hi s n left here) pairs c.loop-leaves.leaves (c.loop-leaves.leaves - 1) more c.in_err-further-in-Some.field-0.0
-    (c.in_err-further-in-Some.ensures.bad p commands (holds_behind inv.reads holds) done))
+    (c.in_err-further-in-Some.ensures.bad p commands (c.reads_go_on.ensures.holds p c.args.machine.now c.loop-leaves.machine c.args.store.now c.loop-leaves.store commands inv.reads holds) done))
 
 pub loop-leaves-preserved : goal.loop-leaves-preserved
 loop-leaves-preserved g c = record {
-  reads = c.reads_go_on.ensures c.args.machine.now c.loop-leaves.machine c.range_turn-in-Some.new.machine c.args.engine.now c.loop-leaves.engine c.range_turn-in-Some.new.engine (λ p commands. []) None c.loop-leaves.invariant.reads c.in_ok-further-in-Some.ensures.reads;
+  reads = c.reads_go_on.ensures.behind c.args.machine.now c.loop-leaves.machine c.range_turn-in-Some.new.machine c.args.store.now c.loop-leaves.store c.range_turn-in-Some.new.store (λ p commands. []) None c.loop-leaves.invariant.reads c.in_ok-further-in-Some.ensures.reads;
   same = λ p commands holds.
       let s = state_of p commands in
       let lo = c.args.map.now.lo in
@@ -82,7 +81,7 @@ loop-leaves-preserved g c = record {
       inv.same p commands holds ∙ (λ k. and_then (Ok pairs) (from_end [] (range_from lo hi s c.loop-leaves.leaves left) span (sym c.in-Some.ensures k))) in
       let next : Option (List ℕ) = option_map (λ v. v.items) c.in_ok-further-in-Some.further in
       goes ∙ goes_to (λ (n : ℕ). range_from lo hi s n left here) pairs c.loop-leaves.leaves (c.loop-leaves.leaves - 1) more c.range_turn-in-Some.new.gathered.pairs.items
-      (λ (n : ℕ). from_end [] (range_from lo hi s n c.range_turn-in-Some.new.gathered.left) here next) (c.in_ok-further-in-Some.ensures.found p commands (holds_behind inv.reads holds))
+      (λ (n : ℕ). from_end [] (range_from lo hi s n c.range_turn-in-Some.new.gathered.left) here next) (c.in_ok-further-in-Some.ensures.found p commands (c.reads_go_on.ensures.holds p c.args.machine.now c.loop-leaves.machine c.args.store.now c.loop-leaves.store commands inv.reads holds))
       ∙ ap (and_then (Ok c.range_turn-in-Some.new.gathered.pairs.items)) (same_end [] (range_from lo hi s (c.loop-leaves.leaves - 1) c.range_turn-in-Some.new.gathered.left) c.in-Some.at.now c.args.from.now to next);
 }
 

@@ -1,7 +1,7 @@
 use Rattle.std.proofs.Common.{◌≡◌, ◌<◌, sym, ap, ◌∙◌, None, [], option_map, arith}
 use Rattle.formats.specs.declared.params.Params.{Params}
 use Rattle.page_map.specs.Map.{Span}
-use Rattle.range_calls.specs.JoinLaws.{holds_behind, nothing_reads}
+use Rattle.range_calls.specs.JoinLaws.{nothing_reads}
 use Rattle.range_calls.specs.ReadLaws.{makes_err, passed, refused_passed}
 use Rattle.range_calls.specs.Store.{state_of}
 use Rattle.running_store.specs.Taking.Ending.{Done}
@@ -12,7 +12,7 @@ use Rattle.map_client.proofs.RangingPairsLemmas.{range_ends, range_gathered, ran
 use Rattle.map_client.proofs.ranging_rise.range_turn.Goals as goal
 
 pub returns-then-not-is_more-clause-reads : goal.returns-then-not-is_more-clause-reads
-returns-then-not-is_more-clause-reads g c = nothing_reads g.M.Machine.disk c.args.machine.now c.args.machine.now c.args.engine.now c.args.engine.now c.nothing_is_made.ensures.front (c.nothing_is_made.ensures.calls c.requires.unbroken)
+returns-then-not-is_more-clause-reads g c = nothing_reads g.S.Store.view (g.M.Machine.disk c.args.machine.now) c.args.store.now c.nothing_is_made.ensures.front (c.nothing_is_made.ensures.calls c.requires.unbroken)
 
 pub returns-then-not-is_more-clause-found : goal.returns-then-not-is_more-clause-found
 returns-then-not-is_more-clause-found g c = λ p commands holds.
@@ -30,7 +30,7 @@ returns-in_err-leaf-clause-bad g c = λ p commands holds.
 pub returns-in_err-gather_leaf-clause-reads : goal.returns-in_err-gather_leaf-clause-reads
 returns-in_err-gather_leaf-clause-reads g c =
     makes_err c.from_residual-in_err-gather_leaf.result c.in_err-gather_leaf.field-0.0 (passed c.from_residual-in_err-gather_leaf.result c.in_err-gather_leaf.field-0.0 c.from_residual-in_err-gather_leaf.ensures.1)
-    (c.reads_go_on.ensures c.args.machine.now c.leaf_under.new.machine c.gather_leaf.new.machine c.args.engine.now c.leaf_under.new.engine c.gather_leaf.new.engine (λ p commands. []) _ c.in_ok-leaf.ensures.reads c.in_err-gather_leaf.ensures.reads)
+    (c.reads_go_on.ensures.behind c.args.machine.now c.leaf_under.new.machine c.gather_leaf.new.machine c.args.store.now c.leaf_under.new.store c.gather_leaf.new.store (λ p commands. []) _ c.in_ok-leaf.ensures.reads c.in_err-gather_leaf.ensures.reads)
 
 pub returns-in_err-gather_leaf-clause-bad : goal.returns-in_err-gather_leaf-clause-bad
 returns-in_err-gather_leaf-clause-bad g c = λ p commands holds.
@@ -41,16 +41,16 @@ returns-in_err-gather_leaf-clause-bad g c = λ p commands holds.
     let way = c.in_ok-leaf.ensures.leaf p commands holds in
     let within = way.1.within in
     let own : Span = record { from = way.0; to = option_map (λ v. v.items) c.in_ok-leaf.leaf.to } in
-    let fits = ap (λ (q : Params). q.objects) holds.shows.shows.store.params in
+    let fits = ap (λ (q : Params). q.objects) (g.S.Store.view.numbers p (g.M.Machine.disk c.args.machine.now) c.args.store.now commands holds) in
     let below : c.in_ok-leaf.leaf.object < p.objects = omega (arith, within, c.requires.there, fits) in
     refused_passed c.from_residual-in_err-gather_leaf.result c.in_err-gather_leaf.field-0.0 (λ e. ending_of (cause_of e) ≡ Done → RangeIsBad lo hi s span c.args.gathered.now.left e)
     (passed c.from_residual-in_err-gather_leaf.result c.in_err-gather_leaf.field-0.0 c.from_residual-in_err-gather_leaf.ensures.1)
     (λ done. range_leaf_bad lo hi s span c.args.gathered.now.left c.in_ok-leaf.leaf.object own way.1 (sym c.is_more.ensures ∙ c.if-not-is_more.false) c.args.gathered.now.pairs.items c.in_err-gather_leaf.field-0.0
-    (c.in_err-gather_leaf.ensures.bad p commands (holds_behind c.in_ok-leaf.ensures.reads holds) below done))
+    (c.in_err-gather_leaf.ensures.bad p commands (c.reads_go_on.ensures.holds p c.args.machine.now c.leaf_under.new.machine c.args.store.now c.leaf_under.new.store commands c.in_ok-leaf.ensures.reads holds) below done))
 
 pub returns-clause-reads : goal.returns-clause-reads
 returns-clause-reads g c =
-    c.reads_go_on.ensures c.args.machine.now c.leaf_under.new.machine c.gather_leaf.new.machine c.args.engine.now c.leaf_under.new.engine c.gather_leaf.new.engine (λ p commands. []) None c.in_ok-leaf.ensures.reads c.in_ok-gather_leaf.ensures.reads
+    c.reads_go_on.ensures.behind c.args.machine.now c.leaf_under.new.machine c.gather_leaf.new.machine c.args.store.now c.leaf_under.new.store c.gather_leaf.new.store (λ p commands. []) None c.in_ok-leaf.ensures.reads c.in_ok-gather_leaf.ensures.reads
 
 pub returns-clause-found : goal.returns-clause-found
 returns-clause-found g c = λ p commands holds.
@@ -58,4 +58,4 @@ returns-clause-found g c = λ p commands holds.
     let way = c.in_ok-leaf.ensures.leaf p commands holds in
     let own : Span = record { from = way.0; to = option_map (λ v. v.items) c.in_ok-leaf.leaf.to } in
     range_gathered c.args.map.now.lo c.args.map.now.hi (state_of p commands) span c.args.gathered.now.left c.in_ok-leaf.leaf.object own way.1 (sym c.is_more.ensures ∙ c.if-not-is_more.false) c.args.gathered.now.pairs.items
-    c.gather_leaf.new.gathered.pairs.items c.gather_leaf.new.gathered.left (c.in_ok-gather_leaf.ensures.pairs p commands (holds_behind c.in_ok-leaf.ensures.reads holds))
+    c.gather_leaf.new.gathered.pairs.items c.gather_leaf.new.gathered.left (c.in_ok-gather_leaf.ensures.pairs p commands (c.reads_go_on.ensures.holds p c.args.machine.now c.leaf_under.new.machine c.args.store.now c.leaf_under.new.store commands c.in_ok-leaf.ensures.reads holds))

@@ -1,16 +1,12 @@
-use Rattle.std.proofs.Common.{refl, sym, ap, ◌∙◌, subst, Some, List, true, false}
+use Rattle.std.proofs.Common.{sym, ap, ◌∙◌, subst, Some, List, true, false}
 use Rattle.formats.specs.Objects.{bounds_of}
 use Rattle.formats.specs.declared.params.Params.{Params}
-use Rattle.explain_core.specs.History.{commands_of}
 use Rattle.running_store.specs.Taking.Ending.{Done}
-use Rattle.op_codec.specs.AllOps.{all_meaning}
-use Rattle.store_engine.specs.Engine.{params_of}
-use Rattle.store_engine.specs.Lists.{AddsFront}
 use Rattle.call_plans.specs.Plan.{Plan}
 use Rattle.page_map.specs.Sets.{is_pair, room_of}
-use Rattle.range_calls.specs.ComesLaws.{adds_of, answer_of, comes_as}
+use Rattle.range_calls.specs.ComesLaws.{adds_of, comes_as}
 use Rattle.range_calls.specs.ReadLaws.{adds_passed, calls_passed, passed, refuses_passed}
-use Rattle.range_calls.specs.Store.{Command, Holds}
+use Rattle.range_calls.specs.Store.{Command}
 use Rattle.map_client.specs.Answers.{MapErr}
 use Rattle.map_client.specs.Changing.{set_comes, set_made}
 use Rattle.map_client.proofs.OpenLemmas.{closed_adds, closed_calls, closed_in, closed_is, open_in, open_is}
@@ -20,17 +16,17 @@ use Rattle.map_client.proofs.setting.set.Goals as goal
 pub returns-in_err-require_open-clause-calls : goal.returns-in_err-require_open-clause-calls
 returns-in_err-require_open-clause-calls g c =
     let e = c.in_err-require_open.field-0.0 in
-    calls_passed c.from_residual.result e (passed c.from_residual.result e c.from_residual.ensures.1)
-    (closed_calls (closed_is (bounds_of (params_of c.args.engine.now)) c.args.map.now.hi e c.in_err-require_open.ensures) (c.nothing_is_made.ensures.calls c.requires.unbroken))
+    calls_passed g.S.Store.view c.from_residual.result e (passed c.from_residual.result e c.from_residual.ensures.1)
+    (closed_calls g.S.Store.view (g.M.Machine.disk c.args.machine.now) c.args.store.now (closed_is (bounds_of (g.S.Store.view.params c.args.store.now)) c.args.map.now.hi e c.in_err-require_open.ensures) (c.nothing_is_made.ensures.calls c.requires.unbroken))
 
 pub returns-in_err-require_open-clause-adds : goal.returns-in_err-require_open-clause-adds
 returns-in_err-require_open-clause-adds g c = λ p commands holds.
     let lo = c.args.map.now.lo in
     let hi = c.args.map.now.hi in
     let e = c.in_err-require_open.field-0.0 in
-    let closed = closed_in holds hi e c.in_err-require_open.ensures in
-    adds_passed c.from_residual.result e (passed c.from_residual.result e c.from_residual.ensures.1)
-    (closed_adds closed (set_comes lo hi c.args.key c.args.value p commands).commands
+    let closed = closed_in (g.S.Store.view.numbers p (g.M.Machine.disk c.args.machine.now) c.args.store.now commands holds) hi e c.in_err-require_open.ensures in
+    adds_passed g.S.Store.view c.from_residual.result e (passed c.from_residual.result e c.from_residual.ensures.1)
+    (closed_adds g.S.Store.view (g.M.Machine.disk c.args.machine.now) c.args.store.now p commands closed (set_comes lo hi c.args.key c.args.value p commands).commands
     (ap (λ (q : Plan Command MapErr). q.commands) (closed_comes lo hi c.args.key c.args.value p commands closed.refusal closed.is)) (c.nothing_is_made.ensures.front p commands holds))
 
 pub returns-in_err-require_open-clause-answer : goal.returns-in_err-require_open-clause-answer
@@ -38,7 +34,7 @@ returns-in_err-require_open-clause-answer g c = λ p commands holds.
     let lo = c.args.map.now.lo in
     let hi = c.args.map.now.hi in
     let e = c.in_err-require_open.field-0.0 in
-    let closed = closed_in holds hi e c.in_err-require_open.ensures in
+    let closed = closed_in (g.S.Store.view.numbers p (g.M.Machine.disk c.args.machine.now) c.args.store.now commands holds) hi e c.in_err-require_open.ensures in
     refuses_passed c.from_residual.result e (set_comes lo hi c.args.key c.args.value p commands).refusal (passed c.from_residual.result e c.from_residual.ensures.1)
     (λ done. ap (λ (x : MapErr). Some x) (sym closed.error) ∙ sym (ap (λ (q : Plan Command MapErr). q.refusal) (closed_comes lo hi c.args.key c.args.value p commands closed.refusal closed.is)))
 
@@ -47,24 +43,24 @@ pub returns-then-not-is_pair-clause-adds : goal.returns-then-not-is_pair-clause-
 returns-then-not-is_pair-clause-adds g c = λ p commands holds.
     let lo = c.args.map.now.lo in
     let hi = c.args.map.now.hi in
-    let open_to = open_in holds hi c.in_ok-require_open.ensures in
-    let pair = ap (λ (q : Params). is_pair (room_of q.cap) (c.args.key, c.args.value)) (sym (c.params.ensures.value ∙ holds.shows.shows.store.params))
+    let open_to = open_in (g.S.Store.view.numbers p (g.M.Machine.disk c.args.machine.now) c.args.store.now commands holds) hi c.in_ok-require_open.ensures in
+    let pair = ap (λ (q : Params). is_pair (room_of q.cap) (c.args.key, c.args.value)) (sym (c.params.ensures.value ∙ (g.S.Store.view.numbers p (g.M.Machine.disk c.args.machine.now) c.args.store.now commands holds)))
     ∙ sym (ap (λ n. is_pair n (c.args.key, c.args.value)) c.room_of-room.ensures.value) ∙ sym c.is_pair.ensures ∙ c.if-not-is_pair.true in
-    subst (λ (l : List Command). AddsFront all_meaning p (g.M.Machine.disk c.args.machine.now) (g.M.Machine.disk c.args.machine.now) c.args.engine.now c.args.engine.now holds.world commands l Done)
+    subst (λ (l : List Command). g.S.Store.view.adds p (g.M.Machine.disk c.args.machine.now) (g.M.Machine.disk c.args.machine.now) c.args.store.now c.args.store.now commands l Done)
     (sym (ap (λ (q : Plan Command MapErr). q.commands) (long_comes lo hi c.args.key c.args.value p commands open_to.open_for_all pair))) (c.nothing_is_made.ensures.front p commands holds)
 
 pub returns-then-not-is_pair-clause-answer : goal.returns-then-not-is_pair-clause-answer
 returns-then-not-is_pair-clause-answer g c = λ p commands holds done.
     let lo = c.args.map.now.lo in
     let hi = c.args.map.now.hi in
-    let open_to = open_in holds hi c.in_ok-require_open.ensures in
-    let pair = ap (λ (q : Params). is_pair (room_of q.cap) (c.args.key, c.args.value)) (sym (c.params.ensures.value ∙ holds.shows.shows.store.params))
+    let open_to = open_in (g.S.Store.view.numbers p (g.M.Machine.disk c.args.machine.now) c.args.store.now commands holds) hi c.in_ok-require_open.ensures in
+    let pair = ap (λ (q : Params). is_pair (room_of q.cap) (c.args.key, c.args.value)) (sym (c.params.ensures.value ∙ (g.S.Store.view.numbers p (g.M.Machine.disk c.args.machine.now) c.args.store.now commands holds)))
     ∙ sym (ap (λ n. is_pair n (c.args.key, c.args.value)) c.room_of-room.ensures.value) ∙ sym c.is_pair.ensures ∙ c.if-not-is_pair.true in
     sym (ap (λ (q : Plan Command MapErr). q.refusal) (long_comes lo hi c.args.key c.args.value p commands open_to.open_for_all pair))
 
 pub set_rounds-requires-clause-ready : goal.set_rounds-requires-clause-ready
 set_rounds-requires-clause-ready g c = record {
-  there = (open_is (bounds_of (params_of c.args.engine.now)) c.args.map.now.hi c.in_ok-require_open.ensures).there;
+  there = (open_is (bounds_of (g.S.Store.view.params c.args.store.now)) c.args.map.now.hi c.in_ok-require_open.ensures).there;
   room_is = c.room_of-room.ensures.value ∙ ap (λ (q : Params). room_of q.cap) c.params.ensures.value;
   pair = sym c.is_pair.ensures ∙ c.if-not-is_pair.false;
 }
@@ -76,18 +72,15 @@ pub returns-clause-adds : goal.returns-clause-adds
 returns-clause-adds g c =
     let lo = c.args.map.now.lo in
     let hi = c.args.map.now.hi in
-    adds_of (set_comes lo hi c.args.key c.args.value) c.set_rounds.result
-    (comes_as (set_made lo hi c.args.key c.args.value) (set_comes lo hi c.args.key c.args.value) c.set_rounds.result
-    (λ p w shows.
-    let holds : Holds p (g.M.Machine.disk c.args.machine.now) c.args.engine.now (commands_of w.history) = record { world = w; shows = shows; commands_are = refl } in
-    sym (open_comes lo hi c.args.key c.args.value p (commands_of w.history) (open_in holds hi c.in_ok-require_open.ensures).open_for_all)) c.set_rounds.ensures)
+    adds_of g.S.Store.view (set_comes lo hi c.args.key c.args.value) c.set_rounds.result
+    (comes_as g.S.Store.view (set_made lo hi c.args.key c.args.value) (set_comes lo hi c.args.key c.args.value) c.set_rounds.result
+    (λ p commands holds.
+    sym (open_comes lo hi c.args.key c.args.value p commands (open_in (g.S.Store.view.numbers p (g.M.Machine.disk c.args.machine.now) c.args.store.now commands holds) hi c.in_ok-require_open.ensures).open_for_all)) c.set_rounds.ensures)
 
 pub returns-clause-answer : goal.returns-clause-answer
 returns-clause-answer g c =
     let lo = c.args.map.now.lo in
     let hi = c.args.map.now.hi in
-    answer_of (set_comes lo hi c.args.key c.args.value) c.set_rounds.result
-    (comes_as (set_made lo hi c.args.key c.args.value) (set_comes lo hi c.args.key c.args.value) c.set_rounds.result
-    (λ p w shows.
-    let holds : Holds p (g.M.Machine.disk c.args.machine.now) c.args.engine.now (commands_of w.history) = record { world = w; shows = shows; commands_are = refl } in
-    sym (open_comes lo hi c.args.key c.args.value p (commands_of w.history) (open_in holds hi c.in_ok-require_open.ensures).open_for_all)) c.set_rounds.ensures)
+    (comes_as g.S.Store.view (set_made lo hi c.args.key c.args.value) (set_comes lo hi c.args.key c.args.value) c.set_rounds.result
+    (λ p commands holds.
+    sym (open_comes lo hi c.args.key c.args.value p commands (open_in (g.S.Store.view.numbers p (g.M.Machine.disk c.args.machine.now) c.args.store.now commands holds) hi c.in_ok-require_open.ensures).open_for_all)) c.set_rounds.ensures).answer

@@ -1,4 +1,4 @@
-use Rattle.std.proofs.Common.{◌≡◌, refl, sym, ◌∙◌, ℕ, [], List, Option, None, Some, option_map}
+use Rattle.std.proofs.Common.{◌≡◌, refl, sym, ◌∙◌, ℕ, List, Option, None, Some, option_map}
 use Rattle.std.proofs.lemmas.Result.{IfOk-weaker}
 use Rattle.running_store.specs.Taking.Ending.{Done}
 use Rattle.store_engine.specs.Lists.{ending_of}
@@ -22,11 +22,11 @@ returns-in_err-there-clause-bad g c = λ p commands holds below.
 
 pub returns-then-not-there-clause-bad : goal.returns-then-not-there-clause-bad
 returns-then-not-there-clause-bad g c = λ p commands holds below done.
-    absurd (object_is_there c.args.at.object holds below (sym c.if-not-there.true ∙ c.in_ok-there.ensures.there))
+    absurd (object_is_there _ p c.args.at.object (g.S.Store.view.numbers p (g.M.Machine.disk c.args.machine.now) c.args.store.now commands holds) below (sym c.if-not-there.true ∙ c.in_ok-there.ensures.there))
 
 pub returns-in-Some-clause-reads : goal.returns-in-Some-clause-reads
 returns-in-Some-clause-reads g c =
-    reads_then g.M.Machine.disk c.reads_run_short.ensures c.args.machine.now c.see.new.machine c.args.engine.now c.see.new.engine c.further.result c.in_ok-there.ensures.reads c.further.ensures.memory
+    reads_then g.S.Store.view g.M.Machine.disk c.reads_run_short.ensures c.args.machine.now c.see.new.machine c.args.store.now c.see.new.store c.further.result c.in_ok-there.ensures.reads c.further.ensures.memory
 
 pub returns-in-Some-clause-found : goal.returns-in-Some-clause-found
 returns-in-Some-clause-found g c = λ p commands holds.
@@ -34,7 +34,7 @@ returns-in-Some-clause-found g c = λ p commands holds.
     let hi = c.args.map.now.hi in
     let x : ℕ = c.args.at.object in
     let to : Option (List ℕ) = option_map (λ v. v.items) c.args.at.to in
-    let value : c.get.result.now ≡ state_of p commands x = c.get.ensures.value [] ∙ c.in_ok-there.ensures.value p commands holds c.if-not-there.false [] in
+    let value : c.get.result.now ≡ state_of p commands x = c.get.ensures.value ∙ c.in_ok-there.ensures.value p commands holds c.if-not-there.false in
     let bytes : c.bytes.result.now ≡ bytes_at lo (state_of p commands) x = c.bytes.ensures (state_of p commands) (sym value) in
     let step : Step = step_seen c.in-Some.step in
     let found : step_on lo hi c.args.level (bytes_at lo (state_of p commands) x) to c.args.key.now ≡ Some step =
@@ -56,6 +56,6 @@ returns-in-None-clause-bad g c = λ p commands holds below done.
     let lo = c.args.map.now.lo in
     let hi = c.args.map.now.hi in
     let x : ℕ = c.args.at.object in
-    let value : c.get.result.now ≡ state_of p commands x = c.get.ensures.value [] ∙ c.in_ok-there.ensures.value p commands holds c.if-not-there.false [] in
+    let value : c.get.result.now ≡ state_of p commands x = c.get.ensures.value ∙ c.in_ok-there.ensures.value p commands holds c.if-not-there.false in
     let bytes : c.bytes.result.now ≡ bytes_at lo (state_of p commands) x = c.bytes.ensures (state_of p commands) (sym value) in
     (sym (c.in-None.ensures ∙ (λ k. step_on lo hi c.args.level (bytes k) (c.end_bytes.ensures k) c.args.key.now)), refl)

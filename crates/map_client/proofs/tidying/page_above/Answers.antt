@@ -5,7 +5,7 @@ use Rattle.page_ops.specs.declared.page_op.PageOp.{PageOp}
 use Rattle.page_map.specs.Deletes.{tidy_from}
 use Rattle.page_map.specs.Map.{bytes_at}
 use Rattle.page_map.specs.Steps.{Step}
-use Rattle.range_calls.specs.JoinLaws.{holds_behind, nothing_reads}
+use Rattle.range_calls.specs.JoinLaws.{nothing_reads}
 use Rattle.range_calls.specs.ReadLaws.{makes_err, nothing_passed, passed, refused_passed}
 use Rattle.range_calls.specs.Store.{state_of}
 use Rattle.map_client.specs.Answers.{cause_of, told}
@@ -14,7 +14,7 @@ use Rattle.map_client.proofs.tidying.page_above.Goals as goal
 
 pub loop-step-init : goal.loop-step-init
 loop-step-init g c = record {
-  reads = nothing_reads g.M.Machine.disk c.args.machine.now c.args.machine.now c.args.engine.now c.args.engine.now c.nothing_is_made.ensures.front (c.nothing_is_made.ensures.calls c.requires.unbroken);
+  reads = nothing_reads g.S.Store.view (g.M.Machine.disk c.args.machine.now) c.args.store.now c.nothing_is_made.ensures.front (c.nothing_is_made.ensures.calls c.requires.unbroken);
   left = c.requires.inner;
   way = λ p commands holds.
       let way = c.args.way.now in
@@ -31,7 +31,7 @@ pub returns-in_err-at-clause-reads : goal.returns-in_err-at-clause-reads
 returns-in_err-at-clause-reads g c =
     let e = c.in_err-at.field-0.0 in
     makes_err c.from_residual.result e (passed c.from_residual.result e c.from_residual.ensures.1)
-    (c.reads_go_on.ensures c.args.machine.now c.loop-step.machine c.go_down.new.machine c.args.engine.now c.loop-step.engine c.go_down.new.engine (λ p commands. []) _ c.loop-step.invariant.reads c.in_err-at.ensures.reads)
+    (c.reads_go_on.ensures.behind c.args.machine.now c.loop-step.machine c.go_down.new.machine c.args.store.now c.loop-step.store c.go_down.new.store (λ p commands. []) _ c.loop-step.invariant.reads c.in_err-at.ensures.reads)
 
 pub returns-in_err-at-clause-found : goal.returns-in_err-at-clause-found
 returns-in_err-at-clause-found g c = λ p commands holds within.
@@ -57,7 +57,7 @@ returns-in_err-at-clause-bad g c = λ p commands holds within.
     let r : Result (List PageOp) ℕ = tidy_from lo hi s way.key.now c.args.levels lo None in
     refused_passed c.from_residual.result e (λ x. ending_of (cause_of x) ≡ Done → told r ≡ Err x) (passed c.from_residual.result e c.from_residual.ensures.1)
     (λ done.
-    let bad = c.in_err-at.ensures.bad p commands (holds_behind inv.reads holds) below done in
+    let bad = c.in_err-at.ensures.bad p commands (c.reads_go_on.ensures.holds p c.args.machine.now c.loop-step.machine c.args.store.now c.loop-step.store commands inv.reads holds) below done in
     ap told here.1 ∙ meets_bad lo hi s way.key.now c.args.levels c.loop-step.step c.loop-step.at.object (option_map (λ v. v.items) c.loop-step.at.to) c.loop-step-test.true e bad.0 bad.1)
 
 pub loop-step-preserved : goal.loop-step-preserved
@@ -67,14 +67,14 @@ loop-step-preserved g c =
     let hi = way.map.now.hi in
     let inv = c.loop-step.invariant in
     record {
-      reads = c.reads_go_on.ensures c.args.machine.now c.loop-step.machine c.go_down.new.machine c.args.engine.now c.loop-step.engine c.go_down.new.engine (λ p commands. []) None inv.reads c.in_ok-at.ensures.reads;
+      reads = c.reads_go_on.ensures.behind c.args.machine.now c.loop-step.machine c.go_down.new.machine c.args.store.now c.loop-step.store c.go_down.new.store (λ p commands. []) None inv.reads c.in_ok-at.ensures.reads;
       left = (let less : c.loop-step.step + 1 < c.args.levels = omega (arith, c.loop-step-test.true) in less);
       way = λ p commands holds.
           let s = state_of p commands in
           let here = inv.way p commands holds in
           let x : ℕ = c.loop-step.at.object in
           let to : Option (List ℕ) = option_map (λ v. v.items) c.loop-step.at.to in
-          let found = c.in_ok-at.ensures.found p commands (holds_behind inv.reads holds) in
+          let found = c.in_ok-at.ensures.found p commands (c.reads_go_on.ensures.holds p c.args.machine.now c.loop-step.machine c.args.store.now c.loop-step.store commands inv.reads holds) in
           let step : Step = found.0 in
           let on = goes_below lo hi s way.key.now c.args.levels c.loop-step.step x to c.loop-step-test.true step found.1 in (
             subst (λ (y : ℕ). y ≤ hi) (sym found.2) (step_within lo hi (bytes_at lo s x) to (c.args.levels - c.loop-step.step) way.key.now step found.1),

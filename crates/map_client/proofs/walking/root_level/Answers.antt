@@ -1,4 +1,4 @@
-use Rattle.std.proofs.Common.{◌≡◌, ◌<◌, ap, ◌∙◌, sym, subst, ℕ, None, []}
+use Rattle.std.proofs.Common.{◌≡◌, ◌<◌, ap, ◌∙◌, sym, subst, ℕ, None}
 use Rattle.page_map.specs.Map.{bytes_at}
 use Rattle.range_calls.specs.JoinLaws.{object_is_there}
 use Rattle.range_calls.specs.ReadLaws.{answers_passed, passed}
@@ -14,19 +14,19 @@ returns-in_err-there-clause-answer g c = λ p commands holds below.
 
 pub returns-then-not-there-clause-answer : goal.returns-then-not-there-clause-answer
 returns-then-not-there-clause-answer g c = λ p commands holds below done.
-    absurd (object_is_there c.root-root.result holds (subst (λ (x : ℕ). x < p.objects) (sym c.root-root.ensures) below) (sym c.if-not-there.true ∙ c.in_ok-there.ensures.there))
+    absurd (object_is_there _ p c.root-root.result (g.S.Store.view.numbers p (g.M.Machine.disk c.args.machine.now) c.args.store.now commands holds) (subst (λ (x : ℕ). x < p.objects) (sym c.root-root.ensures) below) (sym c.if-not-there.true ∙ c.in_ok-there.ensures.there))
 
 -- what the root's bytes say
 pub returns-in-Some-clause-answer : goal.returns-in-Some-clause-answer
 returns-in-Some-clause-answer g c = λ p commands holds below done.
     let lo = c.args.map.now.lo in
-    let value : c.get.result.now ≡ state_of p commands c.root-root.result = c.get.ensures.value [] ∙ c.in_ok-there.ensures.value p commands holds c.if-not-there.false [] in
+    let value : c.get.result.now ≡ state_of p commands c.root-root.result = c.get.ensures.value ∙ c.in_ok-there.ensures.value p commands holds c.if-not-there.false in
     let bytes : c.bytes.result.now ≡ bytes_at lo (state_of p commands) lo = c.bytes.ensures (state_of p commands) (sym value) ∙ ap (bytes_at lo (state_of p commands)) c.root-root.ensures in
     ap (or_bad lo) (c.in-Some.ensures ∙ ap level_of bytes)
 
 pub returns-in-None-clause-answer : goal.returns-in-None-clause-answer
 returns-in-None-clause-answer g c = λ p commands holds below done.
     let lo = c.args.map.now.lo in
-    let value : c.get.result.now ≡ state_of p commands c.root-root.result = c.get.ensures.value [] ∙ c.in_ok-there.ensures.value p commands holds c.if-not-there.false [] in
+    let value : c.get.result.now ≡ state_of p commands c.root-root.result = c.get.ensures.value ∙ c.in_ok-there.ensures.value p commands holds c.if-not-there.false in
     let bytes : c.bytes.result.now ≡ bytes_at lo (state_of p commands) lo = c.bytes.ensures (state_of p commands) (sym value) ∙ ap (bytes_at lo (state_of p commands)) c.root-root.ensures in
     ap (λ (x : ℕ). or_bad x None) c.root-root.ensures ∙ ap (or_bad lo) (c.in-None.ensures ∙ ap level_of bytes)

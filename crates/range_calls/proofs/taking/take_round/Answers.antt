@@ -10,7 +10,7 @@ use Rattle.range_calls.proofs.taking.take_round.Goals as goal
 pub returns-in_err-round-clause-comes : goal.returns-in_err-round-clause-comes
 returns-in_err-round-clause-comes g c =
     let e = c.in_err-round.field-0.0 in
-    none_found g.M.Machine.disk (g.C.Rounds.next c.args.call.now) c.args.machine.now c.next_round.new.machine c.args.engine.now c.next_round.new.engine
+    none_found g.S.Store.view g.M.Machine.disk (g.C.Rounds.next c.args.call.now) c.args.machine.now c.next_round.new.machine c.args.store.now c.next_round.new.store
     c.from_residual.result e (passed c.from_residual.result e c.from_residual.ensures.1) c.in_err-round.ensures.reads c.in_err-round.ensures.answer
 
 pub returns-in_err-round-clause-last : goal.returns-in_err-round-clause-last
@@ -22,9 +22,9 @@ pub returns-in_err-run_all-clause-comes : goal.returns-in_err-run_all-clause-com
 returns-in_err-run_all-clause-comes g c =
     let e = c.in_err-run_all.field-0.0 in
     let r = c.from_residual-in_err-run_all.result in
-    comes_passed r e (passed r e c.from_residual-in_err-run_all.ensures.1)
-    (found_ran g.M.Machine.disk (g.C.Rounds.next c.args.call.now) c.args.machine.now c.next_round.new.machine c.args.engine.now c.next_round.new.engine
-    c.reads_go_on.ensures c.run_all.new.machine c.run_all.new.engine c.in_ok-round.round (Err e) c.in_ok-round.ensures.reads c.in_ok-round.ensures.answer c.in_err-run_all.ensures)
+    comes_passed g.S.Store.view r e (passed r e c.from_residual-in_err-run_all.ensures.1)
+    (found_ran g.S.Store.view g.M.Machine.disk (g.C.Rounds.next c.args.call.now) c.args.machine.now c.next_round.new.machine c.args.store.now c.next_round.new.store
+    c.calls_go_on.ensures c.run_all.new.machine c.run_all.new.store c.in_ok-round.round (Err e) c.in_ok-round.ensures.reads c.in_ok-round.ensures.answer c.in_err-run_all.ensures)
 
 pub returns-in_err-run_all-clause-last : goal.returns-in_err-run_all-clause-last
 returns-in_err-run_all-clause-last g c = λ p commands holds.
@@ -34,11 +34,11 @@ returns-in_err-run_all-clause-last g c = λ p commands holds.
 
 pub returns-clause-comes : goal.returns-clause-comes
 returns-clause-comes g c =
-    comes_ok c.is_end-last.result
-    (found_ran g.M.Machine.disk (g.C.Rounds.next c.args.call.now) c.args.machine.now c.next_round.new.machine c.args.engine.now c.next_round.new.engine
-    c.reads_go_on.ensures c.run_all.new.machine c.run_all.new.engine c.in_ok-round.round _ c.in_ok-round.ensures.reads c.in_ok-round.ensures.answer c.in_ok-run_all.ensures)
+    comes_ok g.S.Store.view c.is_end-last.result
+    (found_ran g.S.Store.view g.M.Machine.disk (g.C.Rounds.next c.args.call.now) c.args.machine.now c.next_round.new.machine c.args.store.now c.next_round.new.store
+    c.calls_go_on.ensures c.run_all.new.machine c.run_all.new.store c.in_ok-round.round _ c.in_ok-round.ensures.reads c.in_ok-round.ensures.answer c.in_ok-run_all.ensures)
 
 pub returns-clause-last : goal.returns-clause-last
 returns-clause-last g c = λ p commands holds.
     c.is_end-last.ensures
-    ∙ found_last g.M.Machine.disk (g.C.Rounds.next c.args.call.now) c.args.machine.now c.next_round.new.machine c.args.engine.now c.next_round.new.engine c.in_ok-round.round c.in_ok-round.ensures.answer p commands holds
+    ∙ found_last g.S.Store.view g.M.Machine.disk (g.C.Rounds.next c.args.call.now) c.args.machine.now c.next_round.new.machine c.args.store.now c.next_round.new.store c.in_ok-round.round c.in_ok-round.ensures.answer p commands holds

@@ -1,4 +1,4 @@
-use Rattle.std.proofs.Common.{ap, ◌∙◌, sym, []}
+use Rattle.std.proofs.Common.{ap, ◌∙◌, sym}
 use Rattle.range_calls.specs.JoinLaws.{object_is_there}
 use Rattle.range_calls.specs.ReadLaws.{answers_passed, passed}
 use Rattle.range_calls.specs.Store.{state_of}
@@ -7,15 +7,15 @@ use Rattle.tree_client.specs.Finding.{node_answer}
 use Rattle.tree_client.proofs.nodes.node_of.Goals as goal
 
 pub returns-then-not-there-clause-answer : goal.returns-then-not-there-clause-answer
-returns-then-not-there-clause-answer g c = λ p commands holds below done. absurd (object_is_there c.args.object holds below (sym c.if-not-there.true ∙ c.in_ok-there.ensures.there))
+returns-then-not-there-clause-answer g c = λ p commands holds below done. absurd (object_is_there _ p c.args.object (g.S.Store.view.numbers p (g.M.Machine.disk c.args.machine.now) c.args.store.now commands holds) below (sym c.if-not-there.true ∙ c.in_ok-there.ensures.there))
 
 pub returns-in-Some-clause-answer : goal.returns-in-Some-clause-answer
 returns-in-Some-clause-answer g c = λ p commands holds below done.
-    ap (node_answer c.args.object) (c.in-Some.ensures (state_of p commands) (sym (c.get.ensures.value [] ∙ c.in_ok-there.ensures.value p commands holds c.if-not-there.false [])))
+    ap (node_answer c.args.object) (c.in-Some.ensures (state_of p commands) (sym (c.get.ensures.value ∙ c.in_ok-there.ensures.value p commands holds c.if-not-there.false)))
 
 pub returns-in-None-clause-answer : goal.returns-in-None-clause-answer
 returns-in-None-clause-answer g c = λ p commands holds below done.
-    ap (node_answer c.args.object) (c.in-None.ensures (state_of p commands) (sym (c.get.ensures.value [] ∙ c.in_ok-there.ensures.value p commands holds c.if-not-there.false [])))
+    ap (node_answer c.args.object) (c.in-None.ensures (state_of p commands) (sym (c.get.ensures.value ∙ c.in_ok-there.ensures.value p commands holds c.if-not-there.false)))
 
 pub returns-in_err-there-clause-answer : goal.returns-in_err-there-clause-answer
 returns-in_err-there-clause-answer g c = λ p commands holds below.

@@ -1,3 +1,4 @@
+use Rattle.range_calls.specs.JoinLaws.{nothing_reads}
 use Rattle.std.proofs.Common.{◌≡◌, ◌≤◌, ◌<◌, refl, sym, ap, ◌∙◌, subst, ℕ, ◌-◌, None, Some, List, [], Err, true, Option, arith}
 use Rattle.formats.specs.declared.params.Params.{Params}
 use Rattle.btree_ops.specs.declared.node.Node.{Node}
@@ -6,8 +7,7 @@ use Rattle.logical_btree.specs.Plan.{get_on}
 use Rattle.logical_btree.specs.Walk as walks
 use Rattle.running_store.specs.Taking.Ending.{Done}
 use Rattle.store_engine.specs.Lists.{ending_of}
-use Rattle.range_calls.specs.Store.{Command, Holds, state_of}
-use Rattle.range_calls.specs.JoinLaws.{holds_behind, nothing_reads}
+use Rattle.range_calls.specs.Store.{Command, state_of}
 use Rattle.range_calls.specs.ReadLaws.{makes_err, nothing_passed, passed, refused_passed}
 use Rattle.tree_client.specs.Answers.{TreeErr, cause_of, told}
 use Rattle.tree_client.specs.Pieces.{end_below}
@@ -20,7 +20,7 @@ loop-step-init g c =
     let lo = c.args.tree.now.lo in
     let hi = c.args.tree.now.hi in
     let all : walks.size lo hi - 0 ≡ walks.size lo hi = omega arith in record {
-      reads = nothing_reads g.M.Machine.disk c.args.machine.now c.args.machine.now c.args.engine.now c.args.engine.now c.nothing_is_made.ensures.front (c.nothing_is_made.ensures.calls c.requires.unbroken);
+      reads = nothing_reads g.S.Store.view (g.M.Machine.disk c.args.machine.now) c.args.store.now c.nothing_is_made.ensures.front (c.nothing_is_made.ensures.calls c.requires.unbroken);
       within = λ p commands holds. subst (λ (x : ℕ). x ≤ hi) (sym c.root-object.ensures) c.size-step-end.ensures.order;
       rising = refl;
       way = λ p commands holds. way_begins lo hi (state_of p commands) c.args.key None (walks.size lo hi - 0) c.root-object.result all c.root-object.ensures;
@@ -30,7 +30,7 @@ loop-step-init g c =
 pub returns-in_err-node-clause-reads : goal.returns-in_err-node-clause-reads
 returns-in_err-node-clause-reads g c =
     makes_err c.from_residual.result c.in_err-node.field-0.0 (passed c.from_residual.result c.in_err-node.field-0.0 c.from_residual.ensures.1)
-    (c.reads_go_on.ensures c.args.machine.now c.loop-step.machine c.node_of.new.machine c.args.engine.now c.loop-step.engine c.node_of.new.engine (λ p commands. []) _ c.loop-step.invariant.reads c.in_err-node.ensures.reads)
+    (c.reads_go_on.ensures.behind c.args.machine.now c.loop-step.machine c.node_of.new.machine c.args.store.now c.loop-step.store c.node_of.new.store (λ p commands. []) _ c.loop-step.invariant.reads c.in_err-node.ensures.reads)
 
 pub returns-in_err-node-clause-pairs : goal.returns-in_err-node-clause-pairs
 returns-in_err-node-clause-pairs g c = λ p commands holds.
@@ -45,16 +45,16 @@ returns-in_err-node-clause-bad g c = λ p commands holds.
     let lo = c.args.tree.now.lo in
     let hi = c.args.tree.now.hi in
     let inv = c.loop-step.invariant in
-    let fits = ap (λ (q : Params). q.objects) holds.shows.shows.store.params in
+    let fits = ap (λ (q : Params). q.objects) (g.S.Store.view.numbers p (g.M.Machine.disk c.args.machine.now) c.args.store.now commands holds) in
     let below : c.loop-step.object < p.objects = omega (arith, inv.within p commands holds, c.requires.there, fits) in
     let turn : c.loop-step._step < walks.size lo hi = omega (arith, c.loop-step-test.true, c.size-step-end.ensures.value) in
     refused_passed c.from_residual.result c.in_err-node.field-0.0 (λ (e : TreeErr). ending_of (cause_of e) ≡ Done → told (get_on c.args.key (walks.walk lo hi s c.args.key)) ≡ Err e)
     (passed c.from_residual.result c.in_err-node.field-0.0 c.from_residual.ensures.1)
-    (λ done. gets_bad lo hi s c.args.key c.loop-step._step c.loop-step.object turn c.in_err-node.field-0.0 (c.in_err-node.ensures.answer p commands (holds_behind inv.reads holds) below done) (inv.gets p commands holds))
+    (λ done. gets_bad lo hi s c.args.key c.loop-step._step c.loop-step.object turn c.in_err-node.field-0.0 (c.in_err-node.ensures.answer p commands (c.reads_go_on.ensures.holds p c.args.machine.now c.loop-step.machine c.args.store.now c.loop-step.store commands inv.reads holds) below done) (inv.gets p commands holds))
 
 pub returns-in-Leaf-clause-reads : goal.returns-in-Leaf-clause-reads
 returns-in-Leaf-clause-reads g c =
-    c.reads_go_on.ensures c.args.machine.now c.loop-step.machine c.node_of.new.machine c.args.engine.now c.loop-step.engine c.node_of.new.engine (λ p commands. []) None c.loop-step.invariant.reads c.in_ok-node.ensures.reads
+    c.reads_go_on.ensures.behind c.args.machine.now c.loop-step.machine c.node_of.new.machine c.args.store.now c.loop-step.store c.node_of.new.store (λ p commands. []) None c.loop-step.invariant.reads c.in_ok-node.ensures.reads
 
 pub returns-in-Leaf-clause-pairs : goal.returns-in-Leaf-clause-pairs
 returns-in-Leaf-clause-pairs g c = λ p commands holds.
@@ -62,10 +62,10 @@ returns-in-Leaf-clause-pairs g c = λ p commands holds.
     let lo = c.args.tree.now.lo in
     let hi = c.args.tree.now.hi in
     let inv = c.loop-step.invariant in
-    let fits = ap (λ (q : Params). q.objects) holds.shows.shows.store.params in
+    let fits = ap (λ (q : Params). q.objects) (g.S.Store.view.numbers p (g.M.Machine.disk c.args.machine.now) c.args.store.now commands holds) in
     let below : c.loop-step.object < p.objects = omega (arith, inv.within p commands holds, c.requires.there, fits) in
     let turn : c.loop-step._step < walks.size lo hi = omega (arith, c.loop-step-test.true, c.size-step-end.ensures.value) in
-    let node = node_found c.loop-step.object _ c.in_ok-node.node (c.in_ok-node.ensures.answer p commands (holds_behind inv.reads holds) below refl) ∙ ap (λ (n : Node). Some n) c.in-Leaf.is in
+    let node = node_found c.loop-step.object _ c.in_ok-node.node (c.in_ok-node.ensures.answer p commands (c.reads_go_on.ensures.holds p c.args.machine.now c.loop-step.machine c.args.store.now c.loop-step.store commands inv.reads holds) below refl) ∙ ap (λ (n : Node). Some n) c.in-Leaf.is in
     way_ends lo hi s c.args.key c.loop-step._step c.loop-step.object turn c.loop-step.end c.in-Leaf.leaf c.asked_pairs-pairs.result.items node inv.rising c.asked_pairs-pairs.ensures (inv.way p commands holds)
 
 pub returns-in-Leaf-clause-rising : goal.returns-in-Leaf-clause-rising
@@ -83,16 +83,16 @@ loop-step-preserved g c =
     let first = c.in-Inner.first in
     let branches = c.in-Inner.branches.items in
     let turn : c.loop-step._step < walks.size lo hi = omega (arith, c.loop-step-test.true, c.size-step-end.ensures.value) in
-    let below : (p : Params) (commands : List Command) → Holds p (g.M.Machine.disk c.args.machine.now) c.args.engine.now commands → c.loop-step.object < p.objects =
-    λ p commands holds. let fits = ap (λ (q : Params). q.objects) holds.shows.shows.store.params in omega (arith, inv.within p commands holds, c.requires.there, fits) in
+    let below : (p : Params) (commands : List Command) → g.S.Store.view.holds p (g.M.Machine.disk c.args.machine.now) c.args.store.now commands → c.loop-step.object < p.objects =
+    λ p commands holds. let fits = ap (λ (q : Params). q.objects) (g.S.Store.view.numbers p (g.M.Machine.disk c.args.machine.now) c.args.store.now commands holds) in omega (arith, inv.within p commands holds, c.requires.there, fits) in
     let child : c.child_for-object.result ≡ walks.child_for key first branches = c.child_for-object.ensures ∙ ap (λ (l : List (List ℕ × ℕ)). walks.child_for key first l) c.as_slice-others.ensures.value in
     let next : c.end_for-end.result ≡ end_below key c.loop-step.end branches = c.end_for-end.ensures ∙ ap (λ (l : List (List ℕ × ℕ)). end_below key c.loop-step.end l) c.as_slice-others.ensures.value in
-    let node : (p : Params) (commands : List Command) → Holds p (g.M.Machine.disk c.args.machine.now) c.args.engine.now commands
+    let node : (p : Params) (commands : List Command) → g.S.Store.view.holds p (g.M.Machine.disk c.args.machine.now) c.args.store.now commands
     → walks.node_at lo hi (state_of p commands) c.loop-step.object ≡ Some (Inner first c.in-Inner.branches) =
     λ p commands holds.
-    node_found c.loop-step.object _ c.in_ok-node.node (c.in_ok-node.ensures.answer p commands (holds_behind inv.reads holds) (below p commands holds) refl) ∙ ap (λ (n : Node). Some n) c.in-Inner.is in
+    node_found c.loop-step.object _ c.in_ok-node.node (c.in_ok-node.ensures.answer p commands (c.reads_go_on.ensures.holds p c.args.machine.now c.loop-step.machine c.args.store.now c.loop-step.store commands inv.reads holds) (below p commands holds) refl) ∙ ap (λ (n : Node). Some n) c.in-Inner.is in
     record {
-      reads = c.reads_go_on.ensures c.args.machine.now c.loop-step.machine c.node_of.new.machine c.args.engine.now c.loop-step.engine c.node_of.new.engine (λ p commands. []) None inv.reads c.in_ok-node.ensures.reads;
+      reads = c.reads_go_on.ensures.behind c.args.machine.now c.loop-step.machine c.node_of.new.machine c.args.store.now c.loop-step.store c.node_of.new.store (λ p commands. []) None inv.reads c.in_ok-node.ensures.reads;
       within = λ p commands holds.
           subst (λ (x : ℕ). x ≤ hi) (sym child) (child_within lo hi (state_of p commands) key c.loop-step.object first branches (node p commands holds));
       rising = subst (λ (e : Option (List ℕ)). walks.is_below key e ≡ true) (sym next) (key_below key c.loop-step.end branches inv.rising);

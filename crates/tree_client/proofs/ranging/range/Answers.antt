@@ -10,22 +10,21 @@ use Rattle.tree_client.specs.Scanning.{AreWithin, span}
 use Rattle.range_calls.specs.Store.{state_of}
 use Rattle.tree_client.specs.declared.part.Part.{Part}
 use Rattle.tree_client.specs.Answers.{TreeErr}
-use Rattle.range_calls.specs.JoinLaws.{holds_behind}
 use Rattle.tree_client.proofs.PlanLemmas.{is_within}
-use Rattle.range_calls.specs.ReadLaws.{adds_passed, calls_passed, passed, read_adds, refused_passed}
+use Rattle.range_calls.specs.ReadLaws.{adds_passed, calls_passed, passed, refused_passed}
 use Rattle.tree_client.proofs.ScanLemmas.{begins_scan, less_left, none_left, range_bad, range_found, scan_goes_on, scan_is_bad}
 use Rattle.tree_client.proofs.ranging.range.Goals as goal
 
 pub returns-in_err-meet-clause-adds : goal.returns-in_err-meet-clause-adds
 returns-in_err-meet-clause-adds g c = λ p commands holds.
-    adds_passed c.from_residual.result c.in_err-meet.field-0.0 (passed c.from_residual.result c.in_err-meet.field-0.0 c.from_residual.ensures.1) (read_adds c.in_err-meet.ensures.reads holds [] (λ done. refl))
+    adds_passed g.S.Store.view c.from_residual.result c.in_err-meet.field-0.0 (passed c.from_residual.result c.in_err-meet.field-0.0 c.from_residual.ensures.1) (c.in_err-meet.ensures.reads.adds p commands holds [] (λ done. refl))
 
 pub returns-in_err-meet-clause-refused : goal.returns-in_err-meet-clause-refused
 returns-in_err-meet-clause-refused g c = λ p commands holds.
     let s = state_of p commands in
     let lo = c.args.tree.now.lo in
     let hi = c.args.tree.now.hi in
-    let fits = ap (λ (q : Params). q.objects) (c.params.ensures.value ∙ holds.shows.shows.store.params) in
+    let fits = ap (λ (q : Params). q.objects) (c.params.ensures.value ∙ (g.S.Store.view.numbers p (g.M.Machine.disk c.args.machine.now) c.args.store.now commands holds)) in
     let order : lo ≤ hi = omega (arith, c.last-last.ensures.order, c.last-last.ensures.value) in
     let there = is_within (bounds_of p) lo hi order (omega (arith, c.if-last-params.false, c.last-last.ensures.value, fits)) in
     let below : c.root.result < p.objects = omega (arith, c.root.ensures, order, c.if-last-params.false, c.last-last.ensures.value, fits) in
@@ -44,7 +43,7 @@ loop-part-init g c = record {
       let s = state_of p commands in
       let lo = c.args.tree.now.lo in
       let hi = c.args.tree.now.hi in
-      let fits = ap (λ (q : Params). q.objects) (c.params.ensures.value ∙ holds.shows.shows.store.params) in
+      let fits = ap (λ (q : Params). q.objects) (c.params.ensures.value ∙ (g.S.Store.view.numbers p (g.M.Machine.disk c.args.machine.now) c.args.store.now commands holds)) in
       let order : lo ≤ hi = omega (arith, c.last-last.ensures.order, c.last-last.ensures.value) in
       let below : c.root.result < p.objects = omega (arith, c.root.ensures, order, c.if-last-params.false, c.last-last.ensures.value, fits) in
       let whole : scan lo hi s (span c.args.from.now c.args.to.now) ≡ scan_from lo hi s c.size.result (span c.args.from.now c.args.to.now) c.root.result =
@@ -54,7 +53,7 @@ loop-part-init g c = record {
   within = λ p commands holds.
       let lo = c.args.tree.now.lo in
       let hi = c.args.tree.now.hi in
-      let fits = ap (λ (q : Params). q.objects) (c.params.ensures.value ∙ holds.shows.shows.store.params) in
+      let fits = ap (λ (q : Params). q.objects) (c.params.ensures.value ∙ (g.S.Store.view.numbers p (g.M.Machine.disk c.args.machine.now) c.args.store.now commands holds)) in
       let order : lo ≤ hi = omega (arith, c.last-last.ensures.order, c.last-last.ensures.value) in
       let below : c.root.result < p.objects = omega (arith, c.root.ensures, order, c.if-last-params.false, c.last-last.ensures.value, fits) in
       let goes = c.in_ok-meet.ensures.ok p commands holds below (subst (λ (l : List Part). AreWithin lo hi l) (sym c.new-parts.ensures.items) refl) in
@@ -66,30 +65,30 @@ loop-part-smaller g c = less_left c.loop-part.scan.parts.items c.pop.new.self.it
 
 pub loop-part-preserved : goal.loop-part-preserved
 loop-part-preserved g c = let inv = c.loop-part.invariant in record {
-  reads = c.reads_go_on.ensures c.args.machine.now c.loop-part.machine c.meet_part.new.machine c.args.engine.now c.loop-part.engine c.meet_part.new.engine (λ p commands. []) None inv.reads c.in_ok-meet_part.ensures.reads;
+  reads = c.reads_go_on.ensures.behind c.args.machine.now c.loop-part.machine c.meet_part.new.machine c.args.store.now c.loop-part.store c.meet_part.new.store (λ p commands. []) None inv.reads c.in_ok-meet_part.ensures.reads;
   same = λ p commands holds.
       let lo = c.args.tree.now.lo in
       let hi = c.args.tree.now.hi in
       let within = subst (λ (l : List Part). AreWithin lo hi l) c.in-Some.ensures.items (inv.within p commands holds) in
       scan_goes_on (bounds_of p) lo hi (state_of p commands) c.args.from.now c.args.to.now c.in-Some.part c.loop-part.scan.parts.items c.pop.new.self.items c.meet_part.new.scan.parts.items c.loop-part.scan.pairs.items c.meet_part.new.scan.pairs.items
-      c.in-Some.ensures.items (inv.same p commands holds) (c.in_ok-meet_part.ensures.ok p commands (holds_behind inv.reads holds) within);
+      c.in-Some.ensures.items (inv.same p commands holds) (c.in_ok-meet_part.ensures.ok p commands (c.reads_go_on.ensures.holds p c.args.machine.now c.loop-part.machine c.args.store.now c.loop-part.store commands inv.reads holds) within);
   within = λ p commands holds.
       let lo = c.args.tree.now.lo in
       let hi = c.args.tree.now.hi in
       let within = subst (λ (l : List Part). AreWithin lo hi l) c.in-Some.ensures.items (inv.within p commands holds) in
-      let goes = c.in_ok-meet_part.ensures.ok p commands (holds_behind inv.reads holds) within in
+      let goes = c.in_ok-meet_part.ensures.ok p commands (c.reads_go_on.ensures.holds p c.args.machine.now c.loop-part.machine c.args.store.now c.loop-part.store commands inv.reads holds) within in
       goes.within;
 }
 
 pub returns-in_err-meet_part-clause-calls : goal.returns-in_err-meet_part-clause-calls
 returns-in_err-meet_part-clause-calls g c =
-    let reads = c.reads_go_on.ensures c.args.machine.now c.loop-part.machine c.meet_part.new.machine c.args.engine.now c.loop-part.engine c.meet_part.new.engine (λ p commands. []) (cause_of c.in_err-meet_part.field-0.0) c.loop-part.invariant.reads c.in_err-meet_part.ensures.reads in
-    calls_passed c.from_residual-in_err-meet_part.result c.in_err-meet_part.field-0.0 (passed c.from_residual-in_err-meet_part.result c.in_err-meet_part.field-0.0 c.from_residual-in_err-meet_part.ensures.1) reads.calls
+    let reads = c.reads_go_on.ensures.behind c.args.machine.now c.loop-part.machine c.meet_part.new.machine c.args.store.now c.loop-part.store c.meet_part.new.store (λ p commands. []) (cause_of c.in_err-meet_part.field-0.0) c.loop-part.invariant.reads c.in_err-meet_part.ensures.reads in
+    calls_passed g.S.Store.view c.from_residual-in_err-meet_part.result c.in_err-meet_part.field-0.0 (passed c.from_residual-in_err-meet_part.result c.in_err-meet_part.field-0.0 c.from_residual-in_err-meet_part.ensures.1) reads.calls
 
 pub returns-in_err-meet_part-clause-adds : goal.returns-in_err-meet_part-clause-adds
 returns-in_err-meet_part-clause-adds g c = λ p commands holds.
-    let reads = c.reads_go_on.ensures c.args.machine.now c.loop-part.machine c.meet_part.new.machine c.args.engine.now c.loop-part.engine c.meet_part.new.engine (λ p commands. []) (cause_of c.in_err-meet_part.field-0.0) c.loop-part.invariant.reads c.in_err-meet_part.ensures.reads in
-    adds_passed c.from_residual-in_err-meet_part.result c.in_err-meet_part.field-0.0 (passed c.from_residual-in_err-meet_part.result c.in_err-meet_part.field-0.0 c.from_residual-in_err-meet_part.ensures.1) (read_adds reads holds [] (λ done. refl))
+    let reads = c.reads_go_on.ensures.behind c.args.machine.now c.loop-part.machine c.meet_part.new.machine c.args.store.now c.loop-part.store c.meet_part.new.store (λ p commands. []) (cause_of c.in_err-meet_part.field-0.0) c.loop-part.invariant.reads c.in_err-meet_part.ensures.reads in
+    adds_passed g.S.Store.view c.from_residual-in_err-meet_part.result c.in_err-meet_part.field-0.0 (passed c.from_residual-in_err-meet_part.result c.in_err-meet_part.field-0.0 c.from_residual-in_err-meet_part.ensures.1) (reads.adds p commands holds [] (λ done. refl))
 
 pub returns-in_err-meet_part-clause-refused : goal.returns-in_err-meet_part-clause-refused
 returns-in_err-meet_part-clause-refused g c = λ p commands holds.
@@ -97,7 +96,7 @@ returns-in_err-meet_part-clause-refused g c = λ p commands holds.
     let lo = c.args.tree.now.lo in
     let hi = c.args.tree.now.hi in
     let inv = c.loop-part.invariant in
-    let fits = ap (λ (q : Params). q.objects) (c.params.ensures.value ∙ holds.shows.shows.store.params) in
+    let fits = ap (λ (q : Params). q.objects) (c.params.ensures.value ∙ (g.S.Store.view.numbers p (g.M.Machine.disk c.args.machine.now) c.args.store.now commands holds)) in
     let order : lo ≤ hi = omega (arith, c.last-last.ensures.order, c.last-last.ensures.value) in
     let there = is_within (bounds_of p) lo hi order (omega (arith, c.if-last-params.false, c.last-last.ensures.value, fits)) in
     let within = subst (λ (l : List Part). AreWithin lo hi l) c.in-Some.ensures.items (inv.within p commands holds) in
@@ -105,19 +104,19 @@ returns-in_err-meet_part-clause-refused g c = λ p commands holds.
     (passed c.from_residual-in_err-meet_part.result c.in_err-meet_part.field-0.0 c.from_residual-in_err-meet_part.ensures.1)
     (λ done. range_bad (bounds_of p) lo hi s c.args.from.now c.args.to.now there c.in_err-meet_part.field-0.0
     (scan_is_bad (bounds_of p) lo hi s c.args.from.now c.args.to.now c.in-Some.part c.loop-part.scan.parts.items c.pop.new.self.items c.loop-part.scan.pairs.items c.in_err-meet_part.field-0.0 c.in-Some.ensures.items (inv.same p commands holds)
-    (c.in_err-meet_part.ensures.bad p commands (holds_behind inv.reads holds) within done)))
+    (c.in_err-meet_part.ensures.bad p commands (c.reads_go_on.ensures.holds p c.args.machine.now c.loop-part.machine c.args.store.now c.loop-part.store commands inv.reads holds) within done)))
 
 pub returns-clause-calls : goal.returns-clause-calls
 returns-clause-calls g c = c.loop-part.invariant.reads.calls
 
 pub returns-clause-adds : goal.returns-clause-adds
-returns-clause-adds g c = λ p commands holds. read_adds c.loop-part.invariant.reads holds [] (λ done. refl)
+returns-clause-adds g c = λ p commands holds. c.loop-part.invariant.reads.adds p commands holds [] (λ done. refl)
 
 pub returns-clause-pairs : goal.returns-clause-pairs
 returns-clause-pairs g c = λ p commands holds.
     let lo = c.args.tree.now.lo in
     let hi = c.args.tree.now.hi in
-    let fits = ap (λ (q : Params). q.objects) (c.params.ensures.value ∙ holds.shows.shows.store.params) in
+    let fits = ap (λ (q : Params). q.objects) (c.params.ensures.value ∙ (g.S.Store.view.numbers p (g.M.Machine.disk c.args.machine.now) c.args.store.now commands holds)) in
     let order : lo ≤ hi = omega (arith, c.last-last.ensures.order, c.last-last.ensures.value) in
     let there = is_within (bounds_of p) lo hi order (omega (arith, c.if-last-params.false, c.last-last.ensures.value, fits)) in
     range_found (bounds_of p) lo hi (state_of p commands) c.args.from.now c.args.to.now there c.loop-part.scan.pairs.items c.loop-part.scan.parts.items (none_left c.loop-part.scan.parts.items (sym c.loop-part.scan.parts.ok.0 ∙ c.in_default.ensures.cases.0)) (c.loop-part.invariant.same p commands holds)

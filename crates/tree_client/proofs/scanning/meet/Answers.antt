@@ -10,14 +10,14 @@ use Rattle.tree_client.specs.Answers.{TreeErr}
 use Rattle.std.specs.List.{filter}
 use Rattle.std.specs.Prelude.{length, ◌++◌, ◌^◌}
 use Rattle.tree_client.specs.declared.part.Part.{Part}
-use Rattle.range_calls.specs.JoinLaws.{not_refused, nothing_reads, reads_then}
+use Rattle.range_calls.specs.JoinLaws.{not_refused, reads_then, nothing_reads}
 use Rattle.range_calls.specs.ReadLaws.{passed, refused_passed}
 use Rattle.tree_client.proofs.ScanLemmas.{bad_met, inner_met, leaf_met, lighter_with, lighter_without, on_ok}
 use Rattle.tree_client.proofs.WalkLemmas.{node_found}
 use Rattle.tree_client.proofs.scanning.meet.Goals as goal
 
 pub returns-then-depth-eq0-clause-reads : goal.returns-then-depth-eq0-clause-reads
-returns-then-depth-eq0-clause-reads g c = nothing_reads g.M.Machine.disk c.args.machine.now c.args.machine.now c.args.engine.now c.args.engine.now c.nothing_is_made.ensures.front (c.nothing_is_made.ensures.calls c.requires.unbroken)
+returns-then-depth-eq0-clause-reads g c = nothing_reads g.S.Store.view (g.M.Machine.disk c.args.machine.now) c.args.store.now c.nothing_is_made.ensures.front (c.nothing_is_made.ensures.calls c.requires.unbroken)
 
 pub returns-in_err-leaf-clause-bad : goal.returns-in_err-leaf-clause-bad
 returns-in_err-leaf-clause-bad g c = λ p commands holds below.
@@ -28,7 +28,7 @@ returns-in_err-leaf-clause-bad g c = λ p commands holds below.
     (λ done. bad_met c.args.tree.now.lo c.args.tree.now.hi (state_of p commands) c.args.depth c.args.object (span c.args.from c.args.to) c.in_err-leaf.field-0.0 some (c.in_err-leaf.ensures.answer p commands holds below done))
 
 pub returns-in-Leaf-clause-reads : goal.returns-in-Leaf-clause-reads
-returns-in-Leaf-clause-reads g c = reads_then g.M.Machine.disk c.reads_run_short.ensures c.args.machine.now c.node_of.new.machine c.args.engine.now c.node_of.new.engine c.push_pairs.result c.in_ok-leaf.ensures.reads c.push_pairs.ensures.memory
+returns-in-Leaf-clause-reads g c = reads_then g.S.Store.view g.M.Machine.disk c.reads_run_short.ensures c.args.machine.now c.node_of.new.machine c.args.store.now c.node_of.new.store c.push_pairs.result c.in_ok-leaf.ensures.reads c.push_pairs.ensures.memory
 
 pub returns-in-Leaf-clause-ok : goal.returns-in-Leaf-clause-ok
 returns-in-Leaf-clause-ok g c = λ p commands holds below within.
@@ -47,7 +47,7 @@ pub returns-in-Leaf-clause-lighter : goal.returns-in-Leaf-clause-lighter
 returns-in-Leaf-clause-lighter g c = on_ok c.push_pairs.result (λ pushed. lighter_without c.args.scan.now.parts.items c.args.depth) c.push_pairs.ensures.ok
 
 pub returns-in-Inner-clause-reads : goal.returns-in-Inner-clause-reads
-returns-in-Inner-clause-reads g c = reads_then g.M.Machine.disk c.reads_run_short.ensures c.args.machine.now c.node_of.new.machine c.args.engine.now c.node_of.new.engine c.push_part.result c.in_ok-leaf.ensures.reads c.push_part.ensures.memory
+returns-in-Inner-clause-reads g c = reads_then g.S.Store.view g.M.Machine.disk c.reads_run_short.ensures c.args.machine.now c.node_of.new.machine c.args.store.now c.node_of.new.store c.push_part.result c.in_ok-leaf.ensures.reads c.push_part.ensures.memory
 
 pub returns-in-Inner-clause-ok : goal.returns-in-Inner-clause-ok
 returns-in-Inner-clause-ok g c = λ p commands holds below within.

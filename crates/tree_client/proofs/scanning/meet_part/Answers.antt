@@ -6,7 +6,7 @@ use Rattle.oper_core.specs.State.{start}
 use Rattle.running_store.specs.Taking.Ending.{Done}
 use Rattle.store_engine.specs.Lists.{ending_of}
 use Rattle.tree_client.specs.Answers.{cause_of}
-use Rattle.range_calls.specs.Making.{Reads}
+use Rattle.store_calls.specs.Making.{Reads}
 use Rattle.tree_client.specs.Scanning.{IsBad, part_scan}
 use Rattle.tree_client.specs.Answers.{TreeErr}
 use Rattle.range_calls.specs.JoinLaws.{memory_is_short, nothing_reads}
@@ -18,7 +18,7 @@ pub returns-then-is_empty-clause-ok : goal.returns-then-is_empty-clause-ok
 returns-then-is_empty-clause-ok g c = λ p commands holds within.
     let lo = c.args.tree.now.lo in
     let hi = c.args.tree.now.hi in
-    let fits = ap (λ (q : Params). q.objects) holds.shows.shows.store.params in
+    let fits = ap (λ (q : Params). q.objects) (g.S.Store.view.numbers p (g.M.Machine.disk c.args.machine.now) c.args.store.now commands holds) in
     let below : c.args.part.child < p.objects = omega (arith, part_within lo hi c.args.scan.now.parts.items c.args.part within, c.requires.there, fits) in
     on_ok c.meet_child.result (last_goes lo hi (state_of p commands) c.args.part c.args.scan.now.parts.items c.args.scan.now.pairs.items c.meet_child.new.scan.parts.items c.meet_child.new.scan.pairs.items (no_branch c.args.part.branches.items c.if-is_empty.ensures))
     (c.meet_child.ensures.ok p commands holds below (parts_within lo hi c.args.scan.now.parts.items c.args.part within))
@@ -27,7 +27,7 @@ pub returns-then-is_empty-clause-bad : goal.returns-then-is_empty-clause-bad
 returns-then-is_empty-clause-bad g c = λ p commands holds within.
     let lo = c.args.tree.now.lo in
     let hi = c.args.tree.now.hi in
-    let fits = ap (λ (q : Params). q.objects) holds.shows.shows.store.params in
+    let fits = ap (λ (q : Params). q.objects) (g.S.Store.view.numbers p (g.M.Machine.disk c.args.machine.now) c.args.store.now commands holds) in
     let below : c.args.part.child < p.objects = omega (arith, part_within lo hi c.args.scan.now.parts.items c.args.part within, c.requires.there, fits) in
     if_err c.meet_child.result (λ e bad done. last_bad lo hi (state_of p commands) c.args.part e (no_branch c.args.part.branches.items c.if-is_empty.ensures) (bad done)) (c.meet_child.ensures.bad p commands holds below)
 
@@ -39,9 +39,9 @@ returns-then-is_empty-clause-lighter g c =
 pub returns-in_err-push_part-clause-reads : goal.returns-in_err-push_part-clause-reads
 returns-in_err-push_part-clause-reads g c =
     makes_err c.from_residual.result c.in_err-push_part.field-0.0 (passed c.from_residual.result c.in_err-push_part.field-0.0 c.from_residual.ensures.1)
-    (subst (λ (e : TreeErr). Reads (g.M.Machine.disk c.args.machine.now) (g.M.Machine.disk c.args.machine.now) c.args.engine.now c.args.engine.now (cause_of e)) (sym c.in_err-push_part.ensures.memory)
-    (c.reads_run_short.ensures c.args.machine.now c.args.machine.now c.args.engine.now c.args.engine.now
-    (nothing_reads g.M.Machine.disk c.args.machine.now c.args.machine.now c.args.engine.now c.args.engine.now c.nothing_is_made.ensures.front (c.nothing_is_made.ensures.calls c.requires.unbroken))))
+    (subst (λ (e : TreeErr). Reads g.S.Store.view (g.M.Machine.disk c.args.machine.now) (g.M.Machine.disk c.args.machine.now) c.args.store.now c.args.store.now (cause_of e)) (sym c.in_err-push_part.ensures.memory)
+    (c.reads_run_short.ensures c.args.machine.now c.args.machine.now c.args.store.now c.args.store.now
+    (nothing_reads g.S.Store.view (g.M.Machine.disk c.args.machine.now) c.args.store.now c.nothing_is_made.ensures.front (c.nothing_is_made.ensures.calls c.requires.unbroken))))
 
 pub returns-in_err-push_part-clause-bad : goal.returns-in_err-push_part-clause-bad
 returns-in_err-push_part-clause-bad g c = λ p commands holds within.
@@ -52,7 +52,7 @@ pub returns-clause-ok : goal.returns-clause-ok
 returns-clause-ok g c = λ p commands holds within.
     let lo = c.args.tree.now.lo in
     let hi = c.args.tree.now.hi in
-    let fits = ap (λ (q : Params). q.objects) holds.shows.shows.store.params in
+    let fits = ap (λ (q : Params). q.objects) (g.S.Store.view.numbers p (g.M.Machine.disk c.args.machine.now) c.args.store.now commands holds) in
     let below : c.args.part.child < p.objects = omega (arith, part_within lo hi c.args.scan.now.parts.items c.args.part within, c.requires.there, fits) in
     let rest : Part = record { child = c.remove-key.result.1; branches = c.remove-key.new.self; depth = c.args.part.depth; from = c.greater.result; to = c.args.part.to } in
     let taken = first_taken c.args.part.branches.items c.remove-key.new.self.items c.remove-key.result c.if-is_empty.ensures c.remove-key.ensures.value c.remove-key.ensures.items in
@@ -67,7 +67,7 @@ pub returns-clause-bad : goal.returns-clause-bad
 returns-clause-bad g c = λ p commands holds within.
     let lo = c.args.tree.now.lo in
     let hi = c.args.tree.now.hi in
-    let fits = ap (λ (q : Params). q.objects) holds.shows.shows.store.params in
+    let fits = ap (λ (q : Params). q.objects) (g.S.Store.view.numbers p (g.M.Machine.disk c.args.machine.now) c.args.store.now commands holds) in
     let below : c.args.part.child < p.objects = omega (arith, part_within lo hi c.args.scan.now.parts.items c.args.part within, c.requires.there, fits) in
     let rest : Part = record { child = c.remove-key.result.1; branches = c.remove-key.new.self; depth = c.args.part.depth; from = c.greater.result; to = c.args.part.to } in
     let taken = first_taken c.args.part.branches.items c.remove-key.new.self.items c.remove-key.result c.if-is_empty.ensures c.remove-key.ensures.value c.remove-key.ensures.items in

@@ -5,7 +5,7 @@ use Rattle.hash_client.proofs.PutLemmas.{is_within, put_due}
 use Rattle.hash_client.proofs.putting.NewPairTurns.commands_are_due.Goals as goal
 
 pub returns : goal.returns
-returns c = λ p s op within.
+returns g c = λ p s op within.
     let b = bounds_of p in
     let lo = c.args.self.now.file.now.lo in
     let hi = c.args.self.now.file.now.hi in

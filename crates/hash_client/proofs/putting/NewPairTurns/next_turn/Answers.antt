@@ -6,8 +6,7 @@ use Rattle.op_codec.specs.AllOps.{hash}
 use Rattle.call_plans.specs.Free.{free_from}
 use Rattle.hash_file.specs.Find.{Met, find_bucket, found, unused}
 use Rattle.hash_file.specs.Plan.{put_next, put_on}
-use Rattle.range_calls.specs.JoinLaws.{holds_behind}
-use Rattle.range_calls.specs.Making.{Reads}
+use Rattle.store_calls.specs.Making.{Reads}
 use Rattle.range_calls.specs.ReadLaws.{answers_passed, passed}
 use Rattle.range_calls.specs.Store.{state_of}
 use Rattle.range_calls.specs.Turns.{turn_answer}
@@ -28,11 +27,11 @@ returns-in_err-met-clause-answer g c = λ p commands holds.
 
 pub returns-in-Some-clause-reads : goal.returns-in-Some-clause-reads
 returns-in-Some-clause-reads g c =
-    subst (λ (e : Option ExecErr). Reads (g.M.Machine.disk c.args.machine.now) (g.M.Machine.disk c.find_bucket.new.machine) c.args.engine.now c.find_bucket.new.engine e) (sym c.put_turn.ensures.found) c.in_ok-met.ensures.reads
+    subst (λ (e : Option ExecErr). Reads g.S.Store.view (g.M.Machine.disk c.args.machine.now) (g.M.Machine.disk c.find_bucket.new.machine) c.args.store.now c.find_bucket.new.store e) (sym c.put_turn.ensures.found) c.in_ok-met.ensures.reads
 
 pub returns-in-None-clause-reads : goal.returns-in-None-clause-reads
 returns-in-None-clause-reads g c =
-    subst (λ (e : Option ExecErr). Reads (g.M.Machine.disk c.args.machine.now) (g.M.Machine.disk c.find_bucket.new.machine) c.args.engine.now c.find_bucket.new.engine e) (sym c.begin_turn.ensures.found) c.in_ok-met.ensures.reads
+    subst (λ (e : Option ExecErr). Reads g.S.Store.view (g.M.Machine.disk c.args.machine.now) (g.M.Machine.disk c.find_bucket.new.machine) c.args.store.now c.find_bucket.new.store e) (sym c.begin_turn.ensures.found) c.in_ok-met.ensures.reads
 
 pub returns-in-Some-clause-answer : goal.returns-in-Some-clause-answer
 returns-in-Some-clause-answer g c = λ p commands holds done.
@@ -41,8 +40,8 @@ returns-in-Some-clause-answer g c = λ p commands holds done.
     let hi = c.args.self.now.file.now.hi in
     let key = c.args.self.now.key in
     let told = subst (λ (o : Option Found). Ok o ≡ met_answer (find_bucket lo hi s key)) c.in-Some.is (c.in_ok-met.ensures.answer p commands holds refl) in
-    let fits = ap (λ (q : Params). q.objects) holds.shows.shows.store.params in
-    c.put_turn.ensures.answer p commands (holds_behind c.in_ok-met.ensures.reads holds) (omega (arith, c.requires.there, fits))
+    let fits = ap (λ (q : Params). q.objects) (g.S.Store.view.numbers p (g.M.Machine.disk c.args.machine.now) c.args.store.now commands holds) in
+    c.put_turn.ensures.answer p commands (c.reads_go_on.ensures.holds p c.args.machine.now c.find_bucket.new.machine c.args.store.now c.find_bucket.new.store commands c.in_ok-met.ensures.reads holds) (omega (arith, c.requires.there, fits))
     ∙ ap (λ (l : List ℕ). turn_answer hash (put_on lo key c.args.self.now.value l (found c.in-Some.found.object c.in-Some.found.bucket))) (free_is s lo hi)
     ∙ sym (ap (λ (m : Met). turn_answer hash (put_on lo key c.args.self.now.value (free_from s (suc lo) (hi - lo)) m)) (found_met (find_bucket lo hi s key) c.in-Some.found told))
 
@@ -53,7 +52,7 @@ returns-in-None-clause-answer g c = λ p commands holds done.
     let hi = c.args.self.now.file.now.hi in
     let key = c.args.self.now.key in
     let told = subst (λ (o : Option Found). Ok o ≡ met_answer (find_bucket lo hi s key)) c.in-None.is (c.in_ok-met.ensures.answer p commands holds refl) in
-    let fits = ap (λ (q : Params). q.objects) holds.shows.shows.store.params in
-    c.begin_turn.ensures.answer p commands (holds_behind c.in_ok-met.ensures.reads holds) (omega (arith, c.requires.there, fits))
+    let fits = ap (λ (q : Params). q.objects) (g.S.Store.view.numbers p (g.M.Machine.disk c.args.machine.now) c.args.store.now commands holds) in
+    c.begin_turn.ensures.answer p commands (c.reads_go_on.ensures.holds p c.args.machine.now c.find_bucket.new.machine c.args.store.now c.find_bucket.new.store commands c.in_ok-met.ensures.reads holds) (omega (arith, c.requires.there, fits))
     ∙ ap (λ (l : List ℕ). turn_answer hash (put_on lo key c.args.self.now.value l unused)) (free_is s lo hi)
     ∙ sym (ap (λ (m : Met). turn_answer hash (put_on lo key c.args.self.now.value (free_from s (suc lo) (hi - lo)) m)) (unused_met (find_bucket lo hi s key) told))

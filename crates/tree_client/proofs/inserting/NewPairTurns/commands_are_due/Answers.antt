@@ -6,7 +6,7 @@ use Rattle.tree_client.proofs.TurnLemmas.{insert_due}
 use Rattle.tree_client.proofs.inserting.NewPairTurns.commands_are_due.Goals as goal
 
 pub returns : goal.returns
-returns c = λ p s op within.
+returns g c = λ p s op within.
     let b = bounds_of p in
     let lo = c.args.self.now.tree.now.lo in
     let hi = c.args.self.now.tree.now.hi in

@@ -6,8 +6,7 @@ use Rattle.key_entries.specs.Pairs.{has}
 use Rattle.op_codec.specs.AllOps.{node}
 use Rattle.logical_btree.specs.Plan.{TreeNext, insert_next}
 use Rattle.logical_btree.specs.Walk.{Pair, walk}
-use Rattle.range_calls.specs.JoinLaws.{holds_behind}
-use Rattle.range_calls.specs.Making.{Reads}
+use Rattle.store_calls.specs.Making.{Reads}
 use Rattle.range_calls.specs.ReadLaws.{answers_passed, passed}
 use Rattle.range_calls.specs.Store.{Command, state_of}
 use Rattle.range_calls.specs.Turns.{turn_answer}
@@ -54,7 +53,7 @@ returns-in-None-clause-answer g c = λ p commands holds done.
 
 pub returns-in-Some-clause-reads : goal.returns-in-Some-clause-reads
 returns-in-Some-clause-reads g c =
-    subst (λ (e : Option ExecErr). Reads (g.M.Machine.disk c.args.machine.now) (g.M.Machine.disk c.walk.new.machine) c.args.engine.now c.walk.new.engine e) (sym c.split_turn.ensures.found) c.in_ok-found.ensures.reads
+    subst (λ (e : Option ExecErr). Reads g.S.Store.view (g.M.Machine.disk c.args.machine.now) (g.M.Machine.disk c.walk.new.machine) c.args.store.now c.walk.new.store e) (sym c.split_turn.ensures.found) c.in_ok-found.ensures.reads
 
 pub returns-in-Some-clause-answer : goal.returns-in-Some-clause-answer
 returns-in-Some-clause-answer g c = λ p commands holds done.
@@ -64,9 +63,9 @@ returns-in-Some-clause-answer g c = λ p commands holds done.
     let key = c.args.self.now.key in
     let found = end_of_way (walk lo hi s key) c.in_ok-found.found (c.in_ok-found.ensures.answer p commands holds refl) in
     let absent : has key c.in_ok-found.found.pairs.items ≡ false = ap (λ (l : List Pair). has key l) (sym c.as_slice.ensures.value) ∙ sym c.if-has_key.ensures in
-    let fits = ap (λ (q : Params). q.objects) holds.shows.shows.store.params in
+    let fits = ap (λ (q : Params). q.objects) (g.S.Store.view.numbers p (g.M.Machine.disk c.args.machine.now) c.args.store.now commands holds) in
     let within : hi < p.objects = omega (arith, c.requires.there, fits) in
-    let told = c.split_turn.ensures.answer p commands (holds_behind c.in_ok-found.ensures.reads holds) within in
+    let told = c.split_turn.ensures.answer p commands (c.reads_go_on.ensures.holds p c.args.machine.now c.walk.new.machine c.args.store.now c.walk.new.store commands c.in_ok-found.ensures.reads holds) within in
     let same = rw c.in-Some.is at told in
     same
     ∙ sym (ap (λ (n : TreeNext). turn_answer node n) (next_split (bounds_of p) lo hi s key c.args.self.now.value c.in_ok-found.found found absent c.in-Some.full c.in-Some.is))
