@@ -10,6 +10,8 @@ use Rattle.app_steps.specs.Steps.{IsRefusedAtOnce, HasAnswer, ends_a_run, steps,
 use Rattle.btree_ops.specs.declared.node_op.NodeOp.{NodeOp}
 use Rattle.running_store.specs.Taking.Ending.{Done, Stopped}
 use Rattle.store_engine.specs.Lists.{AddsFront, AreCalls, ending_of}
+use Rattle.store_calls.specs.Making.{Calls}
+use Rattle.store_calls.specs.OfEngine.{AddsInWorlds, engine_view}
 use Rattle.execution.specs.declared.exec_err.ExecErr.{ExecErr}
 use Rattle.execution.specs.declared.exec_err.ExecErr.TheVariants as exec_errors
 use Rattle.logical_btree.specs.Plan.{TreePlan, is_there}
@@ -85,33 +87,33 @@ module _ (p : Params) (commands : List Command) (step : Command) where
 module _ (old now : Disk) (before after : EngineView) (request : Request) (step : Command) (n : ℕ) (makes : (p : Params) (commands : List Command) → made_by p commands request ≡ Some (run_made p commands step n)) where
   -- it adds its steps, as many as are accepted, or some first of them
   abbrev Steps : Option ExecErr → Type 0
-  Steps error = (p : Params) (commands : List Command) → (holds : of_engine.Holds all_meaning p old before commands) → AddsFront all_meaning p old now before after holds.world commands (steps p commands step n) (ending_of error)
+  Steps error = (p : Params) (commands : List Command) → of_engine.Holds all_meaning p old before commands → AddsInWorlds all_meaning p old now before after commands (steps p commands step n) (ending_of error)
 
   abbrev Answers : Result ℕ ExecErr → Type 0
   Answers result = (p : Params) (commands : List Command) → of_engine.Holds all_meaning p old before commands → HasAnswer p commands step n result
 
-  pub ran_well : (k : ℕ) → AreCalls all_meaning old now before after None → Steps None → Answers (Ok k) → IsMade old now before after request (Ok (answers.Ran k))
+  pub ran_well : (k : ℕ) → Calls (engine_view all_meaning) old now before after None → Steps None → Answers (Ok k) → IsMade old now before after request (Ok (answers.Ran k))
   ran_well k calls adds answer = record {
     error = None;
-    calls = calls;
+    calls = calls.own;
     ended = (answers.Ran k, refl);
     adds = λ p commands holds. (
       run_made p commands step n,
       makes p commands,
-      adds p commands (in_engine holds),
+      adds p commands (in_engine holds) holds.world holds.shows holds.commands_are,
       (answers.Ran k, refl, run_is p commands step n k (answer p commands (in_engine holds))),
     );
   }
 
-  pub ran_badly : (e : ExecErr) {r : Result Answer Early} → AreCalls all_meaning old now before after (Some e) → Steps (Some e) → Answers (Err e) → r ≡ answer_of_error e → IsMade old now before after request r
+  pub ran_badly : (e : ExecErr) {r : Result Answer Early} → Calls (engine_view all_meaning) old now before after (Some e) → Steps (Some e) → Answers (Err e) → r ≡ answer_of_error e → IsMade old now before after request r
   ran_badly e calls adds answer is = record {
     error = Some e;
-    calls = calls;
+    calls = calls.own;
     ended = error_ends e is;
     adds = λ p commands holds. (
       run_made p commands step n,
       makes p commands,
-      adds p commands (in_engine holds),
+      adds p commands (in_engine holds) holds.world holds.shows holds.commands_are,
       error_answers e is (run_refused p commands step n e (answer p commands (in_engine holds))),
     );
   }
@@ -265,35 +267,35 @@ module _ (old now : Disk) (before after : EngineView) (request : Request) (plann
 
   -- it has added the commands of its plan, or a front of them
   abbrev Adds : Range → Option ExecErr → Type 0
-  Adds t error = (p : Params) (commands : List Command) → (holds : of_engine.Holds all_meaning p old before commands)
-      → AddsFront all_meaning p old now before after holds.world commands (made_of p.cap (planned p commands t).commands) (ending_of error)
+  Adds t error = (p : Params) (commands : List Command) → of_engine.Holds all_meaning p old before commands
+      → AddsInWorlds all_meaning p old now before after commands (made_of p.cap (planned p commands t).commands) (ending_of error)
 
   -- and ended as the plan says
   abbrev Ends : Range → Option TreeErr → Option ExecErr → Type 0
   Ends t refusal error = (p : Params) (commands : List Command) → of_engine.Holds all_meaning p old before commands → ending_of error ≡ Done → refusal ≡ refused_in p.cap (planned p commands t)
 
-  pub made_well : (t : Range) → t ≡ its → AreCalls all_meaning old now before after None → Adds t None → Ends t None None → IsMade old now before after request (Ok answers.Done)
+  pub made_well : (t : Range) → t ≡ its → Calls (engine_view all_meaning) old now before after None → Adds t None → Ends t None None → IsMade old now before after request (Ok answers.Done)
   made_well t is calls adds ends = record {
     error = None;
-    calls = calls;
+    calls = calls.own;
     ended = (answers.Done, refl);
     adds = λ p commands holds. (
       plan_made p (planned p commands its),
       makes p commands,
-      subst (λ (x : Range). Adds x None) is adds p commands (in_engine holds),
+      subst (λ (x : Range). Adds x None) is adds p commands (in_engine holds) holds.world holds.shows holds.commands_are,
       (answers.Done, refl, plan_ok p (planned p commands its) (subst (λ (x : Range). Ends x None None) is ends p commands (in_engine holds) refl)),
     );
   }
 
-  pub made_badly : (t : Range) (e : TreeErr) {r : Result Answer Early} → t ≡ its → AreCalls all_meaning old now before after (cause_of e) → Adds t (cause_of e) → Ends t (Some e) (cause_of e) → r ≡ answer_of_tree_error e → IsMade old now before after request r
+  pub made_badly : (t : Range) (e : TreeErr) {r : Result Answer Early} → t ≡ its → Calls (engine_view all_meaning) old now before after (cause_of e) → Adds t (cause_of e) → Ends t (Some e) (cause_of e) → r ≡ answer_of_tree_error e → IsMade old now before after request r
   made_badly t e is calls adds ends answered = record {
     error = cause_of e;
-    calls = calls;
+    calls = calls.own;
     ended = tree_ends e answered;
     adds = λ p commands holds. (
       plan_made p (planned p commands its),
       makes p commands,
-      subst (λ (x : Range). Adds x (cause_of e)) is adds p commands (in_engine holds),
+      subst (λ (x : Range). Adds x (cause_of e)) is adds p commands (in_engine holds) holds.world holds.shows holds.commands_are,
       tree_answers e answered (λ done. plan_err p (planned p commands its) e (subst (λ (x : Range). Ends x (Some e) (cause_of e)) is ends p commands (in_engine holds) done)),
     );
   }
@@ -324,22 +326,22 @@ module _ (old now : Disk) (before after : EngineView) {T : Type 0} (reply : Resu
 
   -- it adds nothing
   abbrev Reads : Option ExecErr → Type 0
-  Reads error = (p : Params) (commands : List Command) → (holds : of_engine.Holds all_meaning p old before commands) → AddsFront all_meaning p old now before after holds.world commands [] (ending_of error)
+  Reads error = (p : Params) (commands : List Command) → of_engine.Holds all_meaning p old before commands → AddsInWorlds all_meaning p old now before after commands [] (ending_of error)
 
-  pub asked_well : (t : Range) (found : Found) → t ≡ here → AreCalls all_meaning old now before after None → Reads None
+  pub asked_well : (t : Range) (found : Found) → t ≡ here → Calls (engine_view all_meaning) old now before after None → Reads None
       → ((p : Params) (commands : List Command) → of_engine.Holds all_meaning p old before commands → reply (tells p commands t) ≡ reply_in found) → IsAsked old now before after request (Ok found)
   asked_well t found is calls adds so = record {
     error = None;
-    calls = calls;
+    calls = calls.own;
     ended = (found, refl);
-    adds = λ p commands holds. adds p commands (in_engine holds);
+    adds = λ p commands holds. adds p commands (in_engine holds) holds.world holds.shows holds.commands_are;
     tells = λ p commands holds.
         makes p commands ∙ ap (λ (x : Reply). Some x) (subst (λ (x : Range). reply (tells p commands x) ≡ reply_in found) is (so p commands (in_engine holds)));
   }
 
   none_stops : (stop : Stop) (error : Option ExecErr) (p : Params) (commands : List Command) → (holds : of_engine.Holds all_meaning p old before commands) → Reads error → ending_of error ≡ Stopped stop → ⊥
   none_stops stop error p commands holds adds is =
-      let a = adds p commands holds in
+      let a = adds p commands holds holds.world holds.shows holds.commands_are in
       let at = a.stopped stop is in
       no_first a.done at.op at.rest at.here
 
@@ -347,14 +349,14 @@ module _ (old now : Disk) (before after : EngineView) {T : Type 0} (reply : Resu
   tells_so answer (Ok found) is x from = from ∙ ap (λ (y : Reply). Some y) is
   tells_so answer (Err stop) is x from = tt
 
-  pub asked_badly : (t : Range) (e : TreeErr) {r : Result Found Early} → t ≡ here → AreCalls all_meaning old now before after (cause_of e) → Reads (cause_of e)
+  pub asked_badly : (t : Range) (e : TreeErr) {r : Result Found Early} → t ≡ here → Calls (engine_view all_meaning) old now before after (cause_of e) → Reads (cause_of e)
       → ((p : Params) (commands : List Command) → of_engine.Holds all_meaning p old before commands → ending_of (cause_of e) ≡ Done → Err e ≡ told (tells p commands t)) → r ≡ refused_as (answer_of_tree_error e)
       → IsAsked old now before after request r
   asked_badly t e {r} is calls adds so answered = record {
     error = cause_of e;
-    calls = calls;
+    calls = calls.own;
     ended = asked_ends e answered;
-    adds = λ p commands holds. adds p commands (in_engine holds);
+    adds = λ p commands holds. adds p commands (in_engine holds) holds.world holds.shows holds.commands_are;
     tells = λ p commands holds.
         tells_so (tells p commands here) r
         (refused_tells reply same (tells p commands here) e r answered

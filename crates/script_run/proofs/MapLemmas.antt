@@ -15,6 +15,8 @@ use Rattle.op_codec.specs.AllOps.{all_meaning}
 use Rattle.store_engine.specs.Engine.{EngineView}
 use Rattle.store_engine.specs.Engine as of_engine
 use Rattle.store_engine.specs.Lists.{AddsFront, AreCalls, ending_of}
+use Rattle.store_calls.specs.Making.{Calls}
+use Rattle.store_calls.specs.OfEngine.{AddsInWorlds, engine_view}
 use Rattle.page_map.specs.Map.{Range, Span}
 use Rattle.page_map.specs.Ranges.{back_answer, count_answer, range_answer}
 use Rattle.page_map.specs.Reads.{above}
@@ -107,35 +109,35 @@ change_for call_errors.Memory = refl
 module _ {X : Type 0} (old now : Disk) (before after : EngineView) (request : Request) (plan : Params → List Command → X → Plan Command MapErr) (its : X)
     (makes : (p : Params) (commands : List Command) → made_by p commands request ≡ Some (change_made (plan p commands its))) where
   abbrev Adds : X → Option ExecErr → Type 0
-  Adds t error = (p : Params) (commands : List Command) → (holds : of_engine.Holds all_meaning p old before commands)
-      → AddsFront all_meaning p old now before after holds.world commands (plan p commands t).commands (ending_of error)
+  Adds t error = (p : Params) (commands : List Command) → of_engine.Holds all_meaning p old before commands
+      → AddsInWorlds all_meaning p old now before after commands (plan p commands t).commands (ending_of error)
 
   abbrev Ends : X → Option MapErr → Option ExecErr → Type 0
   Ends t end error = (p : Params) (commands : List Command) → of_engine.Holds all_meaning p old before commands → ending_of error ≡ Done → end ≡ (plan p commands t).refusal
 
-  pub changed : (t : X) → t ≡ its → AreCalls all_meaning old now before after None → Adds t None → Ends t None None → IsMade old now before after request (Ok answers.Done)
+  pub changed : (t : X) → t ≡ its → Calls (engine_view all_meaning) old now before after None → Adds t None → Ends t None None → IsMade old now before after request (Ok answers.Done)
   changed t is calls adds ends = record {
     error = None;
-    calls = calls;
+    calls = calls.own;
     ended = (answers.Done, refl);
     adds = λ p commands holds. (
       change_made (plan p commands its),
       makes p commands,
-      subst (λ (x : X). Adds x None) is adds p commands (in_engine holds),
+      subst (λ (x : X). Adds x None) is adds p commands (in_engine holds) holds.world holds.shows holds.commands_are,
       (answers.Done, refl, sym (ap change_reply (subst (λ (x : X). Ends x None None) is ends p commands (in_engine holds) refl))),
     );
   }
 
-  pub not_changed : (t : X) (e : MapErr) {r : Result Answer Early} → t ≡ its → AreCalls all_meaning old now before after (cause_of e) → Adds t (cause_of e) → Ends t (Some e) (cause_of e)
+  pub not_changed : (t : X) (e : MapErr) {r : Result Answer Early} → t ≡ its → Calls (engine_view all_meaning) old now before after (cause_of e) → Adds t (cause_of e) → Ends t (Some e) (cause_of e)
       → r ≡ answer_of_call_error map_answer e → IsMade old now before after request r
   not_changed t e is calls adds ends answered = record {
     error = cause_of e;
-    calls = calls;
+    calls = calls.own;
     ended = call_ends map_answer map_reply map_agree e answered;
     adds = λ p commands holds. (
       change_made (plan p commands its),
       makes p commands,
-      subst (λ (x : X). Adds x (cause_of e)) is adds p commands (in_engine holds),
+      subst (λ (x : X). Adds x (cause_of e)) is adds p commands (in_engine holds) holds.world holds.shows holds.commands_are,
       call_answers map_answer map_reply map_agree e answered
           (λ done. sym (ap change_reply (subst (λ (x : X). Ends x (Some e) (cause_of e)) is ends p commands (in_engine holds) done)) ∙ change_for e),
     );
@@ -181,7 +183,7 @@ module _ {A X : Type 0} (reply : A → Reply) (reads : X → ℕ → ℕ → Sta
     (its mine : X) (same : mine ≡ its)
     (asks : (p : Params) (commands : List Command) → tree_answer p (state_of p commands) (Ask (AskMap low high question)) ≡ Some (read_reply reply (map_read (bounds_of p) low high (reads its low high (state_of p commands))))) where
   abbrev Reads : Option ExecErr → Type 0
-  Reads error = (p : Params) (commands : List Command) → (holds : of_engine.Holds all_meaning p old before commands) → AddsFront all_meaning p old now before after holds.world commands [] (ending_of error)
+  Reads error = (p : Params) (commands : List Command) → of_engine.Holds all_meaning p old before commands → AddsInWorlds all_meaning p old now before after commands [] (ending_of error)
 
   -- what the client is told
   abbrev Tells : X → Range → Result A MapErr → Params → List Command → Type 0
@@ -194,7 +196,7 @@ module _ {A X : Type 0} (reply : A → Reply) (reads : X → ℕ → ℕ → Sta
   as_told t answer p commands is so =
       sym (read_told (bounds_of p) t.lo t.hi (reads its t.lo t.hi (state_of p commands)) (is_ordered low high t is)) ∙ subst (λ (x : X). Tells x t answer p commands) same so
 
-  pub asked : (t : Range) (found : Found) (it : A) → Some t ≡ range_of low high → AreCalls all_meaning old now before after None → Reads None
+  pub asked : (t : Range) (found : Found) (it : A) → Some t ≡ range_of low high → Calls (engine_view all_meaning) old now before after None → Reads None
       → ((p : Params) (commands : List Command) → of_engine.Holds all_meaning p old before commands → Tells mine t (Ok it) p commands) → reply it ≡ reply_in found
       → IsAsked old now before after (Ask (AskMap low high question)) (Ok found)
   asked t found it is calls adds so said =
@@ -202,7 +204,7 @@ module _ {A X : Type 0} (reply : A → Reply) (reads : X → ℕ → ℕ → Sta
       t found (map_is low high t is) calls adds
       (λ p commands holds. found_so reply (tells p commands t) it (as_told t (Ok it) p commands is (so p commands holds)) ∙ said)
 
-  pub not_asked : (t : Range) (e : MapErr) {r : Result Found Early} → Some t ≡ range_of low high → AreCalls all_meaning old now before after (cause_of e) → Reads (cause_of e)
+  pub not_asked : (t : Range) (e : MapErr) {r : Result Found Early} → Some t ≡ range_of low high → Calls (engine_view all_meaning) old now before after (cause_of e) → Reads (cause_of e)
       → ((p : Params) (commands : List Command) → of_engine.Holds all_meaning p old before commands → ending_of (cause_of e) ≡ Done → Tells mine t (Err e) p commands) → r ≡ refused_as (answer_of_call_error map_answer e)
       → IsAsked old now before after (Ask (AskMap low high question)) r
   not_asked t e is calls adds so =

@@ -13,6 +13,8 @@ use Rattle.execution.specs.declared.exec_err.ExecErr.TheVariants as exec_errors
 use Rattle.store_engine.specs.Engine.{EngineView}
 use Rattle.store_engine.specs.Engine as of_engine
 use Rattle.store_engine.specs.Lists.{AddsFront, AreCalls, ending_of}
+use Rattle.store_calls.specs.Making.{Calls}
+use Rattle.store_calls.specs.OfEngine.{AddsInWorlds, engine_view}
 use Rattle.call_plans.specs.Plan.{Plan}
 use Rattle.range_calls.specs.Answers.{cause_of, made_of, refused_in, refused_of, told}
 use Rattle.range_calls.specs.declared.call_err.CallErr.{CallErr}
@@ -80,38 +82,38 @@ module _ {R : Type 0} (answer_to : R → Answer) (reply_to : R → Reply) (agree
       (makes : (p : Params) (commands : List Command) → made_by p commands request ≡ Some (call_made command reply_to p (planned p commands its))) where
     -- it has added the commands of its plan, or a front of them
     abbrev Adds : X → Option ExecErr → Type 0
-    Adds t error = (p : Params) (commands : List Command) → (holds : of_engine.Holds all_meaning p old before commands)
-        → AddsFront all_meaning p old now before after holds.world commands (made_of p.cap (map command (planned p commands t).commands)) (ending_of error)
+    Adds t error = (p : Params) (commands : List Command) → of_engine.Holds all_meaning p old before commands
+        → AddsInWorlds all_meaning p old now before after commands (made_of p.cap (map command (planned p commands t).commands)) (ending_of error)
 
     -- and ended as the plan says
     abbrev Ends : X → Option (CallErr R) → Option ExecErr → Type 0
     Ends t refusal error = (p : Params) (commands : List Command) → of_engine.Holds all_meaning p old before commands → ending_of error ≡ Done → refusal ≡ refused_in p.cap (planned p commands t)
 
-    pub call_made_well : (t : X) → t ≡ its → AreCalls all_meaning old now before after None → Adds t None → Ends t None None → IsMade old now before after request (Ok answers.Done)
+    pub call_made_well : (t : X) → t ≡ its → Calls (engine_view all_meaning) old now before after None → Adds t None → Ends t None None → IsMade old now before after request (Ok answers.Done)
     call_made_well t is calls adds ends = record {
       error = None;
-      calls = calls;
+      calls = calls.own;
       ended = (answers.Done, refl);
       adds = λ p commands holds.
           let plan = planned p commands its in (
             call_made command reply_to p plan,
             makes p commands,
-            subst (λ (x : X). Adds x None) is adds p commands (in_engine holds),
+            subst (λ (x : X). Adds x None) is adds p commands (in_engine holds) holds.world holds.shows holds.commands_are,
             (answers.Done, refl, (plan_so p.cap plan.commands plan.refusal None (subst (λ (x : X). Ends x None None) is ends p commands (in_engine holds) refl)).0 refl),
           );
     }
 
-    pub call_made_badly : (t : X) (e : CallErr R) {r : Result Answer Early} → t ≡ its → AreCalls all_meaning old now before after (cause_of e) → Adds t (cause_of e) → Ends t (Some e) (cause_of e)
+    pub call_made_badly : (t : X) (e : CallErr R) {r : Result Answer Early} → t ≡ its → Calls (engine_view all_meaning) old now before after (cause_of e) → Adds t (cause_of e) → Ends t (Some e) (cause_of e)
         → r ≡ answer_of_call_error answer_to e → IsMade old now before after request r
     call_made_badly t e is calls adds ends answered = record {
       error = cause_of e;
-      calls = calls;
+      calls = calls.own;
       ended = call_ends e answered;
       adds = λ p commands holds.
           let plan = planned p commands its in (
             call_made command reply_to p plan,
             makes p commands,
-            subst (λ (x : X). Adds x (cause_of e)) is adds p commands (in_engine holds),
+            subst (λ (x : X). Adds x (cause_of e)) is adds p commands (in_engine holds) holds.world holds.shows holds.commands_are,
             call_answers e answered (λ done. (plan_so p.cap plan.commands plan.refusal (Some e) (subst (λ (x : X). Ends x (Some e) (cause_of e)) is ends p commands (in_engine holds) done)).1 e refl),
           );
     }
@@ -142,21 +144,21 @@ module _ {R : Type 0} (answer_to : R → Answer) (reply_to : R → Reply) (agree
       (tells : Params → List Command → X → Result T R) (its : X) (asks : (p : Params) (commands : List Command) → tree_answer p (state_of p commands) request ≡ Some (reply (tells p commands its))) where
     -- it adds nothing
     abbrev Reads : Option ExecErr → Type 0
-    Reads error = (p : Params) (commands : List Command) → (holds : of_engine.Holds all_meaning p old before commands) → AddsFront all_meaning p old now before after holds.world commands [] (ending_of error)
+    Reads error = (p : Params) (commands : List Command) → of_engine.Holds all_meaning p old before commands → AddsInWorlds all_meaning p old now before after commands [] (ending_of error)
 
-    pub call_asked_well : (t : X) (found : Found) → t ≡ its → AreCalls all_meaning old now before after None → Reads None
+    pub call_asked_well : (t : X) (found : Found) → t ≡ its → Calls (engine_view all_meaning) old now before after None → Reads None
         → ((p : Params) (commands : List Command) → of_engine.Holds all_meaning p old before commands → reply (tells p commands t) ≡ reply_in found) → IsAsked old now before after request (Ok found)
     call_asked_well t found is calls adds so = record {
       error = None;
-      calls = calls;
+      calls = calls.own;
       ended = (found, refl);
-      adds = λ p commands holds. adds p commands (in_engine holds);
+      adds = λ p commands holds. adds p commands (in_engine holds) holds.world holds.shows holds.commands_are;
       tells = λ p commands holds. asks p commands ∙ ap (λ (x : Reply). Some x) (subst (λ (x : X). reply (tells p commands x) ≡ reply_in found) is (so p commands (in_engine holds)));
     }
 
     none_stops : (stop : Stop) (error : Option ExecErr) (p : Params) (commands : List Command) → (holds : of_engine.Holds all_meaning p old before commands) → Reads error → ending_of error ≡ Stopped stop → ⊥
     none_stops stop error p commands holds adds is =
-        let a = adds p commands holds in
+        let a = adds p commands holds holds.world holds.shows holds.commands_are in
         let at = a.stopped stop is in
         no_first a.done at.op at.rest at.here
 
@@ -192,14 +194,14 @@ module _ {R : Type 0} (answer_to : R → Answer) (reply_to : R → Reply) (agree
     tells_so answer said is (call_errors.Exec exec_errors.Memory) r answered so none = subst (λ (x : Result Found Early). IfOk x (λ found. said ≡ Some (reply_in found))) (sym answered) tt
     tells_so answer said is call_errors.Memory r answered so none = subst (λ (x : Result Found Early). IfOk x (λ found. said ≡ Some (reply_in found))) (sym answered) tt
 
-    pub call_asked_badly : (t : X) (e : CallErr R) {r : Result Found Early} → t ≡ its → AreCalls all_meaning old now before after (cause_of e) → Reads (cause_of e)
+    pub call_asked_badly : (t : X) (e : CallErr R) {r : Result Found Early} → t ≡ its → Calls (engine_view all_meaning) old now before after (cause_of e) → Reads (cause_of e)
         → ((p : Params) (commands : List Command) → of_engine.Holds all_meaning p old before commands → ending_of (cause_of e) ≡ Done → Err e ≡ told (tells p commands t)) → r ≡ refused_as (answer_of_call_error answer_to e)
         → IsAsked old now before after request r
     call_asked_badly t e {r} is calls adds so answered = record {
       error = cause_of e;
-      calls = calls;
+      calls = calls.own;
       ended = ended_so e answered;
-      adds = λ p commands holds. adds p commands (in_engine holds);
+      adds = λ p commands holds. adds p commands (in_engine holds) holds.world holds.shows holds.commands_are;
       tells = λ p commands holds.
           tells_so (tells p commands its) (tree_answer p (state_of p commands) request) (asks p commands) e r answered
           (λ done. subst (λ (x : X). Err e ≡ told (tells p commands x)) is (so p commands (in_engine holds) done)) (λ stop. none_stops stop (cause_of e) p commands (in_engine holds) adds);

@@ -1,27 +1,23 @@
 // Questions, and their answers.
-ghost use Rattle.std.specs.Prelude.{◌≡◌, false, IfOk, Some, option_map};
+ghost use Rattle.std.specs.Prelude.{◌≡◌, false, IfOk, Some};
 ghost use Rattle.script_lines.specs.declared.line.Line.TheVariants.{Ask};
-ghost use Rattle.script_lines.specs.declared.line.Question.TheVariants.{Get as get, HashGet as hget, Map as ask_map, TreeGet as tget, TreeRange as trange};
-ghost use Rattle.script_lines.specs.declared.line.MapQuestion.TheVariants.{Back as mback, Count as mcount, Get as mget, Next as mnext, Prev as mprev, Range as mrange};
+ghost use Rattle.script_lines.specs.declared.line.Question.TheVariants.{Get as get, HashGet as hget, TreeGet as tget, TreeRange as trange};
 ghost use Rattle.script_lines.specs.Replies.{reply_of};
 ghost use Rattle.store_engine.specs.Engine.{EngineView};
 ghost use Rattle.script_run.specs.Finding.{FindsAnswer, IsLineOf, IsReadable, found_out, outcome_reply};
-ghost use Rattle.script_run.specs.Made.{end_of};
-ghost use Rattle.script_run.specs.Found.{IsAsked, answer_of_call_error, answer_of_tree_error, hash_answer, map_answer, refused_as, reply_in};
+ghost use Rattle.script_run.specs.Found.{IsAsked, answer_of_call_error, answer_of_tree_error, hash_answer, refused_as, reply_in};
 
-use crate::making::{hash_error_answer, map_error_answer, tree_answer};
+use crate::making::{hash_error_answer, tree_answer};
+use crate::map_asking::find_in_map;
 use crate::outcome::Outcome;
 use disk_model::Machine;
 use hash_client::HashErr;
 use hash_file::HashFile;
 use key_entries::Short;
 use logical_btree::Tree;
-use map_client::MapErr;
 use op_codec::AllOps;
 use oper_core::{ByteList, Refusal};
-use page_map::Map;
-use page_ops::Text;
-use script_lines::{Answer, MapQuestion, Question};
+use script_lines::{Answer, Question};
 use shell_base::{Stop, fetched};
 use std::alloc::Global;
 use store_engine::{Engine, nothing_is_made};
@@ -83,204 +79,6 @@ fn hash_refused(error: HashErr) -> Result<Found, Stop>
     match hash_error_answer(error) {
         Ok(answer) => Ok(Found::Refused(answer)),
         Err(stop) => Err(stop),
-    }
-}
-
-/// What is found where a call on a map is not done.
-fn map_refused(error: MapErr) -> Result<Found, Stop>
-    ensures { result ≡ refused_as (answer_of_call_error map_answer error) }
-{
-    match map_error_answer(error) {
-        Ok(answer) => Ok(Found::Refused(answer)),
-        Err(stop) => Err(stop),
-    }
-}
-
-/// Looks for the value of a key in the map of some objects.
-fn map_get<M: Machine>(
-    alloc: Global,
-    engine: &mut Engine<AllOps>,
-    machine: &mut M,
-    low: u32,
-    high: u32,
-    key: &Text,
-) -> Result<Found, Stop>
-    requires { engine.old.broken ≡ false }
-    ensures { IsAsked (M.disk machine.old) (M.disk machine.new) engine.old engine.new (Ask (ask_map low high (mget key.now))) result }
-{
-    let Some(map) = Map::new(low, high) else {
-        nothing_is_made(machine, engine);
-        return Ok(Found::Refused(Answer::Refused(Refusal::NoObject)));
-    };
-    match map_client::get(alloc, &map, engine, machine, key.as_slice()) {
-        Ok(Some(value)) => Ok(Found::Bytes(value)),
-        Ok(None) => Ok(Found::Missing),
-        Err(error) => map_refused(error),
-    }
-}
-
-/// Where what is read of a map ends: below a key, or, where that has no bytes, at the end of the map.
-fn end_of(key: &Text) -> Option<&[u8]>
-    ensures { option_map (λ end. end.now) result ≡ end_of key.now }
-{
-    let bytes = key.as_slice();
-    if bytes.is_empty() { None } else { Some(bytes) }
-}
-
-/// Looks for the first pairs from a key on, up to another, in the map of some objects.
-fn map_range<M: Machine>(
-    alloc: Global,
-    engine: &mut Engine<AllOps>,
-    machine: &mut M,
-    low: u32,
-    high: u32,
-    from: &Text,
-    to: &Text,
-    limit: u32,
-) -> Result<Found, Stop>
-    requires { engine.old.broken ≡ false }
-    ensures { IsAsked (M.disk machine.old) (M.disk machine.new) engine.old engine.new (Ask (ask_map low high (mrange from.now to.now limit))) result }
-{
-    let Some(map) = Map::new(low, high) else {
-        nothing_is_made(machine, engine);
-        return Ok(Found::Refused(Answer::Refused(Refusal::NoObject)));
-    };
-    match map_client::range(
-        alloc,
-        &map,
-        engine,
-        machine,
-        from.as_slice(),
-        end_of(to),
-        limit,
-    ) {
-        Ok(found) => Ok(Found::Entries(found)),
-        Err(error) => map_refused(error),
-    }
-}
-
-/// Looks for the last pairs from a key on, up to another, in the map of some objects, from the last one back.
-fn map_back<M: Machine>(
-    alloc: Global,
-    engine: &mut Engine<AllOps>,
-    machine: &mut M,
-    low: u32,
-    high: u32,
-    from: &Text,
-    to: &Text,
-    limit: u32,
-) -> Result<Found, Stop>
-    requires { engine.old.broken ≡ false }
-    ensures { IsAsked (M.disk machine.old) (M.disk machine.new) engine.old engine.new (Ask (ask_map low high (mback from.now to.now limit))) result }
-{
-    let Some(map) = Map::new(low, high) else {
-        nothing_is_made(machine, engine);
-        return Ok(Found::Refused(Answer::Refused(Refusal::NoObject)));
-    };
-    match map_client::back(
-        alloc,
-        &map,
-        engine,
-        machine,
-        from.as_slice(),
-        end_of(to),
-        limit,
-    ) {
-        Ok(found) => Ok(Found::Entries(found)),
-        Err(error) => map_refused(error),
-    }
-}
-
-/// Counts the keys from one up to another in the map of some objects.
-fn map_count<M: Machine>(
-    alloc: Global,
-    engine: &mut Engine<AllOps>,
-    machine: &mut M,
-    low: u32,
-    high: u32,
-    from: &Text,
-    to: &Text,
-) -> Result<Found, Stop>
-    requires { engine.old.broken ≡ false }
-    ensures { IsAsked (M.disk machine.old) (M.disk machine.new) engine.old engine.new (Ask (ask_map low high (mcount from.now to.now))) result }
-{
-    let Some(map) = Map::new(low, high) else {
-        nothing_is_made(machine, engine);
-        return Ok(Found::Refused(Answer::Refused(Refusal::NoObject)));
-    };
-    match map_client::count(alloc, &map, engine, machine, from.as_slice(), end_of(to)) {
-        Ok(found) => Ok(Found::Counted(found)),
-        Err(error) => map_refused(error),
-    }
-}
-
-/// Looks for the first pair above a key in the map of some objects.
-fn map_next<M: Machine>(
-    alloc: Global,
-    engine: &mut Engine<AllOps>,
-    machine: &mut M,
-    low: u32,
-    high: u32,
-    key: &Text,
-) -> Result<Found, Stop>
-    requires { engine.old.broken ≡ false }
-    ensures { IsAsked (M.disk machine.old) (M.disk machine.new) engine.old engine.new (Ask (ask_map low high (mnext key.now))) result }
-{
-    let Some(map) = Map::new(low, high) else {
-        nothing_is_made(machine, engine);
-        return Ok(Found::Refused(Answer::Refused(Refusal::NoObject)));
-    };
-    match map_client::next(alloc, &map, engine, machine, key.as_slice()) {
-        Ok(found) => Ok(Found::Entries(found)),
-        Err(error) => map_refused(error),
-    }
-}
-
-/// Looks for the last pair below a key, or the last one, in the map of some objects.
-fn map_prev<M: Machine>(
-    alloc: Global,
-    engine: &mut Engine<AllOps>,
-    machine: &mut M,
-    low: u32,
-    high: u32,
-    key: &Text,
-) -> Result<Found, Stop>
-    requires { engine.old.broken ≡ false }
-    ensures { IsAsked (M.disk machine.old) (M.disk machine.new) engine.old engine.new (Ask (ask_map low high (mprev key.now))) result }
-{
-    let Some(map) = Map::new(low, high) else {
-        nothing_is_made(machine, engine);
-        return Ok(Found::Refused(Answer::Refused(Refusal::NoObject)));
-    };
-    match map_client::prev(alloc, &map, engine, machine, end_of(key)) {
-        Ok(found) => Ok(Found::Entries(found)),
-        Err(error) => map_refused(error),
-    }
-}
-
-/// Answers a question to the map of some objects.
-fn find_in_map<M: Machine>(
-    alloc: Global,
-    engine: &mut Engine<AllOps>,
-    machine: &mut M,
-    low: u32,
-    high: u32,
-    question: &MapQuestion,
-) -> Result<Found, Stop>
-    requires { engine.old.broken ≡ false }
-    ensures { IsAsked (M.disk machine.old) (M.disk machine.new) engine.old engine.new (Ask (ask_map low high question.now)) result }
-{
-    match question {
-        MapQuestion::Get { key } => map_get(alloc, engine, machine, low, high, key),
-        MapQuestion::Range { from, to, limit } => {
-            map_range(alloc, engine, machine, low, high, from, to, *limit)
-        }
-        MapQuestion::Back { from, to, limit } => {
-            map_back(alloc, engine, machine, low, high, from, to, *limit)
-        }
-        MapQuestion::Count { from, to } => map_count(alloc, engine, machine, low, high, from, to),
-        MapQuestion::Next { key } => map_next(alloc, engine, machine, low, high, key),
-        MapQuestion::Prev { key } => map_prev(alloc, engine, machine, low, high, key),
     }
 }
 

@@ -30,6 +30,8 @@ mod grouping;
 mod line;
 mod line_answers;
 mod making;
+mod map_asking;
+mod map_making;
 mod notes;
 mod outcome;
 mod running;

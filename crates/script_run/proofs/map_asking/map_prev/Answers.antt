@@ -5,7 +5,7 @@ use Rattle.script_lines.specs.declared.line.MapQuestion.TheVariants.{Prev}
 use Rattle.script_run.specs.Made.{end_of}
 use Rattle.script_run.specs.declared.asking.Found.TheVariants.{Entries}
 use Rattle.script_run.proofs.MapLemmas.{asked, not_asked, nothing_asked}
-use Rattle.script_run.proofs.asking.map_prev.Goals as goal
+use Rattle.script_run.proofs.map_asking.map_prev.Goals as goal
 
 pub returns-in_default : goal.returns-in_default
 returns-in_default g c = nothing_asked c.args.low c.args.high (Prev c.args.key.now) c.in_default.ensures (c.nothing_is_made.ensures.calls c.requires) c.nothing_is_made.ensures.front

@@ -6,7 +6,7 @@ use Rattle.script_lines.specs.declared.line.MapChange.TheVariants.{Delete}
 use Rattle.script_run.specs.Found.{IsMade}
 use Rattle.script_run.specs.Made.{change_comes}
 use Rattle.script_run.proofs.MapLemmas.{changed, in_order, made_nowhere, made_there, map_is, no_map, not_changed, not_there}
-use Rattle.script_run.proofs.making.map_delete.Goals as goal
+use Rattle.script_run.proofs.map_making.map_delete.Goals as goal
 
 pub returns-in_default : goal.returns-in_default
 returns-in_default g c =
@@ -16,7 +16,7 @@ returns-in_default g c =
 pub returns-in-Ok : goal.returns-in-Ok
 returns-in-Ok g c =
     let key = c.as_slice.result.now in
-    subst (λ (k : List ℕ). IsMade (g.M.Machine.disk c.args.machine.now) (g.M.Machine.disk c.delete.new.machine) c.args.engine.now c.delete.new.engine (Make (Map c.args.low c.args.high (Delete k))) (Ok answers.Done))
+    subst (λ (k : List ℕ). IsMade (g.M.Machine.disk c.args.machine.now) (g.M.Machine.disk c.delete.new.machine) c.args.engine.now c.delete.new.store (Make (Map c.args.low c.args.high (Delete k))) (Ok answers.Done))
     c.as_slice.ensures.value
     (changed _ _ _ _ (Make (Map c.args.low c.args.high (Delete key)))
     (λ p commands t. change_comes t.lo t.hi (Delete key) p commands) (record { lo = c.args.low; hi = c.args.high })
@@ -26,7 +26,7 @@ returns-in-Ok g c =
 pub returns : goal.returns
 returns g c =
     let key = c.as_slice.result.now in
-    subst (λ (k : List ℕ). IsMade (g.M.Machine.disk c.args.machine.now) (g.M.Machine.disk c.delete.new.machine) c.args.engine.now c.delete.new.engine (Make (Map c.args.low c.args.high (Delete k))) c.map_error_answer.result)
+    subst (λ (k : List ℕ). IsMade (g.M.Machine.disk c.args.machine.now) (g.M.Machine.disk c.delete.new.machine) c.args.engine.now c.delete.new.store (Make (Map c.args.low c.args.high (Delete k))) c.map_error_answer.result)
     c.as_slice.ensures.value
     (not_changed _ _ _ _ (Make (Map c.args.low c.args.high (Delete key)))
     (λ p commands t. change_comes t.lo t.hi (Delete key) p commands) (record { lo = c.args.low; hi = c.args.high })

@@ -3,7 +3,7 @@ use Rattle.script_lines.specs.declared.line.Making.TheVariants.{Map}
 use Rattle.script_lines.specs.declared.line.MapChange.TheVariants.{Set}
 use Rattle.script_run.specs.Made.{change_comes}
 use Rattle.script_run.proofs.MapLemmas.{changed, in_order, made_nowhere, made_there, map_is, no_map, not_changed, not_there}
-use Rattle.script_run.proofs.making.map_set.Goals as goal
+use Rattle.script_run.proofs.map_making.map_set.Goals as goal
 
 pub returns-in_default : goal.returns-in_default
 returns-in_default g c =

@@ -3,7 +3,7 @@ use Rattle.script_lines.specs.declared.line.Line.TheVariants.{Ask}
 use Rattle.script_lines.specs.declared.line.Question.TheVariants.{Map}
 use Rattle.script_lines.specs.declared.line.MapQuestion.{MapQuestion}
 use Rattle.script_run.specs.Found.{IsAsked}
-use Rattle.script_run.proofs.asking.find_in_map.Goals as goal
+use Rattle.script_run.proofs.map_asking.find_in_map.Goals as goal
 
 pub returns-in-Get : goal.returns-in-Get
 returns-in-Get g c =

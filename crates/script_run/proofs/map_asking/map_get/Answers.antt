@@ -4,7 +4,7 @@ use Rattle.script_lines.specs.declared.line.MapQuestion.TheVariants.{Get}
 use Rattle.script_run.specs.Made.{value_reply}
 use Rattle.script_run.specs.declared.asking.Found.TheVariants.{Bytes, Missing}
 use Rattle.script_run.proofs.MapLemmas.{asked, not_asked, nothing_asked}
-use Rattle.script_run.proofs.asking.map_get.Goals as goal
+use Rattle.script_run.proofs.map_asking.map_get.Goals as goal
 
 pub returns-in_default : goal.returns-in_default
 returns-in_default g c = nothing_asked c.args.low c.args.high (Get c.args.key.now) c.in_default.ensures (c.nothing_is_made.ensures.calls c.requires) c.nothing_is_made.ensures.front

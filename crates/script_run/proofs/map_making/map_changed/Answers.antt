@@ -3,7 +3,7 @@ use Rattle.script_lines.specs.declared.line.Line.TheVariants.{Make}
 use Rattle.script_lines.specs.declared.line.Making.TheVariants.{Map}
 use Rattle.script_lines.specs.declared.line.MapChange.{MapChange}
 use Rattle.script_run.specs.Found.{IsMade}
-use Rattle.script_run.proofs.making.map_changed.Goals as goal
+use Rattle.script_run.proofs.map_making.map_changed.Goals as goal
 
 pub returns-in-Set : goal.returns-in-Set
 returns-in-Set g c =

@@ -6,7 +6,7 @@ use Rattle.script_lines.specs.declared.line.MapQuestion.TheVariants.{Count}
 use Rattle.script_run.specs.Made.{keys_from}
 use Rattle.script_run.specs.declared.asking.Found.TheVariants.{Counted}
 use Rattle.script_run.proofs.MapLemmas.{asked, keys_so, not_asked, nothing_asked}
-use Rattle.script_run.proofs.asking.map_count.Goals as goal
+use Rattle.script_run.proofs.map_asking.map_count.Goals as goal
 
 pub returns-in_default : goal.returns-in_default
 returns-in_default g c = nothing_asked c.args.low c.args.high (Count c.args.from.now c.args.to.now) c.in_default.ensures (c.nothing_is_made.ensures.calls c.requires) c.nothing_is_made.ensures.front
