@@ -1,9 +1,10 @@
 -- How a name is given a value: the value is written first, and then, where the name is new, its key.
-use Rattle.std.specs.Prelude.{◌≡◌, ◌≤◌, ◌⊎◌, ℕ, Option, None, Some, is_some, Result, Ok, Err, List, length, map, if◌then◌else◌}
+use Rattle.std.specs.Prelude.{◌≡◌, ◌≢◌, ◌<◌, ◌≤◌, ℕ, Option, None, Some, is_some, Result, Ok, Err, List, length, map, if◌then◌else◌}
 use Rattle.std.specs.FinMap.{insert}
 use Rattle.oper_core.specs.Meaning.{after}
 use Rattle.oper_core.specs.State.{State}
 use Rattle.oper_core.specs.declared.bounds.Bounds.{Bounds}
+use Rattle.call_plans.specs.Laws.{after_all}
 use Rattle.call_plans.specs.Plan.{Plan, one_command, with_command}
 use Rattle.op_codec.specs.AllOps.{AllOps, all_meaning, page}
 use Rattle.page_ops.specs.declared.page_op.PageOp.{PageOp}
@@ -42,18 +43,28 @@ put_plan b lo hi name spare writing s = put_at b lo hi name spare writing s (obj
 abbrev pub directory_with : Directory → List ℕ → ℕ → Directory
 directory_with directory name spare = if is_some (object_of directory name) then directory else insert directory (key_of name) (number_bytes spare)
 
+-- the object that is written: the one of the name, or a spare one where the name is new
+abbrev pub written_in : ℕ → Option ℕ → ℕ
+written_in spare None = spare
+written_in spare (Some x) = x
+
 module _ (b : Bounds) (lo hi : ℕ) (s : State) (names : Names) (is : IsNamed b lo hi s names) (name bytes : List ℕ) (spare : ℕ) (writing : ℕ → AllOps) where
-  -- the operation writes these bytes to the object of the name, and to a spare one
+  abbrev pub written : ℕ
+  written = written_in spare (object_of (directory_of is) name)
+
+  -- the operation writes these bytes to that object, which of a new name is a spare one
   pub record IsWriting : Type 0 where
     pub short : length bytes ≤ b.cap
-    pub spare_is : IsSpare hi b.objects (directory_of is) spare
-    pub writes : (x : ℕ) → (x ≡ spare) ⊎ (object_of (directory_of is) name ≡ Some x) → Writes b s (writing x) x bytes
+    pub spare_is : object_of (directory_of is) name ≡ None → IsSpare hi b.objects (directory_of is) spare
+    pub writes : Writes b s (writing written) written bytes
 
   abbrev pub putting : Plan AllOps MapRefusal
   putting = put_plan b lo hi name spare writing s
 
   -- The name has the value; or it is refused, and no name is changed: of a name that is not too long only since the range is full.
+  -- All other objects behind the range have what they had.
   pub record Puts : Type 0 where
     pub done : putting.refusal ≡ None → Leaves b s lo hi putting.commands (insert names name bytes) (directory_with (directory_of is) name spare)
     pub refused : (r : MapRefusal) → putting.refusal ≡ Some r → Leaves b s lo hi putting.commands names (directory_of is)
     pub full : (r : MapRefusal) → putting.refusal ≡ Some r → length name ≤ (sizes_of b).name → r ≡ MapFull
+    pub others : (z : ℕ) → hi < z → z ≢ written → after_all (all_meaning b) s putting.commands z ≡ s z
