@@ -1,0 +1,46 @@
+-- One call behind the other.
+use Rattle.std.proofs.Common.{◌≡◌, ◌∙◌, ℕ, List, [], ◌∷◌, ◌++◌, refl, sym, ap, subst, append_assoc}
+use Rattle.std.proofs.lemmas.List.{append-nil}
+use Rattle.std.specs.List.{flat_map}
+use Rattle.client_frames.specs.Frames.{Frame, frame_bytes, frames_bytes}
+use Rattle.named_words.specs.Effects.{Sizes}
+use Rattle.resp_words.specs.Replies.{Said, reply_bytes}
+use Rattle.client_sessions.specs.Events.{Event, Happen, Happens}
+use Rattle.client_sessions.specs.Sessions.{Server}
+use Rattle.client_sessions.specs.Standing.{Keeps, Standing}
+use Rattle.client_sessions.specs.declared.session_limits.SessionLimits.{SessionLimits}
+
+pub keeps_same : (it : Standing) → Keeps it it
+keeps_same it = record { sizes = refl; heard = refl; said = refl; left = λ names is. is; moments = λ heard said names is. is; remembers = λ heard said names is. is }
+
+pub keeps_more : (a b c : Standing) → Keeps a b → Keeps b c → Keeps a c
+keeps_more a b c one two = record {
+  sizes = two.sizes ∙ one.sizes;
+  heard = two.heard ∙ one.heard;
+  said = two.said ∙ one.said;
+  left = λ names is. one.left names (two.left names is);
+  moments = λ heard said names is. one.moments heard said names (two.moments heard said names is);
+  remembers = λ heard said names is. two.remembers heard said names (one.remembers heard said names is);
+}
+
+module _ (sizes : Sizes) (limits : SessionLimits) where
+  pub happen_more : (es ms : List Event) (s m n : Server) (fs gs : List Frame) → Happen sizes limits es s fs m → Happen sizes limits ms m gs n → Happen sizes limits (es ++ ms) s (fs ++ gs) n
+  happen_more [] ms s m n fs gs a b =
+      subst (λ (x : Server). Happen sizes limits ms x (fs ++ gs) n) a.1 (subst (λ (l : List Frame). Happen sizes limits ms m (l ++ gs) n) (sym a.0) b)
+  happen_more (e ∷ es) ms s m n fs gs a b =
+      (a.0, a.1 ++ gs, a.2, a.3, ap (λ (l : List Frame). l ++ gs) a.4 ∙ append_assoc a.0 a.1 gs, happen_more es ms a.2 m n a.1 gs a.5 b)
+
+  pub happen_one : (e : Event) (s n : Server) (fs : List Frame) → Happens sizes limits e s fs n → Happen sizes limits (e ∷ []) s fs n
+  happen_one e s n fs is = (fs, [], n, is, sym (append-nil fs), (refl, refl))
+
+pub frames_append : (fs gs : List Frame) → frames_bytes (fs ++ gs) ≡ frames_bytes fs ++ frames_bytes gs
+frames_append [] gs = refl
+frames_append (f ∷ fs) gs = ap (λ (l : List ℕ). frame_bytes f ++ l) (frames_append fs gs) ∙ sym (append_assoc (frame_bytes f) (frames_bytes fs) (frames_bytes gs))
+
+pub replies_append : (xs ys : List Said) → flat_map reply_bytes (xs ++ ys) ≡ flat_map reply_bytes xs ++ flat_map reply_bytes ys
+replies_append [] ys = refl
+replies_append (x ∷ xs) ys = ap (λ (l : List ℕ). reply_bytes x ++ l) (replies_append xs ys) ∙ sym (append_assoc (reply_bytes x) (flat_map reply_bytes xs) (flat_map reply_bytes ys))
+
+-- behind what was put behind
+pub behind_more : (a b c x y : List ℕ) → b ≡ a ++ x → c ≡ b ++ y → c ≡ a ++ (x ++ y)
+behind_more a b c x y one two = two ∙ ap (λ (l : List ℕ). l ++ y) one ∙ append_assoc a x y

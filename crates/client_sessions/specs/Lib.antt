@@ -1,0 +1,10 @@
+pub mod Sessions
+pub mod Sorted
+pub mod Steps
+pub mod Answers
+pub mod Events
+pub mod Seen
+pub mod Words
+pub mod Standing
+pub mod Calls
+pub mod Taking

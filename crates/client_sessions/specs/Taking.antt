@@ -1,0 +1,25 @@
+-- What the bytes of a client begin with.
+use Rattle.std.specs.Prelude.{◌≡◌, ◌≤◌, ℕ, List, ◌++◌, codes, length, map}
+use Rattle.resp_words.specs.Commands.{IsCommand}
+use Rattle.resp_words.specs.Reading.{IsFront}
+use Rattle.resp_words.specs.declared.protocol_error.ProtocolError.{ProtocolError}
+use Rattle.client_sessions.specs.Events.{IsRefused, told_of}
+use Rattle.client_sessions.specs.declared.session_limits.SessionLimits.{SessionLimits}
+use Rattle.client_sessions.specs.declared.taken.Taken.{Taken}
+use Rattle.client_sessions.specs.declared.taken.Taken.TheVariants.{Command, Rest, Refused}
+
+-- a command that is not too long, and what follows it; the front of one that is not too long; or what is refused
+abbrev pub Takes : SessionLimits → List ℕ → Taken → Type 0
+Takes limits bytes (Command words rest) =
+    (text : List ℕ) × IsCommand limits.commands text (map (λ word. word.now) words.items) × (bytes ≡ text ++ rest.now) × (length text ≤ limits.command)
+Takes limits bytes Rest = IsFront (IsCommand limits.commands) bytes × (length bytes ≤ limits.command)
+Takes limits bytes (Refused told) = IsRefused limits bytes told.items
+
+-- a client is told of this fault
+abbrev pub TellsError : ProtocolError → Taken → Type 0
+TellsError cause (Refused told) = told.items ≡ told_of cause
+TellsError cause other = ⊥
+
+abbrev pub TellsLength : Taken → Type 0
+TellsLength (Refused told) = told.items ≡ codes "ERR Protocol error: too big a command"
+TellsLength other = ⊥
