@@ -2,3 +2,4 @@ pub mod Exchanged
 pub mod Grouped
 pub mod Passing
 pub mod Saving
+pub mod WithinCalls

@@ -1,6 +1,6 @@
 -- A call that an open group or a backup bars lets time pass, whether it is done or refused.
 use Rattle.std.proofs.Common.{◌≡◌, ℕ, None, Option, Result, Some, refl, subst, sym}
-use Rattle.std.specs.Prelude.{IfSome}
+use Rattle.std.specs.Prelude.{IfOk, IfSome, Ok, Err}
 use Rattle.disk_model.specs.Disk.{Disk, Passes}
 use Rattle.disk_model.specs.Moments.{passes_none}
 use Rattle.formats.specs.declared.read_err.ReadErr.{ReadErr}
@@ -30,3 +30,8 @@ module _ {M : Type 0} (disk : M → Disk) {old new : M} where
         → (copied ≡ None → Passes (disk old) (disk new)) → Passes (disk old) (disk new)
     barred_by_backup None refused done = done refl
     barred_by_backup (Some copied) refused done = still refused.machine
+
+-- what follows at each value follows of a result
+pub if_ok : {A E : Type 0} {P Q : A → Type 0} (r : Result A E) → ((a : A) → P a → Q a) → IfOk r P → IfOk r Q
+if_ok (Ok a) on is = on a is
+if_ok (Err e) on is = tt

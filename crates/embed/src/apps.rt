@@ -12,7 +12,7 @@ ghost use Rattle.app_steps.specs.Steps.{HasAnswer, drain_of, feed_of, program_dr
 ghost use Rattle.embed.specs.Embedded.{IsStillBroken};
 
 use crate::Store;
-use app_steps::{App, ProgApp};
+use app_steps::{App, ProgApp, runs_ask_for_bytes};
 use disk_model::Machine;
 use store_engine::ExecErr;
 
@@ -102,6 +102,7 @@ impl<M: Machine + Drop> Store<M> {
         if self.engine.is_broken() {
             return Err(ExecErr::DiskFault);
         }
+        runs_ask_for_bytes(&self.machine, &self.engine);
         app.run(&mut self.engine, &mut self.machine, most)
     }
 }

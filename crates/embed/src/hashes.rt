@@ -7,10 +7,11 @@ ghost use Rattle.formats.specs.Objects.{bounds_of};
 ghost use Rattle.formats.specs.declared.params.Params.{Params};
 ghost use Rattle.op_codec.specs.AllOps.{all_meaning, hash};
 ghost use Rattle.running_store.specs.Taking.Ending.{Done};
+ghost use Rattle.store_engine.specs.Engine.{Holds};
 ghost use Rattle.store_engine.specs.Lists.{AddsFront, AreCalls, ending_of};
 ghost use Rattle.hash_file.specs.Plan.{delete_plan, get_answer, put_plan};
 ghost use Rattle.range_calls.specs.Answers.{cause_in, made_of, refused_in, told};
-ghost use Rattle.range_calls.specs.Store.{Command, Holds, state_of};
+ghost use Rattle.range_calls.specs.Store.{Command, state_of};
 ghost use Rattle.range_calls.specs.declared.call_err.CallErr.TheVariants.{Exec};
 ghost use Rattle.embed.specs.Embedded.{IsStillBroken};
 
@@ -27,10 +28,10 @@ impl<M: Machine + Drop> Store<M> {
     pub fn hash_get(&mut self, file: &HashFile, key: &Short) -> Result<Option<Short>, HashErr>
         ensures time { Passes (M.disk self.old.machine) (M.disk self.new.machine) }
         ensures calls { self.old.engine.broken ≡ false → AreCalls all_meaning (M.disk self.old.machine) (M.disk self.new.machine) self.old.engine self.new.engine (cause_in result) }
-        ensures adds { (p : Params) (commands : List Command) → (holds : Holds p (M.disk self.old.machine) self.old.engine commands) →
+        ensures adds { (p : Params) (commands : List Command) → (holds : Holds all_meaning p (M.disk self.old.machine) self.old.engine commands) →
             AddsFront all_meaning p (M.disk self.old.machine) (M.disk self.new.machine) self.old.engine self.new.engine holds.world commands
             [] (ending_of (cause_in result)) }
-        ensures answer { (p : Params) (commands : List Command) → Holds p (M.disk self.old.machine) self.old.engine commands → ending_of (cause_in result) ≡ Done →
+        ensures answer { (p : Params) (commands : List Command) → Holds all_meaning p (M.disk self.old.machine) self.old.engine commands → ending_of (cause_in result) ≡ Done →
             result ≡ told (get_answer (bounds_of p) file.now.lo file.now.hi (state_of p commands) key.now) }
         ensures broken { self.old.engine.broken ≡ true → IsStillBroken (Exec DiskFault) self.old self.new result }
     {
@@ -44,10 +45,10 @@ impl<M: Machine + Drop> Store<M> {
     pub fn hash_put(&mut self, file: &HashFile, key: &Short, value: &Short) -> Result<(), HashErr>
         ensures time { Passes (M.disk self.old.machine) (M.disk self.new.machine) }
         ensures calls { self.old.engine.broken ≡ false → AreCalls all_meaning (M.disk self.old.machine) (M.disk self.new.machine) self.old.engine self.new.engine (cause_in result) }
-        ensures adds { (p : Params) (commands : List Command) → (holds : Holds p (M.disk self.old.machine) self.old.engine commands) →
+        ensures adds { (p : Params) (commands : List Command) → (holds : Holds all_meaning p (M.disk self.old.machine) self.old.engine commands) →
             AddsFront all_meaning p (M.disk self.old.machine) (M.disk self.new.machine) self.old.engine self.new.engine holds.world commands
             (made_of p.cap (map hash (put_plan (bounds_of p) file.now.lo file.now.hi (state_of p commands) key.now value.now).commands)) (ending_of (cause_in result)) }
-        ensures answer { (p : Params) (commands : List Command) → Holds p (M.disk self.old.machine) self.old.engine commands → ending_of (cause_in result) ≡ Done →
+        ensures answer { (p : Params) (commands : List Command) → Holds all_meaning p (M.disk self.old.machine) self.old.engine commands → ending_of (cause_in result) ≡ Done →
             result_err result ≡ refused_in p.cap (put_plan (bounds_of p) file.now.lo file.now.hi (state_of p commands) key.now value.now) }
         ensures broken { self.old.engine.broken ≡ true → IsStillBroken (Exec DiskFault) self.old self.new result }
     {
@@ -61,10 +62,10 @@ impl<M: Machine + Drop> Store<M> {
     pub fn hash_delete(&mut self, file: &HashFile, key: &Short) -> Result<(), HashErr>
         ensures time { Passes (M.disk self.old.machine) (M.disk self.new.machine) }
         ensures calls { self.old.engine.broken ≡ false → AreCalls all_meaning (M.disk self.old.machine) (M.disk self.new.machine) self.old.engine self.new.engine (cause_in result) }
-        ensures adds { (p : Params) (commands : List Command) → (holds : Holds p (M.disk self.old.machine) self.old.engine commands) →
+        ensures adds { (p : Params) (commands : List Command) → (holds : Holds all_meaning p (M.disk self.old.machine) self.old.engine commands) →
             AddsFront all_meaning p (M.disk self.old.machine) (M.disk self.new.machine) self.old.engine self.new.engine holds.world commands
             (made_of p.cap (map hash (delete_plan (bounds_of p) file.now.lo file.now.hi (state_of p commands) key.now).commands)) (ending_of (cause_in result)) }
-        ensures answer { (p : Params) (commands : List Command) → Holds p (M.disk self.old.machine) self.old.engine commands → ending_of (cause_in result) ≡ Done →
+        ensures answer { (p : Params) (commands : List Command) → Holds all_meaning p (M.disk self.old.machine) self.old.engine commands → ending_of (cause_in result) ≡ Done →
             result_err result ≡ refused_in p.cap (delete_plan (bounds_of p) file.now.lo file.now.hi (state_of p commands) key.now) }
         ensures broken { self.old.engine.broken ≡ true → IsStillBroken (Exec DiskFault) self.old self.new result }
     {

@@ -7,11 +7,12 @@ ghost use Rattle.formats.specs.Objects.{bounds_of};
 ghost use Rattle.formats.specs.declared.params.Params.{Params};
 ghost use Rattle.op_codec.specs.AllOps.{all_meaning};
 ghost use Rattle.running_store.specs.Taking.Ending.{Done};
+ghost use Rattle.store_engine.specs.Engine.{Holds};
 ghost use Rattle.store_engine.specs.Lists.{AddsFront, AreCalls, ending_of};
 ghost use Rattle.map_client.specs.Answers.{cause_in, cause_of, get_told};
 ghost use Rattle.map_client.specs.Changing.{delete_comes, set_comes};
 ghost use Rattle.map_client.specs.Ranging.{back_told, count_told, next_told, prev_told, range_told};
-ghost use Rattle.range_calls.specs.Store.{Command, Holds, state_of};
+ghost use Rattle.range_calls.specs.Store.{Command, state_of};
 ghost use Rattle.range_calls.specs.declared.call_err.CallErr.TheVariants.{Exec};
 ghost use Rattle.embed.specs.Embedded.{IsStillBroken};
 
@@ -35,12 +36,12 @@ impl<M: Machine + Drop> Store<M> {
     ) -> Result<Option<Vec<u8>>, MapErr>
         ensures time { Passes (M.disk self.old.machine) (M.disk self.new.machine) }
         ensures calls { self.old.engine.broken ≡ false → AreCalls all_meaning (M.disk self.old.machine) (M.disk self.new.machine) self.old.engine self.new.engine (cause_in result) }
-        ensures adds { (p : Params) (commands : List Command) → (holds : Holds p (M.disk self.old.machine) self.old.engine commands) →
+        ensures adds { (p : Params) (commands : List Command) → (holds : Holds all_meaning p (M.disk self.old.machine) self.old.engine commands) →
             AddsFront all_meaning p (M.disk self.old.machine) (M.disk self.new.machine) self.old.engine self.new.engine holds.world commands
             [] (ending_of (cause_in result)) }
-        ensures found { (p : Params) (commands : List Command) → Holds p (M.disk self.old.machine) self.old.engine commands →
+        ensures found { (p : Params) (commands : List Command) → Holds all_meaning p (M.disk self.old.machine) self.old.engine commands →
             IfOk result (λ found. get_told (bounds_of p) map.now.lo map.now.hi (state_of p commands) key.now ≡ Ok (option_map (λ v. v.items) found)) }
-        ensures refused { (p : Params) (commands : List Command) → Holds p (M.disk self.old.machine) self.old.engine commands →
+        ensures refused { (p : Params) (commands : List Command) → Holds all_meaning p (M.disk self.old.machine) self.old.engine commands →
             IfErr result (λ e. ending_of (cause_of e) ≡ Done → get_told (bounds_of p) map.now.lo map.now.hi (state_of p commands) key.now ≡ Err e) }
         ensures broken { self.old.engine.broken ≡ true → IsStillBroken (Exec DiskFault) self.old self.new result }
     {
@@ -60,12 +61,12 @@ impl<M: Machine + Drop> Store<M> {
     ) -> Result<u64, MapErr>
         ensures time { Passes (M.disk self.old.machine) (M.disk self.new.machine) }
         ensures calls { self.old.engine.broken ≡ false → AreCalls all_meaning (M.disk self.old.machine) (M.disk self.new.machine) self.old.engine self.new.engine (cause_in result) }
-        ensures adds { (p : Params) (commands : List Command) → (holds : Holds p (M.disk self.old.machine) self.old.engine commands) →
+        ensures adds { (p : Params) (commands : List Command) → (holds : Holds all_meaning p (M.disk self.old.machine) self.old.engine commands) →
             AddsFront all_meaning p (M.disk self.old.machine) (M.disk self.new.machine) self.old.engine self.new.engine holds.world commands
             [] (ending_of (cause_in result)) }
-        ensures found { (p : Params) (commands : List Command) → Holds p (M.disk self.old.machine) self.old.engine commands →
+        ensures found { (p : Params) (commands : List Command) → Holds all_meaning p (M.disk self.old.machine) self.old.engine commands →
             IfOk result (λ count. count_told (bounds_of p) map.now.lo map.now.hi (state_of p commands) (record { from = from.now; to = option_map (λ end. end.now) to.entry }) ≡ Ok count) }
-        ensures refused { (p : Params) (commands : List Command) → Holds p (M.disk self.old.machine) self.old.engine commands →
+        ensures refused { (p : Params) (commands : List Command) → Holds all_meaning p (M.disk self.old.machine) self.old.engine commands →
             IfErr result (λ e. ending_of (cause_of e) ≡ Done → count_told (bounds_of p) map.now.lo map.now.hi (state_of p commands) (record { from = from.now; to = option_map (λ end. end.now) to.entry }) ≡ Err e) }
         ensures broken { self.old.engine.broken ≡ true → IsStillBroken (Exec DiskFault) self.old self.new result }
     {
@@ -86,12 +87,12 @@ impl<M: Machine + Drop> Store<M> {
     ) -> Result<Vec<(ByteList, ByteList)>, MapErr>
         ensures time { Passes (M.disk self.old.machine) (M.disk self.new.machine) }
         ensures calls { self.old.engine.broken ≡ false → AreCalls all_meaning (M.disk self.old.machine) (M.disk self.new.machine) self.old.engine self.new.engine (cause_in result) }
-        ensures adds { (p : Params) (commands : List Command) → (holds : Holds p (M.disk self.old.machine) self.old.engine commands) →
+        ensures adds { (p : Params) (commands : List Command) → (holds : Holds all_meaning p (M.disk self.old.machine) self.old.engine commands) →
             AddsFront all_meaning p (M.disk self.old.machine) (M.disk self.new.machine) self.old.engine self.new.engine holds.world commands
             [] (ending_of (cause_in result)) }
-        ensures found { (p : Params) (commands : List Command) → Holds p (M.disk self.old.machine) self.old.engine commands →
+        ensures found { (p : Params) (commands : List Command) → Holds all_meaning p (M.disk self.old.machine) self.old.engine commands →
             IfOk result (λ found. range_told (bounds_of p) map.now.lo map.now.hi (state_of p commands) (record { from = from.now; to = option_map (λ end. end.now) to.entry }) limit ≡ Ok found.items) }
-        ensures refused { (p : Params) (commands : List Command) → Holds p (M.disk self.old.machine) self.old.engine commands →
+        ensures refused { (p : Params) (commands : List Command) → Holds all_meaning p (M.disk self.old.machine) self.old.engine commands →
             IfErr result (λ e. ending_of (cause_of e) ≡ Done → range_told (bounds_of p) map.now.lo map.now.hi (state_of p commands) (record { from = from.now; to = option_map (λ end. end.now) to.entry }) limit ≡ Err e) }
         ensures broken { self.old.engine.broken ≡ true → IsStillBroken (Exec DiskFault) self.old self.new result }
     {
@@ -120,12 +121,12 @@ impl<M: Machine + Drop> Store<M> {
     ) -> Result<Vec<(ByteList, ByteList)>, MapErr>
         ensures time { Passes (M.disk self.old.machine) (M.disk self.new.machine) }
         ensures calls { self.old.engine.broken ≡ false → AreCalls all_meaning (M.disk self.old.machine) (M.disk self.new.machine) self.old.engine self.new.engine (cause_in result) }
-        ensures adds { (p : Params) (commands : List Command) → (holds : Holds p (M.disk self.old.machine) self.old.engine commands) →
+        ensures adds { (p : Params) (commands : List Command) → (holds : Holds all_meaning p (M.disk self.old.machine) self.old.engine commands) →
             AddsFront all_meaning p (M.disk self.old.machine) (M.disk self.new.machine) self.old.engine self.new.engine holds.world commands
             [] (ending_of (cause_in result)) }
-        ensures found { (p : Params) (commands : List Command) → Holds p (M.disk self.old.machine) self.old.engine commands →
+        ensures found { (p : Params) (commands : List Command) → Holds all_meaning p (M.disk self.old.machine) self.old.engine commands →
             IfOk result (λ found. back_told (bounds_of p) map.now.lo map.now.hi (state_of p commands) (record { from = from.now; to = option_map (λ end. end.now) to.entry }) limit ≡ Ok found.items) }
-        ensures refused { (p : Params) (commands : List Command) → Holds p (M.disk self.old.machine) self.old.engine commands →
+        ensures refused { (p : Params) (commands : List Command) → Holds all_meaning p (M.disk self.old.machine) self.old.engine commands →
             IfErr result (λ e. ending_of (cause_of e) ≡ Done → back_told (bounds_of p) map.now.lo map.now.hi (state_of p commands) (record { from = from.now; to = option_map (λ end. end.now) to.entry }) limit ≡ Err e) }
         ensures broken { self.old.engine.broken ≡ true → IsStillBroken (Exec DiskFault) self.old self.new result }
     {
@@ -152,12 +153,12 @@ impl<M: Machine + Drop> Store<M> {
     ) -> Result<Vec<(ByteList, ByteList)>, MapErr>
         ensures time { Passes (M.disk self.old.machine) (M.disk self.new.machine) }
         ensures calls { self.old.engine.broken ≡ false → AreCalls all_meaning (M.disk self.old.machine) (M.disk self.new.machine) self.old.engine self.new.engine (cause_in result) }
-        ensures adds { (p : Params) (commands : List Command) → (holds : Holds p (M.disk self.old.machine) self.old.engine commands) →
+        ensures adds { (p : Params) (commands : List Command) → (holds : Holds all_meaning p (M.disk self.old.machine) self.old.engine commands) →
             AddsFront all_meaning p (M.disk self.old.machine) (M.disk self.new.machine) self.old.engine self.new.engine holds.world commands
             [] (ending_of (cause_in result)) }
-        ensures found { (p : Params) (commands : List Command) → Holds p (M.disk self.old.machine) self.old.engine commands →
+        ensures found { (p : Params) (commands : List Command) → Holds all_meaning p (M.disk self.old.machine) self.old.engine commands →
             IfOk result (λ found. next_told (bounds_of p) map.now.lo map.now.hi (state_of p commands) key.now ≡ Ok found.items) }
-        ensures refused { (p : Params) (commands : List Command) → Holds p (M.disk self.old.machine) self.old.engine commands →
+        ensures refused { (p : Params) (commands : List Command) → Holds all_meaning p (M.disk self.old.machine) self.old.engine commands →
             IfErr result (λ e. ending_of (cause_of e) ≡ Done → next_told (bounds_of p) map.now.lo map.now.hi (state_of p commands) key.now ≡ Err e) }
         ensures broken { self.old.engine.broken ≡ true → IsStillBroken (Exec DiskFault) self.old self.new result }
     {
@@ -176,12 +177,12 @@ impl<M: Machine + Drop> Store<M> {
     ) -> Result<Vec<(ByteList, ByteList)>, MapErr>
         ensures time { Passes (M.disk self.old.machine) (M.disk self.new.machine) }
         ensures calls { self.old.engine.broken ≡ false → AreCalls all_meaning (M.disk self.old.machine) (M.disk self.new.machine) self.old.engine self.new.engine (cause_in result) }
-        ensures adds { (p : Params) (commands : List Command) → (holds : Holds p (M.disk self.old.machine) self.old.engine commands) →
+        ensures adds { (p : Params) (commands : List Command) → (holds : Holds all_meaning p (M.disk self.old.machine) self.old.engine commands) →
             AddsFront all_meaning p (M.disk self.old.machine) (M.disk self.new.machine) self.old.engine self.new.engine holds.world commands
             [] (ending_of (cause_in result)) }
-        ensures found { (p : Params) (commands : List Command) → Holds p (M.disk self.old.machine) self.old.engine commands →
+        ensures found { (p : Params) (commands : List Command) → Holds all_meaning p (M.disk self.old.machine) self.old.engine commands →
             IfOk result (λ found. prev_told (bounds_of p) map.now.lo map.now.hi (state_of p commands) (option_map (λ key. key.now) key.entry) ≡ Ok found.items) }
-        ensures refused { (p : Params) (commands : List Command) → Holds p (M.disk self.old.machine) self.old.engine commands →
+        ensures refused { (p : Params) (commands : List Command) → Holds all_meaning p (M.disk self.old.machine) self.old.engine commands →
             IfErr result (λ e. ending_of (cause_of e) ≡ Done → prev_told (bounds_of p) map.now.lo map.now.hi (state_of p commands) (option_map (λ key. key.now) key.entry) ≡ Err e) }
         ensures broken { self.old.engine.broken ≡ true → IsStillBroken (Exec DiskFault) self.old self.new result }
     {
@@ -201,10 +202,10 @@ impl<M: Machine + Drop> Store<M> {
     ) -> Result<(), MapErr>
         ensures time { Passes (M.disk self.old.machine) (M.disk self.new.machine) }
         ensures calls { self.old.engine.broken ≡ false → AreCalls all_meaning (M.disk self.old.machine) (M.disk self.new.machine) self.old.engine self.new.engine (cause_in result) }
-        ensures adds { (p : Params) (commands : List Command) → (holds : Holds p (M.disk self.old.machine) self.old.engine commands) →
+        ensures adds { (p : Params) (commands : List Command) → (holds : Holds all_meaning p (M.disk self.old.machine) self.old.engine commands) →
             AddsFront all_meaning p (M.disk self.old.machine) (M.disk self.new.machine) self.old.engine self.new.engine holds.world commands
             (set_comes map.now.lo map.now.hi key value p commands).commands (ending_of (cause_in result)) }
-        ensures answer { (p : Params) (commands : List Command) → Holds p (M.disk self.old.machine) self.old.engine commands → ending_of (cause_in result) ≡ Done →
+        ensures answer { (p : Params) (commands : List Command) → Holds all_meaning p (M.disk self.old.machine) self.old.engine commands → ending_of (cause_in result) ≡ Done →
             result_err result ≡ (set_comes map.now.lo map.now.hi key value p commands).refusal }
         ensures broken { self.old.engine.broken ≡ true → IsStillBroken (Exec DiskFault) self.old self.new result }
     {
@@ -218,10 +219,10 @@ impl<M: Machine + Drop> Store<M> {
     pub fn map_delete(&mut self, alloc: Global, map: &Map, key: &[u8]) -> Result<(), MapErr>
         ensures time { Passes (M.disk self.old.machine) (M.disk self.new.machine) }
         ensures calls { self.old.engine.broken ≡ false → AreCalls all_meaning (M.disk self.old.machine) (M.disk self.new.machine) self.old.engine self.new.engine (cause_in result) }
-        ensures adds { (p : Params) (commands : List Command) → (holds : Holds p (M.disk self.old.machine) self.old.engine commands) →
+        ensures adds { (p : Params) (commands : List Command) → (holds : Holds all_meaning p (M.disk self.old.machine) self.old.engine commands) →
             AddsFront all_meaning p (M.disk self.old.machine) (M.disk self.new.machine) self.old.engine self.new.engine holds.world commands
             (delete_comes map.now.lo map.now.hi key.now p commands).commands (ending_of (cause_in result)) }
-        ensures answer { (p : Params) (commands : List Command) → Holds p (M.disk self.old.machine) self.old.engine commands → ending_of (cause_in result) ≡ Done →
+        ensures answer { (p : Params) (commands : List Command) → Holds all_meaning p (M.disk self.old.machine) self.old.engine commands → ending_of (cause_in result) ≡ Done →
             result_err result ≡ (delete_comes map.now.lo map.now.hi key.now p commands).refusal }
         ensures broken { self.old.engine.broken ≡ true → IsStillBroken (Exec DiskFault) self.old self.new result }
     {

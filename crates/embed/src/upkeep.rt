@@ -85,8 +85,9 @@ impl<M: Machine + Drop> Store<M> {
         self.engine.drain(&mut self.machine)
     }
 
-    /// One turn of upkeep: installs so many nodes together at most (of 0 it is one), with four syncs at most, or one and then those
-    /// that have no object to flush, as the engine's `tend`. It answers how many: none exactly where none was left.
+    /// One turn of upkeep, as the engine's `tend`: nodes that have several objects to flush are made ready by identity writes, all that
+    /// waits is forced, and so many nodes together at most (of 0 it is one) are installed with three syncs at most, or one is, and then
+    /// those that have no object to flush. It answers how many: none exactly where none was left.
     pub fn tend(&mut self, most: usize) -> Result<u64, WorkErr>
         ensures time { Passes (M.disk self.old.machine) (M.disk self.new.machine) }
         ensures in_group { self.old.engine.broken ≡ false → IfSome (group_size self.old.engine) (λ size. IsRefused size self.old.machine self.new.machine self.old.engine self.new.engine result) }

@@ -5,4 +5,10 @@ pub returns-then-is_broken-clause-time : goal.returns-then-is_broken-clause-time
 returns-then-is_broken-clause-time g c = passes_none _
 
 pub returns-clause-time : goal.returns-clause-time
-returns-clause-time g c = c.run.ensures.calls.call.time
+returns-clause-time g c = c.run.ensures.calls.own.call.time
+
+pub returns-clause-calls : goal.returns-clause-calls
+returns-clause-calls g c = λ unbroken. c.run.ensures.calls.own
+
+pub returns-clause-adds : goal.returns-clause-adds
+returns-clause-adds g c = λ p commands holds. c.run.ensures.adds p commands holds holds.world holds.shows holds.commands_are
