@@ -6,6 +6,7 @@ use Rattle.logical_btree.specs.Walk.{Pair}
 use Rattle.embed_c.specs.Answers.{alone}
 use Rattle.embed_c.specs.Calls.{DoesNothing}
 use Rattle.embed_c.specs.Ranges.{CopiesFront, GivesFirst, IfNamed}
+use Rattle.embed_c.specs.declared.maps.Lengths.{Lengths}
 use Rattle.embed_c.specs.declared.session.Session.{Session}
 
 same_some : {A : Type 0} (y z : A) → Some y ≡ Some z → y ≡ z
@@ -64,13 +65,14 @@ pub error_again : (A B : Type 0) {E : Type 0} (d e : E) → Fails A (Err d) e �
 error_again A B d e is = ap (λ (r : Result A _). Err (error_or d r)) is
 
 -- the pair at a place is given
-pub pair_given : (key key_after value value_after k v : List ℕ) (items : List Pair) (i : ℕ) (x : Pair) → i < length items → x ≡ slice_index_or items i x → k ≡ x.0 → v ≡ x.1
-    → CopiesFront k key key_after → CopiesFront v value value_after → GivesFirst key key_after value value_after (record { key = length k; value = length v }) (drop i items) 0
-pair_given key key_after value value_after k v items i x inside here name behind copied valued =
+pub pair_given : (key key_after value value_after k v : List ℕ) (lengths : Lengths) (items : List Pair) (i : ℕ) (x : Pair) → i < length items → x ≡ slice_index_or items i x → k ≡ x.0 → v ≡ x.1
+    → CopiesFront k key key_after → CopiesFront v value value_after → lengths ≡ record { key = length k; value = length v } → GivesFirst key key_after value value_after lengths (drop i items) 0
+pair_given key key_after value value_after k v lengths items i x inside here name behind copied valued long =
+    let same : record { key = length k; value = length v } ≡ record { key = length x.0; value = length x.1 } = λ j. record { key = length (name j); value = length (behind j) } in
     let at : drop i items ≡ x ∷ drop (i + 1) items = drop_more items i x inside ∙ ap (λ (y : Pair). y ∷ drop (i + 1) items) (sym here) in
-    subst (λ (l : List Pair). GivesFirst key key_after value value_after (record { key = length k; value = length v }) l 0) (sym at) (
+    subst (λ (l : List Pair). GivesFirst key key_after value value_after lengths l 0) (sym at) (
       subst (λ (l : List ℕ). CopiesFront l key key_after) name copied,
       subst (λ (l : List ℕ). CopiesFront l value value_after) behind valued,
-      (λ j. record { key = length (name j); value = length (behind j) }),
+      long ∙ same,
       refl,
     )

@@ -19,9 +19,11 @@ use Rattle.store_engine.specs.Engine.{EngineView, Holds, group_size}
 use Rattle.store_engine.specs.Lists.{AddsFront, AreCalls, ending_of}
 use Rattle.store_engine.specs.Store.{state_of}
 use Rattle.app_steps.specs.Steps.{HasAnswer, steps}
+use Rattle.transactions.specs.declared.transaction.Transaction.{Transaction}
 use Rattle.write_queue.specs.Memory.{disk_of, first_files, taken_from}
 use Rattle.write_queue.specs.declared.queue_mem.QueueMem.{QueueMem}
 use Rattle.embed.specs.Embedded.{GivesValue, IsStillBroken}
+use Rattle.embed.specs.Within.{IsCallWithin}
 use Rattle.embed.specs.declared.store.Store.{Store}
 use Rattle.embed_c.specs.declared.answer.Answer.{Answer}
 use Rattle.embed_c.specs.declared.session.Session.{Session}
@@ -69,6 +71,10 @@ pub record DoesRun (command : AllOps) (most : ℕ) (old new : Store QueueMem) (m
       AddsFront all_meaning p (disk_of old.machine) (disk_of new.machine) old.engine new.engine holds.world commands (steps p commands command most) (ending_of (result_err made))
   pub answer : (p : Params) (commands : List AllOps) → Holds all_meaning p (disk_of old.machine) old.engine commands → HasAnswer p commands command most made
   pub broken : old.engine.broken ≡ true → IsStillBroken commands.DiskFault old new made
+
+-- the same within a transaction: the steps are staged
+abbrev pub StagesRun : AllOps → ℕ → Store QueueMem → Store QueueMem → Transaction AllOps → Transaction AllOps → Result ℕ ExecErr → Type 0
+StagesRun command most old new t u made = IsCallWithin disk_of old new t u (λ p commands. steps p commands command most) (λ p commands. HasAnswer p commands command most made) commands.DiskFault (result_err made) made
 
 -- how many steps were done
 abbrev pub TellsSteps : Result ℕ ExecErr → ℕ → Type 0

@@ -7,7 +7,9 @@ pub mod Next
 pub mod Opening
 pub mod Owned
 pub mod OwnedTarget
+pub mod Within
 pub mod Ranges
+pub mod PageMaps
 pub mod Staging
 pub mod Upkept
 pub mod Waiting

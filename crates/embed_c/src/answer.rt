@@ -1,6 +1,7 @@
 ghost use Rattle.std.specs.Prelude.{◌≡◌};
 ghost use Rattle.write_queue.specs.Codes.{file_number as number_of_file};
 ghost use Rattle.embed_c.specs.Answers.{alone, done_answer, number_of_refusal, of_exec, of_init, of_open, of_read, of_work, telling, told, told_end, told_value};
+ghost use Rattle.embed_c.specs.PageMaps.{bytes_of, of_map, seen_as};
 ghost use Rattle.embed_c.specs.Ranges.{of_hash, of_tree, told_found};
 
 use disk_model::FileNo;
@@ -8,7 +9,9 @@ use hash_client::HashErr;
 use hash_file::HashRefusal;
 use key_entries::Short;
 use logical_btree::TreeRefusal;
+use map_client::{CallRefusal, MapErr};
 use oper_core::Refusal;
+use page_map::MapRefusal;
 use range_calls::CallErr;
 use store_engine::{ExecErr, InitErr, OpenErr, ReadErr, WorkErr};
 use tree_client::TreeErr;
@@ -145,6 +148,24 @@ impl Answer {
         }
     }
 
+    /// A call on a map was not done.
+    pub fn of_map(cause: MapErr) -> Answer
+        ensures { result ≡ of_map cause }
+    {
+        match cause {
+            CallErr::Refused(CallRefusal::NoObject) => Answer::alone(32),
+            CallErr::Refused(CallRefusal::NoPages) => Answer::alone(50),
+            CallErr::Refused(CallRefusal::Map(MapRefusal::BadMap { object })) => {
+                Answer::telling(51, u64::from(object), 0, 0)
+            }
+            CallErr::Refused(CallRefusal::Map(MapRefusal::TooLong)) => Answer::alone(52),
+            CallErr::Refused(CallRefusal::Map(MapRefusal::MapFull)) => Answer::alone(53),
+            CallErr::Refused(CallRefusal::Map(MapRefusal::NoKey)) => Answer::alone(39),
+            CallErr::Exec(cause) => Answer::of_exec(cause),
+            CallErr::Memory => Answer::alone(8),
+        }
+    }
+
     /// A store was not opened.
     pub fn of_open(cause: OpenErr) -> Answer
         ensures { result ≡ of_open cause }
@@ -259,6 +280,27 @@ pub fn hash_found(made: Result<Option<Short>, HashErr>) -> Answer
         Ok(Some(_)) => Answer::done(),
         Ok(None) => Answer::alone(39),
         Err(cause) => Answer::of_hash(cause),
+    }
+}
+
+/// What C is told of a call on a map that looks for no key.
+pub fn map_answer<T: Drop>(made: Result<T, MapErr>) -> Answer
+    ensures { result ≡ told of_map made }
+{
+    match made {
+        Ok(_) => Answer::done(),
+        Err(cause) => Answer::of_map(cause),
+    }
+}
+
+/// What C is told of a key that was looked for in a map.
+pub fn map_found(made: Result<Option<Vec<u8>>, MapErr>) -> Answer
+    ensures { result ≡ told_found of_map (seen_as bytes_of made) }
+{
+    match made {
+        Ok(Some(_)) => Answer::done(),
+        Ok(None) => Answer::alone(39),
+        Err(cause) => Answer::of_map(cause),
     }
 }
 

@@ -8,7 +8,7 @@
 //! C has them kept ([`snapshots::redo_core_snapshot_keep`]).
 #![tactic(auto)]
 
-ghost use Rattle.std.specs.Prelude.{◌≡◌, ◌⊎◌, ◌&&◌, None, Ok, Err, IfErr, drop, nat_le, nat_lt, false};
+ghost use Rattle.std.specs.Prelude.{◌≡◌, ◌⊎◌, ◌&&◌, None, Ok, Err, IfErr, drop, nat_le, nat_lt};
 ghost use Rattle.key_entries.specs.Short.{is_short};
 ghost use Rattle.app_program.specs.declared.program_op.ProgramOp.TheVariants.{Step as StepOp, Feed as FeedOp, Drain as DrainOp};
 ghost use Rattle.app_steps.specs.Steps.{program_step, step_of};
@@ -17,12 +17,13 @@ ghost use Rattle.op_meaning.specs.declared.plain_op.PlainOp.TheVariants.{Append 
 ghost use Rattle.store_engine.specs.Engine.{params_of};
 ghost use Rattle.embed.specs.Embedded.{Reports};
 ghost use Rattle.embed_c.specs.Answers.{alone, of_exec, of_work, told, told_end};
-ghost use Rattle.embed_c.specs.Calls.{DoesBegin, DoesCheckpoint, DoesDrain, DoesEnd, DoesForce, DoesInstall, DoesNothing, DoesRun, DoesTrim, IsCalled, TellsCount, TellsInstall, TellsSteps};
+ghost use Rattle.embed_c.specs.Calls.{DoesBegin, DoesCheckpoint, DoesDrain, DoesEnd, DoesForce, DoesInstall, DoesNothing, DoesRun, DoesTrim, IsCalled, StagesRun, TellsCount, TellsInstall, TellsSteps};
 ghost use Rattle.embed_c.specs.Handles.{ClosesHandle, OnSession, OpensHandle, session_of};
-ghost use Rattle.embed_c.specs.Ranges.{DoesHashDelete, DoesHashGet, DoesHashPut, DoesInsert, DoesTreeDelete, DoesTreeGet, GivesFirst, IfNamed, IsRanged, TellsFound, of_hash, of_tree, told_found};
+ghost use Rattle.embed_c.specs.Ranges.{GivesFirst, GivesNothing, IfNamed, IsRanged, OnRange, TellsFound, hash_delete, hash_get, hash_put, of_hash, of_tree, told_found, tree_delete, tree_get, tree_insert};
 ghost use Rattle.embed_c.specs.Opening.{IsCreated, IsFailure, IsOpened, IsUncreated, IsUnopened};
 ghost use Rattle.embed_c.specs.Staging.{Apart, Gets, Runs};
 ghost use Rattle.embed_c.specs.Waiting.{TellsNext};
+ghost use Rattle.embed_c.specs.Within.{Tells};
 ghost use Rattle.write_queue.specs.Handed.{handed};
 ghost use Rattle.write_queue.specs.Memory.{disk_of};
 
@@ -31,6 +32,9 @@ mod backing_up;
 mod giving_up;
 mod handle;
 mod maps;
+mod page_map_calls;
+mod page_maps;
+mod pairs;
 mod reopening;
 mod session;
 mod snapshots;
@@ -39,6 +43,7 @@ mod taken;
 mod target;
 mod target_handle;
 mod upkeep;
+mod within;
 
 use answer::{Answer, Detail};
 use app_program::ProgramOp;
@@ -129,9 +134,10 @@ pub extern "C" fn redo_core_create(
     log_a: &[u8],
     log_b: &[u8],
     params: &Numbers,
+    pages: bool,
     detail: &mut Detail,
 ) -> u32
-    ensures { OpensHandle (IsCreated (record { objects = params.now.objects; cap = params.now.cap; limit = params.now.limit; more = false }) (handed objects.now log_a.now log_b.now)) (IsUncreated (record { objects = params.now.objects; cap = params.now.cap; limit = params.now.limit; more = false }) (handed objects.now log_a.now log_b.now)) (session_of redo.old) (session_of redo.new) detail.new result }
+    ensures { OpensHandle (IsCreated (record { objects = params.now.objects; cap = params.now.cap; limit = params.now.limit; more = pages }) (handed objects.now log_a.now log_b.now)) (IsUncreated (record { objects = params.now.objects; cap = params.now.cap; limit = params.now.limit; more = pages }) (handed objects.now log_a.now log_b.now)) (session_of redo.old) (session_of redo.new) detail.new result }
 {
     if redo.is_open() {
         return ALREADY_OPEN;
@@ -140,7 +146,7 @@ pub extern "C" fn redo_core_create(
         objects: params.objects,
         cap: params.cap,
         limit: params.limit,
-        more: false,
+        more: pages,
     };
     let session = Session::create(alloc, objects, log_a, log_b, params);
     opened(alloc, redo, session, detail)
@@ -288,11 +294,11 @@ pub extern "C" fn redo_core_app_run(
     most: u64,
     steps: &mut u64,
 ) -> u32
-    ensures { OnSession (Apart (IsCalled (told of_exec) (λ old new made. DoesRun (step_of app) most old new made × TellsSteps made steps.new))) (session_of redo.old) (session_of redo.new) result }
+    ensures { OnSession (Tells (DoesRun (step_of app) most) (StagesRun (step_of app) most) (told of_exec) (λ made. TellsSteps made steps.new)) (session_of redo.old) (session_of redo.new) result }
 {
-    match redo.take_apart(alloc) {
-        Err(answer) => answer,
-        Ok(mut session) => {
+    match redo.take(alloc) {
+        None => NOT_OPEN,
+        Some(mut session) => {
             let answer = session.app_run(app, most, steps);
             redo.put_back(session);
             answer
@@ -309,11 +315,11 @@ pub extern "C" fn redo_core_program_run(
     most: u64,
     steps: &mut u64,
 ) -> u32
-    ensures { OnSession (Apart (IsCalled (told of_exec) (λ old new made. DoesRun (program_step app program) most old new made × TellsSteps made steps.new))) (session_of redo.old) (session_of redo.new) result }
+    ensures { OnSession (Tells (DoesRun (program_step app program) most) (StagesRun (program_step app program) most) (told of_exec) (λ made. TellsSteps made steps.new)) (session_of redo.old) (session_of redo.new) result }
 {
-    match redo.take_apart(alloc) {
-        Err(answer) => answer,
-        Ok(mut session) => {
+    match redo.take(alloc) {
+        None => NOT_OPEN,
+        Some(mut session) => {
             let answer = session.program_run(app, program, most, steps);
             redo.put_back(session);
             answer
@@ -537,11 +543,11 @@ pub extern "C" fn redo_core_tree_insert(
     key: &[u8],
     value: &[u8],
 ) -> u32
-    ensures { OnSession (Apart (IfNamed (nat_le range.now.low range.now.high) (is_short key.now && is_short value.now) (IsCalled (told of_tree) (DoesInsert range.now.low range.now.high key.now value.now)))) (session_of redo.old) (session_of redo.new) result }
+    ensures { OnSession (IfNamed (nat_le range.now.low range.now.high) (is_short key.now && is_short value.now) (OnRange (tree_insert range.now.low range.now.high key.now value.now) (told of_tree) GivesNothing)) (session_of redo.old) (session_of redo.new) result }
 {
-    match redo.take_apart(alloc) {
-        Err(answer) => answer,
-        Ok(mut session) => {
+    match redo.take(alloc) {
+        None => NOT_OPEN,
+        Some(mut session) => {
             let answer = session.tree_insert(*range, key, value);
             redo.put_back(session);
             answer
@@ -556,11 +562,11 @@ pub extern "C" fn redo_core_tree_delete(
     range: &Range,
     key: &[u8],
 ) -> u32
-    ensures { OnSession (Apart (IfNamed (nat_le range.now.low range.now.high) (is_short key.now) (IsCalled (told of_tree) (DoesTreeDelete range.now.low range.now.high key.now)))) (session_of redo.old) (session_of redo.new) result }
+    ensures { OnSession (IfNamed (nat_le range.now.low range.now.high) (is_short key.now) (OnRange (tree_delete range.now.low range.now.high key.now) (told of_tree) GivesNothing)) (session_of redo.old) (session_of redo.new) result }
 {
-    match redo.take_apart(alloc) {
-        Err(answer) => answer,
-        Ok(mut session) => {
+    match redo.take(alloc) {
+        None => NOT_OPEN,
+        Some(mut session) => {
             let answer = session.tree_delete(*range, key);
             redo.put_back(session);
             answer
@@ -577,11 +583,11 @@ pub extern "C" fn redo_core_tree_get(
     into: &mut [u8],
     length: &mut u64,
 ) -> u32
-    ensures { OnSession (Apart (IfNamed (nat_le range.now.low range.now.high) (is_short key.now) (IsCalled (told_found of_tree) (λ old new made. DoesTreeGet range.now.low range.now.high key.now old new made × TellsFound made into.old into.new length.new)))) (session_of redo.old) (session_of redo.new) result }
+    ensures { OnSession (IfNamed (nat_le range.now.low range.now.high) (is_short key.now) (OnRange (tree_get range.now.low range.now.high key.now) (told_found of_tree) (λ made. TellsFound made into.old into.new length.new))) (session_of redo.old) (session_of redo.new) result }
 {
-    match redo.take_apart(alloc) {
-        Err(answer) => answer,
-        Ok(mut session) => {
+    match redo.take(alloc) {
+        None => NOT_OPEN,
+        Some(mut session) => {
             let answer = session.tree_get(*range, key, into, length);
             redo.put_back(session);
             answer
@@ -598,11 +604,11 @@ pub extern "C" fn redo_core_tree_range(
     to: &[u8],
     count: &mut u64,
 ) -> u32
-    ensures { OnSession (Apart (IfNamed (nat_le range.now.low range.now.high) (is_short from.now && is_short to.now) (IsRanged range.now.low range.now.high from.now to.now count.new))) (session_of redo.old) (session_of redo.new) result }
+    ensures { OnSession (IfNamed (nat_le range.now.low range.now.high) (is_short from.now && is_short to.now) (IsRanged range.now.low range.now.high from.now to.now count.new)) (session_of redo.old) (session_of redo.new) result }
 {
-    match redo.take_apart(alloc) {
-        Err(answer) => answer,
-        Ok(mut session) => {
+    match redo.take(alloc) {
+        None => NOT_OPEN,
+        Some(mut session) => {
             let answer = session.tree_range(*range, from, to, count);
             redo.put_back(session);
             answer
@@ -619,7 +625,7 @@ pub extern "C" fn redo_core_tree_pair(
     value: &mut [u8],
     lengths: &mut Lengths,
 ) -> u32
-    ensures { OnSession (λ old new answer. GivesFirst key.old key.new value.old value.new lengths.new (drop pair old.pairs.items) answer × (new ≡ old)) (session_of redo.old) (session_of redo.new) result }
+    ensures { OnSession (λ old new answer. GivesFirst key.old key.new value.old value.new lengths.new (drop pair old.pairs.of_tree.items) answer × (new ≡ old)) (session_of redo.old) (session_of redo.new) result }
 {
     match redo.take(alloc) {
         None => NOT_OPEN,
@@ -639,11 +645,11 @@ pub extern "C" fn redo_core_hash_put(
     key: &[u8],
     value: &[u8],
 ) -> u32
-    ensures { OnSession (Apart (IfNamed (nat_lt range.now.low range.now.high) (is_short key.now && is_short value.now) (IsCalled (told of_hash) (DoesHashPut range.now.low range.now.high key.now value.now)))) (session_of redo.old) (session_of redo.new) result }
+    ensures { OnSession (IfNamed (nat_lt range.now.low range.now.high) (is_short key.now && is_short value.now) (OnRange (hash_put range.now.low range.now.high key.now value.now) (told of_hash) GivesNothing)) (session_of redo.old) (session_of redo.new) result }
 {
-    match redo.take_apart(alloc) {
-        Err(answer) => answer,
-        Ok(mut session) => {
+    match redo.take(alloc) {
+        None => NOT_OPEN,
+        Some(mut session) => {
             let answer = session.hash_put(*range, key, value);
             redo.put_back(session);
             answer
@@ -658,11 +664,11 @@ pub extern "C" fn redo_core_hash_delete(
     range: &Range,
     key: &[u8],
 ) -> u32
-    ensures { OnSession (Apart (IfNamed (nat_lt range.now.low range.now.high) (is_short key.now) (IsCalled (told of_hash) (DoesHashDelete range.now.low range.now.high key.now)))) (session_of redo.old) (session_of redo.new) result }
+    ensures { OnSession (IfNamed (nat_lt range.now.low range.now.high) (is_short key.now) (OnRange (hash_delete range.now.low range.now.high key.now) (told of_hash) GivesNothing)) (session_of redo.old) (session_of redo.new) result }
 {
-    match redo.take_apart(alloc) {
-        Err(answer) => answer,
-        Ok(mut session) => {
+    match redo.take(alloc) {
+        None => NOT_OPEN,
+        Some(mut session) => {
             let answer = session.hash_delete(*range, key);
             redo.put_back(session);
             answer
@@ -679,11 +685,11 @@ pub extern "C" fn redo_core_hash_get(
     into: &mut [u8],
     length: &mut u64,
 ) -> u32
-    ensures { OnSession (Apart (IfNamed (nat_lt range.now.low range.now.high) (is_short key.now) (IsCalled (told_found of_hash) (λ old new made. DoesHashGet range.now.low range.now.high key.now old new made × TellsFound made into.old into.new length.new)))) (session_of redo.old) (session_of redo.new) result }
+    ensures { OnSession (IfNamed (nat_lt range.now.low range.now.high) (is_short key.now) (OnRange (hash_get range.now.low range.now.high key.now) (told_found of_hash) (λ made. TellsFound made into.old into.new length.new))) (session_of redo.old) (session_of redo.new) result }
 {
-    match redo.take_apart(alloc) {
-        Err(answer) => answer,
-        Ok(mut session) => {
+    match redo.take(alloc) {
+        None => NOT_OPEN,
+        Some(mut session) => {
             let answer = session.hash_get(*range, key, into, length);
             redo.put_back(session);
             answer

@@ -1,9 +1,9 @@
-// Trees and hash files in ranges of objects.
-ghost use Rattle.std.specs.Prelude.{◌≡◌, ◌&&◌, None, Some, drop, if◌then◌else◌, nat_le, nat_lt};
+// Trees and hash files in ranges of objects; where a transaction is open, within it.
+ghost use Rattle.std.specs.Prelude.{◌≡◌, ◌&&◌, None, Some, drop, if◌then◌else◌, length, nat_le, nat_lt};
 ghost use Rattle.key_entries.specs.Short.{is_short};
 ghost use Rattle.embed_c.specs.Answers.{alone, told};
-ghost use Rattle.embed_c.specs.Calls.{DoesNothing, IsCalled};
-ghost use Rattle.embed_c.specs.Ranges.{CopiesFront, DoesHashDelete, DoesHashGet, DoesHashPut, DoesInsert, DoesTreeDelete, DoesTreeGet, GivesFirst, IfNamed, IsRanged, TellsFound, of_hash, of_tree, told_found};
+ghost use Rattle.embed_c.specs.Calls.{DoesNothing};
+ghost use Rattle.embed_c.specs.Ranges.{CopiesFront, GivesFirst, GivesNothing, IfNamed, IsRanged, OnRange, TellsFound, hash_delete, hash_get, hash_put, of_hash, of_tree, told_found, tree_delete, tree_get, tree_insert};
 
 use crate::answer::{Answer, hash_answer, hash_found, tree_answer, tree_found};
 use crate::session::Session;
@@ -12,15 +12,15 @@ use key_entries::Short;
 use logical_btree::Tree;
 
 /// The answer where a range of objects is none.
-const NO_OBJECT: u32 = 32;
+pub(crate) const NO_OBJECT: u32 = 32;
 
 /// The answer where there is no such pair.
-const NO_KEY: u32 = 39;
+pub(crate) const NO_KEY: u32 = 39;
 
 /// The answer where a key, or the value of a key, has not 1 to 32 bytes.
 const BAD_KEY: u32 = 49;
 
-/// The first and the last object of a tree or a hash file.
+/// The first and the last object of a tree, a hash file or a map.
 #[repr(C)]
 #[derive(Clone, Copy)]
 pub struct Range {
@@ -62,11 +62,25 @@ fn both(one: &[u8], other: &[u8]) -> Option<(Short, Short)>
 }
 
 // Copies the front of bytes, as much as there is room for.
-fn copy_front(bytes: &[u8], into: &mut [u8])
+pub(crate) fn copy_front(bytes: &[u8], into: &mut [u8])
     ensures { CopiesFront bytes.now into.old into.new }
 {
     let count = bytes.len().min(into.len());
     into[..count].copy_from_slice(&bytes[..count]);
+}
+
+// Gives a pair, as much of it as there is room for, and says how long its parts are.
+pub(crate) fn give_pair(name: &[u8], behind: &[u8], key: &mut [u8], value: &mut [u8]) -> Lengths
+    ensures key { CopiesFront name.now key.old key.new }
+    ensures value { CopiesFront behind.now value.old value.new }
+    ensures lengths { result ≡ record { key = length name.now; value = length behind.now } }
+{
+    copy_front(name, key);
+    copy_front(behind, value);
+    Lengths {
+        key: name.len() as u64,
+        value: behind.len() as u64,
+    }
 }
 
 // Gives the value that was found, and writes how long it is.
@@ -91,7 +105,7 @@ impl Session {
 
     /// Gives a key of a tree this value.
     pub fn tree_insert(&mut self, range: Range, key: &[u8], value: &[u8]) -> u32
-        ensures { IfNamed (nat_le range.low range.high) (is_short key.now && is_short value.now) (IsCalled (told of_tree) (DoesInsert range.low range.high key.now value.now)) self.old self.new result }
+        ensures { IfNamed (nat_le range.low range.high) (is_short key.now && is_short value.now) (OnRange (tree_insert range.low range.high key.now value.now) (told of_tree) GivesNothing) self.old self.new result }
     {
         let Some(tree) = range.tree() else {
             return self.refuse(NO_OBJECT);
@@ -99,14 +113,14 @@ impl Session {
         let Some(names) = both(key, value) else {
             return self.refuse(BAD_KEY);
         };
-        let answer = tree_answer(self.store.tree_insert(&tree, &names.0, &names.1));
+        let answer = tree_answer(self.insert_in_tree(&tree, &names.0, &names.1));
         self.detail = answer.detail;
         answer.number
     }
 
     /// Deletes a key of a tree, and its value.
     pub fn tree_delete(&mut self, range: Range, key: &[u8]) -> u32
-        ensures { IfNamed (nat_le range.low range.high) (is_short key.now) (IsCalled (told of_tree) (DoesTreeDelete range.low range.high key.now)) self.old self.new result }
+        ensures { IfNamed (nat_le range.low range.high) (is_short key.now) (OnRange (tree_delete range.low range.high key.now) (told of_tree) GivesNothing) self.old self.new result }
     {
         let Some(tree) = range.tree() else {
             return self.refuse(NO_OBJECT);
@@ -114,14 +128,14 @@ impl Session {
         let Some(key) = Short::new(key) else {
             return self.refuse(BAD_KEY);
         };
-        let answer = tree_answer(self.store.tree_delete(&tree, &key));
+        let answer = tree_answer(self.delete_in_tree(&tree, &key));
         self.detail = answer.detail;
         answer.number
     }
 
     /// Gives the value of a key of a tree, as much of it as there is room for, and says how long it is.
     pub fn tree_get(&mut self, range: Range, key: &[u8], into: &mut [u8], length: &mut u64) -> u32
-        ensures { IfNamed (nat_le range.low range.high) (is_short key.now) (IsCalled (told_found of_tree) (λ old new made. DoesTreeGet range.low range.high key.now old new made × TellsFound made into.old into.new length.new)) self.old self.new result }
+        ensures { IfNamed (nat_le range.low range.high) (is_short key.now) (OnRange (tree_get range.low range.high key.now) (told_found of_tree) (λ made. TellsFound made into.old into.new length.new)) self.old self.new result }
     {
         let Some(tree) = range.tree() else {
             return self.refuse(NO_OBJECT);
@@ -129,7 +143,7 @@ impl Session {
         let Some(key) = Short::new(key) else {
             return self.refuse(BAD_KEY);
         };
-        let made = self.store.tree_get(&tree, &key);
+        let made = self.get_in_tree(&tree, &key);
         put_found(&made, into, length);
         let answer = tree_found(made);
         self.detail = answer.detail;
@@ -147,10 +161,10 @@ impl Session {
         let Some(ends) = both(from, to) else {
             return self.refuse(BAD_KEY);
         };
-        match self.store.tree_range(self.alloc, &tree, &ends.0, &ends.1) {
+        match self.range_in_tree(&tree, &ends.0, &ends.1) {
             Ok(pairs) => {
                 *count = pairs.len() as u64;
-                self.pairs = pairs;
+                self.pairs.of_tree = pairs;
                 self.detail = Answer::done().detail;
                 0
             }
@@ -170,25 +184,18 @@ impl Session {
         value: &mut [u8],
         lengths: &mut Lengths,
     ) -> u32
-        ensures { GivesFirst key.old key.new value.old value.new lengths.new (drop pair self.now.pairs.items) result }
+        ensures { GivesFirst key.old key.new value.old value.new lengths.new (drop pair self.now.pairs.of_tree.items) result }
     {
-        let Some(found) = self.pairs.get(pair as usize) else {
+        let Some(found) = self.pairs.of_tree.get(pair as usize) else {
             return NO_KEY;
         };
-        let name = found.0.as_slice();
-        let behind = found.1.as_slice();
-        *lengths = Lengths {
-            key: name.len() as u64,
-            value: behind.len() as u64,
-        };
-        copy_front(name, key);
-        copy_front(behind, value);
+        *lengths = give_pair(found.0.as_slice(), found.1.as_slice(), key, value);
         0
     }
 
     /// Gives a key of a hash file this value.
     pub fn hash_put(&mut self, range: Range, key: &[u8], value: &[u8]) -> u32
-        ensures { IfNamed (nat_lt range.low range.high) (is_short key.now && is_short value.now) (IsCalled (told of_hash) (DoesHashPut range.low range.high key.now value.now)) self.old self.new result }
+        ensures { IfNamed (nat_lt range.low range.high) (is_short key.now && is_short value.now) (OnRange (hash_put range.low range.high key.now value.now) (told of_hash) GivesNothing) self.old self.new result }
     {
         let Some(file) = range.file() else {
             return self.refuse(NO_OBJECT);
@@ -196,14 +203,14 @@ impl Session {
         let Some(names) = both(key, value) else {
             return self.refuse(BAD_KEY);
         };
-        let answer = hash_answer(self.store.hash_put(&file, &names.0, &names.1));
+        let answer = hash_answer(self.put_in_hash(&file, &names.0, &names.1));
         self.detail = answer.detail;
         answer.number
     }
 
     /// Deletes a key of a hash file, and its value.
     pub fn hash_delete(&mut self, range: Range, key: &[u8]) -> u32
-        ensures { IfNamed (nat_lt range.low range.high) (is_short key.now) (IsCalled (told of_hash) (DoesHashDelete range.low range.high key.now)) self.old self.new result }
+        ensures { IfNamed (nat_lt range.low range.high) (is_short key.now) (OnRange (hash_delete range.low range.high key.now) (told of_hash) GivesNothing) self.old self.new result }
     {
         let Some(file) = range.file() else {
             return self.refuse(NO_OBJECT);
@@ -211,14 +218,14 @@ impl Session {
         let Some(key) = Short::new(key) else {
             return self.refuse(BAD_KEY);
         };
-        let answer = hash_answer(self.store.hash_delete(&file, &key));
+        let answer = hash_answer(self.delete_in_hash(&file, &key));
         self.detail = answer.detail;
         answer.number
     }
 
     /// Gives the value of a key of a hash file, as much of it as there is room for, and says how long it is.
     pub fn hash_get(&mut self, range: Range, key: &[u8], into: &mut [u8], length: &mut u64) -> u32
-        ensures { IfNamed (nat_lt range.low range.high) (is_short key.now) (IsCalled (told_found of_hash) (λ old new made. DoesHashGet range.low range.high key.now old new made × TellsFound made into.old into.new length.new)) self.old self.new result }
+        ensures { IfNamed (nat_lt range.low range.high) (is_short key.now) (OnRange (hash_get range.low range.high key.now) (told_found of_hash) (λ made. TellsFound made into.old into.new length.new)) self.old self.new result }
     {
         let Some(file) = range.file() else {
             return self.refuse(NO_OBJECT);
@@ -226,7 +233,7 @@ impl Session {
         let Some(key) = Short::new(key) else {
             return self.refuse(BAD_KEY);
         };
-        let made = self.store.hash_get(&file, &key);
+        let made = self.get_in_hash(&file, &key);
         put_found(&made, into, length);
         let answer = hash_found(made);
         self.detail = answer.detail;

@@ -12,18 +12,19 @@ ghost use Rattle.write_queue.specs.Handed.{handed};
 ghost use Rattle.write_queue.specs.Memory.{IsLeftByFront, disk_of, first_files, taken_from, waiting_in};
 ghost use Rattle.embed.specs.Embedded.{Reports};
 ghost use Rattle.embed_c.specs.Answers.{alone, of_exec, of_work, told, told_end, told_value};
-ghost use Rattle.embed_c.specs.Calls.{DoesBegin, DoesCheckpoint, DoesDrain, DoesEnd, DoesExec, DoesForce, DoesGet, DoesInstall, DoesNothing, DoesRun, DoesTrim, IsCalled, TellsCount, TellsInstall, TellsLength, TellsSteps};
+ghost use Rattle.embed_c.specs.Calls.{DoesBegin, DoesCheckpoint, DoesDrain, DoesEnd, DoesExec, DoesForce, DoesGet, DoesInstall, DoesNothing, DoesRun, DoesTrim, IsCalled, StagesRun, TellsCount, TellsInstall, TellsLength, TellsSteps};
 ghost use Rattle.embed_c.specs.Next.{left_in};
 ghost use Rattle.embed_c.specs.Opening.{IsCreated, IsFailure, IsHanded, IsOpened, IsReady, IsUncreated, IsUnopened};
 ghost use Rattle.embed_c.specs.Staging.{Gets, Runs};
 ghost use Rattle.embed_c.specs.Waiting.{KeepsStore, TellsNext, pending};
+ghost use Rattle.embed_c.specs.Within.{Tells};
 
 use crate::answer::{Answer, Detail, end_answer, exec_answer, value_answer, work_answer};
+use crate::pairs::Pairs;
 use crate::taken::{Call, Taken};
 use app_steps::{App, ProgApp};
 use embed::{Store, lay_out};
 use formats::Params;
-use key_entries::Short;
 use op_codec::{AllOps, plain_op};
 use op_meaning::PlainOp;
 use oper_core::ByteList;
@@ -39,8 +40,8 @@ pub struct Session {
     pub(crate) store: Store<QueueMem>,
     pub(crate) taken: Taken,
     pub(crate) detail: Detail,
-    // The pairs of a tree that were found last.
-    pub(crate) pairs: Vec<(Short, Short)>,
+    // The pairs of a tree and those of a map that were found last.
+    pub(crate) pairs: Pairs,
     // The transaction that is open.
     pub(crate) staging: Option<Transaction<AllOps>>,
     // The snapshot that is open.
@@ -126,7 +127,7 @@ impl Session {
                 store,
                 taken: Taken::new(alloc),
                 detail: Answer::done().detail,
-                pairs: Vec::new(alloc),
+                pairs: Pairs::none(alloc),
                 staging: None,
                 snapshot: None,
                 pace: Pace::new(),
@@ -244,22 +245,22 @@ impl Session {
         }
     }
 
-    /// Does steps of an application until `most` are done or one is refused.
+    /// Does steps of an application until `most` are done or one is refused; where a transaction is open, within it.
     pub fn app_run(&mut self, app: u32, most: u64, steps: &mut u64) -> u32
-        ensures { IsCalled (told of_exec) (λ old new made. DoesRun (step_of app) most old new made × TellsSteps made steps.new) self.old self.new result }
+        ensures { Tells (DoesRun (step_of app) most) (StagesRun (step_of app) most) (told of_exec) (λ made. TellsSteps made steps.new) self.old self.new result }
     {
-        let made = self.store.app_run(&App { app }, most);
+        let made = self.run_app(&App { app }, most);
         put_steps(&made, steps);
         let answer = exec_answer(made);
         self.detail = answer.detail;
         answer.number
     }
 
-    /// Does steps of an interpreted application until `most` are done or one is refused.
+    /// Does steps of an interpreted application until `most` are done or one is refused; where a transaction is open, within it.
     pub fn program_run(&mut self, app: u32, program: u32, most: u64, steps: &mut u64) -> u32
-        ensures { IsCalled (told of_exec) (λ old new made. DoesRun (program_step app program) most old new made × TellsSteps made steps.new) self.old self.new result }
+        ensures { Tells (DoesRun (program_step app program) most) (StagesRun (program_step app program) most) (told of_exec) (λ made. TellsSteps made steps.new) self.old self.new result }
     {
-        let made = self.store.program_run(&ProgApp { app, program }, most);
+        let made = self.run_program(&ProgApp { app, program }, most);
         put_steps(&made, steps);
         let answer = exec_answer(made);
         self.detail = answer.detail;

@@ -1,12 +1,12 @@
 use Rattle.app_steps.specs.Steps.{step_of}
 use Rattle.embed_c.specs.Answers.{of_exec, told}
-use Rattle.embed_c.specs.Calls.{DoesRun, IsCalled, TellsSteps}
-use Rattle.embed_c.specs.Handles.{session_of}
-use Rattle.embed_c.proofs.Transacting.{was_apart, was_within}
+use Rattle.embed_c.specs.Calls.{DoesRun, StagesRun, TellsSteps}
+use Rattle.embed_c.specs.Within.{Tells}
+use Rattle.embed_c.proofs.OnHandles.{was_closed, was_open}
 use Rattle.embed_c.proofs.redo_core_app_run.Goals as goal
 
-pub returns-in-Err : goal.returns-in-Err
-returns-in-Err c = was_within (IsCalled (told of_exec) (λ old new made. DoesRun (step_of c.args.app) c.args.most old new made × TellsSteps made c.args.steps.now)) (session_of c.args.redo.now) (session_of c.take_apart.new.self) c.in-Err.answer c.in-Err.ensures.err
+pub returns-in-None : goal.returns-in-None
+returns-in-None c = was_closed (Tells (DoesRun (step_of c.args.app) c.args.most) (StagesRun (step_of c.args.app) c.args.most) (told of_exec) (λ made. TellsSteps made c.args.steps.now)) c.in-None.ensures.none c.in-None.ensures.left
 
-pub returns-in-Ok : goal.returns-in-Ok
-returns-in-Ok c = was_apart (IsCalled (told of_exec) (λ old new made. DoesRun (step_of c.args.app) c.args.most old new made × TellsSteps made c.app_run-answer.new.steps)) c.in-Ok.ensures.ok.0 c.in-Ok.ensures.ok.1 c.deref_mut.ensures.value c.put_back.ensures c.app_run-answer.ensures
+pub returns-in-Some : goal.returns-in-Some
+returns-in-Some c = was_open (Tells (DoesRun (step_of c.args.app) c.args.most) (StagesRun (step_of c.args.app) c.args.most) (told of_exec) (λ made. TellsSteps made c.app_run-answer.new.steps)) c.in-Some.ensures.some c.deref_mut.ensures.value c.put_back.ensures c.app_run-answer.ensures

@@ -1,4 +1,4 @@
-use Rattle.std.proofs.Common.{◌≡◌, ◌⊎◌, ◌∙◌, Err, Ok, ⊎_elim, inr, false}
+use Rattle.std.proofs.Common.{◌≡◌, ◌⊎◌, ◌∙◌, Err, Ok, ⊎_elim, inr}
 use Rattle.formats.specs.declared.params.Params.{Params}
 use Rattle.write_queue.specs.Handed.{handed}
 use Rattle.embed_c.specs.Answers.{alone}
@@ -11,7 +11,7 @@ use Rattle.embed_c.proofs.redo_core_create.Goals as goal
 
 pub returns-then-is_open : goal.returns-then-is_open
 returns-then-is_open c =
-    let p : Params = record { objects = c.args.params.now.objects; cap = c.args.params.now.cap; limit = c.args.params.now.limit; more = false } in
+    let p : Params = record { objects = c.args.params.now.objects; cap = c.args.params.now.cap; limit = c.args.params.now.limit; more = c.args.pages } in
     let files = handed c.args.objects.now c.args.log_a.now c.args.log_b.now in
     stays_open (IsCreated p files) (IsUncreated p files) (session_of c.args.redo.now) c.args.detail.now (c.is_open.ensures ∙ c.if-is_open.true)
 
@@ -23,7 +23,7 @@ opened-requires-clause-fails c = c.create-session.ensures.err
 
 pub returns : goal.returns
 returns c =
-    let p : Params = record { objects = c.args.params.now.objects; cap = c.args.params.now.cap; limit = c.args.params.now.limit; more = false } in
+    let p : Params = record { objects = c.args.params.now.objects; cap = c.args.params.now.cap; limit = c.args.params.now.limit; more = c.args.pages } in
     let files = handed c.args.objects.now c.args.log_a.now c.args.log_b.now in
     let is : Session → Type 0 = IsCreated p files in
     let why : Answer → Type 0 = IsUncreated p files in

@@ -1,17 +1,12 @@
-use Rattle.std.proofs.Common.{ap, refl}
+use Rattle.std.proofs.Common.{ap}
 use Rattle.embed_c.specs.declared.answer.Answer.{Answer}
-use Rattle.embed_c.proofs.Untaken.{untaken}
 use Rattle.embed_c.proofs.session.Session.program_run.Goals as goal
 
 pub returns : goal.returns
-returns c = record {
-  made = c.program_run-made.result;
-  store = (record { calls = c.program_run-made.ensures.calls; adds = c.program_run-made.ensures.adds; answer = c.program_run-made.ensures.answer; broken = c.program_run-made.ensures.broken }, c.put_steps.ensures);
+returns c = let e = c.run_program-made.ensures in record {
+  made = c.run_program-made.result;
+  is = record { store = e.store; untaken = e.untaken; taken = e.taken; pairs = e.pairs; snapshot = e.snapshot };
+  given = c.put_steps.ensures;
   number = ap (λ (a : Answer). a.number) c.exec_answer-answer.ensures;
   detail = ap (λ (a : Answer). a.detail) c.exec_answer-answer.ensures;
-  untaken = untaken c.program_run-made.ensures.time;
-  taken = refl;
-  pairs = refl;
-  snapshot = refl;
-  staging = refl;
 }

@@ -1,13 +1,11 @@
-use Rattle.std.proofs.Common.{arith, ◌&&◌, nat_le, ℕ, List, Ok, Err, ap, sym, refl}
+use Rattle.std.proofs.Common.{arith, ◌&&◌, nat_le, ℕ, List, Ok, Err, ap, refl}
 use Rattle.key_entries.specs.Short.{is_short}
-use Rattle.logical_btree.specs.Walk.{Pair, Range}
-use Rattle.execution.specs.declared.exec_err.ExecErr.TheVariants.{DiskFault}
-use Rattle.range_calls.specs.Answers as answers
-use Rattle.range_calls.specs.declared.call_err.CallErr.TheVariants.{Exec}
-use Rattle.embed_c.specs.Ranges.{DoesTreeRange, IsRanged}
+use Rattle.logical_btree.specs.Walk.{Range}
+use Rattle.embed_c.specs.Ranges.{Does, IsRanged, Stages, tree_range}
+use Rattle.embed_c.specs.Within.{OnStaging}
 use Rattle.embed_c.specs.declared.answer.Answer.{Answer}
-use Rattle.embed_c.proofs.Named.{all_named, at_names, error_again, fails_by, never_err, no_key, no_range, passes_by}
-use Rattle.embed_c.proofs.Untaken.{untaken}
+use Rattle.embed_c.specs.declared.pairs.Pairs.{Pairs}
+use Rattle.embed_c.proofs.Named.{all_named, at_names, fails_by, no_key, no_range, passes_by}
 use Rattle.embed_c.proofs.session.Session.tree_range.Goals as goal
 
 pub returns-in_default : goal.returns-in_default
@@ -27,21 +25,16 @@ returns-in-Ok c =
     let done = c.in-Ok.ensures in
     all_named (IsRanged c.args.range.low c.args.range.high c.args.from.now c.args.to.now c.len.result) c.args.self.now _ _ (nat_le c.args.range.low c.args.range.high) (is_short c.args.from.now && is_short c.args.to.now) named.0 keys.0 (record {
       made = Ok c.in-Ok.pairs.items;
-      store = at_names (λ (r : Range) k v. DoesTreeRange r.lo r.hi k v c.args.self.now.store c.tree_range.new.self (Ok c.in-Ok.pairs.items)) c.in-Some.tree (record { lo = c.args.range.low; hi = c.args.range.high }) c.in-Some-both.ends.0 c.args.from.now c.in-Some-both.ends.1 c.args.to.now
-          named.1 (ap (λ (p : List ℕ × List ℕ). p.0) keys.1) (ap (λ (p : List ℕ × List ℕ). p.1) keys.1) (record {
-            calls = done.calls;
-            adds = done.adds;
-            answer = λ p commands holds all. ap (λ r. answers.told r) (sym (done.pairs p commands holds));
-            broken = λ broken. absurd (never_err (done.broken broken).answer);
-          });
+      store = at_names (λ (r : Range) k v. OnStaging (Does (tree_range r.lo r.hi k v)) (Stages (tree_range r.lo r.hi k v)) c.args.self.now.store c.range_in_tree.new.self.store c.args.self.now.staging c.range_in_tree.new.self.staging (Ok c.in-Ok.pairs.items)) c.in-Some.tree (record { lo = c.args.range.low; hi = c.args.range.high }) c.in-Some-both.ends.0 c.args.from.now c.in-Some-both.ends.1 c.args.to.now
+          named.1 (ap (λ (p : List ℕ × List ℕ). p.0) keys.1) (ap (λ (p : List ℕ × List ℕ). p.1) keys.1) done.store;
       count = omega (arith, c.len.ensures);
       pairs = refl;
-      snapshot = refl;
-      staging = refl;
+      others = ap (λ (p : Pairs). p.of_map) done.pairs;
+      snapshot = done.snapshot;
       number = refl;
       detail = ap (λ (a : Answer). a.detail) c.done.ensures;
-      untaken = untaken done.time;
-      taken = refl;
+      untaken = done.untaken;
+      taken = done.taken;
     })
 
 pub returns-in-Err : goal.returns-in-Err
@@ -51,19 +44,14 @@ returns-in-Err c =
     let failed = c.in-Err.ensures in
     all_named (IsRanged c.args.range.low c.args.range.high c.args.from.now c.args.to.now c.args.count.now) c.args.self.now _ _ (nat_le c.args.range.low c.args.range.high) (is_short c.args.from.now && is_short c.args.to.now) named.0 keys.0 (record {
       made = Err c.in-Err.cause;
-      store = at_names (λ (r : Range) k v. DoesTreeRange r.lo r.hi k v c.args.self.now.store c.tree_range.new.self (Err c.in-Err.cause)) c.in-Some.tree (record { lo = c.args.range.low; hi = c.args.range.high }) c.in-Some-both.ends.0 c.args.from.now c.in-Some-both.ends.1 c.args.to.now
-          named.1 (ap (λ (p : List ℕ × List ℕ). p.0) keys.1) (ap (λ (p : List ℕ × List ℕ). p.1) keys.1) (record {
-            calls = failed.calls;
-            adds = failed.adds;
-            answer = λ p commands holds all. sym (failed.refused p commands holds all);
-            broken = λ broken. record { answer = error_again _ (List Pair) c.in-Err.cause (Exec DiskFault) (failed.broken broken).answer; same = (failed.broken broken).same };
-          });
+      store = at_names (λ (r : Range) k v. OnStaging (Does (tree_range r.lo r.hi k v)) (Stages (tree_range r.lo r.hi k v)) c.args.self.now.store c.range_in_tree.new.self.store c.args.self.now.staging c.range_in_tree.new.self.staging (Err c.in-Err.cause)) c.in-Some.tree (record { lo = c.args.range.low; hi = c.args.range.high }) c.in-Some-both.ends.0 c.args.from.now c.in-Some-both.ends.1 c.args.to.now
+          named.1 (ap (λ (p : List ℕ × List ℕ). p.0) keys.1) (ap (λ (p : List ℕ × List ℕ). p.1) keys.1) failed.store;
       count = tt;
-      pairs = refl;
-      snapshot = refl;
-      staging = refl;
+      pairs = ap (λ (p : Pairs). p.of_tree.items) failed.pairs;
+      others = ap (λ (p : Pairs). p.of_map) failed.pairs;
+      snapshot = failed.snapshot;
       number = ap (λ (a : Answer). a.number) c.of_tree-answer.ensures;
       detail = ap (λ (a : Answer). a.detail) c.of_tree-answer.ensures;
-      untaken = untaken failed.time;
-      taken = refl;
+      untaken = failed.untaken;
+      taken = failed.taken;
     })

@@ -1,0 +1,31 @@
+use Rattle.std.proofs.Common.{refl}
+use Rattle.formats.specs.Objects.{bounds_of}
+use Rattle.map_client.specs.Ranging.{next_told}
+use Rattle.range_calls.specs.Store.{state_of}
+use Rattle.embed_c.specs.PageMaps.{map_next, pairs_of, seen_as}
+use Rattle.embed_c.specs.Ranges.{Does, Stages}
+use Rattle.embed_c.proofs.Untaken.{untaken}
+use Rattle.embed_c.proofs.WithinCalls.{made_inside, made_outside, reads_so, reads_within}
+use Rattle.embed_c.proofs.session.Session.next_in_map.Goals as goal
+
+pub returns-in-None : goal.returns-in-None
+returns-in-None c = let e = c.map_next.ensures in record {
+  store = made_outside (Does (map_next c.args.map.now.lo c.args.map.now.hi c.args.key.now)) (Stages (map_next c.args.map.now.lo c.args.map.now.hi c.args.key.now)) c.args.self.now.store c.map_next.new.self (seen_as pairs_of c.map_next.result) c.in-None.is
+      (reads_so pairs_of (λ p commands. next_told (bounds_of p) c.args.map.now.lo c.args.map.now.hi (state_of p commands) c.args.key.now) c.args.self.now.store c.map_next.new.self c.map_next.result
+      e.calls e.adds e.found e.refused e.broken);
+  untaken = untaken e.time;
+  taken = refl;
+  pairs = refl;
+  snapshot = refl;
+}
+
+pub returns-in-Some : goal.returns-in-Some
+returns-in-Some c = record {
+  store = made_inside (Does (map_next c.args.map.now.lo c.args.map.now.hi c.args.key.now)) (Stages (map_next c.args.map.now.lo c.args.map.now.hi c.args.key.now)) c.args.self.now.store c.map_next_within.new.self (seen_as pairs_of c.map_next_within.result) {u = c.map_next_within.new.transaction} c.in-Some.is
+      (reads_within pairs_of (λ p commands. next_told (bounds_of p) c.args.map.now.lo c.args.map.now.hi (state_of p commands) c.args.key.now) c.args.self.now.store c.map_next_within.new.self c.in-Some.transaction c.map_next_within.new.transaction c.map_next_within.result
+      c.map_next_within.ensures);
+  untaken = untaken c.map_next_within.ensures.time;
+  taken = refl;
+  pairs = refl;
+  snapshot = refl;
+}
