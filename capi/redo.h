@@ -1,4 +1,4 @@
-/* A store of objects within a program: commands, values, durability, groups, ordered maps, hash files, applications.
+/* A store of objects within a program: commands, values, durability, groups, trees, hash files, maps, applications.
  *
  * redo_close forces nothing: what no redo_force has answered for may be lost, as by a kill.
  * A handle is used where it was opened, in the process that opened it, by one call at a time; other calls are refused (REDO_COPIED,
@@ -15,7 +15,7 @@ extern "C" {
 #endif
 
 /* Of this header: greater where something was added, which never changes what was there. */
-#define REDO_VERSION 6
+#define REDO_VERSION 7
 #define REDO_VERSION_STRING "0.10.0"    /* of the release */
 uint32_t redo_version(void);            /* of the library that runs */
 const char *redo_version_string(void);
@@ -50,8 +50,8 @@ typedef struct redo_handle {
 
 /* The answers: 0, or why a call was not done. A number is never used again for something else. Below 32 the store or the machine
  * speaks (numbers below 16 are the statuses of the program, which ends with 3 in the place of 6), from 32 on a command is refused,
- * and from 64 on a call is misused. What is refused or misused has changed nothing; of a call that is several commands (maps, hash
- * files, runs of an application) those before the refusal stay. An install, a tend, a drain, a checkpoint or a trim that is answered
+ * and from 64 on a call is misused. What is refused or misused has changed nothing; of a call that is several commands (trees, hash
+ * files, maps, runs of an application) those before the refusal stay. An install, a tend, a drain, a checkpoint or a trim that is answered
  * with REDO_LOG_FULL or REDO_MEMORY may have done a part of its work, which changes no value, and may be called again. After
  * REDO_DISK_FAULT a handle answers that until it is closed. */
 enum {
@@ -85,9 +85,9 @@ enum {
     REDO_NOT_APP = 36,       /* the value is no state of an application */
     REDO_NO_INPUT = 37,      /* the application has no input left */
     REDO_NOT_NODE = 38,      /* the value is no node of a tree and no bucket of a hash file */
-    REDO_NO_KEY = 39,        /* the key is not there; redo_tree_pair: there is no such pair */
+    REDO_NO_KEY = 39,        /* the key is not there; redo_tree_pair, redo_map_pair, redo_map_next, redo_map_prev: there is no such pair */
     REDO_NODE_FULL = 40,     /* the node takes no key more */
-    REDO_TOO_LARGE = 41,     /* the value would be longer than `cap`, or a map is changed in a store whose `cap` is below 1024 */
+    REDO_TOO_LARGE = 41,     /* the value would be longer than `cap`, or a tree or a hash file is changed and `cap` is below 1024 */
     REDO_NOT_CODE = 42,      /* the value is no program */
     REDO_HALTED = 43,        /* the program has halted */
     REDO_BAD_TREE = 44,      /* an object of the range is no node of the tree; detail: the object */
@@ -96,6 +96,12 @@ enum {
     REDO_HASH_FULL = 47,     /* a bucket cannot be split once more; detail: the object */
     REDO_NO_ROOM = 48,       /* the range has too few empty objects; detail: how many */
     REDO_BAD_KEY = 49,       /* a key, or the value of a key, has 1 to 32 bytes; said before a range is held against the store */
+    REDO_NO_PAGES = 50,      /* a map of wide pages is changed in a store that was made without pages, or whose `cap` is below 1024 */
+    REDO_BAD_MAP = 51,       /* an object of the range is no page of the map, or not of its place; detail: the object */
+    REDO_TOO_LONG = 52,      /* redo_map_set: the key has no bytes, or the key or the value is too long for the store's pages; where it has
+                              * 65536 bytes or more, said before a range is held against the store */
+    REDO_MAP_FULL = 53,      /* redo_map_set: a page has to be cut in two, and fewer than two objects of the range are empty, or the map
+                              * has all its levels */
     REDO_NOT_OPEN = 64,      /* the handle is closed */
     REDO_ALREADY_OPEN = 65,  /* the handle is open */
     REDO_BUSY = 66,          /* another call with this handle is under way: one that a signal has interrupted, or another thread's */
@@ -127,15 +133,17 @@ int32_t redo_last_detail(const redo_t *db, redo_detail_t *detail);
  * while it does. */
 typedef struct redo_params { uint32_t objects, cap, limit; } redo_params_t;
 int32_t redo_create(redo_t *db, const char *folder, uint32_t objects, uint32_t cap, uint32_t limit);
+/* The same, of a store that has maps of wide pages too (version 3 of its files; older libraries and programs do not open it). */
+int32_t redo_create_pages(redo_t *db, const char *folder, uint32_t objects, uint32_t cap, uint32_t limit);
 int32_t redo_open(redo_t *db, const char *folder);
-/* redo_open, but in this way: 0, or one of these. The lock is waited for, so many milliseconds at most: then it is REDO_LOCKED.
+/* redo_open, but in this way: 0, or one of these two. The lock is waited for, so many milliseconds at most: then it is REDO_LOCKED.
  * REDO_OR_CREATE: where the folder has no store, one is made with these numbers, which else are not looked at. What redo_open calls
- * damaged is so here.
+ * damaged is so here. With REDO_WITH_PAGES beside it that is one which has maps of wide pages.
  * REDO_TO_READ: nothing is written, and no restart is logged. Many handles may read one store, in one process or several, and none
  * changes it meanwhile (REDO_LOCKED, on either side; the lock has no queue, and readers that come and go may outlast a wait for it).
  * The folder and its files have to be readable, no more. Every call that does
  * not only read is REDO_READ_ONLY. */
-enum { REDO_OR_CREATE = 1, REDO_TO_READ = 2 };
+enum { REDO_OR_CREATE = 1, REDO_TO_READ = 2, REDO_WITH_PAGES = 4 };
 int32_t redo_open_with(redo_t *db, const char *folder, uint32_t how, uint32_t wait, const redo_params_t *numbers);
 int32_t redo_close(redo_t *db);                 /* forces nothing; in a child it lets the child's copy of the handle go */
 
@@ -157,7 +165,8 @@ int32_t redo_get(redo_t *db, uint32_t object, void *into, size_t room, uint64_t 
 int32_t redo_force(redo_t *db, uint64_t *commands);     /* all accepted commands are durable: so many since redo_create */
 int32_t redo_install(redo_t *db, uint64_t *installed);  /* one node of the write graph: 1, or 0 where none was left */
 int32_t redo_drain(redo_t *db);                         /* all of them */
-/* A piece of a drain, with four syncs at most for all that it installs together: up to `most` nodes; 0 where none was left. */
+/* A piece of a drain: what waits is forced, and up to `most` nodes are installed, with three syncs at most for all of them that go
+ * together; 0 where none was left. So it is best called before a redo_force, which then has nothing to do. */
 int32_t redo_tend(redo_t *db, uint64_t most, uint64_t *installed);
 /* With `on` the handle keeps up: after a command outside a group and a transaction, and after the end of either, it takes one such
  * piece, and one trim that leaves at most 1 MiB, where they are due; and a drain and a trim where the log is past three quarters of
@@ -178,11 +187,12 @@ int32_t redo_begin_room(redo_t *db, uint64_t bytes);
  * file, the answer is REDO_DISK_FAULT, and the files have the commands before the group. */
 int32_t redo_group_abort(redo_t *db);
 
-/* A transaction: between the two, commands on values and steps of applications are staged, and redo_get sees them; nothing is logged.
- * A command is refused as it would be after the staged ones. redo_txn_commit adds all of them, in one group, or none; the next
- * redo_force makes them durable. It is REDO_LOG_FULL only where their records do not fit, and the transaction stays open then: after
- * a redo_drain and a redo_trim it may be committed once more. Every other answer ends it; with one that is not REDO_OK nothing of
- * it is there. Runs of an application, maps, hash files, groups and another redo_txn_begin are REDO_IN_TXN meanwhile. */
+/* A transaction: between the two, commands on values, calls on trees, hash files and maps, steps and runs of applications are staged,
+ * and the calls that read values, trees, hash files and maps see them; nothing is logged. Each is refused as it would be after the
+ * staged ones. redo_txn_commit adds all of them, in one group, or none; the next redo_force makes them durable. It is REDO_LOG_FULL
+ * only where their records do not fit, and the transaction stays open then: after a redo_drain and a redo_trim it may be committed
+ * once more. Every other answer ends it; with one that is not REDO_OK nothing of it is there. Groups and another redo_txn_begin are
+ * REDO_IN_TXN meanwhile. */
 int32_t redo_txn_begin(redo_t *db);             /* not within a group */
 int32_t redo_txn_commit(redo_t *db);            /* forces what was accepted before it */
 /* The same, but it forces nothing, so that many transactions go with one redo_force: a crash leaves what the last force left. Where
@@ -191,7 +201,7 @@ int32_t redo_txn_commit_lazily(redo_t *db);
 int32_t redo_txn_abort(redo_t *db);             /* drops what is staged, and so does redo_close */
 
 /* A snapshot: the values that all objects have as it begins, and keep for redo_snapshot_get while other calls change them. A value is
- * copied as the first call since changes it, those of a whole range at the first change of a map or hash file there. Where memory is
+ * copied as the first call since changes it, those of a whole range at the first change of a tree, hash file or map there. Where memory is
  * refused for that, and where the store goes back behind its beginning (redo_group_abort, a commit that is cut off), the snapshot is
  * given up (REDO_GIVEN_UP), and the call is done as without it. What is staged is not seen. One snapshot is open at a time, also across
  * groups and transactions; redo_close ends it. */
@@ -216,11 +226,11 @@ typedef struct redo_stat {
 int32_t redo_stat(redo_t *db, redo_stat_t *stat);
 int32_t redo_params(redo_t *db, redo_params_t *params);
 
-/* The objects low to high of a map, in which nothing else is put. Keys and values of a map have 1 to 32 bytes, and its store a cap
- * of at least 1024: with less each change is REDO_TOO_LARGE. */
+/* The objects low to high of a tree, a hash file or a map, in which nothing else is put. Keys and values of a tree or a hash file have 1
+ * to 32 bytes, and its store a cap of at least 1024: with less each change is REDO_TOO_LARGE. */
 typedef struct redo_range { uint32_t low, high; } redo_range_t;
 
-/* An ordered map, a tree. An empty range is an empty map. */
+/* A tree: keys in order, in small nodes. An empty range is an empty tree. */
 int32_t redo_tree_insert(redo_t *db, redo_range_t tree, const void *key, size_t key_length, const void *value, size_t length);
 int32_t redo_tree_delete(redo_t *db, redo_range_t tree, const void *key, size_t key_length);
 int32_t redo_tree_get(redo_t *db, redo_range_t tree, const void *key, size_t key_length, void *into, size_t room,
@@ -232,7 +242,7 @@ int32_t redo_tree_range(redo_t *db, redo_range_t tree, const void *from, size_t 
 typedef struct redo_lengths { uint64_t key, value; } redo_lengths_t;
 int32_t redo_tree_pair(redo_t *db, uint64_t pair, void *key, size_t key_room, void *value, size_t room, redo_lengths_t *lengths);
 
-/* A map without an order, a hash file: one object is read for a key, beside the directory. */
+/* A hash file, whose keys have no order: one object is read for a key, beside the directory. */
 int32_t redo_hash_put(redo_t *db, redo_range_t hash, const void *key, size_t key_length, const void *value, size_t length);
 int32_t redo_hash_delete(redo_t *db, redo_range_t hash, const void *key, size_t key_length);
 int32_t redo_hash_get(redo_t *db, redo_range_t hash, const void *key, size_t key_length, void *into, size_t room,
@@ -243,6 +253,35 @@ int32_t redo_hash_get(redo_t *db, redo_range_t hash, const void *key, size_t key
  * answer than REDO_OK some may have been told, and `count` is as it was. */
 typedef int (*redo_each_t)(void *with, const void *key, size_t key_length, const void *value, size_t length);
 int32_t redo_hash_each(redo_t *db, redo_range_t hash, redo_each_t each, void *with, uint64_t *count);
+
+/* An ordered map of wide pages, each as long as a value may be: P bytes, `cap` or 65535, whichever is less. An empty range is an empty
+ * map. Keys have 1 to 1023 bytes, at most P / 8 - 8, and values 0 to P / 4 bytes. The store was made by redo_create_pages, or upgraded
+ * by the program, and has a `cap` of at least 1024: else each change is REDO_NO_PAGES.
+ * A set or a delete is a few commands. Where one of them is REDO_LOG_FULL, or REDO_MEMORY, those before it stay: after such a set the
+ * map holds what it held, and the call may be made again; after such a delete that, or all but the key, and then a second one is
+ * REDO_NO_KEY. */
+int32_t redo_map_set(redo_t *db, redo_range_t map, const void *key, size_t key_length, const void *value, size_t length);
+int32_t redo_map_delete(redo_t *db, redo_range_t map, const void *key, size_t key_length);
+int32_t redo_map_get(redo_t *db, redo_range_t map, const void *key, size_t key_length, void *into, size_t room,
+                     uint64_t *length);
+/* How many keys are not below `from` and below `to`. A `to` of length 0 is the end of the map, here and below. (Keys that begin with some
+ * bytes: from these, to these without what is 0xff at their end, and one more in the last byte that is left.) */
+int32_t redo_map_count(redo_t *db, redo_range_t map, const void *from, size_t from_length, const void *to, size_t to_length,
+                       uint64_t *count);
+/* The first of their pairs, by rising key, and the last ones, by falling key: `count` of them, at most `most`. The handle keeps them until
+ * the next of these calls and those below, and redo_map_pair copies them, counted from 0. */
+int32_t redo_map_range(redo_t *db, redo_range_t map, const void *from, size_t from_length, const void *to, size_t to_length,
+                       uint32_t most, uint64_t *count);
+int32_t redo_map_back(redo_t *db, redo_range_t map, const void *from, size_t from_length, const void *to, size_t to_length,
+                      uint32_t most, uint64_t *count);
+int32_t redo_map_pair(redo_t *db, uint64_t pair, void *key, size_t key_room, void *value, size_t room, redo_lengths_t *lengths);
+/* The first pair above a key, and the last one below it; of a key of length 0, the first pair of all, and the last one. REDO_NO_KEY where
+ * there is none. redo_map_pair copies it too, as pair 0. A cursor is a key: it may have been deleted meanwhile, and `found` may be where
+ * `key` is. */
+int32_t redo_map_next(redo_t *db, redo_range_t map, const void *key, size_t key_length, void *found, size_t found_room, void *value,
+                      size_t room, redo_lengths_t *lengths);
+int32_t redo_map_prev(redo_t *db, redo_range_t map, const void *key, size_t key_length, void *found, size_t found_room, void *value,
+                      size_t room, redo_lengths_t *lengths);
 
 /* An application whose state is the value of `app`: a step, input added from an object, output taken to one, and steps until
  * `most` are done or one is refused for want of input. */

@@ -52,14 +52,19 @@ struct bytes {
     bytes(const R &range) : at(std::ranges::data(range)), length(std::ranges::size(range)) {}
 };
 
-/* The value that such a call puts into room; it is made once more where that was too small. */
-std::string value_of(const redo_t *db, auto &&call) {
+/* The value that such a call puts into room; it is made once more where that was too small. Without one where a key is not there. */
+std::optional<std::string> found_value(const redo_t *db, auto &&call) {
     std::string value(256, '\0');
-    for (uint64_t length = 0;; value.resize(length)) {
-        check(db, call(value.data(), value.size(), &length));
-        if (length <= value.size()) return value.resize(length), value;
+    for (uint64_t length = 0;;) {
+        int32_t answer = call(value.data(), value.size(), &length);
+        if (answer == REDO_NO_KEY) return std::nullopt;
+        check(db, answer);
+        bool whole = length <= value.size();
+        value.resize(length);
+        if (whole) return value;
     }
 }
+std::string value_of(const redo_t *db, auto &&call) { return found_value(db, call).value(); }
 
 inline uint64_t counted(const redo_t *db, auto &&call) { uint64_t n = 0; return check(db, call(&n)), n; }
 
@@ -102,53 +107,91 @@ struct backup : scope<redo_backup_give_up> {
     uint64_t finish() { uint64_t n = 0; return copy(UINT32_MAX), end(redo_backup_finish(db, &n)), n; }
 };
 
+using pair = std::pair<std::string, std::string>;
+
+/* The pair at a place of those that were found last, which such a call gives; and all that a call finds. */
+pair pair_at(redo_t *db, auto give, uint64_t place) {
+    std::string key(64, '\0'), value(256, '\0');
+    for (redo_lengths_t n{};;) {
+        check(db, give(db, place, key.data(), key.size(), value.data(), value.size(), &n));
+        bool whole = n.key <= key.size() && n.value <= value.size();
+        key.resize(n.key), value.resize(n.value);
+        if (whole) return {std::move(key), std::move(value)};
+    }
+}
+std::vector<pair> all_pairs(redo_t *db, auto give, auto &&find) {
+    std::vector<pair> pairs(counted(db, find));
+    for (std::size_t i = 0; i < pairs.size(); i++) pairs[i] = pair_at(db, give, i);
+    return pairs;
+}
+
 /* A map in a range of objects, by its three calls in redo.h. */
-template <auto set_, auto delete_, auto get_> class map {
+template <auto set_, auto delete_, auto get_> class basic_map {
   protected:
     redo_t *db;
     redo_range_t at;
 
   public:
-    map(redo_t *of, uint32_t low, uint32_t high) : db(of), at{low, high} {}
+    basic_map(redo_t *of, uint32_t low, uint32_t high) : db(of), at{low, high} {}
     void set(bytes key, bytes value) { check(db, set_(db, at, key.at, key.length, value.at, value.length)); }
     bool erase(bytes key) {                         // false where the key is not there
         int32_t answer = delete_(db, at, key.at, key.length);
         return answer == REDO_NO_KEY ? false : (check(db, answer), true);
     }
     std::optional<std::string> get(bytes key) const {
-        char value[32];
-        uint64_t length = 0;
-        int32_t answer = get_(db, at, key.at, key.length, value, sizeof value, &length);
-        if (answer == REDO_NO_KEY) return std::nullopt;
-        return check(db, answer), std::string(value, length);
+        return found_value(db, [&](auto... room) { return get_(db, at, key.at, key.length, room...); });
     }
 };
-using hash = map<redo_hash_put, redo_hash_delete, redo_hash_get>;
+using hash = basic_map<redo_hash_put, redo_hash_delete, redo_hash_get>;
 
-struct tree : map<redo_tree_insert, redo_tree_delete, redo_tree_get> {
-    using map::map;
-    std::vector<std::pair<std::string, std::string>> range(bytes from, bytes to) const {    // by rising key, up to `to`
-        std::vector<std::pair<std::string, std::string>> pairs;
-        char key[32], value[32];
+struct tree : basic_map<redo_tree_insert, redo_tree_delete, redo_tree_get> {
+    using basic_map::basic_map;
+    std::vector<pair> range(bytes from, bytes to) const {    // by rising key, up to `to`
+        return all_pairs(db, redo_tree_pair, [&](auto *n) { return redo_tree_range(db, at, from.at, from.length, to.at, to.length, n); });
+    }
+};
+
+/* A map of wide pages. The empty `to` is its end; a cursor is a key, which may have been erased. */
+class map : public basic_map<redo_map_set, redo_map_delete, redo_map_get> {
+    std::vector<pair> found(auto find, bytes from, bytes to, uint32_t most) const {
+        return all_pairs(db, redo_map_pair, [&](auto *n) { return find(db, at, from.at, from.length, to.at, to.length, most, n); });
+    }
+    std::optional<pair> beside(auto find, bytes key) const {
         redo_lengths_t n{};
-        uint64_t count = 0;
-        check(db, redo_tree_range(db, at, from.at, from.length, to.at, to.length, &count));
-        for (uint64_t i = 0; i < count; i++) {
-            check(db, redo_tree_pair(db, i, key, sizeof key, value, sizeof value, &n));
-            pairs.emplace_back(std::string(key, n.key), std::string(value, n.value));
-        }
-        return pairs;
+        int32_t answer = find(db, at, key.at, key.length, nullptr, 0, nullptr, 0, &n);
+        if (answer == REDO_NO_KEY) return std::nullopt;
+        return check(db, answer), pair_at(db, redo_map_pair, 0);
     }
+
+  public:
+    using basic_map::basic_map;
+    /* by rising key, the first ones; by falling key, the last ones; those whose keys begin so */
+    std::vector<pair> range(bytes from = "", bytes to = "", uint32_t most = UINT32_MAX) const { return found(redo_map_range, from, to, most); }
+    std::vector<pair> back(bytes from = "", bytes to = "", uint32_t most = UINT32_MAX) const { return found(redo_map_back, from, to, most); }
+    std::vector<pair> prefix(bytes front, uint32_t most = UINT32_MAX) const {
+        std::string end(static_cast<const char *>(front.at), front.length);
+        while (!end.empty() && end.back() == '\xff') end.pop_back();
+        if (!end.empty()) end.back()++;
+        return range(front, end, most);
+    }
+    uint64_t count(bytes from = "", bytes to = "") const {
+        return counted(db, [&](auto *n) { return redo_map_count(db, at, from.at, from.length, to.at, to.length, n); });
+    }
+    std::optional<pair> first() const { return next(""); }
+    std::optional<pair> last() const { return prev(""); }
+    std::optional<pair> next(bytes key) const { return beside(redo_map_next, key); }    // above a key
+    std::optional<pair> prev(bytes key) const { return beside(redo_map_prev, key); }    // below it
 };
 
-/* How a store is opened: made with these numbers where there is none, waited for, only read, with upkeep. */
+/* How a store is opened: made with these numbers where there is none, waited for, only read, with upkeep; one that is made has pages. */
 struct opening {
     std::optional<redo_params_t> create{};
     std::chrono::milliseconds wait{0};
-    bool readonly = false, upkeep = false;
+    bool readonly = false, upkeep = false, pages = false;
 };
 
-/* A store that is open. It closes at the end of its scope, and forces nothing. What it has begun ends before it. */
+/* A store that is open. It closes at the end of its scope, and forces nothing. What it has begun ends before it. One that was moved from is
+ * none, and takes no call. */
 class store {
     struct closes { void operator()(redo_t *db) const { redo_close(db), delete db; } };
     std::unique_ptr<redo_t, closes> own{new redo_t REDO_CLOSED};
@@ -158,15 +201,15 @@ class store {
   public:
     static store open(const std::filesystem::path &folder, const opening &how = {}) {
         store s;
-        uint32_t way = how.create.has_value() * REDO_OR_CREATE + how.readonly * REDO_TO_READ;
+        uint32_t way = how.create.has_value() * REDO_OR_CREATE + how.readonly * REDO_TO_READ + how.pages * REDO_WITH_PAGES;
         auto wait = uint32_t(std::clamp<int64_t>(how.wait.count(), 0, UINT32_MAX));
         s.made(redo_open_with(s.db(), folder.c_str(), way, wait, how.create ? &*how.create : nullptr));
         if (how.upkeep) s.made(redo_upkeep(s.db(), 1));
         return s;
     }
-    static store create(const std::filesystem::path &folder, redo_params_t p) {
+    static store create(const std::filesystem::path &folder, redo_params_t p, bool pages = false) {
         store s;
-        s.made(redo_create(s.db(), folder.c_str(), p.objects, p.cap, p.limit));
+        s.made((pages ? redo_create_pages : redo_create)(s.db(), folder.c_str(), p.objects, p.cap, p.limit));
         return s;
     }
     redo_t *handle() const { return db(); }         // for the other calls of redo.h
@@ -194,6 +237,7 @@ class store {
     [[nodiscard]] redo::backup backup(const std::filesystem::path &folder) { return {db(), folder}; }
     redo::tree tree(uint32_t low, uint32_t high) const { return {db(), low, high}; }
     redo::hash hash(uint32_t low, uint32_t high) const { return {db(), low, high}; }
+    redo::map map(uint32_t low, uint32_t high) const { return {db(), low, high}; }
 };
 }
 #endif

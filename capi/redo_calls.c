@@ -15,7 +15,7 @@
  * snapshot, if one is open: it writes no others. */
 #define COMMAND(one, other, name, ...) REDO_CALL((keep(db, one, other), kept_up(db, MADE(name, __VA_ARGS__))))
 #define COMMAND_OF(name) REDO_CALL(kept_up(db, redo_report(db, redo_core_##name(&db->core_))))
-/* The same of a command of a map or hash file, which writes none but those of its range. */
+/* The same of a call on a tree, a hash file or a map, which writes none but the objects of its range. */
 #define CHANGE(name, range, ...) (keep_range(db, range), kept_up(db, MADE(name, &range, __VA_ARGS__)))
 /* The same, but where bytes that it names are nowhere. */
 #define UNLESS(nowhere, made) REDO_CALL((nowhere) ? redo_alone(db, REDO_NULL) : (made))
@@ -147,16 +147,19 @@ int32_t redo_tree_range(redo_t *db, redo_range_t tree, const void *from, size_t 
     return READ_UNLESS(NOWHERE(from, from_length) || NOWHERE(to, to_length),
                        MADE(tree_range, &tree, redo_some(from), from_length, redo_some(to), to_length, COUNT(count)));
 }
-/* (Where there is no such pair, the library's detail is that of the call before.) */
-static int32_t tree_pair(redo_t *db, uint64_t pair, void *key, size_t key_room, void *value, size_t room, redo_lengths_t *lengths) {
+/* A pair that was found last. (Where there is no such pair, the library's detail is that of the call before.) */
+typedef uint32_t pair_call_t(redo_core_t *, uint64_t, uint8_t *, size_t, uint8_t *, size_t, redo_lengths_t *);
+static int32_t kept_pair(redo_t *db, pair_call_t *give, uint64_t pair, void *key, size_t key_room, void *value, size_t room,
+                         redo_lengths_t *lengths) {
     redo_lengths_t unasked = {0, 0};
-    int32_t answer = MADE(tree_pair, pair, INTO(key, key_room), INTO(value, room), lengths ? lengths : &unasked);
+    int32_t answer = redo_report(db, give(&db->core_, pair, INTO(key, key_room), INTO(value, room), lengths ? lengths : &unasked));
     if (answer == REDO_NO_KEY) return redo_alone(db, answer);
     return told(db, told(db, answer, key, key_room, &unasked.key), value, room, &unasked.value);
 }
 int32_t redo_tree_pair(redo_t *db, uint64_t pair, void *key, size_t key_room, void *value, size_t room,
                        redo_lengths_t *lengths) {
-    return READ_UNLESS(NOWHERE(key, key_room) || NOWHERE(value, room), tree_pair(db, pair, key, key_room, value, room, lengths));
+    return READ_UNLESS(NOWHERE(key, key_room) || NOWHERE(value, room),
+                       kept_pair(db, redo_core_tree_pair, pair, key, key_room, value, room, lengths));
 }
 int32_t redo_hash_put(redo_t *db, redo_range_t hash, const void *key, size_t key_length, const void *value, size_t length) {
     return UNLESS(NOWHERE(key, key_length) || NOWHERE(value, length),
@@ -169,6 +172,55 @@ int32_t redo_hash_get(redo_t *db, redo_range_t hash, const void *key, size_t key
                       uint64_t *length) {
     uint64_t unasked = 0;
     return READ_UNLESS(NOWHERE(key, key_length) || NOWHERE(into, room), VALUE(hash_get, &hash, redo_some(key), key_length));
+}
+
+int32_t redo_map_set(redo_t *db, redo_range_t map, const void *key, size_t key_length, const void *value, size_t length) {
+    return UNLESS(NOWHERE(key, key_length) || NOWHERE(value, length),
+                  CHANGE(map_set, map, redo_some(key), key_length, redo_some(value), length));
+}
+int32_t redo_map_delete(redo_t *db, redo_range_t map, const void *key, size_t key_length) {
+    return UNLESS(NOWHERE(key, key_length), CHANGE(map_delete, map, redo_some(key), key_length));
+}
+int32_t redo_map_get(redo_t *db, redo_range_t map, const void *key, size_t key_length, void *into, size_t room,
+                     uint64_t *length) {
+    uint64_t unasked = 0;
+    return READ_UNLESS(NOWHERE(key, key_length) || NOWHERE(into, room), VALUE(map_get, &map, redo_some(key), key_length));
+}
+/* How much of a key is handed on where the library copies it: no key in a page has so many bytes as this, so the others order it alike
+ * among them. */
+static size_t front(size_t length) { return length < 65536 ? length : 65536; }
+/* The same for keys from one up to another. */
+#define BETWEEN(name, ...)                                            \
+    READ_UNLESS(NOWHERE(from, from_length) || NOWHERE(to, to_length), \
+                MADE(name, &map, redo_some(from), front(from_length), redo_some(to), front(to_length), __VA_ARGS__))
+int32_t redo_map_count(redo_t *db, redo_range_t map, const void *from, size_t from_length, const void *to, size_t to_length,
+                       uint64_t *count) {
+    return BETWEEN(map_count, COUNT(count));
+}
+int32_t redo_map_range(redo_t *db, redo_range_t map, const void *from, size_t from_length, const void *to, size_t to_length,
+                       uint32_t most, uint64_t *count) {
+    return BETWEEN(map_range, most, COUNT(count));
+}
+int32_t redo_map_back(redo_t *db, redo_range_t map, const void *from, size_t from_length, const void *to, size_t to_length,
+                      uint32_t most, uint64_t *count) {
+    return BETWEEN(map_back, most, COUNT(count));
+}
+int32_t redo_map_pair(redo_t *db, uint64_t pair, void *key, size_t key_room, void *value, size_t room, redo_lengths_t *lengths) {
+    return READ_UNLESS(NOWHERE(key, key_room) || NOWHERE(value, room),
+                       kept_pair(db, redo_core_map_pair, pair, key, key_room, value, room, lengths));
+}
+/* The pair beside a key is the one that was found then, if one was. */
+#define BESIDE(name)                                                                            \
+    READ_UNLESS(NOWHERE(key, key_length) || NOWHERE(found, found_room) || NOWHERE(value, room), \
+                MADE(name, &map, redo_some(key), front(key_length), &(uint64_t){0})             \
+                    ?: kept_pair(db, redo_core_map_pair, 0, found, found_room, value, room, lengths))
+int32_t redo_map_next(redo_t *db, redo_range_t map, const void *key, size_t key_length, void *found, size_t found_room, void *value,
+                      size_t room, redo_lengths_t *lengths) {
+    return BESIDE(map_next);
+}
+int32_t redo_map_prev(redo_t *db, redo_range_t map, const void *key, size_t key_length, void *found, size_t found_room, void *value,
+                      size_t room, redo_lengths_t *lengths) {
+    return BESIDE(map_prev);
 }
 
 int32_t redo_app_exec(redo_t *db, uint32_t app) { return COMMAND(app, app, app_exec, app); }

@@ -2,6 +2,7 @@
 #ifndef REDO_CORE_H
 #define REDO_CORE_H
 #include "redo.h"
+#include <stdbool.h>
 
 /* A call that has to be made on the files: `length` bytes written at a place of a file (0 objects, 1 log A, 2 log B), a file
  * synced, or bytes that may be printed. */
@@ -13,7 +14,7 @@ typedef const uint8_t *redo_bytes_t;
 static inline redo_bytes_t redo_some(const void *at) { return at ? at : (redo_bytes_t)""; }
 
 uint32_t redo_core_create(redo_core_t *, redo_bytes_t, size_t, redo_bytes_t, size_t, redo_bytes_t, size_t, const redo_params_t *,
-                         redo_detail_t *);
+                         bool, redo_detail_t *);
 uint32_t redo_core_open(redo_core_t *, redo_bytes_t, size_t, redo_bytes_t, size_t, redo_bytes_t, size_t, redo_detail_t *);
 uint32_t redo_core_close(redo_core_t *);
 /* 1 where a call waits, which is told, and its bytes where there is room for them: then it waits no more. 0 where none does. */
@@ -86,4 +87,16 @@ uint32_t redo_core_tree_pair(redo_core_t *, uint64_t, uint8_t *, size_t, uint8_t
 uint32_t redo_core_hash_put(redo_core_t *, const redo_range_t *, redo_bytes_t, size_t, redo_bytes_t, size_t);
 uint32_t redo_core_hash_delete(redo_core_t *, const redo_range_t *, redo_bytes_t, size_t);
 uint32_t redo_core_hash_get(redo_core_t *, const redo_range_t *, redo_bytes_t, size_t, uint8_t *, size_t, uint64_t *);
+/* Of a map of wide pages. Keys from one up to another, or to the end of the map where that has length 0; at most so many of their pairs,
+ * the first ones or the last ones; the first pair above a key, or the last one below it. What was found is kept until the next of these
+ * four (range, back, next, prev) is done, and redo_core_map_pair gives it, as redo_core_tree_pair does. */
+uint32_t redo_core_map_set(redo_core_t *, const redo_range_t *, redo_bytes_t, size_t, redo_bytes_t, size_t);
+uint32_t redo_core_map_delete(redo_core_t *, const redo_range_t *, redo_bytes_t, size_t);
+uint32_t redo_core_map_get(redo_core_t *, const redo_range_t *, redo_bytes_t, size_t, uint8_t *, size_t, uint64_t *);
+uint32_t redo_core_map_count(redo_core_t *, const redo_range_t *, redo_bytes_t, size_t, redo_bytes_t, size_t, uint64_t *);
+uint32_t redo_core_map_range(redo_core_t *, const redo_range_t *, redo_bytes_t, size_t, redo_bytes_t, size_t, uint32_t, uint64_t *);
+uint32_t redo_core_map_back(redo_core_t *, const redo_range_t *, redo_bytes_t, size_t, redo_bytes_t, size_t, uint32_t, uint64_t *);
+uint32_t redo_core_map_next(redo_core_t *, const redo_range_t *, redo_bytes_t, size_t, uint64_t *);
+uint32_t redo_core_map_prev(redo_core_t *, const redo_range_t *, redo_bytes_t, size_t, uint64_t *);
+uint32_t redo_core_map_pair(redo_core_t *, uint64_t, uint8_t *, size_t, uint8_t *, size_t, redo_lengths_t *);
 #endif

@@ -75,16 +75,16 @@ int32_t redo_open_files(redo_t *db, redo_files_t *files, const char *path, uint3
 static bool is_log(bytes_t b) { return b.length > LOG_HEADER && memcmp(b.at, "\1RDOLOG01", 9) == 0 && b.at[LOG_HEADER] == 1; }
 bool redo_has_log(bytes_t bytes[3]) { return is_log(bytes[1]) || is_log(bytes[2]); }
 
-/* Makes a store with these numbers: not where a log tells of one whose objects file is spoilt. */
-static int32_t make(redo_t *db, bytes_t bytes[3], const redo_params_t *numbers) {
-    int32_t answer = (int32_t)redo_core_create(&db->core_, FILES(bytes), numbers, &db->detail_);
+/* Makes a store with these numbers, with pages or without: not where a log tells of one whose objects file is spoilt. */
+static int32_t make(redo_t *db, bytes_t bytes[3], const redo_params_t *numbers, bool pages) {
+    int32_t answer = (int32_t)redo_core_create(&db->core_, FILES(bytes), numbers, pages, &db->detail_);
     if (answer == REDO_OK && redo_has_log(bytes)) redo_core_close(&db->core_), answer = REDO_OLD_LOG;
     return answer;
 }
 
 /* What is asked for when a store is opened: that one which is there is opened, that one is made where none is (with these numbers,
  * which are null where none is to be made), and as long a wait for the lock. */
-typedef struct { bool opens, reads; uint32_t wait; const redo_params_t *numbers; } wish_t;
+typedef struct { bool opens, reads, pages; uint32_t wait; const redo_params_t *numbers; } wish_t;
 
 static int32_t start(redo_t *db, const char *path, wish_t wish) {
     bytes_t bytes[3] = {{0, 0}, {0, 0}, {0, 0}};
@@ -95,7 +95,7 @@ static int32_t start(redo_t *db, const char *path, wish_t wish) {
     int32_t answer = redo_open_files(db, &db->files_, path, wish.wait, bytes);
     if (answer == REDO_OK)
         answer = wish.opens ? (int32_t)redo_core_open(&db->core_, FILES(bytes), &db->detail_) : REDO_NOT_A_STORE;
-    if (answer == REDO_NOT_A_STORE && wish.numbers) answer = make(db, bytes, wish.numbers);
+    if (answer == REDO_NOT_A_STORE && wish.numbers) answer = make(db, bytes, wish.numbers, wish.pages);
     for (int i = 0; i < 3; i++) free(bytes[i].at);
     if (answer == REDO_OK) answer = redo_report(db, REDO_OK);
     else if (answer == REDO_DISK_FAULT && db->detail_.third == 0) redo_no_memory(db);
@@ -107,10 +107,14 @@ static int32_t start(redo_t *db, const char *path, wish_t wish) {
 int32_t redo_create(redo_t *db, const char *path, uint32_t objects, uint32_t cap, uint32_t limit) {
     return start(db, path, (wish_t){.numbers = &(redo_params_t){objects, cap, limit}});
 }
+int32_t redo_create_pages(redo_t *db, const char *path, uint32_t objects, uint32_t cap, uint32_t limit) {
+    return start(db, path, (wish_t){.numbers = &(redo_params_t){objects, cap, limit}, .pages = true});
+}
 int32_t redo_open(redo_t *db, const char *path) { return start(db, path, (wish_t){.opens = true}); }
 int32_t redo_open_with(redo_t *db, const char *path, uint32_t how, uint32_t wait, const redo_params_t *numbers) {
-    bool makes = how & REDO_OR_CREATE, reads = how & REDO_TO_READ;
-    if (db->state_ == REDO_IS_CLOSED && (how & ~(REDO_OR_CREATE | REDO_TO_READ) || (makes && reads))) return redo_alone(db, REDO_BAD_WAY);
+    bool makes = how & REDO_OR_CREATE, reads = how & REDO_TO_READ, pages = how & REDO_WITH_PAGES;
+    bool is_way = how <= (REDO_OR_CREATE | REDO_WITH_PAGES) && !(makes && reads) && (makes || !pages);
+    if (db->state_ == REDO_IS_CLOSED && !is_way) return redo_alone(db, REDO_BAD_WAY);
     if (db->state_ == REDO_IS_CLOSED && makes && !numbers) return redo_alone(db, REDO_NULL);
-    return start(db, path, (wish_t){true, reads, wait, makes ? numbers : 0});
+    return start(db, path, (wish_t){true, reads, pages, wait, makes ? numbers : 0});
 }

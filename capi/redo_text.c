@@ -40,7 +40,7 @@ const char *redo_strerror(int32_t answer) {
     case REDO_NOT_NODE: return "the value is no node of a tree and no bucket";
     case REDO_NO_KEY: return "the key is not there";
     case REDO_NODE_FULL: return "the node takes no key more";
-    case REDO_TOO_LARGE: return "the value would be too long (a map needs a cap of at least 1024)";
+    case REDO_TOO_LARGE: return "the value would be too long (a tree or a hash file needs a cap of at least 1024)";
     case REDO_NOT_CODE: return "the value is no program";
     case REDO_HALTED: return "the program has halted";
     case REDO_BAD_TREE: return "an object of the range is no node of the tree";
@@ -49,6 +49,10 @@ const char *redo_strerror(int32_t answer) {
     case REDO_HASH_FULL: return "a bucket of the hash file cannot be split once more";
     case REDO_NO_ROOM: return "the hash file has too few empty objects";
     case REDO_BAD_KEY: return "a key, or the value of a key, has 1 to 32 bytes";
+    case REDO_NO_PAGES: return "the store was made without pages, or its cap is below 1024";
+    case REDO_BAD_MAP: return "an object of the range is no page of the map";
+    case REDO_TOO_LONG: return "the key has no bytes, or the key or the value is too long for a page";
+    case REDO_MAP_FULL: return "the map has too few empty objects";
     case REDO_NOT_OPEN: return "the handle is closed";
     case REDO_ALREADY_OPEN: return "the handle is open";
     case REDO_BUSY: return "another call with this handle is under way";
@@ -91,7 +95,7 @@ const char *redo_last_error(const redo_t *db, char *into, size_t room) {
     case REDO_LOG_FULL: SAY("%s: %llu bytes are used and %llu needed, of %llu", text, first, second, third); break;
     case REDO_IN_GROUP: SAY("%s (commands in it: %llu)", text, first); break;
     case REDO_IN_BACKUP: case REDO_NOT_COPIED: SAY("%s (copied: %llu)", text, first); break;
-    case REDO_BAD_TREE: case REDO_BAD_HASH: case REDO_HASH_FULL: SAY("%s: object %llu", text, first); break;
+    case REDO_BAD_TREE: case REDO_BAD_HASH: case REDO_HASH_FULL: case REDO_BAD_MAP: SAY("%s: object %llu", text, first); break;
     case REDO_TREE_FULL: SAY("%s: %llu more are needed, %llu are empty", text, first, second); break;
     case REDO_NO_ROOM: SAY("%s: %llu are empty", text, first); break;
     default: SAY("%s", text);

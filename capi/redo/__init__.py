@@ -12,17 +12,22 @@
             s.swap(0, 2)
         s.force()                   # from here on no crash loses them
         print(s.get(1))             # b'hellohello'
-        tree = s.tree(4, 35)        # an ordered map in the objects 4 to 35
+        tree = s.tree(4, 35)        # keys in order, in the objects 4 to 35
         tree[b"ann"] = b"100"
         print(dict(tree.range(b"a", b"b")))
+    with redo.create("index", objects=4096, cap=4096, limit=1 << 24, pages=True) as s:
+        words = s.map(0, 4095)      # longer keys and values, on wide pages
+        words[b"a key of many words"] = b"."
+        print(dict(words.prefix(b"a ")), words.first(), words.last())
 
 `force` alone makes commands durable. The end of a `with` closes the store and forces nothing, as a kill would. A force is a sync of
 the disk, which threads share: of eight that put and force, most find their command durable when their turn comes.
 
-Limits (docs/LIMITS.md has all): 65,535 objects of at most 1 MiB; keys of maps, and their values, of 1 to 32 bytes, in a store with
-`cap` 1,024 or more; a hash file of 448 pairs at most, and often half of that. A tree whose keys rise and whose oldest are deleted
-wears its range out: TreeFull after some 2.25 inserts an object. A store is read into memory whole as it is opened, and commands
-that are not installed stay there: `drain`, or `upkeep=True`.
+Limits (docs/LIMITS.md has all): 65,535 objects of at most 1 MiB; keys of maps on wide pages of at most 1,023 bytes, and values of a
+quarter of a page; keys of trees and hash files, and their values, of 1 to 32 bytes; for all three a store with `cap` 1,024 or more;
+a hash file of 448 pairs at most, and often half of that. A tree whose keys rise and whose oldest are deleted wears its range out:
+TreeFull after some 2.25 inserts an object. A store is read into memory whole as it is opened, and commands that are not installed
+stay there: `drain`, or `upkeep=True`.
 
 A store may be used by several threads, one call, or one group, after the other. A call in the middle of another one of the same
 thread, as in a signal handler, or of a task within the group of another one, is Busy. After a fork the child has no store.
@@ -40,13 +45,13 @@ import sys
 import threading
 import time
 import weakref
-from collections.abc import Callable, Iterator, MutableMapping
+from collections.abc import Callable, ItemsView, Iterator, KeysView, MutableMapping, ValuesView
 from contextlib import AbstractContextManager
 from functools import partial
 from operator import index
 from typing import Any, NamedTuple, NoReturn, Union
 
-__all__ = ["Backup", "Error", "Hash", "MemoryFault", "Params", "Snapshot", "Stat", "Store", "Tree", "create", "open", "version"]
+__all__ = ["Backup", "Error", "Hash", "Map", "MemoryFault", "Params", "Snapshot", "Stat", "Store", "Tree", "create", "open", "version"]
 
 Bytes = Union[bytes, bytearray, memoryview]
 
@@ -54,7 +59,10 @@ Bytes = Union[bytes, bytearray, memoryview]
 def _load() -> ctypes.CDLL:
     here = os.path.dirname(os.path.abspath(__file__))
     capi = os.path.dirname(here)
-    for path in (os.environ.get("LIBREDO"), os.path.join(here, "libredo.so.1"), os.path.join(capi, "build", "libredo.so.1"),
+    named = os.environ.get("LIBREDO")
+    if named and not os.path.exists(named):
+        raise ImportError(f"LIBREDO names {named}, which is not there")
+    for path in (named, os.path.join(here, "libredo.so.1"), os.path.join(capi, "build", "libredo.so.1"),
                  os.path.join(capi, os.pardir, "release", "libredo-x86_64-linux.so")):
         if path and os.path.exists(path):
             return ctypes.CDLL(path)
@@ -107,7 +115,7 @@ class _Stat(ctypes.Structure):
 
 
 _lib = _load()
-if _lib.redo_version() < 6 or _lib.redo_handle_size() != ctypes.sizeof(_Handle):
+if _lib.redo_version() < 7 or _lib.redo_handle_size() != ctypes.sizeof(_Handle):
     raise ImportError("the library is none that this module knows")
 _u32, _u64, _size, _bytes, _into = ctypes.c_uint32, ctypes.c_uint64, ctypes.c_size_t, ctypes.c_char_p, ctypes.c_void_p
 _u64p = ctypes.POINTER(_u64)
@@ -125,6 +133,7 @@ def _c(name: str, *types: type) -> Callable[..., int]:
 
 
 _create, _open_with, _close = _c("create", _bytes, _u32, _u32, _u32), _c("open_with", _bytes, _u32, _u32, _into), _c("close")
+_create_pages = _c("create_pages", _bytes, _u32, _u32, _u32)
 _last_detail = _c("last_detail", ctypes.POINTER(_Detail))
 _lib.redo_last_error.restype, _lib.redo_last_error.argtypes = _bytes, [ctypes.POINTER(_Handle), _into, _size]
 _put, _get, _copy, _append = _c("put", _u32, *_pair), _c("get", _u32, *_room), _c("copy", *_objects), _c("append", *_objects)
@@ -143,6 +152,10 @@ _tree_insert, _tree_delete, _tree_get = _c("tree_insert", *_key, *_pair), _c("tr
 _tree_range = _c("tree_range", *_key, *_pair, _u64p)
 _tree_pair = _c("tree_pair", _u64, _into, _size, _into, _size, ctypes.POINTER(_Lengths))
 _hash_put, _hash_delete, _hash_get = _c("hash_put", *_key, *_pair), _c("hash_delete", *_key), _c("hash_get", *_key, *_room)
+_map_set, _map_delete, _map_get = _c("map_set", *_key, *_pair), _c("map_delete", *_key), _c("map_get", *_key, *_room)
+_map_count = _c("map_count", *_key, *_pair, _u64p)
+_map_range, _map_back = _c("map_range", *_key, *_pair, _u32, _u64p), _c("map_back", *_key, *_pair, _u32, _u64p)
+_map_pair = _c("map_pair", _u64, _into, _size, _into, _size, ctypes.POINTER(_Lengths))
 _app_exec, _app_read, _app_write = _c("app_exec", _u32), _c("app_read", *_objects), _c("app_write", *_objects)
 _app_run, _program_run = _c("app_run", _u32, _u64, _u64p), _c("program_run", *_objects, _u64, _u64p)
 _program_exec, _program_read, _program_write = (_c("program_" + name, *_objects) for name in ("exec", "read", "write"))
@@ -228,6 +241,10 @@ class BadHash(Error): code = 46; detail: OfObject = OfObject(0, 0, 0)
 class HashFull(Error): code = 47; detail: OfObject = OfObject(0, 0, 0)
 class NoRoom(Error): code = 48; detail: OfRoom = OfRoom(0, 0, 0)
 class BadKey(Error, KeyError, ValueError): code = 49
+class NoPages(Error): code = 50
+class BadMap(Error): code = 51; detail: OfObject = OfObject(0, 0, 0)
+class TooLong(Error, ValueError): code = 52
+class MapFull(Error): code = 53
 class NotOpen(Error): code = 64
 class AlreadyOpen(Error): code = 65
 class Busy(Error): code = 66
@@ -591,15 +608,15 @@ class Store:
         return group
 
     def transaction(self, lazy: bool = False) -> AbstractContextManager[Store]:
-        """For a `with`: commands that are all done at its end, or none of them. Until then `get` alone sees them. An exception drops
-        them. Where the log has no room for all of them at the end, it is drained and trimmed, once; LogFull is raised where that is
+        """For a `with`: commands that are all done at its end, or none of them. Until then only calls within it see them. An exception
+        drops them. Where the log has no room for all of them at the end, it is drained and trimmed, once; LogFull is raised where that is
         not enough, or a backup is being made. A crash leaves all or none; the next `force` makes them durable.
 
         The end forces what was done before; with `lazy` it forces nothing, so that many transactions go with one `force`, and where
         memory runs out within it (OutOfMemory) all that is not forced is given up.
 
-        Maps, hash files, runs of an application, groups and other transactions are InTransaction within. Other threads wait for its
-        end, and other tasks of asyncio are Busy until then."""
+        Groups and other transactions are InTransaction within. Other threads wait for its end, and other tasks of asyncio are Busy until
+        then."""
         return _Undoing(self, _txn_begin, (), _txn_commit_lazily if lazy else _txn_commit, _txn_abort)
 
     def end_group(self) -> bool:
@@ -617,7 +634,8 @@ class Store:
         return self._number(_install) != 0
 
     def tend(self, most: int) -> int:
-        """A piece of a drain, with four syncs at most: installs up to so many nodes, and says how many. 0 where none was left."""
+        """A piece of a drain: forces what waits, and installs up to so many nodes with three syncs at most. It says how many: 0 where
+        none was left. Call it before a force, which then has nothing to do."""
         return self._number(_tend, _u64(_count(most, 64)))
 
     def drain(self) -> None:
@@ -693,12 +711,17 @@ class Store:
         return Params(params.objects, params.cap, params.limit)
 
     def tree(self, low: int, high: int) -> Tree:
-        """The ordered map in the objects low to high. To change it the store needs a cap of at least 1024."""
+        """The tree in the objects low to high. To change it the store needs a cap of at least 1024."""
         return Tree(self, low, high)
 
     def hash(self, low: int, high: int) -> Hash:
         """The hash file in the objects low to high. To change it the store needs a cap of at least 1024."""
         return Hash(self, low, high)
+
+    def map(self, low: int, high: int) -> Map:
+        """The map of wide pages in the objects low to high. To change it the store needs pages (`create(.., pages=True)`) and a cap of
+        at least 1024."""
+        return Map(self, low, high)
 
     def app_exec(self, app: int) -> None:
         """The application whose state is the value of `app` takes one step. Raises NoInput where its input is empty, and NotApp."""
@@ -806,7 +829,7 @@ class Snapshot:
     """A state of a store, after `commands` commands: what each object held then, whatever was done since. Iteration is over the
     values, from object 0 on.
 
-    A value is copied as it is first changed, and those of a range at the first change of a map or hash file there. GivenUp is raised
+    A value is copied as it is first changed, and those of a range at the first change of a tree, hash file or map there. GivenUp is raised
     once memory was refused for that, or the store went back behind the beginning, as where a group is undone within which it
     began; NoSnapshot, once the `with` is over."""
 
@@ -860,12 +883,9 @@ class Snapshot:
                 raise
 
 
-class _Map(MutableMapping[bytes, bytes]):
-    """A map of bytes in a range of objects. A key, and the value of a key, has 1 to 32 bytes: at others BadKey is raised, which is a
-    KeyError and a ValueError.
-
-    Iteration is over the keys of the moment at which it begins. That, as `len` and `bool`, reads the whole map. Each change is a
-    command of its own, or several: what is to be whole in a crash goes into a group."""
+class _Ranged(MutableMapping[bytes, bytes]):
+    """A map of bytes in a range of objects. Each change is a command of its own, or several: what is to be whole in a crash goes into a
+    group."""
 
     _set: Callable[..., int]
     _get: Callable[..., int]
@@ -890,7 +910,7 @@ class _Map(MutableMapping[bytes, bytes]):
         self._store._call(self._delete, self._range, key, len(key))
 
     def set(self, key: Bytes, value: Bytes) -> None:
-        """The key gets the value, and loses the one that it had. Both have 1 to 32 bytes."""
+        """The key gets the value, and loses the one that it had."""
         self[key] = value
 
     def delete(self, key: Bytes) -> None:
@@ -919,10 +939,13 @@ class _Map(MutableMapping[bytes, bytes]):
             del self[key]
 
 
-class Hash(_Map):
+class Hash(_Ranged):
     """A hash file in a range of objects: a map without an order, that reads one bucket for a key. Keys and values have 1 to 32 bytes.
     It has 448 pairs at most, 7 in each of 64 buckets, and with random keys HashFull is raised from some 200 on, where a bucket cannot
-    be split any more; NoRoom where no object of the range is empty, and BadHash where one is not of it."""
+    be split any more; NoRoom where no object of the range is empty, and BadHash where one is not of it.
+
+    Iteration is over the keys of the moment at which it begins. That, as `len` and `bool`, reads the whole map. Other keys and values
+    are BadKey, which is a KeyError and a ValueError."""
 
     _set, _get, _delete = staticmethod(_hash_put), staticmethod(_hash_get), staticmethod(_hash_delete)
 
@@ -962,10 +985,13 @@ class Hash(_Map):
         return keys
 
 
-class Tree(_Map):
-    """An ordered map in a range of objects: iteration is by rising keys. Keys and values have 1 to 32 bytes. Raises TreeFull where the
-    range has no room for a key: for good, after some 2.25 inserts an object, where keys rise and the oldest are deleted. BadTree
-    where an object of the range is none of its nodes."""
+class Tree(_Ranged):
+    """A tree, an ordered map in a range of objects: iteration is by rising keys. Keys and values have 1 to 32 bytes. Raises TreeFull
+    where the range has no room for a key: for good, after some 2.25 inserts an object, where keys rise and the oldest are deleted.
+    BadTree where an object of the range is none of its nodes.
+
+    Iteration is over the keys of the moment at which it begins. That, as `len` and `bool`, reads the whole map. Other keys and values
+    are BadKey, which is a KeyError and a ValueError."""
 
     _set, _get, _delete = staticmethod(_tree_insert), staticmethod(_tree_get), staticmethod(_tree_delete)
 
@@ -1008,6 +1034,166 @@ class Tree(_Map):
         return size
 
 
+class Map(_Ranged):
+    """An ordered map of wide pages in a range of objects. Of a page, P bytes are the store's cap, at most 65,535: a key has 1 to 1,023
+    bytes, at most P / 8 - 8, and a value 0 to P / 4. To set others raises TooLong, a change NoPages where the store has no pages or a
+    cap below 1,024. BadMap is raised where an object of the range is no page of the map, MapFull where the range has no room for a key.
+
+    A cursor is a key. Iteration is by rising keys, some of which are read at a time: what is set or deleted meanwhile behind these is
+    seen so. `len` goes through the whole map, `bool` to its first key."""
+
+    _set, _get, _delete = staticmethod(_map_set), staticmethod(_map_get), staticmethod(_map_delete)
+
+    def __init__(self, store: Store, low: int, high: int) -> None:
+        super().__init__(store, low, high)
+        self._name = ctypes.create_string_buffer(1023)
+
+    def range(self, low: Bytes = b"", high: Bytes | None = None, most: int | None = None) -> Iterator[tuple[bytes, bytes]]:
+        """The pairs whose keys are not below `low` and are below `high`, by rising key: the first ones, at most so many."""
+        return self._rising(_of(low), None if high is None else _of(high), _limit(most))
+
+    def back(self, low: Bytes = b"", high: Bytes | None = None, most: int | None = None) -> Iterator[tuple[bytes, bytes]]:
+        """The same of the last ones, by falling key."""
+        return self._falling(_of(low), None if high is None else _of(high), _limit(most))
+
+    def prefix(self, front: Bytes, most: int | None = None) -> Iterator[tuple[bytes, bytes]]:
+        """The pairs whose keys begin with these bytes, by rising key."""
+        low = _of(front)
+        last = low.rstrip(b"\xff")
+        return self._rising(low, last[:-1] + bytes([last[-1] + 1]) if last else None, _limit(most))
+
+    def first(self) -> tuple[bytes, bytes] | None:
+        """The pair of the least key. None where the map is empty."""
+        return self._one(_map_range, b"", None)
+
+    def last(self) -> tuple[bytes, bytes] | None:
+        """The pair of the greatest key."""
+        return self._one(_map_back, b"", None)
+
+    def next(self, key: Bytes) -> tuple[bytes, bytes] | None:
+        """The pair of the least key above this one, which need not be there. None where there is none."""
+        return self._one(_map_range, _of(key) + b"\0", None)
+
+    def prev(self, key: Bytes) -> tuple[bytes, bytes] | None:
+        """The pair of the greatest key below this one."""
+        return self._one(_map_back, b"", _of(key))
+
+    def count(self, low: Bytes = b"", high: Bytes | None = None) -> int:
+        """How many keys are not below `low` and are below `high`."""
+        low, high = _of(low), None if high is None else _of(high)
+        return 0 if high == b"" else self._store._number(_map_count, *self._keys(low, high))
+
+    def __iter__(self) -> Iterator[bytes]:
+        return (key for key, _ in self.range())
+
+    def __reversed__(self) -> Iterator[bytes]:
+        return (key for key, _ in self.back())
+
+    def __len__(self) -> int:
+        return self.count()
+
+    def __bool__(self) -> bool:
+        return self.first() is not None
+
+    def keys(self) -> KeysView[bytes]:
+        return _Keys(self)
+
+    def items(self) -> ItemsView[bytes, bytes]:
+        return _Items(self)
+
+    def values(self) -> ValuesView[bytes]:
+        return _Values(self)
+
+    def popitem(self) -> tuple[bytes, bytes]:
+        """Takes the pair of the greatest key out. KeyError where there is none."""
+        pair = self.last()
+        if pair is None:
+            raise KeyError("the map is empty")
+        del self[pair[0]]
+        return pair
+
+    def clear(self) -> None:
+        """All keys leave the map."""
+        for key in self:
+            del self[key]
+
+    def _keys(self, low: bytes, high: bytes | None) -> tuple[object, ...]:
+        """Where no bytes are the end, the library reads to the end of the map."""
+        return self._range, low, len(low), high, len(high or b"")
+
+    def _found(self, find: Callable[..., int], low: bytes, high: bytes | None, most: int) -> list[tuple[bytes, bytes]]:
+        count = 0 if high == b"" else self._store._counted(find, *self._keys(low, high), most)
+        return [self._pair(i) for i in range(count)]
+
+    def _pair(self, i: int) -> tuple[bytes, bytes]:
+        lengths, store = _Lengths(), self._store
+        while True:
+            name, room = self._name, store._room
+            store._made(_map_pair, i, name, len(name), room, len(room), lengths)
+            if lengths.key <= len(name) and lengths.value <= len(room):
+                return ctypes.string_at(name, lengths.key), ctypes.string_at(room, lengths.value)
+            self._name = ctypes.create_string_buffer(max(len(name), lengths.key))
+            store._room = ctypes.create_string_buffer(max(len(room), lengths.value))
+
+    def _some(self, find: Callable[..., int], low: bytes, high: bytes | None, most: int) -> list[tuple[bytes, bytes]]:
+        pairs: list[tuple[bytes, bytes]] = self._store._do(self._found, find, low, high, most)
+        return pairs
+
+    def _one(self, find: Callable[..., int], low: bytes, high: bytes | None) -> tuple[bytes, bytes] | None:
+        pairs = self._some(find, low, high, 1)
+        return pairs[0] if pairs else None
+
+    def _rising(self, low: bytes, high: bytes | None, most: int) -> Iterator[tuple[bytes, bytes]]:
+        while pairs := self._some(_map_range, low, high, min(most, _PIECE)):
+            yield from pairs
+            low, most = pairs[-1][0] + b"\0", most - len(pairs)
+
+    def _falling(self, low: bytes, high: bytes | None, most: int) -> Iterator[tuple[bytes, bytes]]:
+        while pairs := self._some(_map_back, low, high, min(most, _PIECE)):
+            yield from pairs
+            high, most = pairs[-1][0], most - len(pairs)
+
+
+_PIECE = 100        # so many pairs are read at a time
+
+
+def _limit(most: int | None) -> int:
+    return sys.maxsize if most is None else _count(most, 64)
+
+
+class _Keys(KeysView[bytes]):
+    def __init__(self, of: Map) -> None:
+        super().__init__(of)
+        self._of = of
+
+    def __reversed__(self) -> Iterator[bytes]:
+        return reversed(self._of)
+
+
+class _Items(ItemsView[bytes, bytes]):
+    def __init__(self, of: Map) -> None:
+        super().__init__(of)
+        self._of = of
+
+    def __iter__(self) -> Iterator[tuple[bytes, bytes]]:
+        return self._of.range()
+
+    def __reversed__(self) -> Iterator[tuple[bytes, bytes]]:
+        return self._of.back()
+
+
+class _Values(ValuesView[bytes]):
+    def __init__(self, of: Map) -> None:
+        super().__init__(of)
+        self._of = of
+
+    def __iter__(self) -> Iterator[bytes]:
+        return (value for _, value in self._of.range())
+
+    def __reversed__(self) -> Iterator[bytes]:
+        return (value for _, value in self._of.back())
+
+
 _stores: weakref.WeakSet[Store] = weakref.WeakSet()
 
 
@@ -1042,25 +1228,30 @@ def _opened(upkeep: bool, wait: float, function: Callable[..., int], path: bytes
 
 
 def open(path: str | os.PathLike[str], upkeep: bool = False, *, create: Params | tuple[int, int, int] | None = None,
-         wait: float = 0, readonly: bool = False) -> Store:
+         wait: float = 0, readonly: bool = False, pages: bool = False) -> Store:
     """Opens the store in this folder, and reads its files into memory. Raises NotAStore, Damaged, NoFolder and Locked.
 
     With `upkeep` no `drain` and no `trim` is needed: after a command outside a group and a transaction, and after the end of either,
     the store takes a small piece of them, where one is due, and all of it where the log stays nearly full.
 
-    With `create`, the numbers (objects, cap, limit) of `create`, a store is made where the folder has none. With `wait` the store is
-    waited for so many seconds, where another process has it: `math.inf` for good. With `readonly` nothing is written, many may read
-    a store at once while none changes it, and what does not only read is ReadOnly."""
+    With `create`, the numbers (objects, cap, limit) of `create`, a store is made where the folder has none, with `pages` one that has
+    maps of wide pages. With `wait` the store is waited for so many seconds, where another process has it: `math.inf` for good. With
+    `readonly` nothing is written, many may read a store at once while none changes it, and what does not only read is ReadOnly."""
     if readonly and (upkeep or create is not None):
         raise ValueError("a store that only reads is not made, and needs no upkeep")
+    if pages and create is None:
+        raise ValueError("pages are those of a store that is made")
     if not wait >= 0:
         raise ValueError("the wait is less than nothing")
     numbers = None if create is None else _Params(*(_whole(n, BadParams) for n in Params(*create)))
-    return _opened(upkeep, wait, _open_with, _path(path), 1 if numbers else 2 if readonly else 0, 0, numbers and ctypes.byref(numbers))
+    how = (5 if pages else 1) if numbers else 2 if readonly else 0
+    return _opened(upkeep, wait, _open_with, _path(path), how, 0, numbers and ctypes.byref(numbers))
 
 
-def create(path: str | os.PathLike[str], objects: int, cap: int, limit: int, upkeep: bool = False) -> Store:
+def create(path: str | os.PathLike[str], objects: int, cap: int, limit: int, upkeep: bool = False, pages: bool = False) -> Store:
     """Makes a store in this folder, which is there, and opens it: 1 to 65,535 objects of at most `cap` bytes (16 to 1,048,576), and
     a log of at most `limit` bytes (2 cap + 4,096 to 536,870,912). Raises BadParams at other numbers, AlreadyStore, OldLog, NoFolder
-    and Locked."""
-    return _opened(upkeep, 0, _create, _path(path), *(_whole(n, BadParams) for n in (objects, cap, limit)))
+    and Locked.
+
+    With `pages` it has maps of wide pages (`Store.map`), and libraries and programs that know none do not open it."""
+    return _opened(upkeep, 0, _create_pages if pages else _create, _path(path), *(_whole(n, BadParams) for n in (objects, cap, limit)))

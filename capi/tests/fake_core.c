@@ -1,5 +1,5 @@
 /* A small store in place of the proved library, so that redo.c, redo.h and redo.py can be tested without it. It keeps one map from
- * names to values (an object, a key of a tree, a key of a hash file), and logs each change of the map in blocks with a checksum. */
+ * names to values (an object, a key of a tree, a hash file or a map of pages), and logs each change of the map in blocks with a checksum. */
 #include "../redo_core.h"
 #include <stdbool.h>
 #include <stdlib.h>
@@ -9,7 +9,7 @@ typedef struct { uint8_t *at; size_t n; } bytes_t;
 typedef struct { bytes_t name, value; } entry_t;
 typedef struct waiting { redo_call_t call; uint8_t *bytes; struct waiting *next; } waiting_t;
 typedef struct {
-    redo_params_t numbers;
+    redo_params_t numbers; uint8_t pages;
     entry_t *map; size_t count;                 /* rising names */
     bytes_t block;                              /* changes that are not written */
     uint64_t epoch, end, accepted, forced;      /* of the log in force */
@@ -21,7 +21,7 @@ typedef struct {
     bytes_t *kept; bool *is_kept;                   /* for each object */
     bool in_backup, is_store; uint32_t copied;      /* of a backup: whether its folder has a store */
     waiting_t *first, **last;
-    entry_t *pairs; size_t pair_count;
+    struct pairs { entry_t *at; size_t count; } of_tree, of_map;
     redo_detail_t detail;
 } store_t;
 
@@ -144,10 +144,10 @@ static store_t *new_store(void) {
     s->epoch = FIRST_EPOCH, s->last = &s->first;
     return s;
 }
-static void drop_pairs(store_t *s) {
-    for (size_t i = 0; i < s->pair_count; i++) free(s->pairs[i].name.at), free(s->pairs[i].value.at);
-    free(s->pairs);
-    s->pairs = 0, s->pair_count = 0;
+static void drop_pairs(struct pairs *p) {
+    for (size_t i = 0; i < p->count; i++) free(p->at[i].name.at), free(p->at[i].value.at);
+    free(p->at);
+    *p = (struct pairs){0, 0};
 }
 static void drop_kept(store_t *s) {
     for (uint32_t x = 0; s->in_snapshot && x < s->numbers.objects; x++)
@@ -160,30 +160,31 @@ static void drop(store_t *s) {
         waiting_t *w = s->first;
         s->first = w->next, free(w->bytes), free(w);
     }
-    drop_kept(s), drop_pairs(s), free(s->map), free(s->block.at), free(s->before.at), free(s->staging.at), free(s);
+    drop_kept(s), drop_pairs(&s->of_tree), drop_pairs(&s->of_map), free(s->map), free(s->block.at), free(s->before.at), free(s->staging.at), free(s);
 }
 static void lay_out(store_t *s, bytes_t changes) {
     write_block(s, changes);
     ask(s, REDO_CALL_WRITE, 2, 3, 0, 0), ask(s, REDO_CALL_SYNC, 2, 0, 0, 0);        /* three bytes long, which open asks for */
+    ask(s, REDO_CALL_WRITE, 0, 1 + sizeof s->numbers, &s->pages, 1);
     ask(s, REDO_CALL_WRITE, 0, 1, &s->numbers, sizeof s->numbers), ask(s, REDO_CALL_SYNC, 0, 0, 0, 0);
     ask(s, REDO_CALL_WRITE, 0, 0, "F", 1), ask(s, REDO_CALL_SYNC, 0, 0, 0, 0);
 }
 static uint32_t opened(redo_core_t *c, store_t *s) { return c->opened_ = 1, c->at_ = s, REDO_OK; }
 
 uint32_t redo_core_create(redo_core_t *c, redo_bytes_t o, size_t n, redo_bytes_t a, size_t an, redo_bytes_t b, size_t bn,
-                         const redo_params_t *p, redo_detail_t *d) {
+                         const redo_params_t *p, bool pages, redo_detail_t *d) {
     (void)a, (void)an, (void)b, (void)bn, (void)d;
     if (p->objects < 1 || p->objects > 65535 || p->cap < 16 || p->cap > 1048576 || p->limit > 536870912 ||
         p->limit < 2 * p->cap + 4096) return REDO_BAD_PARAMS;
     if (n && o[0] == 'F') return REDO_ALREADY_STORE;
     store_t *s = new_store();
-    s->numbers = *p;
+    s->numbers = *p, s->pages = pages;
     lay_out(s, (bytes_t){0, 0});
     return opened(c, s);
 }
 uint32_t redo_core_open(redo_core_t *c, redo_bytes_t o, size_t n, redo_bytes_t a, size_t an, redo_bytes_t b, size_t bn,
                        redo_detail_t *d) {
-    if (n < 1 + sizeof(redo_params_t) || o[0] != 'F') return REDO_NOT_A_STORE;
+    if (n < 2 + sizeof(redo_params_t) || o[0] != 'F') return REDO_NOT_A_STORE;
     bytes_t logs[2] = {{(uint8_t *)a, an}, {(uint8_t *)b, bn}}, changes;
     uint64_t head[4], other[4];
     bool first = block_at(logs[0], 0, head, &changes), second = block_at(logs[1], 0, other, &changes);
@@ -191,7 +192,7 @@ uint32_t redo_core_open(redo_core_t *c, redo_bytes_t o, size_t n, redo_bytes_t a
     if (!first && !second) return *d = (redo_detail_t){1, 0, 0}, REDO_DAMAGED;
     store_t *s = new_store();
     s->epoch = !first || (second && other[0] > head[0]) ? other[0] : head[0];
-    memcpy(&s->numbers, o + 1, sizeof s->numbers);
+    memcpy(&s->numbers, o + 1, sizeof s->numbers), s->pages = o[1 + sizeof s->numbers];
     bytes_t log = logs[log_of(s->epoch) - 1];
     while (block_at(log, s->end, head, &changes) && head[0] == s->epoch)
         redo_changes(s, changes), s->accepted = s->forced = head[1], s->end += HEAD + changes.n;
@@ -245,10 +246,12 @@ static void map_is(store_t *s, bytes_t changes) {
 }
 static void map_again(store_t *s) { map_is(s, s->before); }
 /* The name of an object, of the input of an application, or of a key. */
-typedef struct { uint8_t at[64]; } name_t;
+enum { LONGEST = 1024 };        /* no key has so many bytes: of one that has more the front orders it among all others */
+typedef struct { uint8_t at[9 + LONGEST]; } name_t;
 static bytes_t named(name_t *n, char kind, uint32_t low, uint32_t high, redo_bytes_t key, size_t length) {
     uint32_t range[2] = {low, high};
     n->at[0] = (uint8_t)kind, memcpy(n->at + 1, range, 8);
+    if (length > LONGEST) length = LONGEST;
     if (length) memcpy(n->at + 9, key, length);
     return (bytes_t){n->at, 9 + length};
 }
@@ -447,7 +450,7 @@ uint32_t redo_core_backup_copy(redo_core_t *c, redo_core_t *t, uint32_t count, u
 uint32_t redo_core_backup_finish(redo_core_t *c, redo_core_t *t, uint64_t *commands) {
     TARGET;
     if (s->copied < s->numbers.objects) return s->detail = (redo_detail_t){s->copied, 0, 0}, REDO_NOT_COPIED;
-    force(s), to->numbers = s->numbers, to->accepted = *commands = s->accepted, s->in_backup = false;
+    force(s), to->numbers = s->numbers, to->pages = s->pages, to->accepted = *commands = s->accepted, s->in_backup = false;
     bytes_t all = whole(s);
     lay_out(to, all), free(all.at);
     return REDO_OK;
@@ -471,7 +474,7 @@ static uint32_t steps_of(store_t *s, uint32_t app, uint64_t most, uint64_t *step
     return REDO_OK;
 }
 uint32_t redo_core_app_run(redo_core_t *c, uint32_t app, uint64_t most, uint64_t *steps) {
-    APART; HAS(app); return steps_of(s, app, most, steps);
+    STORE; HAS(app); return steps_of(s, app, most, steps);
 }
 uint32_t redo_core_app_exec(redo_core_t *c, uint32_t app) {
     STORE; HAS(app);
@@ -491,18 +494,18 @@ uint32_t redo_core_program_exec(redo_core_t *c, uint32_t app, uint32_t p) {
 uint32_t redo_core_program_read(redo_core_t *c, uint32_t app, uint32_t x) { return redo_core_app_read(c, app, x); }
 uint32_t redo_core_program_write(redo_core_t *c, uint32_t app, uint32_t x) { return redo_core_app_write(c, app, x); }
 uint32_t redo_core_program_run(redo_core_t *c, uint32_t app, uint32_t p, uint64_t most, uint64_t *steps) {
-    APART; HAS(app); HAS(p);
+    STORE; HAS(app); HAS(p);
     return most ? refuse(s, REDO_NOT_CODE) : (*steps = 0, REDO_OK);
 }
 
 #define RANGE(r, kind) if ((r)->low + ((kind) == 'h') > (r)->high) return refuse(s, REDO_NO_OBJECT)
 #define KEY(n) if ((n) < 1 || (n) > 32) return refuse(s, REDO_BAD_KEY)
 static uint32_t map_set(redo_core_t *c, char kind, const redo_range_t *r, redo_bytes_t k, size_t kn, redo_bytes_t v, size_t n) {
-    APART; RANGE(r, kind); KEY(kn); KEY(n); HAS(r->high);
+    STORE; RANGE(r, kind); KEY(kn); KEY(n); HAS(r->high);
     return command(s, &(step_t){named(&(name_t){{0}}, kind, r->low, r->high, k, kn), {(uint8_t *)v, n}, false}, 1);
 }
 static uint32_t map_get(redo_core_t *c, char kind, const redo_range_t *r, redo_bytes_t k, size_t kn, bytes_t *v) {
-    APART; RANGE(r, kind); KEY(kn); HAS(r->high);
+    STORE; RANGE(r, kind); KEY(kn); HAS(r->high);
     bool found;
     *v = value_of(s, named(&(name_t){{0}}, kind, r->low, r->high, k, kn), &found);
     return found ? REDO_OK : refuse(s, REDO_NO_KEY);
@@ -537,18 +540,83 @@ uint32_t redo_core_hash_get(redo_core_t *c, const redo_range_t *r, redo_bytes_t 
                             uint64_t *length) {
     return map_give(c, 'h', r, k, kn, into, room, length);
 }
-uint32_t redo_core_tree_range(redo_core_t *c, const redo_range_t *r, redo_bytes_t f, size_t fn, redo_bytes_t t, size_t tn, uint64_t *count) {
-    APART; RANGE(r, 't'); KEY(fn); KEY(tn); HAS(r->high);
-    bytes_t from = named(&(name_t){{0}}, 't', r->low, r->high, f, fn), to = named(&(name_t){{0}}, 't', r->low, r->high, t, tn);
-    drop_pairs(s);
-    for (size_t i = place(s, from); i < s->count && order(s->map[i].name, to) < 0; i++) {
-        s->pairs = realloc(s->pairs, (s->pair_count + 1) * sizeof *s->pairs);
-        s->pairs[s->pair_count++] = (entry_t){dup_bytes(s->map[i].name.at + 9, s->map[i].name.n - 9), dup_bytes(s->map[i].value.at, s->map[i].value.n)};
+/* Keeps the pairs whose names are from one up to another: at most so many of them, the last ones first where they fall. */
+static void keep_pairs(store_t *s, struct pairs *p, bytes_t from, bytes_t to, bool falling, uint64_t most) {
+    size_t first = place(s, from), end = place(s, to);
+    drop_pairs(p);
+    for (uint64_t i = 0; first < end && i < most; i++) {
+        entry_t e = s->map[falling ? --end : first++];
+        p->at = realloc(p->at, (p->count + 1) * sizeof *p->at);
+        p->at[p->count++] = (entry_t){dup_bytes(e.name.at + 9, e.name.n - 9), dup_bytes(e.value.at, e.value.n)};
     }
-    return *count = s->pair_count, REDO_OK;
+}
+static uint32_t give_pair(store_t *s, struct pairs *p, uint64_t i, uint8_t *k, size_t kr, uint8_t *v, size_t vr, redo_lengths_t *l) {
+    if (i >= p->count) return refuse(s, REDO_NO_KEY);
+    return give(k, kr, &l->key, p->at[i].name), give(v, vr, &l->value, p->at[i].value);
+}
+uint32_t redo_core_tree_range(redo_core_t *c, const redo_range_t *r, redo_bytes_t f, size_t fn, redo_bytes_t t, size_t tn, uint64_t *count) {
+    STORE; RANGE(r, 't'); KEY(fn); KEY(tn); HAS(r->high);
+    keep_pairs(s, &s->of_tree, named(&(name_t){{0}}, 't', r->low, r->high, f, fn), named(&(name_t){{0}}, 't', r->low, r->high, t, tn), false, UINT64_MAX);
+    return *count = s->of_tree.count, REDO_OK;
 }
 uint32_t redo_core_tree_pair(redo_core_t *c, uint64_t i, uint8_t *k, size_t kr, uint8_t *v, size_t vr, redo_lengths_t *l) {
-    STORE;
-    if (i >= s->pair_count) return refuse(s, REDO_NO_KEY);
-    return give(k, kr, &l->key, s->pairs[i].name), give(v, vr, &l->value, s->pairs[i].value);
+    STORE; return give_pair(s, &s->of_tree, i, k, kr, v, vr, l);
+}
+
+/* A map of pages, of which the store has no pages: it is never full. */
+#define PAGED if (!s->pages || s->numbers.cap < 1024) return refuse(s, REDO_NO_PAGES)
+uint32_t redo_core_map_set(redo_core_t *c, const redo_range_t *r, redo_bytes_t k, size_t kn, redo_bytes_t v, size_t n) {
+    STORE; RANGE(r, 'm');
+    if (kn > UINT16_MAX || n > UINT16_MAX) return refuse(s, REDO_TOO_LONG);
+    HAS(r->high); PAGED;
+    size_t page = s->numbers.cap < UINT16_MAX ? s->numbers.cap : UINT16_MAX;
+    if (kn < 1 || kn >= LONGEST || 8 * (kn + 8) > page || 4 * n > page) return refuse(s, REDO_TOO_LONG);
+    return command(s, &(step_t){named(&(name_t){{0}}, 'm', r->low, r->high, k, kn), {(uint8_t *)v, n}, false}, 1);
+}
+uint32_t redo_core_map_get(redo_core_t *c, const redo_range_t *r, redo_bytes_t k, size_t kn, uint8_t *into, size_t room, uint64_t *length) {
+    STORE; RANGE(r, 'm'); HAS(r->high);
+    bool found;
+    bytes_t v = value_of(s, named(&(name_t){{0}}, 'm', r->low, r->high, k, kn), &found);
+    return found ? give(into, room, length, v) : refuse(s, REDO_NO_KEY);
+}
+uint32_t redo_core_map_delete(redo_core_t *c, const redo_range_t *r, redo_bytes_t k, size_t kn) {
+    STORE; RANGE(r, 'm'); HAS(r->high); PAGED;
+    bool found;
+    bytes_t name = named(&(name_t){{0}}, 'm', r->low, r->high, k, kn);
+    value_of(s, name, &found);
+    return found ? command(s, &(step_t){name, {0, 0}, true}, 1) : refuse(s, REDO_NO_KEY);
+}
+/* The name of a key; where it has no bytes, one behind all of the map. */
+static bytes_t map_end(name_t *n, const redo_range_t *r, redo_bytes_t t, size_t tn) {
+    bytes_t end = named(n, 'm', r->low, r->high, t, tn);
+    for (size_t i = 9; tn == 0 && ++end.at[--i] == 0;) {}
+    return end;
+}
+static uint32_t map_find(redo_core_t *c, const redo_range_t *r, redo_bytes_t f, size_t fn, redo_bytes_t t, size_t tn, bool falling, uint64_t most, uint64_t *count) {
+    STORE; RANGE(r, 'm'); HAS(r->high);
+    keep_pairs(s, &s->of_map, named(&(name_t){{0}}, 'm', r->low, r->high, f, fn), map_end(&(name_t){{0}}, r, t, tn), falling, most);
+    return *count = s->of_map.count, REDO_OK;
+}
+uint32_t redo_core_map_count(redo_core_t *c, const redo_range_t *r, redo_bytes_t f, size_t fn, redo_bytes_t t, size_t tn, uint64_t *count) {
+    STORE; RANGE(r, 'm'); HAS(r->high);
+    size_t first = place(s, named(&(name_t){{0}}, 'm', r->low, r->high, f, fn)), end = place(s, map_end(&(name_t){{0}}, r, t, tn));
+    return *count = first < end ? end - first : 0, REDO_OK;
+}
+uint32_t redo_core_map_range(redo_core_t *c, const redo_range_t *r, redo_bytes_t f, size_t fn, redo_bytes_t t, size_t tn, uint32_t most, uint64_t *count) {
+    return map_find(c, r, f, fn, t, tn, false, most, count);
+}
+uint32_t redo_core_map_back(redo_core_t *c, const redo_range_t *r, redo_bytes_t f, size_t fn, redo_bytes_t t, size_t tn, uint32_t most, uint64_t *count) {
+    return map_find(c, r, f, fn, t, tn, true, most, count);
+}
+uint32_t redo_core_map_next(redo_core_t *c, const redo_range_t *r, redo_bytes_t k, size_t kn, uint64_t *count) {
+    uint8_t above[LONGEST + 1] = {0};
+    size_t n = kn < LONGEST ? kn : LONGEST;
+    memcpy(above, k, n);
+    return map_find(c, r, above, n + 1, k, 0, false, 1, count);
+}
+uint32_t redo_core_map_prev(redo_core_t *c, const redo_range_t *r, redo_bytes_t k, size_t kn, uint64_t *count) {
+    return map_find(c, r, k, 0, k, kn, true, 1, count);
+}
+uint32_t redo_core_map_pair(redo_core_t *c, uint64_t i, uint8_t *k, size_t kr, uint8_t *v, size_t vr, redo_lengths_t *l) {
+    STORE; return give_pair(s, &s->of_map, i, k, kr, v, vr, l);
 }

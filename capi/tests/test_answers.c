@@ -48,7 +48,9 @@ static void pairs(redo_t *db) {
     if (n != 3 || some.told != 3) fail("%d pairs were told", (int)n);
     WANT(REDO_OK, redo_hash_each(db, hash, 0, 0, 0));
     WANT(REDO_NO_OBJECT, redo_hash_each(db, range(2, 64), 0, 0, &n)), WANT(REDO_NO_OBJECT, redo_hash_each(db, range(3, 3), 0, 0, &n));
-    WANT(REDO_OK, redo_txn_begin(db)), WANT(REDO_IN_TXN, redo_hash_each(db, hash, 0, 0, &n)), WANT(REDO_OK, redo_txn_abort(db));
+    WANT(REDO_OK, redo_txn_begin(db)), WANT(REDO_OK, redo_hash_delete(db, hash, B("k010"))), WANT(REDO_OK, redo_hash_each(db, hash, 0, 0, &n));
+    if (n != all.told - 1) fail("%d pairs are counted within a transaction", (int)n);
+    WANT(REDO_OK, redo_txn_abort(db));
 
     static const char *const spoilt[5] = {"\x04\0\1\1", "\x04\0\0\1", "\x03\0\0", "\x04\0", "\x04\0\1\1k\2v"};
     static const size_t lengths[5] = {4, 4, 3, 2, 7};
@@ -76,7 +78,47 @@ static void huge(redo_t *db) {
     WANT(REDO_NO_OBJECT, redo_put(db, 16, bytes, length));
     WANT(REDO_BAD_KEY, redo_tree_insert(db, range(5, 5), B("k"), bytes, length));
     WANT(REDO_BAD_KEY, redo_hash_get(db, range(6, 7), bytes, length, 0, 0, 0));
+    WANT(REDO_TOO_LONG, redo_map_set(db, range(14, 15), bytes, length, B("v")));
+    WANT(REDO_TOO_LONG, redo_map_set(db, range(14, 15), B("k"), bytes, length));
+    WANT(REDO_NO_KEY, redo_map_get(db, range(14, 15), bytes, length, 0, 0, 0));
+    WANT(REDO_NO_KEY, redo_map_next(db, range(14, 15), bytes, length, 0, 0, 0, 0, 0));
+    WANT(REDO_OK, redo_map_range(db, range(14, 15), bytes, length, bytes, length, 1, 0));
     munmap(bytes, length);
+}
+
+/* A map whose objects are no pages, and one whose pages are full: it can be emptied, and filled again. */
+static void pages(const char *folder) {
+    redo_t db = REDO_CLOSED;
+    redo_range_t m = range(6, 11);
+    uint64_t n;
+    char path[4096], key[8] = "k00";
+    uint8_t value[256] = {0}, got[256];
+    int32_t rc = REDO_OK;
+    snprintf(path, sizeof path, "%s/pages", folder);
+    mkdir(path, 0777);
+    WANT(REDO_OK, redo_create_pages(&db, path, 16, 1024, 65536));
+    WANT(REDO_OK, redo_put(&db, 4, B("no page")));
+    WANT(REDO_BAD_MAP, redo_map_get(&db, range(4, 5), B("k"), got, sizeof got, &n)), detail_is(&db, 4, 0);
+    WANT(REDO_BAD_MAP, redo_map_set(&db, range(4, 5), B("k"), B("v"))), detail_is(&db, 4, 0);
+    WANT(REDO_BAD_MAP, redo_map_delete(&db, range(4, 5), B("k")));
+    WANT(REDO_BAD_MAP, redo_map_count(&db, range(4, 5), 0, 0, 0, 0, &n));
+    WANT(REDO_BAD_MAP, redo_map_back(&db, range(4, 5), 0, 0, 0, 0, 1, &n)), detail_is(&db, 4, 0);
+    WANT(REDO_BAD_MAP, redo_map_next(&db, range(4, 5), 0, 0, 0, 0, 0, 0, 0));
+    for (int round = 0; round < 3; round++) {
+        int count = 0;
+        for (; rc == REDO_OK; count += rc == REDO_OK) {
+            snprintf(key, sizeof key, "k%02d", count * 37 % 100);
+            rc = redo_map_set(&db, m, B(key), value, sizeof value);
+        }
+        WANT(REDO_MAP_FULL, rc), detail_is(&db, 0, 0);
+        WANT(REDO_OK, redo_map_count(&db, m, 0, 0, 0, 0, &n));
+        if (n != (uint64_t)count || count < 6) fail("%d pairs are in six pages, not %d", (int)n, count);
+        while ((rc = redo_map_next(&db, m, 0, 0, key, 3, 0, 0, 0)) == REDO_OK) WANT(REDO_OK, redo_map_delete(&db, m, key, 3));
+        WANT(REDO_NO_KEY, rc), rc = REDO_OK;
+        WANT(REDO_OK, redo_drain(&db));
+        WANT(REDO_OK, redo_trim(&db));
+    }
+    WANT(REDO_OK, redo_close(&db));
 }
 
 int main(int argc, char **argv) {
@@ -105,7 +147,7 @@ int main(int argc, char **argv) {
     WANT(REDO_NO_ROOM, redo_hash_put(&db, range(6, 7), B("k7"), B("v"))), detail_is(&db, 0, 0);
     WANT(REDO_OK, redo_put(&db, 9, B("no directory")));
     WANT(REDO_BAD_HASH, redo_hash_get(&db, range(9, 12), B("k"), got, sizeof got, &n)), detail_is(&db, 9, 0);
-    huge(&db);
+    pages(folder), huge(&db);
     WANT(REDO_OK, redo_force(&db, &n));
     WANT(REDO_OK, redo_close(&db));
 

@@ -4,6 +4,8 @@
 #include <cstdio>
 #include <cstdlib>
 #include <filesystem>
+#include <map>
+#include <random>
 
 static void want(bool is_so, int line) {
     if (is_so) return;
@@ -24,6 +26,58 @@ template <typename Call> static redo::error thrown(int32_t code, Call &&call, in
 #define THROWN(code, call) thrown(code, [&] { call; }, __LINE__)
 
 static redo::store moved(redo::store s) { return s; }
+
+/* A map of wide pages beside a std::map. */
+using model_t = std::map<std::string, std::string>;
+static std::optional<redo::pair> at(const model_t &model, model_t::const_iterator i) {
+    return i == model.end() ? std::nullopt : std::optional<redo::pair>(*i);
+}
+static std::optional<redo::pair> before(const model_t &model, model_t::const_iterator i) {
+    return i == model.begin() ? std::nullopt : at(model, std::prev(i));
+}
+static bool is_as(const redo::map &map, const model_t &model, const std::string &key) {
+    const std::vector<redo::pair> all(model.begin(), model.end()), back(model.rbegin(), model.rend());
+    model_t prefix;
+    std::ranges::copy_if(model, std::inserter(prefix, prefix.end()), [&](auto &p) { return p.first.starts_with(key); });
+    return map.range() == all && map.back() == back && map.count() == all.size() && map.range(key) == std::vector<redo::pair>(model.lower_bound(key), model.end()) &&
+           map.prefix(key) == std::vector<redo::pair>(prefix.begin(), prefix.end()) && map.first() == at(model, model.begin()) &&
+           map.last() == before(model, model.end()) && map.next(key) == at(model, model.upper_bound(key)) &&
+           map.prev(key) == before(model, model.lower_bound(key));
+}
+static void maps(const std::filesystem::path &folder) {
+    const redo_params_t numbers{128, 1024, 1 << 20};
+    std::filesystem::create_directory(folder), std::filesystem::create_directory(folder / "plain");
+    {
+        auto plain = redo::store::create(folder / "plain", numbers);
+        THROWN(REDO_NO_PAGES, plain.map(0, 127).set("k", "v"));
+        THROWN(REDO_BAD_WAY, redo::store::open(folder, {.pages = true}));
+    }
+    model_t model;
+    std::mt19937 dice(1);
+    auto text = [&](std::size_t most) {
+        std::string made(dice() % most + 1, '\0');
+        for (char &c : made) c = "\0ab\xff"[dice() % 4];
+        return made;
+    };
+    for (int round = 0; round < 3; round++) {
+        auto s = redo::store::open(folder, {.create = numbers, .upkeep = true, .pages = true});
+        auto map = s.map(1, 127);
+        WANT(is_as(map, model, text(3)));
+        for (int i = 0; i < 700; i++) {
+            std::string key = text(i % 50 ? 4 : 120), value(dice() % 3 ? dice() % 40 : 256, char(i));
+            if (dice() % 3) map.set(key, value), model[key] = value;
+            else WANT(map.erase(key) == (model.erase(key) == 1));
+            WANT(map.get(key) == (model.contains(key) ? std::optional(model[key]) : std::nullopt));
+            if (i % 70 == 0) WANT(is_as(map, model, text(3)));
+        }
+        WANT(map.range("a", "b", 2).size() == 2 && map.back("a", "", 1)[0] == redo::pair(*model.rbegin()));
+        THROWN(REDO_TOO_LONG, map.set("", "v")), THROWN(REDO_TOO_LONG, map.set("k", std::string(257, 'v')));
+        s.force();
+    }
+    auto reader = redo::store::open(folder, {.readonly = true});
+    WANT(is_as(reader.map(1, 127), model, "a"));
+    THROWN(REDO_READ_ONLY, reader.map(1, 127).set("k", "v"));
+}
 
 int main(int argc, char **argv) {
     const std::filesystem::path folder = argc > 1 ? argv[1] : ".";
@@ -78,5 +132,6 @@ int main(int argc, char **argv) {
     auto reader = redo::store::open(folder / "copy", {.readonly = true}), other = redo::store::open(folder / "copy", {.readonly = true});
     WANT(reader.get(0) == "new" && other.tree(16, 31).get("b") == "2");
     THROWN(REDO_READ_ONLY, reader.put(0, "x")), THROWN(REDO_BAD_WAY, redo::store::open(folder, {.create = numbers, .readonly = true}));
+    maps(folder / "maps");
     std::puts("test_cxx: ok");
 }

@@ -64,6 +64,24 @@ static void or_create(const char *folder) {
     WANT(REDO_OK, redo_close(&db));
 }
 
+/* One that has maps of wide pages is made, and read. */
+static void with_pages(const char *folder) {
+    redo_params_t wide = {8, 1024, 65536};
+    char path[4096];
+    snprintf(path, sizeof path, "%s/pages", folder);
+    mkdir(path, 0777);
+    WANT(REDO_BAD_WAY, redo_open_with(&db, path, REDO_TO_READ | REDO_WITH_PAGES, 0, 0));
+    WANT(REDO_OK, redo_open_with(&db, path, REDO_OR_CREATE | REDO_WITH_PAGES, 0, &wide));
+    WANT(REDO_OK, redo_map_set(&db, range(0, 7), B("k"), B("v"))), WANT(REDO_OK, redo_force(&db, &n));
+    WANT(REDO_OK, redo_close(&db));
+    WANT(REDO_OK, redo_open_with(&db, path, REDO_TO_READ, 0, 0));
+    WANT(REDO_OK, redo_map_get(&db, range(0, 7), B("k"), got, sizeof got, &n));
+    WANT(REDO_OK, redo_map_next(&db, range(0, 7), 0, 0, 0, 0, got, sizeof got, 0));
+    WANT(REDO_READ_ONLY, redo_map_set(&db, range(0, 7), B("k"), B("w")));
+    WANT(REDO_READ_ONLY, redo_map_delete(&db, range(0, 7), B("k")));
+    WANT(REDO_OK, redo_close(&db));
+}
+
 /* A log without an objects file is kept, and so is what is damaged. */
 static void nothing_is_overwritten(const char *folder) {
     char path[4096], aside[4096], byte = 0;
@@ -266,7 +284,7 @@ static void words_of_backups(const char *folder) {
 int main(int argc, char **argv) {
     const char *folder = argc > 1 ? argv[1] : ".";
     if (strcmp(redo_version_string(), REDO_VERSION_STRING) != 0) fail("the version is %s", redo_version_string());
-    old_log(folder), or_create(folder), waits(folder), readers(folder), readers_faults(folder), words(folder), words_of_backups(folder);
+    old_log(folder), or_create(folder), with_pages(folder), waits(folder), readers(folder), readers_faults(folder), words(folder), words_of_backups(folder);
     nothing_is_overwritten(folder);
     puts("test_opening: ok");
     return 0;

@@ -280,6 +280,145 @@ static void maps(const char *folder) {
     WANT(REDO_OK, redo_close(&s));
 }
 
+/* The pair that was found last. */
+static void pair_is(redo_t *s, uint64_t pair, const char *name, const char *value) {
+    redo_lengths_t l;
+    uint8_t key[32];
+    WANT(REDO_OK, redo_map_pair(s, pair, key, sizeof key, got, sizeof got, &l));
+    if (l.key != strlen(name) || memcmp(key, name, l.key) || l.value != strlen(value) || memcmp(got, value, l.value))
+        fail("pair %d is %.*s: %.*s", (int)pair, (int)l.key, key, (int)l.value, got);
+}
+/* Calls on a map are staged, and are seen; an abort drops them, and a commit keeps them. */
+static void staged_pages(redo_t *s, redo_range_t m) {
+    redo_lengths_t l;
+    uint64_t before, all;
+    uint8_t key[4];
+    WANT(REDO_OK, redo_map_count(s, m, 0, 0, 0, 0, &before));
+    for (int kept = 0; kept < 2; kept++) {
+        WANT(REDO_OK, redo_txn_begin(s));
+        WANT(REDO_OK, redo_map_set(s, m, B("k"), B("v")));
+        WANT(REDO_OK, redo_map_set(s, m, B("l"), B("w")));
+        WANT(REDO_OK, redo_map_delete(s, m, B("l")));
+        WANT(REDO_NO_KEY, redo_map_delete(s, m, B("l")));
+        WANT(REDO_OK, redo_map_get(s, m, B("k"), got, sizeof got, &n));
+        WANT(REDO_OK, redo_map_count(s, m, 0, 0, 0, 0, &all));
+        if (all != before + 1) fail("%d pairs are staged", (int)(all - before));
+        WANT(REDO_OK, redo_map_range(s, m, B("k"), 0, 0, 1, &n)), pair_is(s, 0, "k", "v");
+        WANT(REDO_OK, redo_map_back(s, m, 0, 0, "k", 2, 1, &n)), pair_is(s, 0, "k", "v");
+        WANT(REDO_OK, redo_map_next(s, m, B("j\xff"), key, sizeof key, 0, 0, &l)), pair_is(s, 0, "k", "v");
+        WANT(REDO_OK, redo_map_prev(s, m, "k", 2, key, sizeof key, 0, 0, &l)), pair_is(s, 0, "k", "v");
+        WANT(REDO_NO_OBJECT, redo_map_get(s, range(9, 8), B("k"), got, sizeof got, &n));
+        WANT(REDO_TOO_LONG, redo_map_set(s, m, "", 0, B("v")));
+        WANT(REDO_OK, kept ? redo_txn_commit(s) : redo_txn_abort(s));
+        WANT(kept ? REDO_OK : REDO_NO_KEY, redo_map_get(s, m, B("k"), got, sizeof got, &n));
+    }
+    WANT(REDO_OK, redo_map_delete(s, m, B("k")));
+}
+static void cursors(redo_t *s, redo_range_t m) {
+    redo_lengths_t l;
+    uint8_t key[1024] = {0}, value[32];
+    int count = 0;
+    for (l.key = 0; redo_map_next(s, m, key, l.key, key, sizeof key, value, sizeof value, &l) == REDO_OK; count++) {
+        if (l.key != 4 || l.value != 4 || memcmp(key, value, 4)) fail("a pair of a walk");
+        if (count % 2) WANT(REDO_OK, redo_map_delete(s, m, key, l.key));
+    }
+    if (count != 199) fail("%d pairs of a walk", count);
+    for (l.key = 0; redo_map_prev(s, m, key, l.key, key, sizeof key, 0, 0, &l) == REDO_OK;) count--;
+    if (count != 99) fail("%d pairs of a walk back", count);
+    WANT(REDO_NO_KEY, redo_map_prev(s, m, B("k000"), key, sizeof key, value, sizeof value, &l)), detail_of(s, 0, 0);
+    WANT(REDO_NO_KEY, redo_map_next(s, m, B("k199"), key, sizeof key, value, sizeof value, &l));
+    WANT(REDO_NO_LENGTH, redo_map_next(s, m, "", 0, key, 3, value, sizeof value, 0));
+    WANT(REDO_NO_LENGTH, redo_map_prev(s, m, "", 0, key, sizeof key, value, 3, 0));
+    memset(key, 'k', sizeof key);
+    WANT(REDO_NO_KEY, redo_map_next(s, m, key, sizeof key, key, sizeof key, value, sizeof value, &l));
+    WANT(REDO_NO_KEY, redo_map_get(s, m, key, sizeof key, got, sizeof got, &n));
+    WANT(REDO_NO_KEY, redo_map_delete(s, m, key, sizeof key));
+}
+/* What is refused, in the order in which it is asked. */
+static void not_in_pages(redo_t *s, redo_range_t m) {
+    static uint8_t bytes[65536];
+    WANT(REDO_NO_OBJECT, redo_map_set(s, range(9, 8), bytes, 65536, B("v")));
+    WANT(REDO_TOO_LONG, redo_map_set(s, range(9, 128), bytes, 65536, B("v")));
+    WANT(REDO_TOO_LONG, redo_map_set(s, range(9, 128), B("k"), bytes, 65536));
+    WANT(REDO_NO_OBJECT, redo_map_set(s, range(9, 128), bytes, 65535, B("v")));
+    WANT(REDO_NO_OBJECT, redo_map_get(s, range(9, 128), B("k"), got, sizeof got, &n));
+    WANT(REDO_NO_OBJECT, redo_map_delete(s, range(9, 128), B("k")));
+    WANT(REDO_NO_OBJECT, redo_map_count(s, range(9, 128), 0, 0, 0, 0, &n));
+    WANT(REDO_NO_OBJECT, redo_map_range(s, range(9, 8), 0, 0, 0, 0, 1, &n));
+    WANT(REDO_NO_OBJECT, redo_map_back(s, range(9, 128), 0, 0, 0, 0, 1, &n));
+    WANT(REDO_NO_OBJECT, redo_map_next(s, range(9, 8), 0, 0, 0, 0, 0, 0, 0));
+    WANT(REDO_NO_OBJECT, redo_map_prev(s, range(9, 128), 0, 0, 0, 0, 0, 0, 0));
+    WANT(REDO_TOO_LONG, redo_map_set(s, m, "", 0, B("v")));
+    WANT(REDO_TOO_LONG, redo_map_set(s, m, bytes, 505, B("v")));
+    WANT(REDO_TOO_LONG, redo_map_set(s, m, B("k"), bytes, 1025)), detail_of(s, 0, 0);
+    WANT(REDO_OK, redo_map_set(s, m, bytes, 504, bytes, 1024));
+    WANT(REDO_OK, redo_map_get(s, m, bytes, 504, got, sizeof got, &n));
+    if (n != 1024 || memcmp(got, bytes, 1024)) fail("the longest pair");
+    WANT(REDO_NO_LENGTH, redo_map_get(s, m, bytes, 504, got, 1023, 0));
+    WANT(REDO_OK, redo_map_set(s, m, bytes, 504, 0, 0));
+    WANT(REDO_OK, redo_map_get(s, m, bytes, 504, got, sizeof got, &n));
+    if (n != 0) fail("an empty value");
+    WANT(REDO_OK, redo_map_delete(s, m, bytes, 504));
+    staged_pages(s, m);
+    WANT(REDO_NULL, redo_map_set(s, m, 0, 1, "v", 1));
+    WANT(REDO_NULL, redo_map_set(s, m, "k", 1, 0, 1));
+    WANT(REDO_NULL, redo_map_delete(s, m, 0, 1));
+    WANT(REDO_NULL, redo_map_get(s, m, "k", 1, 0, 1, &n));
+    WANT(REDO_NULL, redo_map_count(s, m, 0, 1, 0, 0, &n));
+    WANT(REDO_NULL, redo_map_range(s, m, 0, 0, 0, 1, 1, &n));
+    WANT(REDO_NULL, redo_map_back(s, m, 0, 1, 0, 0, 1, &n));
+    WANT(REDO_NULL, redo_map_pair(s, 0, 0, 1, got, 1, 0));
+    WANT(REDO_NULL, redo_map_next(s, m, 0, 1, got, 1, 0, 0, 0));
+    WANT(REDO_NULL, redo_map_prev(s, m, "k", 1, 0, 1, 0, 0, 0));
+}
+/* Maps of wide pages stand in a store that has them. */
+static void pages(const char *folder) {
+    char path[4096], name[8];
+    snprintf(path, sizeof path, "%s/pages", folder);
+    mkdir(path, 0777);
+    redo_t s = REDO_CLOSED;
+    redo_range_t m = range(4, 127);
+    WANT(REDO_NO_PAGES, redo_map_set(&db, range(0, 7), B("k"), B("v")));
+    WANT(REDO_NO_PAGES, redo_map_delete(&db, range(0, 7), B("k")));
+    WANT(REDO_BAD_PARAMS, redo_create_pages(&s, path, 0, 4096, 1 << 20));
+    WANT(REDO_OK, redo_create_pages(&s, path, 128, 4096, 1 << 20));
+    WANT(REDO_OK, redo_map_count(&s, m, 0, 0, 0, 0, &n));
+    if (n) fail("an empty range has %d pairs", (int)n);
+    for (int i = 0; i < 200; i++) {
+        snprintf(name, sizeof name, "k%03d", i * 7 % 200);
+        WANT(REDO_OK, redo_map_set(&s, m, B(name), B(name)));
+    }
+    WANT(REDO_OK, redo_map_set(&s, m, B("k007"), B("seven")));
+    WANT(REDO_OK, redo_map_get(&s, m, B("k007"), got, sizeof got, &n));
+    if (n != 5 || memcmp(got, "seven", 5)) fail("the map's k007");
+    WANT(REDO_OK, redo_map_delete(&s, m, B("k007")));
+    WANT(REDO_NO_KEY, redo_map_delete(&s, m, B("k007")));
+    WANT(REDO_NO_KEY, redo_map_get(&s, m, B("k007"), got, sizeof got, &n));
+    WANT(REDO_OK, redo_map_range(&s, m, B("k005"), B("k012"), 4, &n));
+    if (n != 4) fail("the range has %d pairs", (int)n);
+    pair_is(&s, 0, "k005", "k005"), pair_is(&s, 3, "k009", "k009");
+    WANT(REDO_NO_KEY, redo_map_pair(&s, 4, got, 1, got, 1, 0)), detail_of(&s, 0, 0);
+    WANT(REDO_OK, redo_map_back(&s, m, B("k005"), B("k012"), UINT32_MAX, &n));
+    if (n != 6) fail("the range back has %d pairs", (int)n);
+    pair_is(&s, 0, "k011", "k011"), pair_is(&s, 5, "k005", "k005");
+    WANT(REDO_OK, redo_map_range(&s, m, B("k198"), 0, 0, 9, &n));
+    if (n != 2) fail("the end has %d pairs", (int)n);
+    WANT(REDO_NO_OBJECT, redo_map_range(&s, range(9, 8), 0, 0, 0, 0, 9, &n)), pair_is(&s, 1, "k199", "k199");
+    WANT(REDO_OK, redo_map_count(&s, m, B("k005"), B("k012"), &n));
+    if (n != 6) fail("%d pairs are counted", (int)n);
+    not_in_pages(&s, m), cursors(&s, m);
+    WANT(REDO_OK, redo_snapshot_begin(&s));
+    WANT(REDO_OK, redo_map_set(&s, m, B("k000"), B("new")));
+    WANT(REDO_OK, redo_snapshot_end(&s));
+    WANT(REDO_OK, redo_force(&s, &n));
+    WANT(REDO_OK, redo_close(&s));
+    WANT(REDO_OK, redo_open(&s, path));
+    WANT(REDO_OK, redo_map_count(&s, m, 0, 0, 0, 0, &n));
+    if (n != 100) fail("the map has %d pairs", (int)n);
+    WANT(REDO_OK, redo_map_next(&s, m, 0, 0, 0, 0, 0, 0, 0)), pair_is(&s, 0, "k000", "new");
+    WANT(REDO_OK, redo_close(&s));
+}
+
 static void applications(void) {
     put(0, "hello"), put(5, ""), put(6, "");
     WANT(REDO_OK, redo_app_read(&db, 5, 0));
@@ -342,21 +481,40 @@ static void lost(const char *folder) {
 
 /* What takes no part in a transaction is refused within one. */
 static void apart(void) {
-    redo_range_t r = range(0, 7);
     WANT(REDO_IN_TXN, redo_txn_begin(&db)), detail_is(0, 0);
     WANT(REDO_IN_TXN, redo_begin(&db));
     WANT(REDO_IN_TXN, redo_begin_room(&db, 1));
-    WANT(REDO_IN_TXN, redo_tree_insert(&db, r, B("k"), B("v")));
-    WANT(REDO_IN_TXN, redo_tree_delete(&db, r, B("k")));
-    WANT(REDO_IN_TXN, redo_tree_get(&db, r, B("k"), got, sizeof got, &n));
-    WANT(REDO_IN_TXN, redo_tree_range(&db, r, B("k"), B("l"), &n));
-    WANT(REDO_IN_TXN, redo_hash_put(&db, r, B("k"), B("v")));
-    WANT(REDO_IN_TXN, redo_hash_delete(&db, r, B("k")));
-    WANT(REDO_IN_TXN, redo_hash_get(&db, r, B("k"), got, sizeof got, &n));
-    WANT(REDO_IN_TXN, redo_app_run(&db, 0, 1, &n));
-    WANT(REDO_IN_TXN, redo_program_run(&db, 0, 1, 1, &n));
     WANT(REDO_NO_GROUP, redo_end(&db));
     WANT(REDO_NO_GROUP, redo_group_abort(&db));
+}
+/* Trees, hash files and runs are staged, and are seen; an abort drops them, and a commit keeps them. */
+static void staged_calls(void) {
+    redo_range_t tree = range(2, 3), hash = range(4, 5);
+    for (uint32_t x = 2; x < 7; x++) put(x, "");
+    for (int kept = 0; kept < 2; kept++) {
+        WANT(REDO_OK, redo_txn_begin(&db));
+        WANT(REDO_OK, redo_tree_insert(&db, tree, B("k"), B("v")));
+        WANT(REDO_OK, redo_tree_insert(&db, tree, B("l"), B("w")));
+        WANT(REDO_OK, redo_tree_delete(&db, tree, B("l")));
+        WANT(REDO_NO_KEY, redo_tree_delete(&db, tree, B("l")));
+        WANT(REDO_OK, redo_tree_get(&db, tree, B("k"), got, sizeof got, &n));
+        WANT(REDO_OK, redo_tree_range(&db, tree, B("a"), B("z"), &n));
+        if (n != 1) fail("%d pairs are staged", (int)n);
+        WANT(REDO_NO_OBJECT, redo_tree_get(&db, range(0, 8), B("k"), got, sizeof got, &n));
+        WANT(REDO_OK, redo_hash_put(&db, hash, B("k"), B("v")));
+        WANT(REDO_OK, redo_hash_get(&db, hash, B("k"), got, sizeof got, &n));
+        WANT(REDO_NO_KEY, redo_hash_delete(&db, hash, B("l")));
+        WANT(REDO_OK, redo_app_read(&db, 6, 0));
+        WANT(REDO_OK, redo_app_run(&db, 6, 100, &n));
+        if (n != 4) fail("%d steps are staged", (int)n);
+        WANT(REDO_OK, redo_program_run(&db, 6, 0, 0, &n));
+        WANT(REDO_OK, kept ? redo_txn_commit(&db) : redo_txn_abort(&db));
+        WANT(kept ? REDO_OK : REDO_NO_KEY, redo_tree_get(&db, tree, B("k"), got, sizeof got, &n));
+        WANT(kept ? REDO_OK : REDO_NO_KEY, redo_hash_get(&db, hash, B("k"), got, sizeof got, &n));
+    }
+    WANT(REDO_OK, redo_tree_delete(&db, tree, B("k")));
+    WANT(REDO_OK, redo_hash_delete(&db, hash, B("k")));
+    for (uint32_t x = 2; x < 7; x++) put(x, "");
 }
 /* With upkeep on, the log has room for more than its limit. */
 static void upkept(void) {
@@ -387,6 +545,7 @@ static void transactions(const char *folder) {
     WANT(REDO_OK, redo_stat(&db, &after));
     if (after.accepted != before.accepted) fail("what is staged is no command of the store");
     WANT(REDO_OK, redo_txn_abort(&db)), is(0, "kept"), is(1, "too");
+    staged_calls();
     WANT(REDO_OK, redo_txn_begin(&db));
     put(0, "staged"), put(1, "staged");
     WANT(REDO_OK, redo_txn_commit(&db)), is(0, "staged");
@@ -525,7 +684,7 @@ static void closed_streams(const char *folder) {
 
 int main(int argc, char **argv) {
     const char *folder = argc > 1 ? argv[1] : ".";
-    closed(folder), made(folder), values(), nowhere(folder), groups(), upkeep(), backups(folder), maps(folder), applications(), given_up(folder), roomy(), lost(folder), upkept(), transactions(folder), snapshots(), killed(folder), threads();
+    closed(folder), made(folder), values(), nowhere(folder), groups(), upkeep(), backups(folder), maps(folder), pages(folder), applications(), given_up(folder), roomy(), lost(folder), upkept(), transactions(folder), snapshots(), killed(folder), threads();
     WANT(REDO_OK, redo_last_detail(&db, &(redo_detail_t){0, 0, 0}));
     closed_streams(folder);
     WANT(REDO_OK, redo_close(&db));

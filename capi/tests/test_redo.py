@@ -1,5 +1,6 @@
 """The module, on the library that LIBREDO names: test_redo.py FOLDER, an empty one."""
 import os
+import random
 import signal
 import subprocess
 import sys
@@ -147,14 +148,26 @@ def transactions(folder):
             refused(redo.InTransaction, lambda: s.transaction().__enter__())
             refused(redo.InTransaction, lambda: s.group().__enter__())
             refused(redo.InTransaction, s.group(undo=True).__enter__)
-            refused(redo.InTransaction, s.tree(1, 7).set, b"k", b"v")
-            refused(redo.InTransaction, s.hash(1, 7).set, b"k", b"v")
-            refused(redo.InTransaction, s.app_run, 1, 1)
             refused(redo.BadPlace, s.cut, 0, 1, cap)
             s.put(0, b"b")
             s.append(0, 1)
         with s.group():
             refused(redo.InGroup, s.transaction().__enter__)
+        for x in range(2, 8):
+            s.put(x, b"")
+        tree, table = s.tree(2, 4), s.hash(5, 7)
+        for keeps in (False, True):                     # trees and hash files are staged, too
+            try:
+                with s.transaction():
+                    tree[b"k"], table[b"k"] = b"v", b"w"
+                    assert tree[b"k"] == b"v" and table[b"k"] == b"w" and list(tree) == [b"k"]
+                    if not keeps:
+                        raise KeyError
+            except KeyError:
+                pass
+            assert (b"k" in tree) == (b"k" in table) == keeps
+        for x in range(2, 8):
+            s.put(x, b"")
         forced = s.force()
         for i in range(100):
             with s.transaction(lazy=True):
@@ -249,6 +262,166 @@ def maps(folder):
         s.force()
     with redo.open(folder + "/maps") as s:
         assert len(s.tree(0, 63)) == 60 and s.hash(64, 127)[b"k34"] == b"vk34"
+
+
+def pages(folder):
+    """A map of wide pages, beside a dictionary whose keys are sorted."""
+    os.mkdir(folder + "/pages")
+    dice = random.Random(1)
+    with redo.open(folder) as s:
+        refused(redo.NoPages, s.map(0, 7).set, b"k", b"v")
+    with redo.create(folder + "/pages", 512, 1024, 1 << 20, upkeep=True, pages=True) as s:
+        m, model = s.map(3, 500), {}
+        assert isinstance(m, MutableMapping) and not m and len(m) == 0 and list(m) == [] and m.first() is m.last() is None
+        for i in range(3000):
+            key = bytes(dice.choice(b"\0abz\xff") for _ in range(dice.choice((1, 2, 3, 4, 120))))
+            if dice.random() < 0.3:
+                assert (key in m) == (key in model) and m.pop(key, None) == model.pop(key, None)
+            else:
+                m[key] = model[key] = bytes([i % 256]) * dice.choice((0, 1, 30, 256))
+            if i % 100 == 0:
+                is_as(m, model, dice)
+        is_as(m, model, dice)
+        refused(redo.TooLong, m.set, b"", b"v")
+        refused(redo.TooLong, m.set, b"k" * 121, b"v")
+        refused(redo.TooLong, m.set, b"k", bytes(257))
+        refused(redo.NoKey, m.delete, b"k" * 4000)
+        refused(redo.NoObject, s.map(9, 8).set, b"k", b"v")
+        refused(redo.NoObject, s.map(9, 512).first)
+        for work in (partial(s.group, undo=True), s.transaction):
+            try:
+                with work():
+                    m[b"k"] = b"never"
+                    is_as(m, {**model, b"k": b"never"}, dice)
+                    m.clear()
+                    is_as(m, {}, dice)
+                    raise ValueError
+            except ValueError:
+                is_as(m, model, dice)
+        with s.transaction():
+            m[b"k"] = model[b"k"] = b"v"
+        is_as(m, model, dice)
+        os.mkdir(folder + "/pages_copy")
+        s.backup(folder + "/pages_copy")
+        with redo.open(folder + "/pages_copy", readonly=True) as copy:
+            is_as(copy.map(3, 500), model, dice)
+            refused(redo.ReadOnly, copy.map(3, 500).set, b"k", b"v")
+        with s.snapshot() as old:
+            before = list(s)
+            for key in list(m)[::2]:
+                m[key] = model[key] = b"new"
+            m[b"k"] = model[b"k"] = b"new"
+            assert list(old) == before
+        for key in m:                       # what is in front of the cursor may come and go
+            m[key[:1] + b"\0\0"] = b"behind"
+            del m[key]
+        model = {key: value for key, value in m.items() if value == b"behind"}
+        is_as(m, model, dice)
+        m.update({b"a": b"1", b"b": b"2"})
+        assert m.setdefault(b"a", b"3") == b"1" and m.get(b"x", b"d") == b"d" and m.popitem()[0] == max([b"b", *model])
+        s.force()
+        kept = dict(m)
+    with redo.open(folder + "/pages") as s:
+        is_as(s.map(3, 500), kept, dice)
+        s.map(3, 500).clear()
+        assert not s.map(3, 500) and list(reversed(s.map(3, 500))) == []
+
+
+def full_logs(folder):
+    """A set or a delete that the log has no room for, wherever that is: the map has what it had, or what it was to have."""
+    os.mkdir(folder + "/full")
+    dice = random.Random(2)
+    with redo.create(folder + "/full", 512, 1024, 40000, pages=True) as s:
+        m, model, cut = s.map(3, 500), {}, 0
+        for i in range(150):
+            room = dice.randrange(900)
+            while 40000 - s.stat().used > room + 1100:
+                s.put(0, bytes(1024))
+            if (rest := 40000 - s.stat().used - room - 80) > 0:
+                s.put(0, bytes(rest))
+            key, value = b"%03d" % dice.randrange(100), bytes([i % 256]) * dice.randrange(256)
+            after = {**model, key: value}
+            if dice.random() < 0.4:
+                key = m.next(key)[0] if m.next(key) else None
+                after = {k: v for k, v in model.items() if k != key}
+            for again in range(2):
+                try:
+                    if key in after:
+                        m[key] = value
+                    elif key in m:
+                        del m[key]
+                    model = after
+                    break
+                except redo.LogFull:
+                    assert not again
+                    now, cut = dict(m), cut + 1
+                    assert now == model or key not in after and now == after, (i, key)
+                    s.drain()
+                    s.trim()
+            assert m == model
+        assert cut > 30, cut
+
+
+def kills_of_maps(folder):
+    """A child sets and deletes, forces now and then, and is killed: the map is as after so many calls, all of which that were forced
+    are among them, or as within a delete, which has taken its key out."""
+    path = folder + "/killed"
+    os.mkdir(path)
+    redo.create(path, 512, 1024, 1 << 18, pages=True).close()
+    done, model = 0, {}
+    for round in range(12):
+        (out, into), start = os.pipe(), done
+        if (child := os.fork()) == 0:
+            with redo.open(path, upkeep=True) as s:
+                m, own = s.map(0, 511), dict(model)
+                for i in range(start, start + 100000):
+                    one_call(i, m)
+                    if i % 7 == 0:
+                        s.force()
+                        os.write(into, i.to_bytes(8, "little"))
+                os._exit(1)
+        os.close(into)
+        told = start - 1
+        while told < start + 60 * (round + 1):
+            told = int.from_bytes(os.read(out, 8), "little")
+        os.kill(child, signal.SIGKILL)
+        assert os.waitstatus_to_exitcode(os.waitpid(child, 0)[1]) == -signal.SIGKILL
+        while last := os.read(out, 8):
+            told = int.from_bytes(last, "little")
+        os.close(out)
+        with redo.open(path) as s:
+            found = dict(s.map(0, 511))
+        while done <= told or found != model:
+            one_call(done, model)
+            done += 1
+            assert done < told + 500, told
+
+
+def one_call(i, m):
+    dice = random.Random(i)
+    key = b"%03d" % dice.randrange(300) * dice.choice((1, 1, 30))
+    if dice.random() < 0.4:
+        m.pop(key, None)
+    else:
+        m[key] = bytes([i % 256]) * dice.choice((3, 90, 256))
+
+
+def is_as(m, model, dice):
+    keys = sorted(model)
+    assert len(m) == len(keys) and bool(m) == bool(keys) and list(m) == keys and list(reversed(m)) == keys[::-1]
+    assert list(m.items()) == [(key, model[key]) for key in keys] and list(m.values()) == [model[key] for key in keys] and m == model
+    assert list(reversed(m.keys())) == keys[::-1] and m.keys() == model.keys() and m.items() == model.items()
+    assert m.first() == ((keys[0], model[keys[0]]) if keys else None) and m.last() == ((keys[-1], model[keys[-1]]) if keys else None)
+    for _ in range(20):
+        low, high = (bytes(dice.choice(b"\0abz\xff") for _ in range(dice.randrange(4))) for _ in range(2))
+        found = [(key, model[key]) for key in keys if low <= key < high]
+        assert list(m.range(low, high)) == found == list(m.back(low, high))[::-1] and m.count(low, high) == len(found)
+        assert [key for key, _ in m.range(low)] == [key for key in keys if low <= key]
+        assert [key for key, _ in m.prefix(low)] == [key for key in keys if key.startswith(low)]
+        most = dice.choice((0, 1, 99, 101))
+        assert list(m.range(low, high, most)) == found[:most] and list(m.back(low, high, most)) == found[::-1][:most]
+        assert m.next(low) == next(((key, model[key]) for key in keys if low < key), None)
+        assert m.prev(low) == next(((key, model[key]) for key in reversed(keys) if key < low), None)
 
 
 def snapshots(folder):
@@ -396,7 +569,7 @@ def faults(folder):
 
 def main():
     folder = sys.argv[1] if len(sys.argv) > 1 else "."
-    for test in (values, groups, undone, transactions, snapshots, upkept, backups, maps, applications, forks_and_kills, threads, *([faults] if "REDO_CALLS" in os.environ else [])):
+    for test in (values, groups, undone, transactions, snapshots, upkept, backups, maps, pages, full_logs, kills_of_maps, applications, forks_and_kills, threads, *([faults] if "REDO_CALLS" in os.environ else [])):
         test(folder)
     print("test_redo.py: ok")
 

@@ -28,10 +28,10 @@ PROGRAM = os.path.join(CAPI, os.pardir, "release", "redo-x86_64-linux")
 ENV = {**os.environ, "PYTHONDONTWRITEBYTECODE": "1", "NO_COLOR": "1", "REDO_HISTORY": "", "TERM": "xterm"}
 
 
-def fresh(folder, name, objects=16, cap=1024, limit=1 << 20):
+def fresh(folder, name, objects=16, cap=1024, limit=1 << 20, pages=False):
     path = os.path.join(folder, name)
     os.mkdir(path)
-    redo.create(path, objects, cap, limit).close()
+    redo.create(path, objects, cap, limit, pages=pages).close()
     return path
 
 
@@ -138,7 +138,7 @@ def notations(folder):
 def table(_):
     """Each line has a form that reads its example, and is done by a call or by the session."""
     words = {form.word for form in forms.LINES}
-    assert words - lines.CALLS.keys() == {"begin", "end", "abort"} | explain.OTHERS and lines.CALLS.keys() <= words
+    assert words - lines.CALLS.keys() == {"begin", "end", "abort"} | explain.BACKUPS and lines.CALLS.keys() <= words
     assert shell_main.WORDS.keys() == {form.word for form in forms.WORDS}
     for form in forms.FORMS.values():
         line = reading.read(form.example)
@@ -179,6 +179,9 @@ WRONG = [                           # lines, the column of what is wrong, and wh
     (".export all.csv 4", 18, "expected HI: .export FILE [LO HI]"),
     (".help nothing", 6, "no such line (`.help` lists all)"),
     (".quit now", 6, "expected noforce, or the end of the line"),
+    ("mget 4 9 hello", 9, 'expected KEY: "text", 0xhex, digits in pairs, @FILE or -. Is "hello" meant?'),
+    ("mrange 4 9 - -", 15, "expected LIMIT: mrange LO HI FROM TO LIMIT"),
+    (".create new 4 1024 65536 wide", 25, "expected pages, or the end of the line"),
     ("bstart", 0, "`bstart` is answered by `redo run` alone: .backup DIR saves the store here"),
 ]
 
@@ -205,7 +208,8 @@ def refusals(folder):
         ("swap 1 1", "refused Same", "the two objects have to differ"),
         ("cut 1 2 9", "refused BadPlace", "K is more than the length of the value of X"),
         (f"put 1 {'ab' * 65}", "refused TooLarge",
-         "an object of this store has at most 64 bytes; a map needs a store whose CAP is 1024 or more"),
+         "an object of this store has at most 64 bytes; a tree or a hash file needs a store whose CAP is 1024 or more"),
+        ("mset 1 2 aa bb", "refused NoPages", "a map needs a store that was made with `pages`, and a CAP of 1024 or more"),
         ("end", "refused NoGroup", "no group is open: `begin` begins one"),
         ("abort", "refused NoGroup", "no group is open: `begin` begins one"),
         (".abort", "refused NoGroup", "no group is open: `begin` begins one"),
@@ -226,7 +230,7 @@ def as_the_program(folder):
     for seed in range(4):
         cap, limit = chance.choice([(64, 8192), (1024, 1 << 16)])
         script = [random_line(chance) for _ in range(400)] + ["end"]
-        ours, theirs = (fresh(folder, f"{name}{seed}", 8, cap, limit) for name in ("ours", "theirs"))
+        ours, theirs = (fresh(folder, f"{name}{seed}", 8, cap, limit, pages=seed % 2 == 1) for name in ("ours", "theirs"))
         program = subprocess.run([PROGRAM, "-C", theirs, "run"], input="".join(f"{line}\n" for line in script).encode(),
                                  capture_output=True)
         said, told = ask(ours, script, "--mode", "plain", status=program.returncode)
@@ -239,7 +243,7 @@ def as_the_program(folder):
 
 
 def random_line(chance):
-    form = chance.choice([form for form in forms.LINES if form.word not in explain.OTHERS])
+    form = chance.choice([form for form in forms.LINES if form.word not in explain.BACKUPS])
     if form.word in ("begin", "force", "trim", "checkpoint") and chance.random() < 0.5:
         return "end"
     low = chance.choice([0, 2, 4])
@@ -247,8 +251,15 @@ def random_line(chance):
              "K": str(chance.randrange(4)), "W": str(chance.randrange(3)), "FROM": "00", "TO": "ff",
              "HEX": chance.choice(["-", "00", chance.randbytes(chance.randrange(1, 70)).hex(), "x", "0"])}
     words.update({name: chance.randbytes(1).hex() for name in ("KEY", "VAL")})
+    if form.word in forms.MAPS:
+        words.update({name: random_text(chance) for name in ("KEY", "VAL", "FROM", "TO")}, LIMIT=str(chance.choice([0, 1, 4, 4294967295])))
     given = [words.get(name) or str(chance.randrange(9)) for name in form.fields]
     return " ".join([form.word, *given, *(["1"] if chance.random() < 0.03 else [])])
+
+
+def random_text(chance):
+    """A key or a value of a map: few keys are met often, and some are long."""
+    return (chance.choice(["61", "6162", "62", "ff"]) * chance.choice([1, 1, 1, 2, 60, 130])) if chance.random() < 0.9 else "-"
 
 
 def modes(folder):
@@ -414,6 +425,32 @@ def words(folder):
     assert [line for line in said.splitlines() if not line.startswith(" ")] == [form.form for form in forms.FORMS.values()]
 
 
+def maps(folder):
+    """Lines of a map, on keys and values as text, and an import that fills the log within an mdel."""
+    path = fresh(folder, "maps", objects=64, limit=65536, pages=True)
+    script = ['mset 4 63 "ann" "100"', 'mset 4 63 "a long key of many words, and of more than 32 bytes" -', "mget 4 63 0x616e6e",
+              'mget 4 63 "x"', ".map 4 63", 'mcount 4 63 "b" -', 'mback 4 63 - - 1', "mnext 4 63 -", 'mnext 4 63 "b"', "mprev 4 63 -"]
+    said = answers(path, ".mode json", *script)[2:]
+    long = {"key": "a long key of many words, and of more than 32 bytes", "value": ""}
+    ann = {"key": "ann", "value": "100"}
+    assert [json.loads(line) for line in said] == [
+        {"value": "100"}, {"value": None}, [long, ann], {"counted": 0}, [ann], [long], [], [ann]], said
+    said = answers(path, *script[2:4], ".map 4 63")
+    assert said[:2] == ['"100"', "none"] and said[2].split() == ["key", "value"] and len(said) == 6, said
+    said, told = ask(path, ['mset 4 63 - "v"', f"mset 4 63 {'ab' * 121} -", 'mdel 4 63 "x"', "put 4 00", 'mget 4 63 "ann"'], status=1)
+    assert said.splitlines() == ["refused TooLong", "refused TooLong", "refused NoKey", "ok", "refused BadMap"]
+    assert "a key has 1 to 120 bytes in this store, and its value at most 256" in told and "object 4 is no page of the map" in told
+    assert answers(path, f".create {folder}/maps_made 8 1024 65536 pages", "mset 0 7 aa -", "mget 0 7 aa")[1:] == ["ok", "-"]
+    file = os.path.join(folder, "maps.redo")
+    for rest in range(0, 900, 30):          # wherever the log is full, an import takes all keys out
+        with open(file, "w") as out:
+            out.write("\n".join([*(f"mset 4 63 {key:02x} {'ab' * 200}" for key in range(30)), "drain", "trim",
+                                 *["put 0 " + "ab" * 1024] * 7, f"put 0 {'ab' * rest or '-'}",
+                                 *(f"mdel 4 63 {key:02x}" for key in range(30)), ""]))
+        to = fresh(folder, f"maps{rest}", objects=64, limit=8192, pages=True)
+        assert answers(to, f".import {file}", "mcount 4 63 - -")[1:] == ["counted 0"]
+
+
 def groups(folder):
     path = fresh(folder, "groups", objects=8)
     assert answers(path, "begin", "put 0 aa", "force", "begin", ".backup x", "end", "force", status=1) == [
@@ -436,7 +473,7 @@ def kills(folder):
     run.stdin.write(b"put 0 aa\nforce\nbegin\nput 0 bb\nput 1 bb\nget 1\n")
     run.stdin.flush()
     assert [run.stdout.readline() for _ in range(6)][-1] == b"0xbb\n"
-    assert ask(path, ["get 0"], status=71)[1] == "redo: another program has the store: one at a time may use it\n"
+    assert ask(path, ["get 0"], status=71)[1] == "redo: another program has the store: one at a time may change it\n"
     run.send_signal(signal.SIGKILL)
     run.communicate()
     assert run.returncode == -signal.SIGKILL and values_of(path)[:2] == [b"\xaa", b""]
@@ -623,7 +660,7 @@ def in_tmux(folder):
         tmux("kill-server")
 
 
-TESTS = [notations, table, bad_lines, refusals, as_the_program, modes, transfers, words, groups, kills, statuses, read_only,
+TESTS = [notations, table, bad_lines, refusals, as_the_program, modes, transfers, words, maps, groups, kills, statuses, read_only,
          typed, in_tmux]
 
 

@@ -9,7 +9,7 @@ from typing import NamedTuple, Optional, Union
 
 from . import notation
 
-Cell = Union[int, float, bytes, str]
+Cell = Union[int, float, bytes, str, None]
 MODES = ("table", "json", "csv", "plain")
 
 
@@ -29,6 +29,7 @@ class Answer(NamedTuple):
 
 OK = Answer("ok", ("answer",), [("ok",)])
 BAD = Answer("bad", ("answer",), [("bad",)], failed=True)
+ABSENT = Answer("none", ("value",), [(None,)])
 
 
 def number(word: str, n: int) -> Answer:
@@ -102,7 +103,7 @@ def json_row(columns: tuple[str, ...], row: tuple[Cell, ...]) -> dict[str, Cell]
         text = notation.text_of(cell) if isinstance(cell, bytes) else cell
         if isinstance(cell, bytes) and text is None:
             made[f"{name}_hex"] = cell.hex()
-        elif text is not None:
+        else:
             made[name] = text
     return made
 

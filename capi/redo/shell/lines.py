@@ -39,6 +39,42 @@ def _hash_get(s: redo.Store, low: int, high: int, key: bytes) -> Answer:
     return answers.value(s.hash(low, high).get(key))
 
 
+def _map_set(s: redo.Store, low: int, high: int, key: bytes, value: bytes) -> None:
+    s.map(low, high).set(key, value)
+
+
+def _map_delete(s: redo.Store, low: int, high: int, key: bytes) -> None:
+    s.map(low, high).delete(key)
+
+
+def _map_get(s: redo.Store, low: int, high: int, key: bytes) -> Answer:
+    found = s.map(low, high).get(key)
+    return answers.ABSENT if found is None else answers.value(found)
+
+
+def _map_range(s: redo.Store, low: int, high: int, first: bytes, last: bytes, most: int) -> Answer:
+    return answers.pairs(list(s.map(low, high).range(first, last or None, most)))
+
+
+def _map_back(s: redo.Store, low: int, high: int, first: bytes, last: bytes, most: int) -> Answer:
+    return answers.pairs(list(s.map(low, high).back(first, last or None, most)))
+
+
+def _map_count(s: redo.Store, low: int, high: int, first: bytes, last: bytes) -> Answer:
+    return answers.number("counted", s.map(low, high).count(first, last or None))
+
+
+def _map_next(s: redo.Store, low: int, high: int, key: bytes) -> Answer:
+    found = s.map(low, high).next(key)
+    return answers.pairs([found] if found else [])
+
+
+def _map_prev(s: redo.Store, low: int, high: int, key: bytes) -> Answer:
+    of = s.map(low, high)
+    found = of.prev(key) if key else of.last()
+    return answers.pairs([found] if found else [])
+
+
 def _stat(s: redo.Store) -> Answer:
     stat = s.stat()
     return answers.numbers(stat._fields, stat)
@@ -62,6 +98,14 @@ CALLS: dict[str, Callable[..., Any]] = {
     "hset": _hash_set,
     "hget": _hash_get,
     "hdel": _hash_delete,
+    "mset": _map_set,
+    "mget": _map_get,
+    "mdel": _map_delete,
+    "mrange": _map_range,
+    "mback": _map_back,
+    "mcount": _map_count,
+    "mnext": _map_next,
+    "mprev": _map_prev,
     "exec": _Store.app_exec,
     "arun": lambda s, app, most: answers.number("ran", s.app_run(app, most)),
     "aread": _Store.app_read,

@@ -105,7 +105,7 @@ def _known(field: Field) -> str:
 def _words(form: forms.Form, fields: list[Field], end: int) -> list[Word]:
     wanted = form.fields
     of_map = form.word in forms.MAPS
-    words = [_word("HEX" if of_map and name in _SHORT else name, field) for name, field in zip(wanted, fields)]
+    words = [_bytes(name, field) if of_map and name in _SHORT else _word(name, field) for name, field in zip(wanted, fields)]
     if len(fields) > len(wanted):
         raise BadLine(fields[len(wanted)].column, f"expected the end of the line: {form.form}")
     if form.least <= len(fields) < len(wanted) and len(fields) != form.least or len(fields) < form.least:

@@ -102,7 +102,7 @@ class Session:
             return self._end()
         if line.word == "abort":
             return self.abort()
-        if line.word in explain.OTHERS:
+        if line.word in explain.BACKUPS:
             raise BadLine(0, explain.no_call(line))
         return lines.done(self.opened(), line)
 
@@ -197,10 +197,10 @@ class Session:
             self.leave()
         self._take_over(redo.open(folder), folder)
 
-    def create(self, folder: str, objects: int, cap: int, limit: int) -> None:
+    def create(self, folder: str, objects: int, cap: int, limit: int, pages: bool = False) -> None:
         """Makes a store in this folder, which is made if it is not there, and opens it. Raises redo.Error."""
         with folder_for(folder):
-            made = redo.create(folder, objects, cap, limit)
+            made = redo.create(folder, objects, cap, limit, pages=pages)
         self._take_over(made, folder)
 
     def _take_over(self, store: redo.Store, folder: str) -> None:

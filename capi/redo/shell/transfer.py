@@ -107,7 +107,11 @@ def _done(s: Session, line: Line) -> None:
             raise
         s.opened().drain()
         s.opened().trim()
-        s.done(line)
+        try:
+            s.done(line)
+        except redo.NoKey:
+            if line.word != "mdel":         # whose key went first
+                raise
 
 
 def _kind(path: str) -> Kind:
@@ -222,7 +226,7 @@ def _read_script(path: str, into: Sequence[int]) -> Iterator[tuple[int, Line]]:
                 continue
             if line.word.startswith("."):
                 raise BadLine(_FILE, f"{path}, line {number}: a line with a dot is none of a script")
-            if line.word in explain.OTHERS:
+            if line.word in explain.BACKUPS:
                 raise BadLine(_FILE, f"{path}, line {number}: {explain.no_call(line)}")
             yield number, line
 

@@ -35,8 +35,8 @@ def _open(s: Session, folder: str) -> Answer:
     return answers.OK
 
 
-def _create(s: Session, folder: str, objects: int, cap: int, limit: int) -> Answer:
-    s.create(folder, objects, cap, limit)
+def _create(s: Session, folder: str, objects: int, cap: int, limit: int, pages: str = "") -> Answer:
+    s.create(folder, objects, cap, limit, bool(pages))
     s.greet()
     return answers.OK
 
@@ -52,6 +52,10 @@ def _tree(s: Session, low: int, high: int) -> Answer:
 
 def _hash(s: Session, low: int, high: int) -> Answer:
     return answers.pairs(sorted(s.opened().hash(low, high).items()))
+
+
+def _map(s: Session, low: int, high: int) -> Answer:
+    return answers.pairs(list(s.opened().map(low, high).range()))
 
 
 def _stat(s: Session) -> Answer:
@@ -134,6 +138,7 @@ WORDS: dict[str, Callable[..., Optional[Answer]]] = {
     ".dump": _dump,
     ".tree": _tree,
     ".hash": _hash,
+    ".map": _map,
     ".stat": _stat,
     ".mode": _mode,
     ".import": _import,
