@@ -1,4 +1,4 @@
-/* Calls a second of processor time and of the clock, each by the least of three runs: `library redo|sqlite3|lmdb|leveldb` in an
+/* Calls a second of processor time and of the clock, each by the least of three runs: `library redo|pages|sqlite3|lmdb|leveldb` in an
  * empty folder. A line says the work and the two numbers. bench/library builds it with what is there of the four, and it calls
  * their interfaces of C alone. */
 #include <stdint.h>
@@ -48,6 +48,15 @@ static void redo_commit(void) { redo_do(redo_force(&db, 0)); }
 static void redo_stop(void) { redo_do(redo_close(&db)); }
 static const peer_t redo_peer = {redo_start, redo_set_object, redo_copy_object, redo_get_object, redo_set, redo_find, redo_commit,
                                  redo_stop};
+/* The same with a map of wide pages in the tree's place. */
+static void pages_start(void) { redo_do(redo_create_pages(&db, ".", OBJECTS + NODES, 4096, 536870912)); }
+static void pages_set(word_t k, word_t v) { redo_do(redo_map_set(&db, tree, &k, sizeof k, &v, sizeof v)); }
+static size_t pages_find(word_t k, void *into, size_t room) {
+    uint64_t n;
+    return redo_do(redo_map_get(&db, tree, &k, sizeof k, into, room, &n)), n;
+}
+static const peer_t pages_peer = {pages_start, redo_set_object, redo_copy_object, redo_get_object, pages_set, pages_find, redo_commit,
+                                  redo_stop};
 #endif
 
 #ifdef WITH_SQLITE3
@@ -253,6 +262,7 @@ int main(int argc, char **argv) {
     static const struct { const char *name; const peer_t *peer; } peers[] = {
 #ifdef WITH_REDO
         {"redo", &redo_peer},
+        {"pages", &pages_peer},
 #endif
 #ifdef WITH_SQLITE3
         {"sqlite3", &sqlite_peer},

@@ -1,4 +1,4 @@
-"""Calls a second of processor time and of the clock, each by the least of three runs: library.py redo|sqlite3, as bench/library.c
+"""Calls a second of processor time and of the clock, each by the least of three runs: library.py redo|pages|sqlite3, as bench/library.c
 has it."""
 import os
 import sqlite3
@@ -23,11 +23,11 @@ def measured(count, batch, each, commit):
     return time.process_time() - start[0], time.monotonic() - start[1]
 
 
-def redo_work():
+def redo_work(pages=False):
     import redo
 
-    with redo.create(".", objects=OBJECTS + NODES, cap=1024, limit=536870912) as s:
-        tree = s.tree(OBJECTS, OBJECTS + NODES - 1)
+    with redo.create(".", objects=OBJECTS + NODES, cap=4096 if pages else 1024, limit=536870912, pages=pages) as s:
+        tree = (s.map if pages else s.tree)(OBJECTS, OBJECTS + NODES - 1)
 
         def put(i):
             s.put(i % OBJECTS, VALUES[i & 255])
@@ -70,7 +70,7 @@ best = {}
 for number in range(RUNS):
     os.mkdir(str(number))
     os.chdir(str(number))
-    for work, count, batch, each, commit in {"redo": redo_work, "sqlite3": sqlite_work}[sys.argv[1]]():
+    for work, count, batch, each, commit in {"redo": redo_work, "pages": lambda: redo_work(True), "sqlite3": sqlite_work}[sys.argv[1]]():
         speeds = [count / took for took in measured(count, batch, each, commit)]
         best[work] = [max(pair) for pair in zip(best.get(work, speeds), speeds)]
     os.chdir("..")
