@@ -1,4 +1,4 @@
-//! What the commands of Redis's clients ask of names and their values. Nothing uses this crate yet; no program of the repository is
+//! What the commands of Redis's clients ask of names and their values. No program uses it yet: none of the repository is
 //! a server.
 //!
 //! [`Request::of`] tells what the words of a command ask, or why it is refused, and [`Refusal::text`] says so in Redis's words. What a

@@ -3,7 +3,7 @@
 //! An operation names a page and places in it, and reads no more of the page than these, so it is a function of all bytes; it
 //! writes one object. The one contract is that of the trait `Oper`, at the meaning that specs/ gives. On the bytes of pages each
 //! operation is the one on their cells, and refused for the same cause (`operations_are_on_cells`); a search in a page finds the
-//! place of a key, or where it would stand, and takes no memory (`a_search_finds_the_place`). No store has these operations.
+//! place of a key, or where it would stand, and takes no memory (`a_search_finds_the_place`). Stores of version 3 have these operations.
 //! The crate depends on key_entries for the order of keys and the first refusals, on oper_core, and on byteorder for the numbers
 //! in pages and codes.
 #![tactic(auto)]

@@ -1,5 +1,5 @@
-//! RESP 2, the protocol of Redis's clients: commands are read from bytes, and replies written as bytes. Nothing uses this crate
-//! yet; no program of the repository is a server.
+//! RESP 2, the protocol of Redis's clients: commands are read from bytes, and replies written as bytes. No program uses it
+//! yet: none of the repository is a server.
 //!
 //! [`next_command`] tells what the bytes that have come begin with: a command, in the array form or in one line, a part of one,
 //! or what no command begins with, and why. Of a command's bytes that command is found ([`a_command_is_found`]), and it does not
