@@ -11,7 +11,7 @@ use Rattle.oper_core.specs.declared.bounds.Bounds.{Bounds}
 use Rattle.key_entries.specs.EntryLaws.{both_true, map_some, true_both}
 use Rattle.op_codec.specs.AllOps.{page}
 use Rattle.page_ops.specs.declared.page_op.PageOp.{PageOp}
-use Rattle.store_calls.specs.Making.{Calls}
+use Rattle.store_calls.specs.Making.{Calls, Reads}
 use Rattle.store_calls.specs.View.{View}
 use Rattle.range_calls.specs.Store.{Command}
 use Rattle.range_calls.specs.declared.call_err.CallErr.TheVariants.{Refused}
@@ -91,6 +91,9 @@ module _ {mine p : Params} (are : mine ≡ p) (hi : ℕ) where
 module _ {S : Type 0} (view : View Command S) (d : Disk) (store : S) where
   pub closed_calls : {b : Bounds} {hi : ℕ} {e : MapErr} → IsClosed b hi e → Calls view d d store store None → Calls view d d store store (cause_of e)
   closed_calls closed calls = subst (λ (x : MapErr). Calls view d d store store (cause_of x)) closed.error calls
+
+  pub closed_reads : {b : Bounds} {hi : ℕ} {e : MapErr} → IsClosed b hi e → Reads view d d store store None → Reads view d d store store (cause_of e)
+  closed_reads closed reads = subst (λ (x : MapErr). Reads view d d store store (cause_of x)) closed.error reads
 
   pub closed_adds : {b : Bounds} {hi : ℕ} {e : MapErr} (p : Params) (commands : List Command) → IsClosed b hi e → (ops : List Command) → ops ≡ [] → view.adds p d d store store commands [] Done
       → view.adds p d d store store commands ops (ending_of (cause_of e))

@@ -14,7 +14,8 @@
 //! `range` reads the pairs in a span of keys by rising key, `back` by falling key, at most so many, and `prefix` those whose keys
 //! begin with some bytes; `next` and `prev` read the pair beside a key, which is all that a cursor has to hold, and `count` tells how
 //! many pairs a span has. They go from leaf to leaf: each is found from the root, with the span of its keys, whose ends are where the
-//! leaves beside it begin and end. On a map they are those of the map (`reads_of_ranges_are_those_of_the_map`).
+//! leaves beside it begin and end. On a map they are those of the map (`reads_of_ranges_are_those_of_the_map`). `root_level` tells
+//! how many levels it has above its leaves, which bounds the commands of a set.
 #![tactic(auto)]
 
 mod call_refusal;
@@ -54,3 +55,4 @@ pub use ranging_fall::{back, prev};
 pub use ranging_prefix::prefix;
 pub use ranging_rise::{next, range};
 pub use setting::set;
+pub use walking::root_level;

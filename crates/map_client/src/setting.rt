@@ -97,6 +97,7 @@ pub fn set<S: Store<AllOps>, M: Machine>(
     value: Text,
 ) -> Result<(), MapErr>
     requires unbroken { S.view.unbroken store.old }
+    ensures comes { Comes S.view (M.disk machine.old) (M.disk machine.new) store.old store.new (set_comes map.now.lo map.now.hi key value) result }
     ensures calls { Calls S.view (M.disk machine.old) (M.disk machine.new) store.old store.new (cause_in result) }
     ensures adds { (p : Params) (commands : List Command) → S.view.holds p (M.disk machine.old) store.old commands →
         S.view.adds p (M.disk machine.old) (M.disk machine.new) store.old store.new commands

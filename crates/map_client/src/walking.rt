@@ -36,8 +36,8 @@ fn child_on(map: &Map, level: u8, bytes: &[u8], key: &[u8]) -> Option<u32>
     map.child_for(&page, key)
 }
 
-/// The level of the root.
-pub(crate) fn root_level<S: Store<AllOps>, M: Machine>(
+/// The level of the root: how many levels stand above the leaves. No command is added.
+pub fn root_level<S: Store<AllOps>, M: Machine>(
     map: &Map,
     store: &mut S,
     machine: &mut M,
