@@ -1,5 +1,5 @@
 // The cells of a page, as a list.
-ghost use Rattle.std.specs.Ordering.{is_eq, is_lt};
+ghost use Rattle.std.specs.Ordering.{is_eq};
 ghost use Rattle.std.specs.Prelude.{◌≡◌, ◌<◌, ◌≤◌, ◌^◌, ◌&&◌, [], IfSome, is_some, length, nat_lt, slice_index_or, take};
 ghost use Rattle.key_entries.specs.Entries.{byte_order};
 ghost use Rattle.page_ops.specs.OnCells.{beside_at, key_at};
@@ -7,8 +7,8 @@ ghost use Rattle.page_ops.specs.Search.{last_under, place_for};
 ghost use Rattle.page_map.specs.Steps.{one_before};
 ghost use Rattle.page_map.specs.Splits.{all_there, cell_size, cells_read, front_of};
 
-use page_ops::{Page, Text};
-use std::cmp::Ordering;
+use key_entries::is_below;
+use page_ops::{Page, Text, is_same};
 use std::marker::Model;
 
 /// The first cells of a page that has all of its cells.
@@ -154,24 +154,4 @@ fn before(i: usize) -> Option<usize>
     ensures { result ≡ one_before i }
 {
     if i == 0 { None } else { Some(i - 1) }
-}
-
-/// Whether a key is below another.
-pub(crate) fn is_below(key: &[u8], other: &[u8]) -> bool
-    ensures { result ≡ is_lt (byte_order key.now other.now) }
-{
-    match key.cmp(other) {
-        Ordering::Less => true,
-        Ordering::Equal | Ordering::Greater => false,
-    }
-}
-
-/// Whether a key is another.
-pub(crate) fn is_same(key: &[u8], other: &[u8]) -> bool
-    ensures { result ≡ is_eq (byte_order key.now other.now) }
-{
-    match key.cmp(other) {
-        Ordering::Equal => true,
-        Ordering::Less | Ordering::Greater => false,
-    }
 }

@@ -7,12 +7,13 @@ ghost use Rattle.page_map.specs.Checks as checks;
 ghost use Rattle.page_map.specs.Checks.{children_of, has_child};
 
 use crate::awaited::Awaited;
-use crate::cells::{Cells, is_below, is_same};
+use crate::cells::Cells;
 use crate::cutting::copied;
 use crate::map::Map;
 use byteorder::{ByteOrder, LittleEndian};
+use key_entries::is_below;
 use oper_core::Memory;
-use page_ops::Text;
+use page_ops::{Text, is_same};
 use std::alloc::Global;
 
 /// Whether the keys rise.

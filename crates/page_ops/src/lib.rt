@@ -9,18 +9,22 @@
 #![tactic(auto)]
 
 mod effects;
+mod fields;
+mod fitting;
 mod laws;
 mod layout;
+mod making;
 mod page;
 mod page_op;
 mod reading;
 mod tags;
 mod text;
+mod turning;
 mod worked;
 mod writing;
 
 pub use laws::{a_search_finds_the_place, operations_are_on_cells};
-pub use page::Page;
+pub use page::{Page, is_same};
 pub use page_op::PageOp;
 pub use text::Text;
 pub use worked::{

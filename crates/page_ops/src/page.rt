@@ -1,5 +1,5 @@
 ghost use Rattle.std.specs.Prelude.{◌≡◌, ◌+◌, ◌<◌, ◌≤◌, ◌^◌, IfSome, is_some, length};
-ghost use Rattle.std.specs.Ordering.{is_eq, is_lt};
+ghost use Rattle.std.specs.Ordering.{is_eq};
 ghost use Rattle.key_entries.specs.Entries.{byte_order};
 ghost use Rattle.page_ops.specs.Reading as reading;
 ghost use Rattle.page_ops.specs.Reading.{beside_in, beside_of, between, count_in, ends_before, goes_in, has_cell, has_key, key_in, key_of, level_in, opens, place_of, stands_at, stands_below};
@@ -8,6 +8,7 @@ ghost use Rattle.page_ops.specs.Seen.{cells_seen};
 
 use crate::layout::Cells;
 use byteorder::{ByteOrder, LittleEndian};
+use key_entries::is_below;
 use std::cmp::Ordering;
 use std::marker::Model;
 
@@ -236,18 +237,8 @@ fn parts_of(cell: &[u8]) -> Option<(&[u8], &[u8])>
     Some((&cell[2..2 + length], &cell[2 + length..]))
 }
 
-// Whether a key is below another.
-fn is_below(key: &[u8], other: &[u8]) -> bool
-    ensures { result ≡ is_lt (byte_order key.now other.now) }
-{
-    match key.cmp(other) {
-        Ordering::Less => true,
-        Ordering::Equal | Ordering::Greater => false,
-    }
-}
-
-// Whether a key is another.
-fn is_same(key: &[u8], other: &[u8]) -> bool
+/// Whether a key is another.
+pub fn is_same(key: &[u8], other: &[u8]) -> bool
     ensures { result ≡ is_eq (byte_order key.now other.now) }
 {
     match key.cmp(other) {

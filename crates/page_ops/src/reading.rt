@@ -1,11 +1,10 @@
 //! Operations out of their codes.
 
-ghost use Rattle.std.specs.Prelude.{◌≡◌, ◌∷◌, IfOk, option_map};
-ghost use Rattle.page_ops.specs.Formats.{number, object, place, text as text_format};
+ghost use Rattle.std.specs.Prelude.{◌≡◌, ◌∷◌, IfOk};
 ghost use Rattle.page_ops.specs.Operation.{op_in};
 
-use crate::{PageOp, Text, tags};
-use byteorder::{ByteOrder, LittleEndian};
+use crate::fields::{level_at, object_at, place_at, text_at};
+use crate::{PageOp, tags};
 use oper_core::Memory;
 use std::alloc::Global;
 
@@ -206,49 +205,4 @@ fn read_free(body: &[u8]) -> Option<PageOp>
 {
     let (page, _rest) = object_at(body)?;
     Some(PageOp::Free { page })
-}
-
-/// The object that the bytes begin with, and what is behind it.
-fn object_at(bytes: &[u8]) -> Option<(u32, &[u8])>
-    ensures { option_map (λ n. (n.0, n.1.now)) result ≡ object.read bytes.now }
-{
-    if bytes.len() < 4 {
-        return None;
-    }
-    Some((LittleEndian::read_u32(bytes), &bytes[4..]))
-}
-
-/// The place, or the count, that the bytes begin with, and what is behind it.
-fn place_at(bytes: &[u8]) -> Option<(u16, &[u8])>
-    ensures { option_map (λ n. (n.0, n.1.now)) result ≡ place.read bytes.now }
-{
-    if bytes.len() < 2 {
-        return None;
-    }
-    Some((LittleEndian::read_u16(bytes), &bytes[2..]))
-}
-
-/// The level that the bytes begin with, and what is behind it.
-fn level_at(bytes: &[u8]) -> Option<(u8, &[u8])>
-    ensures { option_map (λ n. (n.0, n.1.now)) result ≡ (number 1).read bytes.now }
-{
-    if bytes.is_empty() {
-        return None;
-    }
-    Some((bytes[0], &bytes[1..]))
-}
-
-/// The text that the bytes begin with, and what is behind it.
-fn text_at(alloc: Global, bytes: &[u8]) -> Result<Option<(Text, &[u8])>, Memory>
-    ensures { IfOk result (λ found. option_map (λ t. (t.0, t.1.now)) found ≡ text_format.read bytes.now) }
-{
-    let Some((length, rest)) = place_at(bytes) else {
-        return Ok(None);
-    };
-    let length = length as usize;
-    if rest.len() < length {
-        return Ok(None);
-    }
-    let text = Text::copied(alloc, &rest[..length])?;
-    Ok(Some((text, &rest[length..])))
 }

@@ -2,7 +2,7 @@ use Rattle.std.proofs.Common.{List, ℕ, ap, ◌∙◌}
 use Rattle.page_ops.specs.Reading.{is_inner}
 use Rattle.page_ops.specs.Effects.{turn_two_in}
 use Rattle.page_ops.proofs.Outcomes.{kind_holds, kind_fails}
-use Rattle.page_ops.proofs.effects.turn_two.Goals as goal
+use Rattle.page_ops.proofs.turning.turn_two.Goals as goal
 
 pub returns-in-Some : goal.returns-in-Some
 returns-in-Some c =
