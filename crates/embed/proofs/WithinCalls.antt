@@ -29,6 +29,7 @@ staged_more p before after commands ops ending stages = record {
   front = stages.front;
   all = stages.all;
   behind = stages.staged;
+  unstopped = stages.unstopped;
   staged = ⊎_elim (λ failed. inl failed) (λ holds. inr (subst (λ (base : List AllOps). IsStagedOn p base after.transaction.now) (same_front holds.base commands after.transaction.now.ops.items
       (holds.are ∙ append_assoc commands before.transaction.now.ops.items (take stages.done ops) ∙ ap (λ (l : List AllOps). commands ++ l) (sym stages.staged))) holds.staged)) stages.kept;
 }

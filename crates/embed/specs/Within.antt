@@ -5,8 +5,9 @@ use Rattle.formats.specs.declared.params.Params.{Params}
 use Rattle.execution.specs.declared.exec_err.ExecErr.{ExecErr}
 use Rattle.op_codec.specs.AllOps.{AllOps, all_meaning}
 use Rattle.running_store.specs.Calls.{IsFailed}
+use Rattle.running_store.specs.Courses.{Stop}
 use Rattle.running_store.specs.Taking.{Ending}
-use Rattle.running_store.specs.Taking.Ending.{Done}
+use Rattle.running_store.specs.Taking.Ending.{Done, Stopped}
 use Rattle.store_engine.specs.Engine.{Holds}
 use Rattle.store_engine.specs.Lists.{ending_of}
 use Rattle.transactions.specs.Staged.{IsStaged, OnlyReads}
@@ -19,13 +20,14 @@ abbrev pub IsStagedOn : Params → List AllOps → Transaction AllOps → Type 0
 IsStagedOn p commands t = IsStaged all_meaning p commands t.ops.items t.bytes t.made
 
 -- Of these commands the first `done` are in the transaction now, behind those that it had: all of them where the call is done. Unless
--- the disk failed, it is staged on what the store stands for.
+-- the disk failed, it is staged on what the store stands for. Nothing is logged, so the log stops none.
 pub record StagesMore (p : Params) (commands : List AllOps) (t u : Transaction AllOps) (ops : List AllOps) (ending : Ending) : Type 0 where
   pub done : ℕ
   pub front : done ≤ length ops
   pub all : ending ≡ Done → done ≡ length ops
   pub behind : u.ops.items ≡ t.ops.items ++ take done ops
   pub staged : IsFailed ending ⊎ IsStagedOn p commands u
+  pub unstopped : (stop : Stop) → ending ≡ Stopped stop → ⊥
 
 -- A call on a store and its transaction, which ended with this error, or none.
 module _ {M : Type 0} (disk : M → Disk) (old new : Store M) (t u : Transaction AllOps) where

@@ -1,6 +1,7 @@
 -- What an engine's calls make, where it is a store.
-use Rattle.std.proofs.Common.{◌≡◌, refl, sym, subst, ap, ◌∙◌, inl, inr, ℕ, Option, None, Some, Result, Ok, Err, List, [], ◌∷◌, ◌++◌}
+use Rattle.std.proofs.Common.{◌≡◌, refl, sym, subst, ap, ◌∙◌, ◌⊎◌, ⊎_elim, inl, inr, ℕ, Option, None, Some, Result, Ok, Err, List, [], ◌∷◌, ◌++◌, length, length-drop, arith}
 use Rattle.std.specs.Prelude.{IfOk}
+use Rattle.std.specs.Result.{result_err}
 use Rattle.std.proofs.lemmas.Bool.{false_from_ne_true}
 use Rattle.std.proofs.lemmas.List.{append-nil}
 use Rattle.disk_model.specs.Disk.{Disk}
@@ -9,18 +10,20 @@ use Rattle.oper_core.specs.declared.bounds.Bounds.{Bounds}
 use Rattle.oper_core.specs.declared.refusal.Refusal.{Refusal}
 use Rattle.formats.specs.declared.params.Params.{Params}
 use Rattle.formats.specs.declared.read_err.ReadErr.{ReadErr}
+use Rattle.explain_core.specs.World.{World}
+use Rattle.running_store.specs.Calls.{IsFailed}
 use Rattle.running_store.specs.Courses.{Stop}
 use Rattle.running_store.specs.Courses.Stop.{Full, At_end}
 use Rattle.running_store.specs.Taking.{Ending}
 use Rattle.running_store.specs.Taking.Ending.{Done, Stopped}
 use Rattle.execution.specs.declared.exec_err.ExecErr.{ExecErr}
 use Rattle.execution.specs.declared.exec_err.ExecErr.TheVariants.{Refused, LogFull, LsnEnd, DiskFault, Damaged, Memory}
-use Rattle.store_engine.specs.Engine.{EngineView, Holds}
+use Rattle.store_engine.specs.Engine.{EngineView, Holds, KeepsCommands}
 use Rattle.store_engine.specs.Store.{refusal_after}
 use Rattle.store_engine.specs.Lists.{AddsFront, AreCalls, ComesNext, IsCutOff, as_exec, ending_of}
 use Rattle.store_engine.specs.ListSteps.{ExecDone, ExecRefused, ExecStopped, ExecFailed, FetchDone, FetchFailed}
 use Rattle.store_engine.specs.Commands.{HasRun, HasFetched}
-use Rattle.store_calls.specs.Making.{Adds, Answers, Calls, Reads, one_accepted}
+use Rattle.store_calls.specs.Making.{Adds, Answers, Calls, HasFront, Reads, one_accepted}
 use Rattle.store_calls.specs.OfEngine.{AddsInWorlds, engine_view}
 
 module _ {O : Type 0} (meaning : Bounds → Meaning O) {old new : Disk} {before after : EngineView} where
@@ -50,6 +53,23 @@ module _ {O : Type 0} (meaning : Bounds → Meaning O) {old new : Disk} {before 
     undamaged = λ told attached. tt;
     damaged = tt;
   }
+
+  -- a command that is not done leaves what engine and files stand for
+  pub run_keeps : (op : O) (e : ExecErr) → HasRun meaning old new before after op (Err e) → KeepsCommands meaning old new before after (ending_of (Some e))
+  run_keeps op e ran = record {
+    holds = λ p commands holds. ⊎_elim (λ is. inl (subst (λ (r : Result ℕ ExecErr). IsFailed (ending_of (result_err r))) (sym is) tt)) (λ kept. inr kept) (ran.err p commands holds);
+    images = ran.images;
+  }
+
+  -- where calls add commands, engine and files stand for a front of these too
+  pub has_front : (p : Params) (commands ops : List O) (ending : Ending) (w : World O) → AddsFront meaning p old new before after w commands ops ending → IsFailed ending ⊎ HasFront (engine_view meaning) p new after commands ops ending
+  has_front p commands ops ending w adds = ⊎_elim (λ failed. inl failed) (λ reached. inr (record {
+    done = adds.done;
+    front = adds.front;
+    all = adds.all;
+    stopped = λ stop is. omega (arith, length-drop adds.done ops, ap (λ (l : List O). length l) (adds.stopped stop is).here);
+    holds = record { world = reached.world; shows = reached.shows; commands_are = reached.commands_are };
+  })) adds.kept
 
 module _ {O T : Type 0} (meaning : Bounds → Meaning O) (disk : T → Disk) (old : T) (before : EngineView) where
   -- before the first call
@@ -119,8 +139,8 @@ module _ {O T : Type 0} (meaning : Bounds → Meaning O) (disk : T → Disk) (ol
 
       pub answers_err : (e : ExecErr) → Ran (Err e) → Answers refusal (Some e)
       answers_err (Refused r) ran = ran.on_map p commands holds
-      answers_err (LogFull used need limit) ran = tt
-      answers_err (LsnEnd number) ran = tt
+      answers_err (LogFull used need limit) ran = (ran.on_map p commands holds).0
+      answers_err (LsnEnd number) ran = ran.on_map p commands holds
       answers_err DiskFault ran = tt
       answers_err (Damaged file place) ran = tt
       answers_err Memory ran = tt

@@ -1,12 +1,14 @@
 -- What a call leaves that fetches objects and runs commands.
-use Rattle.std.specs.Prelude.{◌≡◌, ⊤, Option, None, Some, List, [], ◌∷◌, ◌++◌}
+use Rattle.std.specs.Prelude.{◌≡◌, ◌≤◌, ◌<◌, ⊤, ℕ, Option, None, Some, IfSome, List, [], ◌∷◌, ◌++◌, length, take}
 use Rattle.disk_model.specs.Disk.{Disk}
 use Rattle.oper_core.specs.Meaning.{Meaning}
 use Rattle.oper_core.specs.declared.bounds.Bounds.{Bounds}
 use Rattle.oper_core.specs.declared.refusal.Refusal.{Refusal}
 use Rattle.formats.specs.declared.params.Params.{Params}
 use Rattle.running_store.specs.Calls.{IsFailed}
-use Rattle.running_store.specs.Taking.Ending.{Done}
+use Rattle.running_store.specs.Courses.{Stop}
+use Rattle.running_store.specs.Taking.{Ending}
+use Rattle.running_store.specs.Taking.Ending.{Done, Stopped}
 use Rattle.execution.specs.declared.exec_err.ExecErr.{ExecErr}
 use Rattle.execution.specs.declared.exec_err.ExecErr.TheVariants.{Refused, LogFull, LsnEnd, DiskFault, Damaged, Memory}
 use Rattle.store_engine.specs.Lists.{ending_of}
@@ -18,12 +20,13 @@ abbrev pub one_accepted : {O : Type 0} → O → Option Refusal → List O
 one_accepted op None = op ∷ []
 one_accepted op (Some refusal) = []
 
--- what is answered of a command with this refusal, or none: it is done only where nothing refuses it, and refused only so
+-- what is answered of a command with this refusal, or none: it is done, or stopped by the log, only where nothing refuses it, and refused
+-- only so
 abbrev pub Answers : Option Refusal → Option ExecErr → Type 0
 Answers refusal None = refusal ≡ None
 Answers refusal (Some (Refused told)) = refusal ≡ Some told
-Answers refusal (Some (LogFull used need limit)) = ⊤
-Answers refusal (Some (LsnEnd lsn)) = ⊤
+Answers refusal (Some (LogFull used need limit)) = refusal ≡ None
+Answers refusal (Some (LsnEnd lsn)) = refusal ≡ None
 Answers refusal (Some DiskFault) = ⊤
 Answers refusal (Some (Damaged file place)) = ⊤
 Answers refusal (Some Memory) = ⊤
@@ -51,7 +54,17 @@ module _ {O S : Type 0} (view : View O S) (old new : Disk) (before after : S) wh
   abbrev pub Reads : Option ExecErr → Type 0
   Reads error = Makes (λ p commands. []) error
 
-  -- one command is run
+  -- one command is run; where it is not done, nothing is added
   pub record Runs (meaning : Bounds → Meaning O) (op : O) (error : Option ExecErr) : Type 0 where
     pub makes : Makes (λ p commands. one_accepted op (refusal_after meaning p commands op)) error
     pub answers : (p : Params) (commands : List O) → view.holds p old before commands → Answers (refusal_after meaning p commands op) error
+    pub keeps : IfSome error (λ e. view.keeps old new before after (ending_of error))
+
+-- The store stands for these commands, and for the first `done` of those that calls were to add: all of them where the calls are done, and
+-- not all where the log stopped one.
+pub record HasFront {O S : Type 0} (view : View O S) (p : Params) (d : Disk) (s : S) (commands ops : List O) (ending : Ending) : Type 0 where
+  pub done : ℕ
+  pub front : done ≤ length ops
+  pub all : ending ≡ Done → done ≡ length ops
+  pub stopped : (stop : Stop) → ending ≡ Stopped stop → done < length ops
+  pub holds : view.holds p d s (commands ++ take done ops)

@@ -8,7 +8,7 @@ use Rattle.explain_core.specs.History.{commands_of}
 use Rattle.explain_core.specs.World.{World}
 use Rattle.running_store.specs.Laid.{values_in}
 use Rattle.running_store.specs.Taking.{Ending}
-use Rattle.store_engine.specs.Engine.{EngineView, Holds, IsCached, ShowsIn, params_of}
+use Rattle.store_engine.specs.Engine.{EngineView, Holds, IsCached, KeepsCommands, ShowsIn, params_of}
 use Rattle.store_engine.specs.Lists.{AddsFront, AreCalls}
 use Rattle.store_calls.specs.View.{View}
 
@@ -27,6 +27,7 @@ module _ {O : Type 0} (meaning : Bounds → Meaning O) where
     numbers = λ p d engine commands holds. holds.shows.shows.store.params;
     calls = AreCalls meaning;
     adds = AddsInWorlds;
+    keeps = KeepsCommands meaning;
     cached = IsCached;
     value = λ engine object. values_in engine.parts.volatile.objects [] object;
   }

@@ -20,6 +20,8 @@ pub record View (O S : Type 0) : Type 1 where
   -- Calls on a store that stood for the commands were to add these to them, and have added as many as the ending says: all
   -- of them where it is done.
   pub adds : Params → Disk → Disk → S → S → List O → List O → Ending → Type 0
+  -- Calls that end so have added nothing: the store stands for what it stood for, unless the disk failed.
+  pub keeps : Disk → Disk → S → S → Ending → Type 0
   -- an object's value is in memory, and this is the value
   pub cached : S → ℕ → Type 0
   pub value : S → ℕ → List ℕ

@@ -26,7 +26,7 @@ pub trait Store<O: Oper> {
         ensures value { result ≡ view.params self.now }
         ensures range { IsInRange (view.params self.now) };
 
-    /// Runs a command. It answers `Refused` where it is refused.
+    /// Runs a command. It answers `Refused` where it is refused. Where it answers an error nothing is added.
     fn exec<M: Machine>(&mut self, machine: &mut M, op: O) -> Result<(), ExecErr>
         requires unbroken { view.unbroken self.old }
         ensures { Runs view (M.disk machine.old) (M.disk machine.new) self.old self.new O.meaning op (result_err result) };

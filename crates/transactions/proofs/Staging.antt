@@ -16,7 +16,7 @@ use Rattle.store_engine.specs.Engine.{EngineView, Holds, params_of, records_of}
 use Rattle.store_engine.specs.Store.{meaning_in, record_length, refusal_after, state_of}
 use Rattle.execution.specs.declared.exec_err.ExecErr.{ExecErr}
 use Rattle.execution.specs.declared.exec_err.ExecErr.TheVariants.{Refused, LogFull, LsnEnd, DiskFault, Damaged, Memory}
-use Rattle.transactions.specs.Accepted.{AreAccepted, IsNoRefusal}
+use Rattle.transactions.specs.Accepted.{AreAccepted}
 use Rattle.transactions.specs.Admitted.{HasStaged, IsAdmitted}
 use Rattle.transactions.specs.Staged.{IsStaged, overlaid}
 use Rattle.transactions.proofs.Making.{state_behind}
@@ -87,8 +87,8 @@ module _ {O : Type 0} (meaning : Bounds → Meaning O) (p : Params) (commands op
 
   pub not_staged : (e : ExecErr) → IsAdmitted m (overlaid made base) op (Err e) → HasStaged meaning p commands ops ops bytes made op (Err e)
   not_staged (Refused refusal) is = (refusal_seen (Some refusal) is, refl, staged)
-  not_staged (LogFull used need limit) is = (refl, staged)
-  not_staged (LsnEnd lsn) is = (refl, staged)
+  not_staged (LogFull used need limit) is = absurd is
+  not_staged (LsnEnd lsn) is = absurd is
   not_staged DiskFault is = (refl, staged)
   not_staged (Damaged file place) is = (refl, staged)
   not_staged Memory is = (refl, staged)
@@ -101,13 +101,13 @@ fits_reads meaning b has op objects values cap are count short same = record {
   short = subst (λ (n : ℕ). All (λ v. length v ≤ n) values) (same ∙ sym has.cap) short;
 }
 
-pub unrefused_admitted : {O : Type 0} (m : Meaning O) (s : State) (op : O) (e : ExecErr) → IsNoRefusal (Some e) → IsAdmitted m s op (Err e)
-unrefused_admitted m s op (Refused refusal) unrefused = absurd unrefused
-unrefused_admitted m s op (LogFull used need limit) unrefused = tt
-unrefused_admitted m s op (LsnEnd lsn) unrefused = tt
-unrefused_admitted m s op DiskFault unrefused = tt
-unrefused_admitted m s op (Damaged file place) unrefused = tt
-unrefused_admitted m s op Memory unrefused = tt
+pub cut_off_admitted : {O : Type 0} (m : Meaning O) (s : State) (op : O) (e : ExecErr) → IsCutOff (ending_of_error e) → IsAdmitted m s op (Err e)
+cut_off_admitted m s op (Refused refusal) off = absurd off
+cut_off_admitted m s op (LogFull used need limit) off = absurd off
+cut_off_admitted m s op (LsnEnd lsn) off = absurd off
+cut_off_admitted m s op DiskFault off = tt
+cut_off_admitted m s op (Damaged file place) off = tt
+cut_off_admitted m s op Memory off = tt
 
 -- the numbers are those of the engine itself
 pub own : {O : Type 0} (meaning : Bounds → Meaning O) (d : Disk) (engine : EngineView) (commands : List O) (P : Params → Type 0) → (Holds meaning (params_of engine) d engine commands → P (params_of engine)) → (p : Params)

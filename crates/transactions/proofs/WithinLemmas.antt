@@ -2,7 +2,7 @@
 use Rattle.std.proofs.Common.{◌≡◌, ◌≤◌, ◌<◌, ◌∙◌, refl, sym, ap, subst, ℕ, ◌+◌, inl, inr, ◌⊎◌, ⊎_elim, Option, None, Some, Result, Ok, Err, List, [], ◌∷◌, ◌++◌, length, take, length-append, append_assoc, arith, MutBor}
 use Rattle.std.specs.Prelude.{IsSome}
 use Rattle.std.specs.Option.{option_map_or}
-use Rattle.std.proofs.Math.Seq.{take-append-add, take-length}
+use Rattle.std.proofs.Math.Seq.{take-append-add, take-length, take-nil}
 use Rattle.std.proofs.lemmas.List.{append-nil, take-append-le}
 use Rattle.disk_model.specs.Disk.{Disk}
 use Rattle.oper_core.specs.Meaning.{Meaning}
@@ -15,10 +15,11 @@ use Rattle.formats.specs.declared.read_err.ReadErr.TheVariants as of_read
 use Rattle.dirty_cache.specs.Contents.{Contents, held}
 use Rattle.dirty_cache.specs.declared.entry.Entry.{Entry}
 use Rattle.running_store.specs.Calls.{IsFailed}
+use Rattle.running_store.specs.Courses.{Stop}
 use Rattle.running_store.specs.Laid.LengthLaws.{next_same}
 use Rattle.running_store.specs.Laid.Lengths.{IsNextEmpty, length_at}
 use Rattle.running_store.specs.Taking.{Ending}
-use Rattle.running_store.specs.Taking.Ending.{Done, Short}
+use Rattle.running_store.specs.Taking.Ending.{Done, Short, Stopped}
 use Rattle.execution.specs.declared.exec_err.ExecErr.{ExecErr}
 use Rattle.execution.specs.declared.exec_err.ExecErr.TheVariants.{Refused, LogFull, LsnEnd, DiskFault, Damaged, Memory}
 use Rattle.store_engine.specs.Commands.{HasFetched}
@@ -26,7 +27,7 @@ use Rattle.store_engine.specs.Engine.{EngineView, Holds, params_of}
 use Rattle.store_engine.specs.Lists.{as_exec, ending_of}
 use Rattle.store_engine.specs.Store.{refusal_after, state_of}
 use Rattle.store_calls.specs.Laws.{GoOn}
-use Rattle.store_calls.specs.Making.{Answers, Calls, Reads, one_accepted}
+use Rattle.store_calls.specs.Making.{Answers, Calls, HasFront, Reads, one_accepted}
 use Rattle.transactions.specs.Admitted.{HasStaged}
 use Rattle.transactions.specs.Staged.{IsStaged, OnlyReads, overlaid}
 use Rattle.transactions.specs.Within.{HoldsWithin, StagesFront, length_in, within_view}
@@ -37,13 +38,14 @@ use Rattle.transactions.proofs.Reading.{fetched_reads, reads_so, reads_twice}
 module _ {O : Type 0} (meaning : Bounds → Meaning O) (p : Params) where
   -- nothing is staged beside what was
   pub stages_none : (new : Disk) (before after : Within O) (commands ops : List O) (ending : Ending) → (ending ≡ Done → ops ≡ []) → IsFailed ending ⊎ HoldsWithin meaning p new after commands
-      → after.transaction.now.ops.items ≡ before.transaction.now.ops.items → StagesFront meaning p new before after commands ops ending
-  stages_none new before after commands ops ending none kept same = record {
+      → after.transaction.now.ops.items ≡ before.transaction.now.ops.items → ((stop : Stop) → ending ≡ Stopped stop → ⊥) → StagesFront meaning p new before after commands ops ending
+  stages_none new before after commands ops ending none kept same unstopped = record {
     done = 0;
     front = omega arith;
     all = λ done. sym (ap (λ (l : List O). length l) (none done));
     kept = ⊎_elim (λ failed. inl failed) (λ holds. inr (subst (λ (l : List O). HoldsWithin meaning p new after l) (sym (append-nil commands)) holds)) kept;
     staged = same ∙ sym (append-nil before.transaction.now.ops.items);
+    unstopped = unstopped;
   }
 
   module _ (mid new : Disk) (s t u : Within O) (commands front ops : List O) (ending : Ending) where
@@ -64,6 +66,7 @@ module _ {O : Type 0} (meaning : Bounds → Meaning O) (p : Params) where
               (λ holds. inr (subst (λ (l : List O). HoldsWithin meaning p new u l) (append_assoc commands front (take second.done ops) ∙ ap (λ (l : List O). commands ++ l) (sym taken)) holds)) second.kept;
           staged = second.staged ∙ ap (λ (l : List O). l ++ take second.done ops) (first.staged ∙ ap (λ (l : List O). s.transaction.now.ops.items ++ l) (whole first))
               ∙ append_assoc s.transaction.now.ops.items front (take second.done ops) ∙ ap (λ (l : List O). s.transaction.now.ops.items ++ l) (sym taken);
+          unstopped = second.unstopped;
         }
 
     pub stages_short : StagesFront meaning p mid s t commands front Done → StagesFront meaning p mid s t commands (front ++ ops) Short
@@ -74,7 +77,23 @@ module _ {O : Type 0} (meaning : Bounds → Meaning O) (p : Params) where
           all = λ is. cc is;
           kept = ⊎_elim (λ failed. absurd failed) (λ holds. inr (subst (λ (l : List O). HoldsWithin meaning p mid t (commands ++ l)) (sym taken) holds)) first.kept;
           staged = first.staged ∙ ap (λ (l : List O). s.transaction.now.ops.items ++ l) (sym taken);
+          unstopped = λ stop is. cc is;
         }
+
+module _ {O : Type 0} (meaning : Bounds → Meaning O) (p : Params) (d : Disk) where
+  -- where a front is staged, engine and files stand for it
+  has_front : (s t : Within O) (commands ops : List O) (ending : Ending) → StagesFront meaning p d s t commands ops ending → IsFailed ending ⊎ HasFront (within_view meaning) p d t commands ops ending
+  has_front s t commands ops ending stages = ⊎_elim (λ failed. inl failed) (λ holds. inr (record {
+    done = stages.done;
+    front = stages.front;
+    all = stages.all;
+    stopped = λ stop is. absurd (stages.unstopped stop is);
+    holds = holds;
+  })) stages.kept
+
+  -- which is none of none
+  has_none : (t : Within O) (commands : List O) (ending : Ending) → HasFront (within_view meaning) p d t commands [] ending → HoldsWithin meaning p d t commands
+  has_none t commands ending has = subst (λ (l : List O). HoldsWithin meaning p d t l) (ap (λ (l : List O). commands ++ l) (take-nil has.done) ∙ append-nil commands) has.holds
 
 -- a call that only reads the engine
 pub within_calls : {O : Type 0} (meaning : Bounds → Meaning O) {old new : Disk} (before after : Within O) (error : Option ExecErr) → OnlyReads meaning old new before.engine.now after.engine.now (IsFailed (ending_of error))
@@ -99,11 +118,23 @@ module _ {O T : Type 0} (meaning : Bounds → Meaning O) (disk : T → Disk) whe
         stages_behind meaning p (disk mid) (disk new) s t u commands front ops ending one (second (holds_after meaning p (disk mid) (disk mid) s t t commands front [] Done one));
     cut = λ old new s t p commands front rest adds all. stages_short meaning p (disk new) (disk new) s t t commands front rest Short (adds all);
     holds = λ old new s t p commands ops all adds. holds_after meaning p (disk new) (disk new) s t t commands ops [] Done (adds all);
+    front = λ old new s t p commands ops ending all adds. has_front meaning p (disk new) s t commands ops ending (adds all);
+    kept = λ old new s t p commands ending all keeps. ⊎_elim (λ failed. inl failed) (λ has. inr (has_none meaning p (disk new) t commands ending has)) (has_front meaning p (disk new) s t commands [] ending (keeps p commands all));
   }
 
+-- the log stops no read
+read_unstopped : (e : Option ReadErr) (stop : Stop) → ending_of (as_exec e) ≡ Stopped stop → ⊥
+read_unstopped None stop is = cc is
+read_unstopped (Some of_read.DiskFault) stop is = cc is
+read_unstopped (Some (of_read.Damaged file place)) stop is = cc is
+read_unstopped (Some of_read.Memory) stop is = cc is
+
 -- A call that only reads the engine, and stages nothing.
-module _ {O : Type 0} (meaning : Bounds → Meaning O) (old new : Disk) (before after : Within O) (engine : after.engine.ghost_name ≡ before.engine.ghost_name) (same : after.transaction ≡ before.transaction) (error : Option ExecErr)
-    (reads : OnlyReads meaning old new before.engine.now after.engine.now (IsFailed (ending_of error))) where
+module _ {O : Type 0} (meaning : Bounds → Meaning O) (old new : Disk) (before after : Within O) (engine : after.engine.ghost_name ≡ before.engine.ghost_name) (same : after.transaction ≡ before.transaction) (e : Option ReadErr)
+    (reads : OnlyReads meaning old new before.engine.now after.engine.now (IsFailed (ending_of (as_exec e)))) where
+  abbrev error : Option ExecErr
+  error = as_exec e
+
   still : (p : Params) (commands : List O) → HoldsWithin meaning p old before commands → IsFailed (ending_of error) ⊎ HoldsWithin meaning p new after commands
   still p commands all = ⊎_elim (λ failed. inl failed) (λ holds. inr (record {
     base = all.base;
@@ -115,7 +146,7 @@ module _ {O : Type 0} (meaning : Bounds → Meaning O) (old new : Disk) (before 
   pub only_read : Reads (within_view meaning) old new before after error
   only_read = record {
     calls = within_calls meaning before after error reads engine (ap (λ (t : MutBor (Transaction O)). t.ghost_name) same);
-    adds = λ p commands was rest ended again. stages_none meaning p new before after commands rest (ending_of error) ended (still p commands again) (ap (λ (t : MutBor (Transaction O)). t.now.ops.items) same);
+    adds = λ p commands was rest ended again. stages_none meaning p new before after commands rest (ending_of error) ended (still p commands again) (ap (λ (t : MutBor (Transaction O)). t.now.ops.items) same) (read_unstopped e);
   }
 
 -- a fetch that fails with the disk, in the terms of calls
@@ -172,8 +203,8 @@ module _ {O : Type 0} (meaning : Bounds → Meaning O) (d : Disk) (before : With
 
   pub answers_err : (e : ExecErr) (ops : List O) (bytes : ℕ) (made : Contents) → HasStaged meaning p all.base before.transaction.now.ops.items ops bytes made op (Err e) → Answers (refusal_after meaning p commands op) (Some e)
   answers_err (Refused r) ops bytes made staged = there (Some r) staged.0
-  answers_err (LogFull used need limit) ops bytes made staged = tt
-  answers_err (LsnEnd lsn) ops bytes made staged = tt
+  answers_err (LogFull used need limit) ops bytes made staged = absurd staged
+  answers_err (LsnEnd lsn) ops bytes made staged = absurd staged
   answers_err DiskFault ops bytes made staged = tt
   answers_err (Damaged file place) ops bytes made staged = tt
   answers_err Memory ops bytes made staged = tt
@@ -204,6 +235,7 @@ module _ {O : Type 0} (meaning : Bounds → Meaning O) (old new : Disk) (before 
           are = ap (λ (l : List O). all.base ++ l) staged.1 ∙ sym (append_assoc all.base before.transaction.now.ops.items (op ∷ [])) ∙ ap (λ (l : List O). l ++ op ∷ []) all.are;
         })) kept;
         staged = staged.1;
+        unstopped = λ stop is. cc is;
       }))
 
   -- what was staged is staged still
@@ -217,14 +249,23 @@ module _ {O : Type 0} (meaning : Bounds → Meaning O) (old new : Disk) (before 
   })) kept
 
   unstaged : (e : ExecErr) → Kept (ending_of (Some e)) → (after.transaction.now.ops.items ≡ before.transaction.now.ops.items) × IsStaged meaning p all.base after.transaction.now.ops.items after.transaction.now.bytes after.transaction.now.made
-      → (ops : List O) → (ending_of (Some e) ≡ Done → ops ≡ []) → StagesFront meaning p new before after commands ops (ending_of (Some e))
-  unstaged e kept both ops none = stages_none meaning p new before after commands ops (ending_of (Some e)) none (same_staged (ending_of (Some e)) kept both.0 both.1) both.0
+      → ((stop : Stop) → ending_of (Some e) ≡ Stopped stop → ⊥) → (ops : List O) → (ending_of (Some e) ≡ Done → ops ≡ []) → StagesFront meaning p new before after commands ops (ending_of (Some e))
+  unstaged e kept both unstopped ops none = stages_none meaning p new before after commands ops (ending_of (Some e)) none (same_staged (ending_of (Some e)) kept both.0 both.1) both.0 unstopped
+
+  -- where it is not staged, nothing is
+  pub nothing_staged : (e : ExecErr) → Kept (ending_of (Some e)) → Staged (Err e) → (ops : List O) → (ending_of (Some e) ≡ Done → ops ≡ []) → StagesFront meaning p new before after commands ops (ending_of (Some e))
+  nothing_staged (Refused r) kept staged = unstaged (Refused r) kept (staged.1, staged.2) (λ stop is. cc is)
+  nothing_staged (LogFull used need limit) kept staged = absurd staged
+  nothing_staged (LsnEnd lsn) kept staged = absurd staged
+  nothing_staged DiskFault kept staged = unstaged DiskFault kept staged (λ stop is. cc is)
+  nothing_staged (Damaged file place) kept staged = unstaged (Damaged file place) kept staged (λ stop is. cc is)
+  nothing_staged Memory kept staged = unstaged Memory kept staged (λ stop is. cc is)
 
   pub staged_none : (e : ExecErr) → Kept (ending_of (Some e)) → Staged (Err e) → (rest : List O) → (ending_of (Some e) ≡ Done → rest ≡ []) → StagesFront meaning p new before after commands (one_accepted op refusal ++ rest) (ending_of (Some e))
   staged_none (Refused r) kept staged rest ended =
-      subst (λ (o : Option Refusal). StagesFront meaning p new before after commands (one_accepted op o ++ rest) Done) (sym (there meaning old before op p commands all (Some r) staged.0)) (unstaged (Refused r) kept (staged.1, staged.2) rest ended)
-  staged_none (LogFull used need limit) kept staged rest ended = unstaged (LogFull used need limit) kept staged (one_accepted op refusal ++ rest) (λ is. cc is)
-  staged_none (LsnEnd lsn) kept staged rest ended = unstaged (LsnEnd lsn) kept staged (one_accepted op refusal ++ rest) (λ is. cc is)
-  staged_none DiskFault kept staged rest ended = unstaged DiskFault kept staged (one_accepted op refusal ++ rest) (λ is. cc is)
-  staged_none (Damaged file place) kept staged rest ended = unstaged (Damaged file place) kept staged (one_accepted op refusal ++ rest) (λ is. cc is)
-  staged_none Memory kept staged rest ended = unstaged Memory kept staged (one_accepted op refusal ++ rest) (λ is. cc is)
+      subst (λ (o : Option Refusal). StagesFront meaning p new before after commands (one_accepted op o ++ rest) Done) (sym (there meaning old before op p commands all (Some r) staged.0)) (nothing_staged (Refused r) kept staged rest ended)
+  staged_none (LogFull used need limit) kept staged rest ended = absurd staged
+  staged_none (LsnEnd lsn) kept staged rest ended = absurd staged
+  staged_none DiskFault kept staged rest ended = nothing_staged DiskFault kept staged (one_accepted op refusal ++ rest) (λ is. cc is)
+  staged_none (Damaged file place) kept staged rest ended = nothing_staged (Damaged file place) kept staged (one_accepted op refusal ++ rest) (λ is. cc is)
+  staged_none Memory kept staged rest ended = nothing_staged Memory kept staged (one_accepted op refusal ++ rest) (λ is. cc is)

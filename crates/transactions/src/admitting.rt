@@ -1,10 +1,10 @@
 // A command is judged on the values that are seen.
-ghost use Rattle.std.specs.Prelude.{◌≡◌, ◌↔◌, List, false, Some, length, IfOk};
+ghost use Rattle.std.specs.Prelude.{◌≡◌, ◌↔◌, List, false, length, IfOk};
 ghost use Rattle.execution.specs.Answers.{ending_of_error, ending_of_exec};
 ghost use Rattle.running_store.specs.Calls.{IsFailed};
 ghost use Rattle.store_engine.specs.Engine.{Holds, params_of};
+ghost use Rattle.store_engine.specs.Lists.{IsCutOff};
 ghost use Rattle.store_engine.specs.Store.{meaning_in, state_of};
-ghost use Rattle.transactions.specs.Accepted.{IsNoRefusal};
 ghost use Rattle.transactions.specs.Admitted.{IsAdmitted};
 ghost use Rattle.transactions.specs.Staged.{OnlyReads, overlaid};
 
@@ -15,13 +15,13 @@ use oper_core::{Bounds, Oper, Values};
 use std::alloc::Global;
 use store_engine::{Engine, ExecErr};
 
-// Why values are not read: it is no refusal.
+// Why values are not read: no refusal, and no stop of the log.
 fn unread(e: ExecErr) -> ExecErr
-    ensures unrefused { IsNoRefusal (Some result) }
+    ensures cut_off { IsCutOff (ending_of_error result) }
     ensures fault { IsFailed (ending_of_error e) ↔ IsFailed (ending_of_error result) }
 {
     match e {
-        ExecErr::Refused(_) => ExecErr::Memory,
+        ExecErr::Refused(_) | ExecErr::LogFull { .. } | ExecErr::LsnEnd { .. } => ExecErr::Memory,
         e => e,
     }
 }

@@ -131,7 +131,8 @@ impl<O: Oper> Transaction<O> {
     }
 
     /// Stages a command on an engine, after those that are staged: it is judged on the values that these make, laid over those of the
-    /// engine. Nothing is logged. It answers `Refused` as `Engine::exec` would after all of them.
+    /// engine. Nothing is logged, so it answers neither `LogFull` nor `LsnEnd`. It answers `Refused` as `Engine::exec` would after all of
+    /// them.
     pub fn exec<M: Machine>(
         &mut self,
         engine: &mut Engine<O>,

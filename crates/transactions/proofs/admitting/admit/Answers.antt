@@ -7,7 +7,7 @@ use Rattle.store_engine.specs.Engine.{params_of}
 use Rattle.store_engine.specs.Store.{meaning_in, state_of}
 use Rattle.transactions.specs.Staged.{overlaid}
 use Rattle.transactions.proofs.Reading.{reads_none, reads_so}
-use Rattle.transactions.proofs.Staging.{fits_reads, judged, refused_by_shape, unrefused_admitted}
+use Rattle.transactions.proofs.Staging.{cut_off_admitted, fits_reads, judged, refused_by_shape}
 use Rattle.transactions.proofs.admitting.admit.Goals as goal
 
 pub returns-in-Err-clause-reads : goal.returns-in-Err-clause-reads
@@ -85,4 +85,4 @@ returns-clause-reads g c =
 pub returns-clause-admitted : goal.returns-clause-admitted
 returns-clause-admitted g c = λ commands holds.
     let p = params_of c.args.engine.now in
-    unrefused_admitted (meaning_in g.O.Oper.meaning p) (overlaid c.args.made.now (state_of g.O.Oper.meaning p commands)) c.args.op.now c.unread.result c.unread.ensures.unrefused
+    cut_off_admitted (meaning_in g.O.Oper.meaning p) (overlaid c.args.made.now (state_of g.O.Oper.meaning p commands)) c.args.op.now c.unread.result c.unread.ensures.cut_off

@@ -1,5 +1,5 @@
-use Rattle.std.proofs.Common.{refl, None, Some}
-use Rattle.transactions.proofs.WithinLemmas.{answers_err, staged_none, staged_one, there, within_calls}
+use Rattle.std.proofs.Common.{refl, None, Some, []}
+use Rattle.transactions.proofs.WithinLemmas.{answers_err, nothing_staged, staged_none, staged_one, there, within_calls}
 use Rattle.transactions.proofs.within.WithinStore.exec.Goals as goal
 
 pub returns-in-Ok : goal.returns-in-Ok
@@ -14,6 +14,7 @@ returns-in-Ok g c =
       };
       answers = λ p commands all.
           there g.O.Oper.meaning (disk c.args.machine.now) c.args.self.now c.args.op p commands all None (c.in-Ok.ensures.staged p all.base all.holds all.staged).0;
+      keeps = tt;
     }
 
 pub returns-in-Err : goal.returns-in-Err
@@ -29,4 +30,7 @@ returns-in-Err g c =
       answers = λ p commands all.
           answers_err g.O.Oper.meaning (disk c.args.machine.now) c.args.self.now c.args.op p commands all c.in-Err.cause c.exec.new.self.ops.items c.exec.new.self.bytes c.exec.new.self.made
           (c.in-Err.ensures.staged p all.base all.holds all.staged);
+      keeps = λ p commands all.
+          nothing_staged g.O.Oper.meaning (disk c.args.machine.now) (disk c.exec.new.machine) c.args.self.now _ c.args.op p commands all c.in-Err.cause (reads.holds p all.base all.holds)
+          (c.in-Err.ensures.staged p all.base all.holds all.staged) [] (λ done. refl);
     }

@@ -1,9 +1,8 @@
 use Rattle.std.proofs.Common.{[], inl, inr, refl, subst, None, Option, Some}
 use Rattle.std.specs.Prelude.{IsSome}
 use Rattle.dirty_cache.specs.declared.entry.Entry.{Entry}
-use Rattle.execution.specs.declared.exec_err.ExecErr.TheVariants.{Memory}
+use Rattle.formats.specs.declared.read_err.ReadErr.TheVariants.{Memory}
 use Rattle.running_store.specs.Laid.{values_in}
-use Rattle.store_engine.specs.Lists.{as_exec}
 use Rattle.transactions.proofs.Reading.{reads_none}
 use Rattle.transactions.proofs.WithinLemmas.{fetch_reads, only_read, seen_is}
 use Rattle.transactions.proofs.within.WithinStore.fetch.Goals as goal
@@ -39,7 +38,7 @@ returns-in-Ok-clause-reads g c =
 pub returns-in-Err-clause-reads : goal.returns-in-Err-clause-reads
 returns-in-Err-clause-reads g c =
     let disk = g.M.Machine.disk in
-    only_read g.O.Oper.meaning (disk c.args.machine.now) (disk c.fetch.new.machine) c.args.self.now _ refl refl (as_exec (Some c.in-Err.cause))
+    only_read g.O.Oper.meaning (disk c.args.machine.now) (disk c.fetch.new.machine) c.args.self.now _ refl refl (Some c.in-Err.cause)
     (fetch_reads g.O.Oper.meaning (disk c.args.machine.now) (disk c.fetch.new.machine) c.args.self.now.engine.now c.fetch.new.self c.args.object (Some c.in-Err.cause) c.in-Err.ensures.fetched)
 
 pub returns-in-Ok-clause-value : goal.returns-in-Ok-clause-value
