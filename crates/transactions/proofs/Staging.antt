@@ -13,7 +13,9 @@ use Rattle.dirty_cache.specs.declared.entry.Entry.{Entry}
 use Rattle.running_store.specs.Laid.{with_entries}
 use Rattle.disk_model.specs.Disk.{Disk}
 use Rattle.store_engine.specs.Engine.{EngineView, Holds, params_of, records_of}
+use Rattle.store_engine.specs.Lists.{IsCutOff}
 use Rattle.store_engine.specs.Store.{meaning_in, record_length, refusal_after, state_of}
+use Rattle.execution.specs.Answers.{ending_of_error}
 use Rattle.execution.specs.declared.exec_err.ExecErr.{ExecErr}
 use Rattle.execution.specs.declared.exec_err.ExecErr.TheVariants.{Refused, LogFull, LsnEnd, DiskFault, Damaged, Memory}
 use Rattle.transactions.specs.Accepted.{AreAccepted}
