@@ -1,10 +1,10 @@
 -- Commands take bytes, one behind the other.
-use Rattle.std.proofs.Common.{◌≡◌, ◌∙◌, ◌<◌, ◌≤◌, ℕ, List, [], ◌∷◌, ◌++◌, length, drop, refl, sym, ap, subst, arith, append_assoc, length-append, inl, inr}
+use Rattle.std.proofs.Common.{◌≡◌, ◌∙◌, ◌<◌, ◌≤◌, ℕ, List, [], ◌∷◌, ◌++◌, length, drop, refl, sym, ap, arith, length-append, inl, inr}
 use Rattle.std.proofs.Math.Seq.{drop-append_seam}
 use Rattle.resp_words.specs.Commands.{HasCause, IsCommand}
 use Rattle.resp_words.specs.Reading.{IsBad}
 use Rattle.resp_words.specs.declared.protocol_error.ProtocolError.{ProtocolError}
-use Rattle.client_sessions.specs.Events.{Event, IsLong, Tells, command}
+use Rattle.client_sessions.specs.Events.{Begins, IsLong, command}
 use Rattle.client_sessions.specs.Sessions.{Words}
 use Rattle.client_sessions.specs.Taking.{Takes, TellsError, TellsLength}
 use Rattle.client_sessions.specs.declared.taken.Taken.{Taken}
@@ -16,19 +16,11 @@ pub command_some : (limits : SessionLimits) (text : List ℕ) (words : Words) �
 command_some limits text words (inl it) = omega (arith, ap length it.is)
 command_some limits text words (inr it) = omega (arith, ap length it.is.is, length-append it.line (10 ∷ []))
 
--- what completes the rest completes all
-abbrev pub Completes : SessionLimits → ℕ → List ℕ → List ℕ → List Event → Type 0
-Completes limits at bytes rest events = (more : List Event) (last : List ℕ) → Tells limits at rest more last → Tells limits at bytes (events ++ more) last
-
-pub completes_more : (limits : SessionLimits) (at : ℕ) (bytes rest text later : List ℕ) (words : Words) (events : List Event) → Completes limits at bytes rest events
-    → IsCommand limits.commands text words → rest ≡ text ++ later → length text ≤ limits.command → Completes limits at bytes later (events ++ command at words ∷ [])
-completes_more limits at bytes rest text later words events was means is short more last tells =
-    subst (λ (l : List Event). Tells limits at bytes l last) (sym (append_assoc events (command at words ∷ []) more))
-    (was (command at words ∷ more) last (refl, text, later, means, is, short, tells))
-
--- nothing was read yet
-pub completes_all : (limits : SessionLimits) (at : ℕ) (bytes : List ℕ) → Completes limits at bytes bytes []
-completes_all limits at bytes more last tells = tells
+-- what follows a command is shorter
+pub command_next : (limits : SessionLimits) (at : ℕ) (bytes text later : List ℕ) (words : Words) → IsCommand limits.commands text words → bytes ≡ text ++ later → length text ≤ limits.command
+    → Begins limits at bytes (command at words ∷ []) later × (length later < length bytes)
+command_next limits at bytes text later words means is short =
+    ((refl, text, later, means, is, short, refl), omega (arith, command_some limits text words means, ap length is, length-append text later))
 
 -- what follows a command that was found
 pub behind_command : (bytes text later behind : List ℕ) (used : ℕ) → bytes ≡ text ++ later → used ≡ length text → behind ≡ drop used bytes → bytes ≡ text ++ behind

@@ -12,12 +12,13 @@ use Rattle.client_sessions.specs.Seen.{client_of, server_of}
 use Rattle.client_sessions.specs.Sessions.{Words, aware}
 use Rattle.client_sessions.specs.Sorted.{Bracket, Own, bracket, of_server, on_names, own, refused}
 use Rattle.client_sessions.specs.Standing.{Describes, Performs, Standing}
+use Rattle.client_sessions.specs.Steps.{done}
 use Rattle.client_sessions.specs.declared.sessions.Sessions.{Sessions}
 use Rattle.client_sessions.proofs.Slots.{same_large}
 
 -- where nothing is to choose
 plain : Choice
-plain = record { draw = 0; full = false; told = [] }
+plain = record { draw = 0; full = false; told = done ∷ []; one = tt }
 
 -- a request on names, of which each client is told
 pub named_done : (asked : NamesAsked) (a b : Standing) (s t : Sessions) (touched : List (List ℕ)) (x y : List ℕ) → Performs asked a b touched x y
@@ -42,7 +43,7 @@ module _ (sizes : Sizes) (at : ℕ) (words : Words) where
   pub server_now : (asked : SessionAsked) (a b : Standing) (s : Sessions) (x y : List ℕ) → Describes a b x y → IsDone (DoneNow sizes at words (of_server asked)) a b s s x y
   server_now asked a b s x y it = record {
     said = it.told;
-    is = (record { draw = 0; full = false; told = it.told }, refl, λ i. server_of (it.names i) s);
+    is = (record { draw = 0; full = false; told = it.told; one = it.one }, refl, λ i. server_of (it.names i) s);
     bytes = it.said;
     large = same_large s;
   }

@@ -24,12 +24,6 @@ keeps_more a b c one two = record {
 }
 
 module _ (sizes : Sizes) (limits : SessionLimits) where
-  pub happen_more : (es ms : List Event) (s m n : Server) (fs gs : List Frame) → Happen sizes limits es s fs m → Happen sizes limits ms m gs n → Happen sizes limits (es ++ ms) s (fs ++ gs) n
-  happen_more [] ms s m n fs gs a b =
-      subst (λ (x : Server). Happen sizes limits ms x (fs ++ gs) n) a.1 (subst (λ (l : List Frame). Happen sizes limits ms m (l ++ gs) n) (sym a.0) b)
-  happen_more (e ∷ es) ms s m n fs gs a b =
-      (a.0, a.1 ++ gs, a.2, a.3, ap (λ (l : List Frame). l ++ gs) a.4 ∙ append_assoc a.0 a.1 gs, happen_more es ms a.2 m n a.1 gs a.5 b)
-
   pub happen_one : (e : Event) (s n : Server) (fs : List Frame) → Happens sizes limits e s fs n → Happen sizes limits (e ∷ []) s fs n
   happen_one e s n fs is = (fs, [], n, is, sym (append-nil fs), (refl, refl))
 

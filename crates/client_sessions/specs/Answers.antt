@@ -1,5 +1,5 @@
 -- What commands do that are done at once, and what they answer.
-use Rattle.std.specs.Prelude.{◌≡◌, ℕ, pos, Bool, true, false, ◌&&◌, nat_le, None, Some, List, [], ◌∷◌, ◌++◌, codes, length, map, if◌then◌else◌}
+use Rattle.std.specs.Prelude.{◌≡◌, ◌+◌, ⊤, ℕ, zero, suc, pos, Bool, true, false, ◌&&◌, nat_le, None, Some, List, [], ◌∷◌, ◌++◌, codes, length, map, if◌then◌else◌}
 use Rattle.std.specs.Fmt.{decimal}
 use Rattle.std.specs.List.{flat_map, list_all}
 use Rattle.resp_words.specs.Replies.{Said, array, error, integer, status, value}
@@ -11,12 +11,21 @@ use Rattle.client_sessions.specs.Sessions.{Client, Server, Words, changed_in, cl
 use Rattle.client_sessions.specs.Sorted.{Own, Sorted, all_clients, bracket, call_it, drops, granted, its_number, its_title, of_server, on_names, own, pong, refused, sorted, text, unguards}
 use Rattle.client_sessions.specs.Steps.{done}
 
+-- these are so many replies, where what an array has follows its head
+abbrev pub AreReplies : ℕ → List Said → Type 0
+AreReplies zero [] = ⊤
+AreReplies zero (said ∷ more) = ⊥
+AreReplies (suc n) [] = ⊥
+AreReplies (suc n) (array (Some count) ∷ more) = AreReplies (count + n) more
+AreReplies (suc n) (said ∷ more) = AreReplies n more
+
 -- What is drawn or known beside names and sessions: a number for RANDOMKEY; whether the store has no room for what is asked; and
--- what a server tells of itself, of which nothing is said here but that it changes no name.
+-- what a server tells of itself, of which nothing is said here but that it is one reply, and changes no name.
 pub record Choice : Type 0 where
   pub draw : ℕ
   pub full : Bool
   pub told : List Said
+  pub one : AreReplies 1 told
 
 -- requests that may change names
 abbrev pub may_write : NamesAsked → Bool

@@ -54,8 +54,8 @@ pub record IsSettled (step : Server → List Frame → Server → Type 0) (old n
 abbrev pub IsNamed : Sizes → NamesAsked → Server → List Said → Server → Type 0
 IsNamed sizes asked server said new = (choice : Choice) × (said ≡ (named sizes choice asked server).1) × (new ≡ (named sizes choice asked server).0)
 
--- The bytes of a client tell events, which all happen, one after the other.
-pub record IsHeard (step : List Event → Type 0) (happen : List Event → Server → List Frame → Server → Type 0) (was now : Standing) (old new : Sessions) (before behind : List ℕ) : Type 0 where
+-- The bytes of a client tell events, which all happen.
+pub record IsHeard (tells : List Event → Type 0) (happen : List Event → Server → List Frame → Server → Type 0) (was now : Standing) (old new : Sessions) (before behind : List ℕ) : Type 0 where
   pub events : List Event
-  pub told : step events
+  pub told : tells events
   pub answered : IsAnswered (happen events) was now old new before behind

@@ -44,14 +44,27 @@ module _ (limits : SessionLimits) where
       ((cause : ProtocolError) × IsBad (IsCommand limits.commands) bytes × HasCause limits.commands bytes cause × (told ≡ told_of cause))
       ⊎ (IsLong bytes × (told ≡ codes "ERR Protocol error: too big a command"))
 
-  -- The bytes of a client are these commands and a rest, which may still become one; or what follows the commands is refused, and
-  -- nothing is kept of it.
-  abbrev pub Tells : ℕ → List ℕ → List Event → List ℕ → Type 0
-  Tells at bytes [] rest = IsFront (IsCommand limits.commands) bytes × (length bytes ≤ limits.command) × (rest ≡ bytes)
-  Tells at bytes (command by words ∷ events) rest =
-      (by ≡ at) × (text later : List ℕ) × IsCommand limits.commands text words × (bytes ≡ text ++ later) × (length text ≤ limits.command) × Tells at later events rest
-  Tells at bytes (bad by told ∷ events) rest = (by ≡ at) × IsRefused bytes told × (events ≡ []) × (rest ≡ [])
-  Tells at bytes (gone by ∷ events) rest = ⊥
+  -- The bytes of a client begin with these commands, and this follows them.
+  abbrev pub Begins : ℕ → List ℕ → List Event → List ℕ → Type 0
+  Begins at bytes [] later = later ≡ bytes
+  Begins at bytes (command by words ∷ events) later =
+      (by ≡ at) × (text behind : List ℕ) × IsCommand limits.commands text words × (bytes ≡ text ++ behind) × (length text ≤ limits.command) × Begins at behind events later
+  Begins at bytes (other ∷ events) later = ⊥
+
+  -- No command begins the bytes: they may still become one, and are kept; or they are refused, and nothing is kept of them.
+  abbrev pub Ends : ℕ → List ℕ → List Event → List ℕ → Type 0
+  Ends at bytes [] rest = IsFront (IsCommand limits.commands) bytes × (length bytes ≤ limits.command) × (rest ≡ bytes)
+  Ends at bytes (bad by told ∷ []) rest = (by ≡ at) × IsRefused bytes told × (rest ≡ [])
+  Ends at bytes other rest = ⊥
+
+  -- The bytes of a client are commands and an end.
+  pub record Tells (at : ℕ) (bytes : List ℕ) (events : List Event) (rest : List ℕ) : Type 0 where
+    pub commands : List Event
+    pub last : List Event
+    pub later : List ℕ
+    pub begins : Begins at bytes commands later
+    pub ends : Ends at later last rest
+    pub are : events ≡ commands ++ last
 
   -- what a frame tells of a client that has left these bytes, and what it has left then
   abbrev pub Brings : ℕ → List ℕ → List ℕ → List Event → List ℕ → Type 0

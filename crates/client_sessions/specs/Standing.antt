@@ -4,7 +4,7 @@ use Rattle.std.specs.List.{flat_map}
 use Rattle.named_words.specs.Effects.{Names, Sizes, after}
 use Rattle.named_words.specs.Requests.{NamesAsked}
 use Rattle.resp_words.specs.Replies.{Said, reply_bytes}
-use Rattle.client_sessions.specs.Answers.{Choice, name_in, outcome_of}
+use Rattle.client_sessions.specs.Answers.{AreReplies, Choice, name_in, outcome_of}
 
 pub record Standing : Type 1 where
   pub sizes : Sizes
@@ -18,8 +18,9 @@ pub record Standing : Type 1 where
   -- At some moment so far these bytes had come, these had been said, and a crash might have left these names.
   pub moments : List ℕ → List ℕ → Names → Type 0
 
--- What holds of each of them: what a crash may leave now, it may leave at a moment.
+-- What holds of each of them: a crash leaves something, and all that it may leave now, it may leave at a moment.
 pub record IsStanding (it : Standing) : Type 0 where
+  pub some : (names : Names) × it.left names
   pub counts : (names : Names) → it.left names → it.moments it.heard it.said names
 
 -- no moment is forgotten
@@ -46,9 +47,10 @@ pub record Performs (asked : NamesAsked) (old new : Standing) (changed_names : L
   pub touched : changed_names ≡ map name_in (outcome_of old.sizes choice asked old.names).0
   pub said : behind ≡ before ++ flat_map reply_bytes (outcome_of old.sizes choice asked old.names).1
 
--- the server tells something of itself, in whole replies
+-- the server tells something of itself, in one reply
 pub record Describes (old new : Standing) (before behind : List ℕ) : Type 0 where
   pub told : List Said
+  pub one : AreReplies 1 told
   pub names : new.names ≡ old.names
   pub said : behind ≡ before ++ flat_map reply_bytes told
 

@@ -1,9 +1,11 @@
 -- What the bytes of a client begin with.
-use Rattle.std.specs.Prelude.{◌≡◌, ◌≤◌, ℕ, List, ◌++◌, codes, length, map}
+use Rattle.std.specs.Prelude.{◌≡◌, ◌<◌, ◌≤◌, ℕ, List, [], ◌++◌, codes, length, map}
 use Rattle.resp_words.specs.Commands.{IsCommand}
 use Rattle.resp_words.specs.Reading.{IsFront}
 use Rattle.resp_words.specs.declared.protocol_error.ProtocolError.{ProtocolError}
-use Rattle.client_sessions.specs.Events.{IsRefused, told_of}
+use Rattle.client_sessions.specs.Events.{Begins, Ends, Event, IsRefused, told_of}
+use Rattle.client_sessions.specs.declared.heard.Heard.{Heard}
+use Rattle.client_sessions.specs.declared.heard.Heard.TheVariants as heard
 use Rattle.client_sessions.specs.declared.session_limits.SessionLimits.{SessionLimits}
 use Rattle.client_sessions.specs.declared.taken.Taken.{Taken}
 use Rattle.client_sessions.specs.declared.taken.Taken.TheVariants.{Command, Rest, Refused}
@@ -23,3 +25,9 @@ TellsError cause other = ⊥
 abbrev pub TellsLength : Taken → Type 0
 TellsLength (Refused told) = told.items ≡ codes "ERR Protocol error: too big a command"
 TellsLength other = ⊥
+
+-- what the bytes of a client tell next, where it was heard
+abbrev pub TellsNext : SessionLimits → ℕ → List ℕ → Heard → List Event → Type 0
+TellsNext limits at bytes (heard.Command later) events = Begins limits at bytes events later.now × (length later.now < length bytes)
+TellsNext limits at bytes heard.Rest events = Ends limits at bytes events bytes
+TellsNext limits at bytes heard.Refused events = Ends limits at bytes events []

@@ -6,12 +6,13 @@ ghost use Rattle.resp_words.specs.Commands.{IsCommand, IsFound, words_of};
 ghost use Rattle.resp_words.specs.Reading.{IsFront};
 ghost use Rattle.client_sessions.specs.Calls.{IsAnswered, IsHeard, IsSettled};
 ghost use Rattle.client_sessions.specs.Events;
-ghost use Rattle.client_sessions.specs.Events.{Happen, Happens, Tells, bad, command, gone};
+ghost use Rattle.client_sessions.specs.Events.{Happen, Happens, bad, command, gone};
 ghost use Rattle.client_sessions.specs.Seen.{client_of, count_of};
 ghost use Rattle.client_sessions.specs.Sessions.{client_at};
 ghost use Rattle.client_sessions.specs.Standing.{Keeps};
-ghost use Rattle.client_sessions.specs.Taking.{Takes, TellsError, TellsLength};
+ghost use Rattle.client_sessions.specs.Taking.{Takes, TellsError, TellsLength, TellsNext};
 
+use crate::heard::Heard;
 use crate::named_store::NamedStore;
 use crate::queueing::copied;
 use crate::session::Session;
@@ -188,31 +189,27 @@ impl Sessions {
         Ok(())
     }
 
-    /// The bytes of a client that no command has used yet: all commands that are whole are done. It answers the rest.
-    #[tactic(auto, using(crate::proofs::Answered::used_more, crate::proofs::Answered::used_up, crate::proofs::Answered::used_badly, crate::proofs::Running::keeps_more))]
-    pub fn hear<S: NamedStore>(
+    /// The bytes of a client that no command has used yet: the first command is done, if it is whole.
+    pub fn hear<'a, S: NamedStore>(
         &mut self,
         store: &mut S,
         client: u32,
-        bytes: &[u8],
+        bytes: &'a [u8],
         out: &mut Vec<u8>,
-    ) -> Result<Vec<u8>, Stop>
+    ) -> Result<Heard<'a>, Stop>
         requires { client < count_of self.old }
         ensures keeps { Keeps (S.seen store.old) (S.seen store.new) }
-        ensures heard { IfOk result (λ rest. IsHeard (λ events. Tells self.old.limits client bytes.now events rest.items) (Happen (S.seen store.old).sizes self.old.limits) (S.seen store.old) (S.seen store.new) self.old self.new out.old.items out.new.items) }
+        ensures heard { IfOk result (λ heard. IsHeard (λ events. TellsNext self.old.limits client bytes.now heard events) (Happen (S.seen store.old).sizes self.old.limits) (S.seen store.old) (S.seen store.new) self.old self.new out.old.items out.new.items) }
     {
-        let mut rest = bytes;
-        loop {
-            match taken(self.alloc, rest, &self.limits)? {
-                Taken::Command(words, behind) => {
-                    self.obey(store, client, &words, out)?;
-                    rest = behind;
-                }
-                Taken::Rest => return Ok(copied(self.alloc, rest)?),
-                Taken::Refused(told) => {
-                    self.dismiss(client, &told, out)?;
-                    return Ok(Vec::new(self.alloc));
-                }
+        match taken(self.alloc, bytes, &self.limits)? {
+            Taken::Command(words, behind) => {
+                self.obey(store, client, &words, out)?;
+                Ok(Heard::Command(behind))
+            }
+            Taken::Rest => Ok(Heard::Rest),
+            Taken::Refused(told) => {
+                self.dismiss(client, &told, out)?;
+                Ok(Heard::Refused)
             }
         }
     }

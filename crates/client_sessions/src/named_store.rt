@@ -24,10 +24,13 @@ pub trait NamedStore {
         ensures keeps { Keeps (seen self.old) (seen self.new) }
         ensures performs { IfOk result (λ touched. Performs (asked_of_names request.entry) (seen self.old) (seen self.new) (map (λ name. name.items) touched.items) into.old.items into.new.items) };
 
-    /// Tells something of the server, and puts the replies behind the bytes.
+    /// Tells something of the server, and puts the reply behind the bytes.
     fn describe(&mut self, request: SessionRequest<'_>, into: &mut Vec<u8>) -> Result<(), Stop>
         ensures keeps { Keeps (seen self.old) (seen self.new) }
         ensures describes { OnOk result (Describes (seen self.old) (seen self.new) into.old.items into.new.items) };
+
+    /// Tells whether the group is so large that it is better forced before the next request.
+    fn is_large(&self) -> bool;
 
     /// Ends the group, if one is open, and forces it.
     fn commit(&mut self) -> Result<(), Stop>

@@ -1,0 +1,4 @@
+mod Histories
+mod Brought
+mod Moments
+mod Turned

@@ -1,0 +1,12 @@
+use Rattle.std.proofs.Common.{List, length}
+use Rattle.client_turns.specs.Serves.{Done, Service}
+use Rattle.client_turns.specs.Within.{IsReading, ReadsOn}
+use Rattle.client_turns.proofs.desk.Desk.hear_frames.Given as goal
+
+abbrev pub invariant-loop-frame : goal.invariant-loop-frame
+invariant-loop-frame g l =
+    let seen = g.S.NamedStore.seen in
+    (service : Service) (said all : List Done) → IsReading service said all l.bytes (seen l.fn.store) l.fn.self l.fn.out.items → ReadsOn service said l.rest (seen l.store) l.self l.out.items
+
+abbrev pub decreases-loop-frame : goal.decreases-loop-frame
+decreases-loop-frame g l = length l.rest

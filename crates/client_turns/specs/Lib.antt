@@ -1,0 +1,3 @@
+pub mod Serves
+pub mod Within
+pub mod Turning
