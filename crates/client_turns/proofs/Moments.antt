@@ -1,7 +1,7 @@
 -- What holds at each moment of a turn.
 use Rattle.std.proofs.Common.{◌≡◌, ◌∙◌, ℕ, List, [], ◌++◌, take, drop, refl, sym, ap, subst, append_assoc, ⊎_elim}
 use Rattle.std.proofs.lemmas.List.{append-nil, take-append-drop}
-use Rattle.client_frames.specs.Frames.{Frame, frames_bytes}
+use Rattle.client_frames.specs.Frames.{frames_bytes}
 use Rattle.client_sessions.specs.Calls.{IsAnswered}
 use Rattle.client_sessions.specs.Events.{Event, Happen}
 use Rattle.client_sessions.specs.Seen.{server_of}

@@ -1,22 +1,22 @@
 -- From what stood before a turn to what stands behind it.
 use Rattle.std.proofs.Common.{◌≡◌, ◌∙◌, ◌<◌, ℕ, List, [], ◌∷◌, ◌++◌, Vec, Global, length, map, refl, sym, ap, subst, append_assoc, ⊎_elim}
 use Rattle.std.specs.Prelude.{slice_index_or, slice_set}
-use Rattle.std.proofs.lemmas.List.{append-nil, get_or-map}
+use Rattle.std.proofs.lemmas.List.{append-nil, get_or-map, length-map}
 use Rattle.client_frames.specs.Frames.{Frame, IsFrame, frame_bytes, frames_bytes}
-use Rattle.client_frames.specs.Reading.{IsUnfinished, Splits}
+use Rattle.client_frames.specs.Reading.{IsUnfinished}
 use Rattle.client_sessions.specs.Calls.{IsAnswered, IsHeard, IsSettled}
 use Rattle.client_sessions.specs.Events.{Begins, Event, Happen, Happens, Rests, Tells, gone, rest_at}
 use Rattle.client_sessions.specs.Seen.{server_of}
-use Rattle.client_sessions.specs.Sessions.{Server, empty}
+use Rattle.client_sessions.specs.Sessions.{Server}
 use Rattle.client_sessions.specs.Standing.{Hears, Keeps, Standing}
 use Rattle.client_sessions.specs.Taking.{TellsNext}
 use Rattle.client_sessions.specs.declared.heard.Heard.{Heard}
 use Rattle.client_sessions.specs.declared.session_limits.SessionLimits.{SessionLimits}
 use Rattle.client_sessions.specs.declared.sessions.Sessions.{Sessions}
 use Rattle.named_words.specs.Effects.{Names, Sizes}
-use Rattle.client_turns.specs.Serves.{Done, HasAnswered, HasHeard, IsFront, Serves, Service, ServesOn, events_of, no_rests, server_after}
+use Rattle.client_turns.specs.Serves.{Done, HasAnswered, HasHeard, IsFront, Serves, Service, ServesOn, events_of}
 use Rattle.client_turns.specs.Turning.{AllAnswered, IsBetween, IsFresh, IsNew, service_of}
-use Rattle.client_turns.specs.Within.{GoesOn, HasRead, IsGoing, IsHearing, IsReading, ReadsOn, TellsFirst, rests_of}
+use Rattle.client_turns.specs.Within.{GoesOn, HasRead, IsGoing, IsHearing, IsReading, ReadsOn, rests_of}
 use Rattle.client_turns.specs.declared.desk.Desk.{Desk}
 use Rattle.client_turns.proofs.Brought.{brings_gone, brings_some, first_behind, heard_part, heard_read, next_first, read_frame}
 use Rattle.client_turns.proofs.Histories.{front_more}
@@ -25,6 +25,9 @@ use Rattle.client_turns.proofs.Moments.{going_more, keeps_same, moment_all, serv
 -- what a client has left, among what all have
 pub rest_seen : (all : List (Vec ℕ Global)) (at : ℕ) (one : Vec ℕ Global) → at < length all → one ≡ slice_index_or all at one → rest_at (map (λ rest. rest.items) all) at ≡ one.items
 rest_seen all at one within is = get_or-map (λ (rest : Vec ℕ Global). rest.items) all at one [] within ∙ ap (λ (rest : Vec ℕ Global). rest.items) (sym is)
+
+pub left_there : (s : Desk) (at : ℕ) → at < length s.rests.items → at < length (rests_of s)
+left_there s at within = subst (λ (n : ℕ). at < n) (sym (length-map s.rests.items (λ rest. rest.items))) within
 
 module _ (service : Service) where
   -- what follows is heard of the same bytes
@@ -79,12 +82,17 @@ module _ (service : Service) where
   serves_later it said forced on serves = (serves.0, front_more said forced serves.0 on serves.1, serves.2)
 
   -- the bytes of a frame are heard behind what their client has left
-  pub hearing_frame : (said all : List Done) (ahead x : List ℕ) (frame : Frame) (a : Standing) (s : Desk) → IsReading service said all (frame_bytes frame ++ ahead) a s x → IsFrame frame
+  hearing_frame : (said all : List Done) (ahead x : List ℕ) (frame : Frame) (a : Standing) (s : Desk) → IsReading service said all (frame_bytes frame ++ ahead) a s x → IsFrame frame
       → frame.client < length (rests_of s) → 0 < length frame.bytes → IsHearing service said all frame.client (rest_at (rests_of s) frame.client ++ frame.bytes) a s.sessions x
   hearing_frame said all ahead x frame a s is whole within some = record {
     going = is.going;
     fits = λ more tells. heard_part service a.heard ahead (rests_of s) (events_of all) more frame is.read whole within some tells;
   }
+
+  pub hearing_bytes : (said all : List Done) (ahead bytes x : List ℕ) (frame : Frame) (a : Standing) (s : Desk) → IsReading service said all (frame_bytes frame ++ ahead) a s x → IsFrame frame
+      → frame.client < length s.rests.items → 0 < length frame.bytes → bytes ≡ rest_at (rests_of s) frame.client ++ frame.bytes → IsHearing service said all frame.client bytes a s.sessions x
+  hearing_bytes said all ahead bytes x frame a s is whole within some same =
+      subst (λ (l : List ℕ). IsHearing service said all frame.client l a s.sessions x) (sym same) (hearing_frame said all ahead x frame a s is whole (left_there s frame.client within) some)
 
   pub read_bytes : (said all : List Done) (ahead rest x y : List ℕ) (frame : Frame) (a b : Standing) (s t : Desk) → IsReading service said all (frame_bytes frame ++ ahead) a s x → IsFrame frame
       → frame.client < length (rests_of s) → 0 < length frame.bytes → rests_of t ≡ slice_set (rests_of s) frame.client rest

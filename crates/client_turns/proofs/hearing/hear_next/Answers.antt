@@ -1,4 +1,3 @@
-use Rattle.std.proofs.Common.{ℕ, List}
 use Rattle.std.proofs.lemmas.Result.{IfOk-weaker}
 use Rattle.client_turns.proofs.Brought.{next_fewer}
 use Rattle.client_turns.proofs.Moments.{serves_kept, serves_same}

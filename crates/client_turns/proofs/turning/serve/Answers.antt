@@ -1,5 +1,5 @@
 use Rattle.std.proofs.Common.{[]}
-use Rattle.client_turns.specs.Turning.{IsFresh, service_of}
+use Rattle.client_turns.specs.Turning.{service_of}
 use Rattle.client_turns.proofs.Brought.{unfinished_nothing}
 use Rattle.client_turns.proofs.Turned.{between_fresh, serves_fresh}
 use Rattle.client_turns.proofs.turning.serve.Goals as goal

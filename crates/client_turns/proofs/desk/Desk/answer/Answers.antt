@@ -1,4 +1,4 @@
-use Rattle.std.proofs.Common.{List, ℕ, [], sym, subst}
+use Rattle.std.proofs.Common.{List, ℕ, sym, subst}
 use Rattle.client_turns.specs.Within.{IsReading}
 use Rattle.client_turns.proofs.Histories.{front_more}
 use Rattle.client_turns.proofs.Turned.{between_turns, serves_later}

@@ -1,12 +1,10 @@
-use Rattle.std.proofs.Common.{◌≡◌, ◌∙◌, ◌<◌, ◌++◌, ℕ, List, length, refl, sym, subst}
-use Rattle.std.proofs.lemmas.List.{length-map}
+use Rattle.std.proofs.Common.{◌≡◌, ◌∙◌, ◌<◌, ◌++◌, ℕ, List, length, sym, subst}
 use Rattle.client_frames.specs.Frames.{Frame, seen}
 use Rattle.client_sessions.specs.Events.{Tells, rest_at}
 use Rattle.client_sessions.specs.declared.sessions.Sessions.{Sessions}
-use Rattle.client_turns.specs.Serves.{Done, Service}
-use Rattle.client_turns.specs.Within.{GoesOn, IsHearing, rests_of}
+use Rattle.client_turns.specs.Within.{GoesOn, rests_of}
 use Rattle.client_turns.proofs.Moments.{serves_same}
-use Rattle.client_turns.proofs.Turned.{hearing_frame, read_bytes, serves_later}
+use Rattle.client_turns.proofs.Turned.{hearing_bytes, left_there, read_bytes}
 use Rattle.client_turns.proofs.desk.Desk.hear_bytes.Goals as goal
 
 pub returns-in_err-bytes-clause-serves : goal.returns-in_err-bytes-clause-serves
@@ -14,36 +12,18 @@ returns-in_err-bytes-clause-serves g c service said all ahead is = serves_same s
 
 pub returns-in_err-left-clause-serves : goal.returns-in_err-left-clause-serves
 returns-in_err-left-clause-serves g c service said all ahead is =
-    let a = g.S.NamedStore.seen c.args.store.now in
-    let s = c.args.self.now in
-    let frame : Frame = seen c.args.frame in
-    let x : List ℕ = c.args.out.now.items in
-    let within : frame.client < length (rests_of s) = subst (λ (n : ℕ). frame.client < n) (sym (length-map s.rests.items (λ rest. rest.items))) c.requires.rest in
-    let hearing = subst (λ (l : List ℕ). IsHearing service said all frame.client l a s.sessions x) (sym (c.deref.ensures.value ∙ c.in_ok-bytes.ensures))
-    (hearing_frame service said all ahead x frame a s is c.requires.is within c.requires.some) in
-    c.hear_all.ensures.serves service said all hearing
+    c.hear_all.ensures.serves service said all (hearing_bytes service said all ahead c.deref.result.now c.args.out.now.items (seen c.args.frame) (g.S.NamedStore.seen c.args.store.now) c.args.self.now
+    is c.requires.is c.requires.rest c.requires.some (c.deref.ensures.value ∙ c.in_ok-bytes.ensures))
 
 pub returns-in_err-kept-clause-serves : goal.returns-in_err-kept-clause-serves
 returns-in_err-kept-clause-serves g c service said all ahead is =
-    let a = g.S.NamedStore.seen c.args.store.now in
-    let s = c.args.self.now in
-    let frame : Frame = seen c.args.frame in
-    let x : List ℕ = c.args.out.now.items in
-    let within : frame.client < length (rests_of s) = subst (λ (n : ℕ). frame.client < n) (sym (length-map s.rests.items (λ rest. rest.items))) c.requires.rest in
-    let hearing = subst (λ (l : List ℕ). IsHearing service said all frame.client l a s.sessions x) (sym (c.deref.ensures.value ∙ c.in_ok-bytes.ensures))
-    (hearing_frame service said all ahead x frame a s is c.requires.is within c.requires.some) in
-    c.hear_all.ensures.serves service said all hearing
+    c.hear_all.ensures.serves service said all (hearing_bytes service said all ahead c.deref.result.now c.args.out.now.items (seen c.args.frame) (g.S.NamedStore.seen c.args.store.now) c.args.self.now
+    is c.requires.is c.requires.rest c.requires.some (c.deref.ensures.value ∙ c.in_ok-bytes.ensures))
 
 pub returns-clause-serves : goal.returns-clause-serves
 returns-clause-serves g c service said all ahead is =
-    let a = g.S.NamedStore.seen c.args.store.now in
-    let s = c.args.self.now in
-    let frame : Frame = seen c.args.frame in
-    let x : List ℕ = c.args.out.now.items in
-    let within : frame.client < length (rests_of s) = subst (λ (n : ℕ). frame.client < n) (sym (length-map s.rests.items (λ rest. rest.items))) c.requires.rest in
-    let hearing = subst (λ (l : List ℕ). IsHearing service said all frame.client l a s.sessions x) (sym (c.deref.ensures.value ∙ c.in_ok-bytes.ensures))
-    (hearing_frame service said all ahead x frame a s is c.requires.is within c.requires.some) in
-    c.hear_all.ensures.serves service said all hearing
+    c.hear_all.ensures.serves service said all (hearing_bytes service said all ahead c.deref.result.now c.args.out.now.items (seen c.args.frame) (g.S.NamedStore.seen c.args.store.now) c.args.self.now
+    is c.requires.is c.requires.rest c.requires.some (c.deref.ensures.value ∙ c.in_ok-bytes.ensures))
 
 pub returns-clause-reads : goal.returns-clause-reads
 returns-clause-reads g c service said all ahead is =
@@ -54,10 +34,10 @@ returns-clause-reads g c service said all ahead is =
     let frame : Frame = seen c.args.frame in
     let x : List ℕ = c.args.out.now.items in
     let y : List ℕ = c.hear_all.new.out.items in
-    let within : frame.client < length (rests_of s) = subst (λ (n : ℕ). frame.client < n) (sym (length-map s.rests.items (λ rest. rest.items))) c.requires.rest in
+    let within : frame.client < length (rests_of s) = left_there s frame.client c.requires.rest in
     let bytes : List ℕ = rest_at (rests_of s) frame.client ++ frame.bytes in
     let same : c.deref.result.now ≡ bytes = c.deref.ensures.value ∙ c.in_ok-bytes.ensures in
-    let hearing = subst (λ (l : List ℕ). IsHearing service said all frame.client l a s.sessions x) (sym same) (hearing_frame service said all ahead x frame a s is c.requires.is within c.requires.some) in
+    let hearing = hearing_bytes service said all ahead c.deref.result.now x frame a s is c.requires.is c.requires.rest c.requires.some same in
     let left : List ℕ = c.in_ok-left.left.now in
     let it = subst (λ (l : List ℕ). GoesOn service said all (λ events. Tells service.limits frame.client l events left) a b c.hear_all.new.sessions y) same (c.in_ok-left.ensures.hears service said all hearing) in
     let on = subst (λ (l : List ℕ). GoesOn service said all (λ events. Tells service.limits frame.client bytes events l) a b c.hear_all.new.sessions y) (sym c.in_ok-kept.ensures.items) it in

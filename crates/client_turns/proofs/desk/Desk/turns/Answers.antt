@@ -1,7 +1,5 @@
 use Rattle.std.proofs.Common.{[], sym}
 use Rattle.std.proofs.lemmas.List.{append-nil}
-use Rattle.client_sessions.specs.Seen.{server_of}
-use Rattle.client_turns.specs.Within.{rests_of}
 use Rattle.client_turns.proofs.Histories.{front_more}
 use Rattle.client_turns.proofs.Moments.{serves_same}
 use Rattle.client_turns.proofs.Turned.{all_answered, serves_later}
