@@ -1,0 +1,4 @@
+pub mod Answers
+pub mod Giving
+pub mod Records
+pub mod Acting
