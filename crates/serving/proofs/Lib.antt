@@ -1,0 +1,4 @@
+mod Stables
+mod Ends
+mod Upkept
+mod Waiting
