@@ -1,5 +1,5 @@
-//! Names and their values in a range of a store's objects: definitions, laws, and the code of keys. Nothing uses this crate yet; no
-//! program of the repository is a server.
+//! Names and their values in a range of a store's objects: definitions, laws, and the code of keys. No program of the repository is a
+//! server yet.
 //!
 //! The range is a map of `page_map`, the *directory*. The key of a name is its *place*, a number made of its bytes, as eight bytes,
 //! the highest first, and then the name itself; so the keys are in the order of the places in which `named_words` scans names

@@ -4,7 +4,8 @@
 //!
 //! The contracts say what a crash leaves of the names at each moment of such a call ([`HoldsNames`] in specs/Held.antt): within a
 //! turn the names of the turn before, while the group is forced these or all ([`commit`]), and from then on all, also while answers
-//! are said ([`say`]). So an answer that was said is one of names that a crash leaves.
+//! are said ([`say`]). So where the calls are made in this order, an answer that was said is
+//! one of names that a crash leaves.
 //!
 //! It depends on shell_base, and on name_ranges for what names in a store are.
 #![tactic(auto)]
