@@ -12,3 +12,7 @@ pub mod SetLemmas
 pub mod TidyLemmas
 pub mod CutLemmas
 pub mod LawLemmas
+pub mod CheckLemmas
+pub mod UpkeepLemmas
+pub mod SweepLemmas
+pub mod KeepLemmas

@@ -11,6 +11,7 @@ use Rattle.page_ops.specs.declared.page_op.PageOp.{PageOp}
 use Rattle.page_map.specs.Deletes.{delete_plan, tidy_plan}
 use Rattle.page_map.specs.Plan.{delete_command}
 use Rattle.page_map.specs.Sets.{set_plan}
+use Rattle.page_map.specs.Sweeps.{sweep_plan}
 use Rattle.page_map.specs.declared.refusal.MapRefusal.{MapRefusal}
 use Rattle.page_map.specs.declared.refusal.MapRefusal.TheVariants.{BadMap, NoKey}
 use Rattle.range_calls.specs.Rounds.{tried}
@@ -85,6 +86,16 @@ delete_made lo hi key p commands = tried p (state_of p commands) (in_store (dele
 abbrev pub delete_comes : ℕ → ℕ → List ℕ → Params → List Command → Plan Command MapErr
 delete_comes lo hi key p commands = made_unless (closed_by (bounds_of p) hi) (delete_made lo hi key p commands)
 
--- what comes of tidying the way to a key
+-- what comes of tidying the way to a key where the store admits changes, and else
 abbrev pub tidy_made : ℕ → ℕ → List ℕ → Params → List Command → Plan Command MapErr
 tidy_made lo hi key p commands = tried p (state_of p commands) (in_store (tidy_plan (bounds_of p) lo hi key (state_of p commands)))
+
+abbrev pub tidy_comes : ℕ → ℕ → List ℕ → Params → List Command → Plan Command MapErr
+tidy_comes lo hi key p commands = made_unless (closed_by (bounds_of p) hi) (tidy_made lo hi key p commands)
+
+-- what a sweep comes to where the store admits changes, and else
+abbrev pub sweep_made : ℕ → ℕ → Params → List Command → Plan Command MapErr
+sweep_made lo hi p commands = tried p (state_of p commands) (in_store (sweep_plan (record { lo = lo; hi = hi }) (state_of p commands)))
+
+abbrev pub sweep_comes : ℕ → ℕ → Params → List Command → Plan Command MapErr
+sweep_comes lo hi p commands = made_unless (closed_by (bounds_of p) hi) (sweep_made lo hi p commands)

@@ -5,4 +5,5 @@ pub mod Tidying
 pub mod Changing
 pub mod Ranging
 pub mod RangingWay
+pub mod Checking
 pub mod Laws

@@ -1,5 +1,5 @@
-//! The calls of an ordered map of wide pages that stands in a range of a store's objects: `get`, `set`, `delete`, and reads of ranges
-//! of keys. The lines of a script that begin with `m` (`mget`, `mset`, ..) and the library's calls on maps run them.
+//! The calls of an ordered map of wide pages that stands in a range of a store's objects: `get`, `set`, `delete`, reads of ranges of
+//! keys, and its upkeep. The lines of a script that begin with `m` (`mget`, `mset`, ..) and the library's calls on maps run them.
 //!
 //! The one contract: on a store that stands for a list of commands, an engine or one with a transaction that is open on it, each
 //! call answers what the definitions of `page_map` say on the map of these commands, whatever bytes the objects hold (`get_answer`,
@@ -16,9 +16,14 @@
 //! many pairs a span has. They go from leaf to leaf: each is found from the root, with the span of its keys, whose ends are where the
 //! leaves beside it begin and end. On a map they are those of the map (`reads_of_ranges_are_those_of_the_map`). `root_level` tells
 //! how many levels it has above its leaves, which bounds the commands of a set.
+//!
+//! `check` reads all pages and answers whether the range is a map, and what it has; `sweep` empties objects that hold something and
+//! are no page of it (`upkeep_keeps_the_map`).
 #![tactic(auto)]
 
 mod call_refusal;
+mod checked;
+mod checking;
 mod cutting;
 mod deleting;
 mod emptied;
@@ -42,10 +47,14 @@ mod spanned;
 mod stepping;
 mod stop;
 mod tidying;
+mod upkeep;
+mod upkeep_laws;
 mod walking;
 mod way;
 
 pub use call_refusal::CallRefusal;
+pub use checked::Checked;
+pub use checking::check;
 pub use deleting::delete;
 pub use getting::get;
 pub use laws::{calls_act_as_on_an_ordered_map, reads_of_ranges_are_those_of_the_map};
@@ -55,4 +64,6 @@ pub use ranging_fall::{back, prev};
 pub use ranging_prefix::prefix;
 pub use ranging_rise::{next, range};
 pub use setting::set;
+pub use upkeep::sweep;
+pub use upkeep_laws::upkeep_keeps_the_map;
 pub use walking::root_level;
