@@ -35,7 +35,7 @@ impl<M: Machine + Drop> Store<M> {
             result ≡ told (get_answer (bounds_of p) file.now.lo file.now.hi (state_of p commands) key.now) }
         ensures broken { self.old.engine.broken ≡ true → IsStillBroken (Exec DiskFault) self.old self.new result }
     {
-        if self.engine.is_broken() {
+        if self.is_broken() {
             return Err(CallErr::Exec(ExecErr::DiskFault));
         }
         hash_client::get(file, &mut self.engine, &mut self.machine, key)
@@ -52,7 +52,7 @@ impl<M: Machine + Drop> Store<M> {
             result_err result ≡ refused_in p.cap (put_plan (bounds_of p) file.now.lo file.now.hi (state_of p commands) key.now value.now) }
         ensures broken { self.old.engine.broken ≡ true → IsStillBroken (Exec DiskFault) self.old self.new result }
     {
-        if self.engine.is_broken() {
+        if self.is_broken() {
             return Err(CallErr::Exec(ExecErr::DiskFault));
         }
         hash_client::put(file, &mut self.engine, &mut self.machine, key, value)
@@ -69,7 +69,7 @@ impl<M: Machine + Drop> Store<M> {
             result_err result ≡ refused_in p.cap (delete_plan (bounds_of p) file.now.lo file.now.hi (state_of p commands) key.now) }
         ensures broken { self.old.engine.broken ≡ true → IsStillBroken (Exec DiskFault) self.old self.new result }
     {
-        if self.engine.is_broken() {
+        if self.is_broken() {
             return Err(CallErr::Exec(ExecErr::DiskFault));
         }
         hash_client::delete(file, &mut self.engine, &mut self.machine, key)

@@ -35,7 +35,7 @@ impl<M: Machine + Drop> Store<M> {
             (λ p commands. ending_of (cause_in result) ≡ Done → result ≡ told (get_answer (bounds_of p) file.now.lo file.now.hi (state_of p commands) key.now))
             (Exec DiskFault) (cause_in result) result }
     {
-        if self.engine.is_broken() {
+        if self.is_broken() {
             return Err(CallErr::Exec(ExecErr::DiskFault));
         }
         let mut within = Within {
@@ -58,7 +58,7 @@ impl<M: Machine + Drop> Store<M> {
             (λ p commands. ending_of (cause_in result) ≡ Done → result_err result ≡ refused_in p.cap (put_plan (bounds_of p) file.now.lo file.now.hi (state_of p commands) key.now value.now))
             (Exec DiskFault) (cause_in result) result }
     {
-        if self.engine.is_broken() {
+        if self.is_broken() {
             return Err(CallErr::Exec(ExecErr::DiskFault));
         }
         let mut within = Within {
@@ -80,7 +80,7 @@ impl<M: Machine + Drop> Store<M> {
             (λ p commands. ending_of (cause_in result) ≡ Done → result_err result ≡ refused_in p.cap (delete_plan (bounds_of p) file.now.lo file.now.hi (state_of p commands) key.now))
             (Exec DiskFault) (cause_in result) result }
     {
-        if self.engine.is_broken() {
+        if self.is_broken() {
             return Err(CallErr::Exec(ExecErr::DiskFault));
         }
         let mut within = Within {
