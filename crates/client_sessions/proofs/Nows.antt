@@ -7,7 +7,7 @@ use Rattle.named_words.specs.Requests.{NamesAsked, SessionAsked}
 use Rattle.named_words.specs.declared.refusal.Refusal.{Refusal}
 use Rattle.resp_words.specs.Replies.{error, reply_bytes}
 use Rattle.client_sessions.specs.Answers.{Choice, DoneNow, own_done}
-use Rattle.client_sessions.specs.Calls.{IsDone, IsNamed, IsOwn}
+use Rattle.client_sessions.specs.Calls.{IsAsLarge, IsDone, IsNamed, IsOwn}
 use Rattle.client_sessions.specs.Seen.{client_of, server_of}
 use Rattle.client_sessions.specs.Sessions.{Words, aware}
 use Rattle.client_sessions.specs.Sorted.{Bracket, Own, bracket, of_server, on_names, own, refused}
@@ -20,6 +20,12 @@ use Rattle.client_sessions.proofs.Slots.{same_large}
 plain : Choice
 plain = record { draw = 0; full = false; told = done ∷ []; one = tt }
 
+pub note_large : (s t : Sessions) (touched : List (List ℕ)) → map client_of t.sessions.items ≡ map (aware touched) (map client_of s.sessions.items) → t.limits ≡ s.limits → IsAsLarge s t
+note_large s t touched clients limits = record {
+  limits = limits;
+  count = sym (length-map t.sessions.items client_of) ∙ ap length clients ∙ length-map (map client_of s.sessions.items) (aware touched) ∙ length-map s.sessions.items client_of;
+}
+
 -- a request on names, of which each client is told
 pub named_done : (asked : NamesAsked) (a b : Standing) (s t : Sessions) (touched : List (List ℕ)) (x y : List ℕ) → Performs asked a b touched x y
     → map client_of t.sessions.items ≡ map (aware touched) (map client_of s.sessions.items) → t.came ≡ s.came → t.limits ≡ s.limits → IsDone (IsNamed a.sizes asked) a b s t x y
@@ -27,10 +33,7 @@ named_done asked a b s t touched x y performs clients came limits = record {
   said = _;
   is = (performs.choice, refl, λ i. record { names = performs.names i; clients = (clients ∙ ap (λ (ns : List (List ℕ)). map (aware ns) (map client_of s.sessions.items)) performs.touched) i; came = came i });
   bytes = performs.said;
-  large = record {
-    limits = limits;
-    count = sym (length-map t.sessions.items client_of) ∙ ap length clients ∙ length-map (map client_of s.sessions.items) (aware touched) ∙ length-map s.sessions.items client_of;
-  };
+  large = note_large s t touched clients limits;
 }
 
 module _ (sizes : Sizes) (at : ℕ) (words : Words) where

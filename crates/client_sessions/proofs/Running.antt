@@ -1,5 +1,5 @@
 -- One call behind the other.
-use Rattle.std.proofs.Common.{◌≡◌, ◌∙◌, ℕ, List, [], ◌∷◌, ◌++◌, refl, sym, ap, subst, append_assoc}
+use Rattle.std.proofs.Common.{◌≡◌, ◌∙◌, ℕ, List, [], ◌∷◌, ◌++◌, OnOk, Result, Ok, Err, refl, sym, ap, append_assoc}
 use Rattle.std.proofs.lemmas.List.{append-nil}
 use Rattle.std.specs.List.{flat_map}
 use Rattle.client_frames.specs.Frames.{Frame, frame_bytes, frames_bytes}
@@ -10,17 +10,13 @@ use Rattle.client_sessions.specs.Sessions.{Server}
 use Rattle.client_sessions.specs.Standing.{Keeps, Standing}
 use Rattle.client_sessions.specs.declared.session_limits.SessionLimits.{SessionLimits}
 
-pub keeps_same : (it : Standing) → Keeps it it
-keeps_same it = record { sizes = refl; heard = refl; said = refl; left = λ names is. is; moments = λ heard said names is. is; remembers = λ heard said names is. is }
-
 pub keeps_more : (a b c : Standing) → Keeps a b → Keeps b c → Keeps a c
 keeps_more a b c one two = record {
   sizes = two.sizes ∙ one.sizes;
+  stable = two.stable ∙ one.stable;
   heard = two.heard ∙ one.heard;
   said = two.said ∙ one.said;
-  left = λ names is. one.left names (two.left names is);
-  moments = λ heard said names is. one.moments heard said names (two.moments heard said names is);
-  remembers = λ heard said names is. two.remembers heard said names (one.remembers heard said names is);
+  moments = two.moments ∙ one.moments;
 }
 
 module _ (sizes : Sizes) (limits : SessionLimits) where
@@ -38,3 +34,7 @@ replies_append (x ∷ xs) ys = ap (λ (l : List ℕ). reply_bytes x ++ l) (repli
 -- behind what was put behind
 pub behind_more : (a b c x y : List ℕ) → b ≡ a ++ x → c ≡ b ++ y → c ≡ a ++ (x ++ y)
 behind_more a b c x y one two = two ∙ ap (λ (l : List ℕ). l ++ y) one ∙ append_assoc a x y
+
+pub always_on_ok : {T E P : Type 0} (r : Result T E) → P → OnOk r P
+always_on_ok (Ok x) it = it
+always_on_ok (Err e) it = tt

@@ -8,3 +8,4 @@ pub mod Words
 pub mod Standing
 pub mod Calls
 pub mod Taking
+pub mod Laws

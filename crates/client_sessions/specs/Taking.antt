@@ -1,5 +1,5 @@
 -- What the bytes of a client begin with.
-use Rattle.std.specs.Prelude.{◌≡◌, ◌<◌, ◌≤◌, ℕ, List, [], ◌++◌, codes, length, map}
+use Rattle.std.specs.Prelude.{◌≡◌, ◌<◌, ◌≤◌, ⊤, ℕ, List, [], ◌++◌, codes, length, map}
 use Rattle.resp_words.specs.Commands.{IsCommand}
 use Rattle.resp_words.specs.Reading.{IsFront}
 use Rattle.resp_words.specs.declared.protocol_error.ProtocolError.{ProtocolError}
@@ -31,3 +31,8 @@ abbrev pub TellsNext : SessionLimits → ℕ → List ℕ → Heard → List Eve
 TellsNext limits at bytes (heard.Command later) events = Begins limits at bytes events later.now × (length later.now < length bytes)
 TellsNext limits at bytes heard.Rest events = Ends limits at bytes events bytes
 TellsNext limits at bytes heard.Refused events = Ends limits at bytes events []
+
+-- a command takes bytes
+abbrev pub LeavesFewer : List ℕ → Heard → Type 0
+LeavesFewer bytes (heard.Command later) = length later.now < length bytes
+LeavesFewer bytes other = ⊤

@@ -4,13 +4,13 @@ ghost use Rattle.named_words.specs.Effects.{Sizes};
 ghost use Rattle.named_words.specs.Forms.{texts};
 ghost use Rattle.resp_words.specs.Commands.{IsCommand, IsFound, words_of};
 ghost use Rattle.resp_words.specs.Reading.{IsFront};
-ghost use Rattle.client_sessions.specs.Calls.{IsAnswered, IsHeard, IsSettled};
+ghost use Rattle.client_sessions.specs.Calls.{IsAnswered, IsAsLarge, IsHeard, IsSettled};
 ghost use Rattle.client_sessions.specs.Events;
 ghost use Rattle.client_sessions.specs.Events.{Happen, Happens, bad, command, gone};
 ghost use Rattle.client_sessions.specs.Seen.{client_of, count_of};
 ghost use Rattle.client_sessions.specs.Sessions.{client_at};
-ghost use Rattle.client_sessions.specs.Standing.{Keeps};
-ghost use Rattle.client_sessions.specs.Taking.{Takes, TellsError, TellsLength, TellsNext};
+ghost use Rattle.client_sessions.specs.Standing.{Keeps, Leads};
+ghost use Rattle.client_sessions.specs.Taking.{LeavesFewer, Takes, TellsError, TellsLength, TellsNext};
 
 use crate::heard::Heard;
 use crate::named_store::NamedStore;
@@ -136,8 +136,8 @@ impl Sessions {
         out: &mut Vec<u8>,
     ) -> Result<(), Stop>
         requires { client < length self.old.sessions.items }
-        ensures keeps { Keeps (S.seen store.old) (S.seen store.new) }
-        ensures done { OnOk result (IsAnswered (Happens (S.seen store.old).sizes self.old.limits (command client (texts words.now))) (S.seen store.old) (S.seen store.new) self.old self.new out.old.items out.new.items) }
+        ensures large { OnOk result (IsAsLarge self.old self.new) }
+        ensures done { Leads S.view store.old store.new result (λ was now. Keeps was now × OnOk result (IsAnswered (Happens was.sizes self.old.limits (command client (texts words.now))) was now self.old self.new out.old.items out.new.items)) }
     {
         if self.sessions[client as usize].leaving {
             return Ok(());
@@ -198,8 +198,9 @@ impl Sessions {
         out: &mut Vec<u8>,
     ) -> Result<Heard<'a>, Stop>
         requires { client < count_of self.old }
-        ensures keeps { Keeps (S.seen store.old) (S.seen store.new) }
-        ensures heard { IfOk result (λ heard. IsHeard (λ events. TellsNext self.old.limits client bytes.now heard events) (Happen (S.seen store.old).sizes self.old.limits) (S.seen store.old) (S.seen store.new) self.old self.new out.old.items out.new.items) }
+        ensures large { OnOk result (IsAsLarge self.old self.new) }
+        ensures fewer { IfOk result (λ heard. LeavesFewer bytes.now heard) }
+        ensures heard { Leads S.view store.old store.new result (λ was now. Keeps was now × IfOk result (λ heard. IsHeard (λ events. TellsNext self.old.limits client bytes.now heard events) (Happen was.sizes self.old.limits) was now self.old self.new out.old.items out.new.items)) }
     {
         match taken(self.alloc, bytes, &self.limits)? {
             Taken::Command(words, behind) => {

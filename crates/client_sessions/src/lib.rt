@@ -9,8 +9,10 @@
 //! or taken away, by whomever. Bytes that no command begins with are answered so, and their client is let go.
 //!
 //! Names and values are those of a [`NamedStore`], a trait, whose laws say what a request does to them (`does` of `named_words`), what a
-//! crash leaves of them, and what comes in and goes out. That a store has no room for a request is its choice, also for one within
-//! EXEC, and such a request changes nothing; so is what a server tells of itself, in one reply.
+//! crash leaves of them, and what comes in and goes out. They hold from what stands (`Leads` in specs/Standing.antt): a call leads from
+//! one standing of the store to the next, with all moments at which a crash might have come between; where it fails these moments are
+//! all that is known. That a store has no room for a request is its choice, also for one within EXEC, and such a request changes
+//! nothing; so is what a server tells of itself, in one reply.
 //!
 //! It depends on `client_frames`, `named_words` and `resp_words`.
 #![tactic(auto)]

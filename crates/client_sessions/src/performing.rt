@@ -9,7 +9,7 @@ ghost use Rattle.client_sessions.specs.Calls.{IsAsLarge, IsDone, IsNamed, IsStep
 ghost use Rattle.client_sessions.specs.Events.{CommandDone};
 ghost use Rattle.client_sessions.specs.Seen.{client_of, server_of};
 ghost use Rattle.client_sessions.specs.Sessions.{client_at, ended, with_client};
-ghost use Rattle.client_sessions.specs.Standing.{Keeps};
+ghost use Rattle.client_sessions.specs.Standing.{Keeps, Leads};
 ghost use Rattle.client_sessions.specs.Steps.{step_of};
 ghost use Rattle.client_sessions.specs.Words.{sorted_seen, step_seen};
 
@@ -45,8 +45,8 @@ impl Sessions {
         request: NameRequest<'_>,
         into: &mut Vec<u8>,
     ) -> Result<(), Stop>
-        ensures keeps { Keeps (S.seen store.old) (S.seen store.new) }
-        ensures done { OnOk result (IsDone (IsNamed (S.seen store.old).sizes (asked_of_names request.entry)) (S.seen store.old) (S.seen store.new) self.old self.new into.old.items into.new.items) }
+        ensures large { OnOk result (IsAsLarge self.old self.new) }
+        ensures done { Leads S.view store.old store.new result (λ was now. Keeps was now × OnOk result (IsDone (IsNamed was.sizes (asked_of_names request.entry)) was now self.old self.new into.old.items into.new.items)) }
     {
         let touched = store.perform(request, into)?;
         self.note(touched.as_slice());
@@ -54,7 +54,6 @@ impl Sessions {
     }
 
     // A command that is done at once.
-    #[tactic(auto, using(crate::proofs::Nows::bracket_now, crate::proofs::Nows::own_now, crate::proofs::Nows::server_now, crate::proofs::Nows::names_now, crate::proofs::Nows::refused_now))]
     fn now<S: NamedStore>(
         &mut self,
         store: &mut S,
@@ -64,8 +63,8 @@ impl Sessions {
         into: &mut Vec<u8>,
     ) -> Result<(), Stop>
         requires { client < length self.old.sessions.items }
-        ensures keeps { Keeps (S.seen store.old) (S.seen store.new) }
-        ensures done { OnOk result (IsDone (DoneNow (S.seen store.old).sizes client (texts words.now) (sorted_seen sorted.entry)) (S.seen store.old) (S.seen store.new) self.old self.new into.old.items into.new.items) }
+        ensures large { OnOk result (IsAsLarge self.old self.new) }
+        ensures done { Leads S.view store.old store.new result (λ was now. Keeps was now × OnOk result (IsDone (DoneNow was.sizes client (texts words.now) (sorted_seen sorted.entry)) was now self.old self.new into.old.items into.new.items)) }
     {
         match sorted {
             SortedWord::Bracket(_) => Ok(()),
@@ -85,8 +84,8 @@ impl Sessions {
         into: &mut Vec<u8>,
     ) -> Result<(), Stop>
         requires { client < length self.old.sessions.items }
-        ensures keeps { Keeps (S.seen store.old) (S.seen store.new) }
-        ensures done { OnOk result (IsDone (DoneNow (S.seen store.old).sizes client (map (λ word. word.items) words.now) (sort_of (map (λ word. word.items) words.now))) (S.seen store.old) (S.seen store.new) self.old self.new into.old.items into.new.items) }
+        ensures large { OnOk result (IsAsLarge self.old self.new) }
+        ensures done { Leads S.view store.old store.new result (λ was now. Keeps was now × OnOk result (IsDone (DoneNow was.sizes client (map (λ word. word.items) words.now) (sort_of (map (λ word. word.items) words.now))) was now self.old self.new into.old.items into.new.items)) }
     {
         let words = lent(self.alloc, words)?;
         let Some((name, rest)) = words.split_first() else {
@@ -105,8 +104,8 @@ impl Sessions {
         into: &mut Vec<u8>,
     ) -> Result<(), Stop>
         requires { client < length self.old.sessions.items }
-        ensures keeps { Keeps (S.seen store.old) (S.seen store.new) }
-        ensures done { OnOk result (IsDone (DoneInTurn (S.seen store.old).sizes client (map (λ words. map (λ word. word.items) words.items) queue.now)) (S.seen store.old) (S.seen store.new) self.old self.new into.old.items into.new.items) }
+        ensures large { OnOk result (IsAsLarge self.old self.new) }
+        ensures done { Leads S.view store.old store.new result (λ was now. Keeps was now × OnOk result (IsDone (DoneInTurn was.sizes client (map (λ words. map (λ word. word.items) words.items) queue.now)) was now self.old self.new into.old.items into.new.items)) }
     {
         for words in queue {
             self.next(store, client, words.as_slice(), into)?;
@@ -134,8 +133,8 @@ impl Sessions {
         into: &mut Vec<u8>,
     ) -> Result<(), Stop>
         requires { client < length self.old.sessions.items }
-        ensures keeps { Keeps (S.seen store.old) (S.seen store.new) }
-        ensures done { OnOk result (IsDone (QueueDone (S.seen store.old).sizes client) (S.seen store.old) (S.seen store.new) self.old self.new into.old.items into.new.items) }
+        ensures large { OnOk result (IsAsLarge self.old self.new) }
+        ensures done { Leads S.view store.old store.new result (λ was now. Keeps was now × OnOk result (IsDone (QueueDone was.sizes client) was now self.old self.new into.old.items into.new.items)) }
     {
         let queue = self.take_queue(client);
         if queue.len() > u32::MAX as usize {
@@ -172,8 +171,8 @@ impl Sessions {
         into: &mut Vec<u8>,
     ) -> Result<(), Stop>
         requires { client < length self.old.sessions.items }
-        ensures keeps { Keeps (S.seen store.old) (S.seen store.new) }
-        ensures done { OnOk result (IsDone (CommandDone (S.seen store.old).sizes self.old.limits client (texts words.now)) (S.seen store.old) (S.seen store.new) self.old self.new into.old.items into.new.items) }
+        ensures large { OnOk result (IsAsLarge self.old self.new) }
+        ensures done { Leads S.view store.old store.new result (λ was now. Keeps was now × OnOk result (IsDone (CommandDone was.sizes self.old.limits client (texts words.now)) was now self.old self.new into.old.items into.new.items)) }
     {
         let Some((name, rest)) = words.split_first() else {
             return Ok(());

@@ -15,7 +15,7 @@ use Rattle.client_sessions.specs.declared.heard.Heard.{Heard}
 use Rattle.client_sessions.specs.declared.heard.Heard.TheVariants as next
 use Rattle.client_sessions.specs.declared.session_limits.SessionLimits.{SessionLimits}
 use Rattle.client_turns.specs.Serves.{BringFirst, HasHeard, Service, no_rests}
-use Rattle.client_turns.specs.Within.{HasRead, LeavesFewer, TellsFirst}
+use Rattle.client_turns.specs.Within.{HasRead, TellsFirst}
 use Rattle.client_turns.proofs.Histories.{bytes_more}
 
 module _ (limits : SessionLimits) where
@@ -52,11 +52,6 @@ module _ (limits : SessionLimits) where
     next_first bytes (next.Command later) es tells = (later.now, inl tells.0)
     next_first bytes next.Rest es tells = (bytes, inr (tells_end bytes bytes es tells))
     next_first bytes next.Refused es tells = ([], inr (tells_end bytes [] es tells))
-
-  pub next_fewer : (at : ℕ) (bytes : List ℕ) (heard : Heard) (es : List Event) → TellsNext limits at bytes heard es → LeavesFewer bytes heard
-  next_fewer at bytes (next.Command later) es tells = tells.1
-  next_fewer at bytes next.Rest es tells = tt
-  next_fewer at bytes next.Refused es tells = tt
 
   bring_more : (fs gs : List Frame) (a b c : Rests) (es ms : List Event) → BringAll limits a fs es b → BringAll limits b gs ms c → BringAll limits a (fs ++ gs) (es ++ ms) c
   bring_more [] gs a b c es ms one two =

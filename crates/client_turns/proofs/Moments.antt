@@ -1,21 +1,18 @@
 -- What holds at each moment of a turn.
-use Rattle.std.proofs.Common.{◌≡◌, ◌∙◌, ℕ, List, [], ◌++◌, take, drop, refl, sym, ap, subst, append_assoc, ⊎_elim}
+use Rattle.std.proofs.Common.{◌≡◌, ◌∙◌, ℕ, Contains, List, [], ◌++◌, take, drop, refl, sym, ap, subst, append_assoc, ⊎_elim}
 use Rattle.std.proofs.lemmas.List.{append-nil, take-append-drop}
 use Rattle.client_frames.specs.Frames.{frames_bytes}
 use Rattle.client_sessions.specs.Calls.{IsAnswered}
 use Rattle.client_sessions.specs.Events.{Event, Happen}
 use Rattle.client_sessions.specs.Seen.{server_of}
 use Rattle.client_sessions.specs.Sessions.{Server}
-use Rattle.client_sessions.specs.Standing.{Commits, Keeps, Says, Standing}
+use Rattle.client_sessions.specs.Standing.{Commits, Keeps, Moment, Says, Standing}
 use Rattle.client_sessions.specs.declared.session_limits.SessionLimits.{SessionLimits}
 use Rattle.client_sessions.specs.declared.sessions.Sessions.{Sessions}
 use Rattle.named_words.specs.Effects.{Names, Sizes}
 use Rattle.client_turns.specs.Serves.{Done, HasHeard, IsFront, IsMoment, Serves, Service, ServesOn, answers_of, events_of, server_after}
 use Rattle.client_turns.specs.Within.{IsGoing}
 use Rattle.client_turns.proofs.Histories.{Is, after_more, events_more, front_more, history_more, history_of, said_more}
-
-pub keeps_same : (it : Standing) → Keeps it it
-keeps_same it = record { sizes = refl; heard = refl; said = refl; left = λ names at. at; moments = λ heard said names at. at; remembers = λ heard said names at. at }
 
 module _ (service : Service) where
   -- a moment of a history is one of a longer one
@@ -34,7 +31,11 @@ module _ (service : Service) where
 
   -- nothing comes, nothing is said, and a crash leaves what it would have left
   pub serves_kept : (a b : Standing) (h : List Done) → Serves service a h → Keeps a b → Serves service b h
-  serves_kept a b h serves keeps = record { is = serves.is; each = λ heard said names at. serves.each heard said names (keeps.moments heard said names at) }
+  serves_kept a b h serves keeps = record {
+    is = serves.is;
+    each = λ heard said names at. serves.each heard said names
+        (subst (λ (l : List Moment). Contains l (record { heard = heard; said = said; names = names })) keeps.moments at);
+  }
 
   module _ (said all : List Done) (s : Sessions) where
     pub going_serves : (a : Standing) (x : List ℕ) → IsGoing service said all a s x → ServesOn service a said
@@ -68,7 +69,7 @@ module _ (service : Service) where
             serves = serves_kept a b said is.serves keeps;
             said_heard = subst (λ (l : List ℕ). HasHeard service l (events_of said)) (sym keeps.heard) is.said_heard;
             was_said = keeps.said ∙ is.was_said;
-            left = λ names at. is.left names (keeps.left names at);
+            stable = keeps.stable ∙ is.stable;
           },
         )
 
@@ -82,7 +83,7 @@ module _ (service : Service) where
         is = is.is;
         each = λ heard words names at. ⊎_elim (λ old. moment_more said all heard words names is.first (is.serves.each heard words names old)) (λ here. ⊎_elim
             (λ was. moment_more said all heard words names is.first (moment_all said heard words names
-            (subst (λ (l : List ℕ). HasHeard service l (events_of said)) (sym here.0) is.said_heard) (is.left names was)
+            (subst (λ (l : List ℕ). HasHeard service l (events_of said)) (sym here.0) is.said_heard) (was ∙ is.stable)
             ([], sym (here.1 ∙ is.was_said) ∙ sym (append-nil words))))
             (λ now. moment_all all heard words names
             (subst (λ (l : List ℕ). HasHeard service l (events_of all)) (sym here.0) is.was_heard)
@@ -94,8 +95,8 @@ module _ (service : Service) where
         says : Says done out b c
         says = subst (λ (l : List ℕ). Says done l b c) same told
 
-        names_left : (names : Names) → b.left names → names ≡ (server_after service.start all).names
-        names_left names at = commits.left was names at ∙ commits.names ∙ ap (λ (o : Server). o.names) is.server
+        forced : b.stable ≡ (server_after service.start all).names
+        forced = commits.stable was ∙ commits.names ∙ ap (λ (o : Server). o.names) is.server
 
         -- and then said
         pub serves_said : Serves service c all
@@ -106,7 +107,7 @@ module _ (service : Service) where
               let stands : words ≡ frames_bytes (answers_of said) ++ take n out = here.1.1 ∙ ap (λ (l : List ℕ). l ++ take n out) (commits.said ∙ is.was_said) in
               moment_all all heard words names
               (subst (λ (l : List ℕ). HasHeard service l (events_of all)) (sym (here.0 ∙ commits.heard)) is.was_heard)
-              (names_left names here.2) (
+              (here.2 ∙ forced) (
                 drop n out,
                 whole ∙ ap (λ (l : List ℕ). frames_bytes (answers_of said) ++ l) (sym (take-append-drop n out))
                     ∙ sym (append_assoc (frames_bytes (answers_of said)) (take n out) (drop n out)) ∙ ap (λ (l : List ℕ). l ++ drop n out) (sym stands),
@@ -128,5 +129,5 @@ module _ (service : Service) where
               serves = serves_said;
               said_heard = has;
               was_said = says.said all_said ∙ ap (λ (l : List ℕ). l ++ out) (commits.said ∙ is.was_said) ∙ sym whole;
-              left = λ names at. names_left names (says.left names at);
+              stable = says.stable ∙ forced;
             }

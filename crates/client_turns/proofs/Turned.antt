@@ -6,6 +6,7 @@ use Rattle.client_frames.specs.Frames.{Frame, IsFrame, frame_bytes, frames_bytes
 use Rattle.client_frames.specs.Reading.{IsUnfinished}
 use Rattle.client_sessions.specs.Calls.{IsAnswered, IsHeard, IsSettled}
 use Rattle.client_sessions.specs.Events.{Begins, Event, Happen, Happens, Rests, Tells, gone, rest_at}
+use Rattle.client_sessions.specs.Laws.{keeps_same}
 use Rattle.client_sessions.specs.Seen.{server_of}
 use Rattle.client_sessions.specs.Sessions.{Server}
 use Rattle.client_sessions.specs.Standing.{Hears, Keeps, Standing}
@@ -20,7 +21,7 @@ use Rattle.client_turns.specs.Within.{GoesOn, HasRead, IsGoing, IsHearing, IsRea
 use Rattle.client_turns.specs.declared.desk.Desk.{Desk}
 use Rattle.client_turns.proofs.Brought.{brings_gone, brings_some, first_behind, heard_part, heard_read, next_first, read_frame}
 use Rattle.client_turns.proofs.Histories.{front_more}
-use Rattle.client_turns.proofs.Moments.{going_more, keeps_same, moment_all, serves_same}
+use Rattle.client_turns.proofs.Moments.{going_more, moment_all, serves_same}
 
 -- what a client has left, among what all have
 pub rest_seen : (all : List (Vec ℕ Global)) (at : ℕ) (one : Vec ℕ Global) → at < length all → one ≡ slice_index_or all at one → rest_at (map (λ rest. rest.items) all) at ≡ one.items
@@ -81,6 +82,9 @@ module _ (service : Service) where
   pub serves_later : (it : Standing) (said forced : List Done) → IsFront said forced → ServesOn service it forced → ServesOn service it said
   serves_later it said forced on serves = (serves.0, front_more said forced serves.0 on serves.1, serves.2)
 
+  pub goes_serves : (said all : List Done) (tells : List Event → Type 0) (a b : Standing) (t : Sessions) (y : List ℕ) → GoesOn service said all tells a b t y → ServesOn service b said
+  goes_serves said all tells a b t y it = serves_later b said it.forced it.on (serves_same service b it.forced it.going.serves)
+
   -- the bytes of a frame are heard behind what their client has left
   hearing_frame : (said all : List Done) (ahead x : List ℕ) (frame : Frame) (a : Standing) (s : Desk) → IsReading service said all (frame_bytes frame ++ ahead) a s x → IsFrame frame
       → frame.client < length (rests_of s) → 0 < length frame.bytes → IsHearing service said all frame.client (rest_at (rests_of s) frame.client ++ frame.bytes) a s.sessions x
@@ -131,12 +135,12 @@ module _ (service : Service) where
         reading = record { going = did.2; read = subst (λ (l : List Event). HasRead service a.heard ahead (rests_of t) l) (sym did.1) read };
       }
 
-  pub reading_serves : (said all : List Done) (ahead x : List ℕ) (a : Standing) (s : Desk) → IsReading service said all ahead a s x → ServesOn service a said
-  reading_serves said all ahead x a s is = serves_same service a said is.going.serves
-
   -- nothing was read yet
   pub reads_none : (said all : List Done) (ahead x : List ℕ) (a : Standing) (s : Desk) → IsReading service said all ahead a s x → ReadsOn service said ahead a s x
   reads_none said all ahead x a s is = record { forced = said; done = all; on = ([], sym (append-nil said)); reading = is }
+
+  pub reads_serves : (said : List Done) (ahead y : List ℕ) (b : Standing) (t : Desk) → ReadsOn service said ahead b t y → ServesOn service b said
+  reads_serves said ahead y b t it = serves_later b said it.forced it.on (serves_same service b it.forced it.reading.going.serves)
 
   -- one behind the other
   pub reads_more : (said : List Done) (ahead later x y : List ℕ) (b c : Standing) (t u : Desk) (one : ReadsOn service said ahead b t x) → ReadsOn service one.forced later c u y → ReadsOn service said later c u y
@@ -158,7 +162,7 @@ module _ (service : Service) where
     each = λ heard said names at. ⊎_elim (λ old. is.serves.each heard said names old) (λ now.
         moment_all service h heard said names
         (subst (λ (l : List ℕ). HasHeard service l (events_of h)) (sym now.0) (heard_read service b.heard (rest ++ piece) rests (events_of h) (read_heard a b h rest piece rests server is hears)))
-        (is.left names now.2 ∙ ap (λ (o : Server). o.names) is.server_is)
+        (now.2 ∙ is.stable ∙ ap (λ (o : Server). o.names) is.server_is)
         ([], sym (now.1 ∙ is.said) ∙ sym (append-nil said))) (hears.moments heard said names at);
   }
 
@@ -181,7 +185,7 @@ module _ (service : Service) where
           serves = serves_heard a b h desk.rest.items piece (rests_of desk) server is hears;
           said_heard = has;
           was_said = hears.said ∙ is.said;
-          left = λ names at. is.left names (hears.left names at) ∙ ap (λ (o : Server). o.names) is.server_is;
+          stable = hears.stable ∙ is.stable ∙ ap (λ (o : Server). o.names) is.server_is;
         };
         read = read;
       }
@@ -199,7 +203,7 @@ module _ (service : Service) where
       bring = read.bring;
       server_is = going.server;
       said = going.was_said;
-      left = λ names at. going.left names at ∙ sym (ap (λ (o : Server). o.names) going.server);
+      stable = going.stable ∙ sym (ap (λ (o : Server). o.names) going.server);
     };
   }
 
@@ -226,6 +230,6 @@ between_fresh limits count it desk fresh new none = record {
     bring = (refl, new.rests);
     server_is = new.server it.names;
     said = fresh.said;
-    left = fresh.left;
+    stable = fresh.stable;
   };
 }

@@ -7,7 +7,7 @@ use Rattle.client_frames.specs.Frames.{Frame, IsFrame, frames_bytes}
 use Rattle.client_frames.specs.Reading.{Splits}
 use Rattle.client_sessions.specs.Events.{Begins, BringAll, Brings, Event, Happens, Rests, rest_at}
 use Rattle.client_sessions.specs.Sessions.{Server}
-use Rattle.client_sessions.specs.Standing.{Standing}
+use Rattle.client_sessions.specs.Standing.{Had, Standing}
 use Rattle.client_sessions.specs.declared.session_limits.SessionLimits.{SessionLimits}
 use Rattle.named_words.specs.Effects.{Names, Sizes}
 
@@ -79,7 +79,7 @@ module _ (service : Service) where
   -- there is one history for all moments so far
   pub record Serves (it : Standing) (history : List Done) : Type 0 where
     pub is : IsHistory service.start history
-    pub each : (heard said : List ℕ) (names : Names) → it.moments heard said names → IsMoment history heard said names
+    pub each : (heard said : List ℕ) (names : Names) → Had it heard said names → IsMoment history heard said names
 
   -- a history that goes on from this one
   abbrev pub ServesOn : Standing → List Done → Type 0
@@ -95,4 +95,4 @@ module _ (service : Service) where
     pub bring : BringAll service.limits (no_rests service.count) frames (events_of history) rests
     pub server_is : server ≡ server_after service.start history
     pub said : it.said ≡ frames_bytes (answers_of history)
-    pub left : (names : Names) → it.left names → names ≡ server.names
+    pub stable : it.stable ≡ server.names

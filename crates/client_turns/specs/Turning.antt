@@ -3,7 +3,7 @@ use Rattle.std.specs.Prelude.{◌≡◌, ℕ, List, []}
 use Rattle.client_sessions.specs.Events.{Rests}
 use Rattle.client_sessions.specs.Seen.{server_of}
 use Rattle.client_sessions.specs.Sessions.{Server, empty}
-use Rattle.client_sessions.specs.Standing.{Standing}
+use Rattle.client_sessions.specs.Standing.{Had, Standing}
 use Rattle.client_sessions.specs.declared.session_limits.SessionLimits.{SessionLimits}
 use Rattle.named_words.specs.Effects.{Names}
 use Rattle.client_turns.specs.Serves.{Done, HasAnswered, Service, no_rests}
@@ -21,8 +21,8 @@ pub record IsNew (limits : SessionLimits) (count : ℕ) (it : Desk) : Type 0 whe
 pub record IsFresh (it : Standing) : Type 0 where
   pub heard : it.heard ≡ []
   pub said : it.said ≡ []
-  pub left : (names : Names) → it.left names → names ≡ it.names
-  pub moments : (heard said : List ℕ) (names : Names) → it.moments heard said names → (heard ≡ []) × (said ≡ []) × (names ≡ it.names)
+  pub stable : it.stable ≡ it.names
+  pub moments : (heard said : List ℕ) (names : Names) → Had it heard said names → (heard ≡ []) × (said ≡ []) × (names ≡ it.names)
 
 -- so many clients, of whom none has come, over what stands
 abbrev pub service_of : SessionLimits → ℕ → Standing → Service

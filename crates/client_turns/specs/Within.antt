@@ -1,15 +1,12 @@
 -- What holds within a turn.
-use Rattle.std.specs.Prelude.{◌≡◌, ◌<◌, ◌⊎◌, ⊤, ℕ, List, ◌++◌, length, map}
+use Rattle.std.specs.Prelude.{◌≡◌, ◌⊎◌, ℕ, List, ◌++◌, map}
 use Rattle.std.specs.List.{AllByRecursion}
 use Rattle.client_frames.specs.Frames.{Frame, IsFrame, frames_bytes}
 use Rattle.client_sessions.specs.Events.{Begins, BringAll, Event, Rests, Tells}
 use Rattle.client_sessions.specs.Seen.{server_of}
 use Rattle.client_sessions.specs.Standing.{Standing}
-use Rattle.client_sessions.specs.declared.heard.Heard.{Heard}
-use Rattle.client_sessions.specs.declared.heard.Heard.TheVariants as nexts
 use Rattle.client_sessions.specs.declared.session_limits.SessionLimits.{SessionLimits}
 use Rattle.client_sessions.specs.declared.sessions.Sessions.{Sessions}
-use Rattle.named_words.specs.Effects.{Names}
 use Rattle.client_turns.specs.Serves.{Done, HasHeard, IsFront, IsHistory, Serves, Service, answers_of, events_of, no_rests, server_after}
 use Rattle.client_turns.specs.declared.desk.Desk.{Desk}
 
@@ -20,11 +17,6 @@ rests_of it = map (λ rest. rest.items) it.rests.items
 -- the bytes of a client tell these events first: all, or some commands only
 abbrev pub TellsFirst : SessionLimits → ℕ → List ℕ → List Event → Type 0
 TellsFirst limits at bytes events = (later : List ℕ) × (Begins limits at bytes events later ⊎ Tells limits at bytes events later)
-
--- a command takes bytes
-abbrev pub LeavesFewer : List ℕ → Heard → Type 0
-LeavesFewer bytes (nexts.Command later) = length later.now < length bytes
-LeavesFewer bytes other = ⊤
 
 module _ (service : Service) where
   -- All of this was done. What is said of it was forced before, and for the others the answers are put by.
@@ -39,7 +31,7 @@ module _ (service : Service) where
     pub serves : Serves service it said
     pub said_heard : HasHeard service it.heard (events_of said)
     pub was_said : it.said ≡ frames_bytes (answers_of said)
-    pub left : (names : Names) → it.left names → names ≡ (server_after service.start said).names
+    pub stable : it.stable ≡ (server_after service.start said).names
 
   -- and of a client's bytes no command is done yet
   pub record IsHearing (said all : List Done) (at : ℕ) (bytes : List ℕ) (it : Standing) (sessions : Sessions) (out : List ℕ) : Type 0 where

@@ -1,9 +1,10 @@
 ghost use Rattle.std.specs.Prelude.{◌≡◌, ◌<◌, IfOk, List};
 ghost use Rattle.client_sessions.specs.Events.{Tells};
 ghost use Rattle.client_sessions.specs.Seen.{count_of};
-ghost use Rattle.client_sessions.specs.Taking.{TellsNext};
+ghost use Rattle.client_sessions.specs.Standing.{Leads};
+ghost use Rattle.client_sessions.specs.Taking.{LeavesFewer, TellsNext};
 ghost use Rattle.client_turns.specs.Serves.{Done, Service, ServesOn};
-ghost use Rattle.client_turns.specs.Within.{GoesOn, IsHearing, LeavesFewer};
+ghost use Rattle.client_turns.specs.Within.{GoesOn, IsHearing};
 
 use crate::settling::relieve;
 use client_sessions::{Heard, NamedStore, Sessions, Stop};
@@ -19,8 +20,7 @@ fn hear_next<'a, S: NamedStore>(
     requires { client < count_of sessions.old }
     ensures count { IfOk result (λ _. count_of sessions.new ≡ count_of sessions.old) }
     ensures fewer { IfOk result (λ heard. LeavesFewer bytes.now heard) }
-    ensures serves { (service : Service) (said all : List Done) → IsHearing service said all client bytes.now (S.seen store.old) sessions.old out.old.items → ServesOn service (S.seen store.new) said }
-    ensures hears { (service : Service) (said all : List Done) → IsHearing service said all client bytes.now (S.seen store.old) sessions.old out.old.items → IfOk result (λ heard. GoesOn service said all (λ events. TellsNext service.limits client bytes.now heard events) (S.seen store.old) (S.seen store.new) sessions.new out.new.items) }
+    ensures hears { Leads S.view store.old store.new result (λ was now. (service : Service) (said all : List Done) → IsHearing service said all client bytes.now was sessions.old out.old.items → ServesOn service now said × IfOk result (λ heard. GoesOn service said all (λ events. TellsNext service.limits client bytes.now heard events) was now sessions.new out.new.items)) }
 {
     relieve(store, out)?;
     sessions.hear(store, client, bytes, out)
@@ -35,8 +35,7 @@ pub(crate) fn hear_all<'a, S: NamedStore>(
     out: &mut Vec<u8>,
 ) -> Result<&'a [u8], Stop>
     requires { client < count_of sessions.old }
-    ensures serves { (service : Service) (said all : List Done) → IsHearing service said all client bytes.now (S.seen store.old) sessions.old out.old.items → ServesOn service (S.seen store.new) said }
-    ensures hears { (service : Service) (said all : List Done) → IsHearing service said all client bytes.now (S.seen store.old) sessions.old out.old.items → IfOk result (λ rest. GoesOn service said all (λ events. Tells service.limits client bytes.now events rest.now) (S.seen store.old) (S.seen store.new) sessions.new out.new.items) }
+    ensures { Leads S.view store.old store.new result (λ was now. (service : Service) (said all : List Done) → IsHearing service said all client bytes.now was sessions.old out.old.items → ServesOn service now said × IfOk result (λ rest. GoesOn service said all (λ events. Tells service.limits client bytes.now events rest.now) was now sessions.new out.new.items)) }
 {
     let mut rest = bytes;
     loop {

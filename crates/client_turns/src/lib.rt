@@ -10,7 +10,8 @@
 //! A turn whose answers, or whose group, become large is ended between two commands, and another begun with what is left of the same
 //! input; never within EXEC, which is one command.
 //!
-//! It is proved of any `NamedStore`. It depends on `client_sessions` and `client_frames`.
+//! It is proved of any `NamedStore` that stands as it begins; where a call on the store fails, of all moments until then. It depends on
+//! `client_sessions` and `client_frames`.
 #![tactic(auto)]
 
 mod desk;

@@ -3,6 +3,7 @@ ghost use Rattle.client_frames.specs.Frames.{IsFrame, frame_bytes, seen};
 ghost use Rattle.client_frames.specs.Reading.{BeginsWith, IsUnfinished};
 ghost use Rattle.client_sessions.specs.Events.{rest_at};
 ghost use Rattle.client_sessions.specs.Seen.{count_of};
+ghost use Rattle.client_sessions.specs.Standing.{Leads};
 ghost use Rattle.client_turns.specs.Serves.{Done, Service, ServesOn};
 ghost use Rattle.client_turns.specs.Within.{IsReading, ReadsOn, rests_of};
 
@@ -69,8 +70,7 @@ impl Desk {
         requires rest { frame.client < length self.old.rests.items }
         requires here { frame.client < count_of self.old.sessions }
         requires some { 0 < length frame.bytes.now }
-        ensures serves { (service : Service) (said all : List Done) (ahead : List ℕ) → IsReading service said all (frame_bytes (seen frame.entry) ++ ahead) (S.seen store.old) self.old out.old.items → ServesOn service (S.seen store.new) said }
-        ensures reads { (service : Service) (said all : List Done) (ahead : List ℕ) → IsReading service said all (frame_bytes (seen frame.entry) ++ ahead) (S.seen store.old) self.old out.old.items → OnOk result (ReadsOn service said ahead (S.seen store.new) self.new out.new.items) }
+        ensures { Leads S.view store.old store.new result (λ was now. (service : Service) (said all : List Done) (ahead : List ℕ) → IsReading service said all (frame_bytes (seen frame.entry) ++ ahead) was self.old out.old.items → ServesOn service now said × OnOk result (ReadsOn service said ahead now self.new out.new.items)) }
     {
         let bytes = self.joined(frame.client, frame.bytes)?;
         let left = hear_all(&mut self.sessions, store, frame.client, &bytes, out)?;
@@ -90,8 +90,7 @@ impl Desk {
         requires rest { frame.client < length self.old.rests.items }
         requires here { frame.client < count_of self.old.sessions }
         requires none { frame.bytes.now ≡ [] }
-        ensures serves { (service : Service) (said all : List Done) (ahead : List ℕ) → IsReading service said all (frame_bytes (seen frame.entry) ++ ahead) (S.seen store.old) self.old out.old.items → ServesOn service (S.seen store.new) said }
-        ensures reads { (service : Service) (said all : List Done) (ahead : List ℕ) → IsReading service said all (frame_bytes (seen frame.entry) ++ ahead) (S.seen store.old) self.old out.old.items → OnOk result (ReadsOn service said ahead (S.seen store.new) self.new out.new.items) }
+        ensures { Leads S.view store.old store.new result (λ was now. (service : Service) (said all : List Done) (ahead : List ℕ) → IsReading service said all (frame_bytes (seen frame.entry) ++ ahead) was self.old out.old.items → ServesOn service now said × OnOk result (ReadsOn service said ahead now self.new out.new.items)) }
     {
         self.sessions.part(frame.client, out)?;
         self.keep(frame.client, Vec::new(self.alloc));
@@ -99,7 +98,6 @@ impl Desk {
     }
 
     // A frame.
-    #[tactic(auto, using(crate::proofs::Turned::reading_serves))]
     fn hear_frame<S: NamedStore>(
         &mut self,
         store: &mut S,
@@ -107,8 +105,7 @@ impl Desk {
         out: &mut Vec<u8>,
     ) -> Result<(), Stop>
         requires { IsFrame (seen frame) }
-        ensures serves { (service : Service) (said all : List Done) (ahead : List ℕ) → IsReading service said all (frame_bytes (seen frame.entry) ++ ahead) (S.seen store.old) self.old out.old.items → ServesOn service (S.seen store.new) said }
-        ensures reads { (service : Service) (said all : List Done) (ahead : List ℕ) → IsReading service said all (frame_bytes (seen frame.entry) ++ ahead) (S.seen store.old) self.old out.old.items → OnOk result (ReadsOn service said ahead (S.seen store.new) self.new out.new.items) }
+        ensures { Leads S.view store.old store.new result (λ was now. (service : Service) (said all : List Done) (ahead : List ℕ) → IsReading service said all (frame_bytes (seen frame.entry) ++ ahead) was self.old out.old.items → ServesOn service now said × OnOk result (ReadsOn service said ahead now self.new out.new.items)) }
     {
         if !self.has(frame.client) {
             return Err(Stop::Input);
@@ -126,8 +123,7 @@ impl Desk {
         bytes: &[u8],
         out: &mut Vec<u8>,
     ) -> Result<Vec<u8>, Stop>
-        ensures serves { (service : Service) (said all : List Done) → IsReading service said all bytes.now (S.seen store.old) self.old out.old.items → ServesOn service (S.seen store.new) said }
-        ensures reads { (service : Service) (said all : List Done) → IsReading service said all bytes.now (S.seen store.old) self.old out.old.items → IfOk result (λ rest. ReadsOn service said rest.items (S.seen store.new) self.new out.new.items) }
+        ensures reads { Leads S.view store.old store.new result (λ was now. (service : Service) (said all : List Done) → IsReading service said all bytes.now was self.old out.old.items → ServesOn service now said × IfOk result (λ rest. ReadsOn service said rest.items now self.new out.new.items)) }
         ensures unfinished { IfOk result (λ rest. IsUnfinished rest.items) }
     {
         let mut rest = bytes;

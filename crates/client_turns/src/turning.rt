@@ -1,4 +1,5 @@
 ghost use Rattle.std.specs.Prelude.{◌≡◌, [], IfOk, List, OnOk, map};
+ghost use Rattle.client_sessions.specs.Standing.{Leads};
 ghost use Rattle.client_turns.specs.Serves.{Done, IsFront, Serves, Service, ServesOn};
 ghost use Rattle.client_turns.specs.Turning.{AllAnswered, IsBetween, IsFresh, IsNew, service_of};
 ghost use Rattle.client_turns.specs.Within.{IsReading};
@@ -35,8 +36,7 @@ impl Desk {
 
     // All whole frames of what has come are heard, what they ask is forced, and then the answers are said.
     fn answer<S: NamedStore>(&mut self, store: &mut S, heard: &[u8]) -> Result<(), Stop>
-        ensures serves { (service : Service) (history : List Done) → IsReading service history history heard.now (S.seen store.old) self.old [] → ServesOn service (S.seen store.new) history }
-        ensures answers { (service : Service) (history : List Done) → IsReading service history history heard.now (S.seen store.old) self.old [] → OnOk result ((later : List Done) × IsFront history later × IsBetween service later (S.seen store.new) self.new) }
+        ensures { Leads S.view store.old store.new result (λ was now. (service : Service) (history : List Done) → IsReading service history history heard.now was self.old [] → ServesOn service now history × OnOk result ((later : List Done) × IsFront history later × IsBetween service later now self.new)) }
     {
         let mut out = Vec::new(self.alloc);
         let rest = self.hear_frames(store, heard, &mut out)?;
@@ -48,10 +48,8 @@ impl Desk {
     /// A piece of the input is heard, the commands that it completes are done, all is forced, and then the answers are said; where
     /// the group or its answers become large this is done between two commands, too. It answers `false` where the input has ended.
     pub fn turn<S: NamedStore>(&mut self, store: &mut S) -> Result<bool, Stop>
-        // at each moment, also where the turn is broken off
-        ensures serves { (service : Service) (history : List Done) → IsBetween service history (S.seen store.old) self.old → ServesOn service (S.seen store.new) history }
-        // and behind a turn all is answered that was heard
-        ensures answers { (service : Service) (history : List Done) → IsBetween service history (S.seen store.old) self.old → OnOk result ((later : List Done) × IsFront history later × IsBetween service later (S.seen store.new) self.new) }
+        // at each moment, also where the turn is broken off; and behind a turn all is answered that was heard
+        ensures { Leads S.view store.old store.new result (λ was now. (service : Service) (history : List Done) → IsBetween service history was self.old → ServesOn service now history × OnOk result ((later : List Done) × IsFront history later × IsBetween service later now self.new)) }
     {
         let mut heard = Vec::from_slice(self.alloc, &self.rest)?;
         let more = store.hear(&mut heard)?;
@@ -61,8 +59,7 @@ impl Desk {
 
     // Turns until the input ends.
     fn turns<S: NamedStore>(&mut self, store: &mut S) -> Result<(), Stop>
-        ensures serves { (service : Service) (history : List Done) → IsBetween service history (S.seen store.old) self.old → ServesOn service (S.seen store.new) history }
-        ensures answers { (service : Service) (history : List Done) → IsBetween service history (S.seen store.old) self.old → OnOk result (AllAnswered service (S.seen store.new)) }
+        ensures { Leads S.view store.old store.new result (λ was now. (service : Service) (history : List Done) → IsBetween service history was self.old → ServesOn service now history × OnOk result (AllAnswered service now)) }
     {
         for _ in 0..u64::MAX {
             let more = self.turn(store)?;
@@ -81,10 +78,8 @@ pub fn serve<S: NamedStore>(
     limits: SessionLimits,
     count: u32,
 ) -> Result<(), Stop>
-    // at each moment, also where it stops
-    ensures serves { IsFresh (S.seen store.old) → (history : List Done) × Serves (service_of limits count (S.seen store.old)) (S.seen store.new) history }
-    // and behind the end of the input all is answered that was heard
-    ensures answers { IsFresh (S.seen store.old) → OnOk result (AllAnswered (service_of limits count (S.seen store.old)) (S.seen store.new)) }
+    // at each moment, also where it stops; and behind the end of the input all is answered that was heard
+    ensures { Leads S.view store.old store.new result (λ was now. IsFresh was → (history : List Done) × Serves (service_of limits count was) now history × OnOk result (AllAnswered (service_of limits count was) now)) }
 {
     let mut desk = Desk::new(alloc, limits, count)?;
     desk.turns(store)
