@@ -1,5 +1,5 @@
 -- A store that was not asked stands as it stood.
-use Rattle.std.proofs.Common.{◌≡◌, refl}
+use Rattle.std.proofs.Common.{refl}
 use Rattle.client_sessions.specs.Standing.{Keeps, Standing}
 
 pub keeps_same : (it : Standing) → Keeps it it
