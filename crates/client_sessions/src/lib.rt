@@ -1,5 +1,5 @@
-//! Sessions of the clients of a server, in RESP: what is kept of each between its commands, and what commands do as they come. Nothing
-//! uses this crate yet; no program of the repository is a server.
+//! Sessions of the clients of a server, in RESP: what is kept of each between its commands, and what commands do as they come.
+//! `client_turns` alone uses it; no program of the repository is a server.
 //!
 //! [`Sessions::hear`] takes the bytes of a client that no command has used yet, does the first command, if it is whole, and puts the
 //! frames of its answer behind what is to be said; [`Sessions::part`] is told that a client is gone. The one contract is that of
