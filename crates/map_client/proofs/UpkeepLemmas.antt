@@ -31,6 +31,9 @@ module _ (lo hi : ℕ) (p : Params) (commands : List Command) where
   open_sweep is = ap (λ (o : Option CallRefusal). made_unless o (sweep_made lo hi p commands)) is
 
 module _ (lo hi : ℕ) (key : List ℕ) (p : Params) (commands : List Command) where
+  pub closed_tidy : (refusal : CallRefusal) → closed_by (bounds_of p) hi ≡ Some refusal → tidy_comes lo hi key p commands ≡ refused_by (Refused refusal)
+  closed_tidy refusal is = ap (λ (o : Option CallRefusal). made_unless o (tidy_made lo hi key p commands)) is
+
   pub open_tidy : closed_by (bounds_of p) hi ≡ None → tidy_comes lo hi key p commands ≡ tidy_made lo hi key p commands
   open_tidy is = ap (λ (o : Option CallRefusal). made_unless o (tidy_made lo hi key p commands)) is
 

@@ -116,7 +116,7 @@ impl<'a, S: Store<AllOps>> Rounds<S> for Way<'a> {
 }
 
 /// Tidies the way to a key.
-fn tidy<S: Store<AllOps>, M: Machine>(
+pub(crate) fn tidy<S: Store<AllOps>, M: Machine>(
     way: &Way,
     store: &mut S,
     machine: &mut M,

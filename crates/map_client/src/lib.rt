@@ -18,7 +18,7 @@
 //! how many levels it has above its leaves, which bounds the commands of a set.
 //!
 //! `check` reads all pages and answers whether the range is a map, and what it has; `sweep` empties objects that hold something and
-//! are no page of it (`upkeep_keeps_the_map`).
+//! are no page of it, and `tidy` does for the way to a key what a delete does behind its first command (`upkeep_keeps_the_map`).
 #![tactic(auto)]
 
 mod call_refusal;
@@ -64,6 +64,6 @@ pub use ranging_fall::{back, prev};
 pub use ranging_prefix::prefix;
 pub use ranging_rise::{next, range};
 pub use setting::set;
-pub use upkeep::sweep;
+pub use upkeep::{sweep, tidy};
 pub use upkeep_laws::upkeep_keeps_the_map;
 pub use walking::root_level;

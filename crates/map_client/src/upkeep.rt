@@ -14,11 +14,12 @@ ghost use Rattle.range_calls.specs.Rounds.{Comes, tried_all};
 ghost use Rattle.range_calls.specs.Store.{Command, state_of};
 ghost use Rattle.range_calls.specs.declared.call_err.CallErr.TheVariants.{Memory as OutOfMemory};
 ghost use Rattle.map_client.specs.Answers.{cause_in, cause_of, told};
-ghost use Rattle.map_client.specs.Changing.{sweep_comes, sweep_made};
+ghost use Rattle.map_client.specs.Changing.{sweep_comes, sweep_made, tidy_comes};
 
 use crate::checking::checked_pages;
 use crate::map_err::MapErr;
 use crate::opening::require_open;
+use crate::way::Way;
 use disk_model::Machine;
 use op_codec::{AllOps, page_op};
 use page_map::{Check, Map};
@@ -26,6 +27,34 @@ use page_ops::PageOp;
 use range_calls::{reads_go_on, reads_run_short, run};
 use std::alloc::Global;
 use store_calls::Store;
+
+/// Tidies the way to a key, which may be there or not: a leaf that has no cells gives way to the one beside it, and a root with one
+/// child becomes it, each by commands behind which the range holds the same. A delete does the same behind its first command: this
+/// does what one that was cut short has left.
+///
+/// It answers `NoObject` exactly where the range ends past the last object, else `NoPages` exactly where the store admits no changes
+/// of maps, else `BadMap` with the first bad object that is met, and `Exec` with what the store answered to a fetch or to a command,
+/// of which on a map none is refused.
+pub fn tidy<S: Store<AllOps>, M: Machine>(
+    alloc: Global,
+    map: &Map,
+    store: &mut S,
+    machine: &mut M,
+    key: &[u8],
+) -> Result<(), MapErr>
+    requires unbroken { S.view.unbroken store.old }
+    ensures calls { Calls S.view (M.disk machine.old) (M.disk machine.new) store.old store.new (cause_in result) }
+    ensures adds { (p : Params) (commands : List Command) → S.view.holds p (M.disk machine.old) store.old commands →
+        S.view.adds p (M.disk machine.old) (M.disk machine.new) store.old store.new commands
+        (tidy_comes map.now.lo map.now.hi key.now p commands).commands (ending_of (cause_in result)) }
+    ensures answer { (p : Params) (commands : List Command) → S.view.holds p (M.disk machine.old) store.old commands → ending_of (cause_in result) ≡ Done →
+        result_err result ≡ (tidy_comes map.now.lo map.now.hi key.now p commands).refusal }
+{
+    store.nothing_is_made(machine);
+    require_open(map, store)?;
+    let way = Way { alloc, map, key };
+    crate::deleting::tidy(&way, store, machine)
+}
 
 /// Whether an object's value has some byte. No device call is made.
 fn holds_bytes<S: Store<AllOps>, M: Machine>(store: &S, machine: &M, object: u32) -> bool
