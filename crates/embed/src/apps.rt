@@ -24,7 +24,7 @@ impl<M: Machine + Drop> Store<M> {
         ensures calls { self.old.engine.broken ≡ false → AreCalls all_meaning (M.disk self.old.machine) (M.disk self.new.machine) self.old.engine self.new.engine (result_err result) }
         ensures broken { self.old.engine.broken ≡ true → IsStillBroken ExecErr.DiskFault self.old self.new result }
     {
-        if self.engine.is_broken() {
+        if self.is_broken() {
             return Err(ExecErr::DiskFault);
         }
         app.feed(&mut self.engine, &mut self.machine, from)
@@ -37,7 +37,7 @@ impl<M: Machine + Drop> Store<M> {
         ensures calls { self.old.engine.broken ≡ false → AreCalls all_meaning (M.disk self.old.machine) (M.disk self.new.machine) self.old.engine self.new.engine (result_err result) }
         ensures broken { self.old.engine.broken ≡ true → IsStillBroken ExecErr.DiskFault self.old self.new result }
     {
-        if self.engine.is_broken() {
+        if self.is_broken() {
             return Err(ExecErr::DiskFault);
         }
         app.drain_to(&mut self.engine, &mut self.machine, to)
@@ -53,7 +53,7 @@ impl<M: Machine + Drop> Store<M> {
             HasAnswer p commands (step_of app.now.app) most result }
         ensures broken { self.old.engine.broken ≡ true → IsStillBroken ExecErr.DiskFault self.old self.new result }
     {
-        if self.engine.is_broken() {
+        if self.is_broken() {
             return Err(ExecErr::DiskFault);
         }
         app.run(&mut self.engine, &mut self.machine, most)
@@ -66,7 +66,7 @@ impl<M: Machine + Drop> Store<M> {
         ensures calls { self.old.engine.broken ≡ false → AreCalls all_meaning (M.disk self.old.machine) (M.disk self.new.machine) self.old.engine self.new.engine (result_err result) }
         ensures broken { self.old.engine.broken ≡ true → IsStillBroken ExecErr.DiskFault self.old self.new result }
     {
-        if self.engine.is_broken() {
+        if self.is_broken() {
             return Err(ExecErr::DiskFault);
         }
         app.feed(&mut self.engine, &mut self.machine, from)
@@ -79,7 +79,7 @@ impl<M: Machine + Drop> Store<M> {
         ensures calls { self.old.engine.broken ≡ false → AreCalls all_meaning (M.disk self.old.machine) (M.disk self.new.machine) self.old.engine self.new.engine (result_err result) }
         ensures broken { self.old.engine.broken ≡ true → IsStillBroken ExecErr.DiskFault self.old self.new result }
     {
-        if self.engine.is_broken() {
+        if self.is_broken() {
             return Err(ExecErr::DiskFault);
         }
         app.drain_to(&mut self.engine, &mut self.machine, to)
@@ -99,7 +99,7 @@ impl<M: Machine + Drop> Store<M> {
             IfOk result (λ k. RunsOnBytes p app.now.app app.now.program commands k) }
         ensures broken { self.old.engine.broken ≡ true → IsStillBroken ExecErr.DiskFault self.old self.new result }
     {
-        if self.engine.is_broken() {
+        if self.is_broken() {
             return Err(ExecErr::DiskFault);
         }
         runs_ask_for_bytes(&self.machine, &self.engine);

@@ -25,7 +25,7 @@ impl<M: Machine + Drop> Store<M> {
             (λ p commands. HasAnswer p commands (step_of app.now.app) most result)
             ExecErr.DiskFault (result_err result) result }
     {
-        if self.engine.is_broken() {
+        if self.is_broken() {
             return Err(ExecErr::DiskFault);
         }
         let mut within = Within {
@@ -48,7 +48,7 @@ impl<M: Machine + Drop> Store<M> {
             × IfOk result (λ k. RunsOn p app.now.app app.now.program commands k))
             ExecErr.DiskFault (result_err result) result }
     {
-        if self.engine.is_broken() {
+        if self.is_broken() {
             return Err(ExecErr::DiskFault);
         }
         let mut within = Within {

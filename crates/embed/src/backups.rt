@@ -43,7 +43,7 @@ impl<M: Machine + Drop> Store<M> {
             (Rises (T.disk target.old).disk_faults (T.disk target.new).disk_faults) result) }
         ensures broken { self.old.engine.broken ≡ true → IsStillBroken BackupErr.DiskFault self.old self.new result × (target.new ≡ target.old) }
     {
-        if self.engine.is_broken() {
+        if self.is_broken() {
             return Err(BackupErr::DiskFault);
         }
         backup_copy::start(&mut self.engine, &mut self.machine, target)
@@ -66,7 +66,7 @@ impl<M: Machine + Drop> Store<M> {
             (Rises (M.disk self.old.machine).disk_faults (M.disk self.new.machine).disk_faults) (Rises (T.disk target.old).disk_faults (T.disk target.new).disk_faults))) }
         ensures broken { self.old.engine.broken ≡ true → IsStillBroken BackupErr.DiskFault self.old self.new result × (target.new ≡ target.old) }
     {
-        if self.engine.is_broken() {
+        if self.is_broken() {
             return Err(BackupErr::DiskFault);
         }
         backup_copy::copy(&mut self.engine, &mut self.machine, target, count)
@@ -101,7 +101,7 @@ impl<M: Machine + Drop> Store<M> {
             HasLength (backup_length (meaning_in all_meaning p) (run (meaning_in all_meaning p) w (force_steps (meaning_in all_meaning p) w))) result }
         ensures broken { self.old.engine.broken ≡ true → IsStillBroken BackupErr.DiskFault self.old self.new result × (target.new ≡ target.old) }
     {
-        if self.engine.is_broken() {
+        if self.is_broken() {
             return Err(BackupErr::DiskFault);
         }
         backup_copy::finish(&mut self.engine, &mut self.machine, target)
@@ -113,7 +113,7 @@ impl<M: Machine + Drop> Store<M> {
         ensures given_up { self.old.engine.broken ≡ false → IfOk (judge_copy self.old.engine) (λ copied. (result ≡ Ok tt) × (self.new ≡ record self.old { engine = record self.old.engine { copied = None } })) }
         ensures broken { self.old.engine.broken ≡ true → IsStillBroken BackupErr.DiskFault self.old self.new result }
     {
-        if self.engine.is_broken() {
+        if self.is_broken() {
             return Err(BackupErr::DiskFault);
         }
         backup_copy::give_up(&mut self.engine)

@@ -23,7 +23,7 @@ impl<M: Machine + Drop> Store<M> {
         ensures calls { self.old.engine.broken ≡ false → AreCalls all_meaning (M.disk self.old.machine) (M.disk self.new.machine) self.old.engine self.new.engine (result_err result) }
         ensures broken { self.old.engine.broken ≡ true → IsStillBroken ExecErr.DiskFault self.old self.new result }
     {
-        if self.engine.is_broken() {
+        if self.is_broken() {
             return Err(ExecErr::DiskFault);
         }
         self.engine.exec(&mut self.machine, op)
@@ -39,7 +39,7 @@ impl<M: Machine + Drop> Store<M> {
             IfOk result (GivesValue p.objects object (state_of all_meaning p commands object) into.old into.new) }
         ensures broken { self.old.engine.broken ≡ true → IsStillBroken ReadErr.DiskFault self.old self.new result }
     {
-        if self.engine.is_broken() {
+        if self.is_broken() {
             return Err(ReadErr::DiskFault);
         }
         engine_stands(&self.machine, &self.engine);

@@ -37,7 +37,7 @@ impl<M: Machine + Drop> Store<M> {
         ensures some { IfSome result (λ size. (self.now.engine.broken ≡ false) × IsSome self.now.engine.group × (group_size self.now.engine ≡ Some size)) }
         ensures none { IfNone result (self.now.engine.broken ≡ false → self.now.engine.group ≡ None) }
     {
-        if self.engine.is_broken() {
+        if self.is_broken() {
             return None;
         }
         self.engine.group()
@@ -55,7 +55,7 @@ impl<M: Machine + Drop> Store<M> {
             OnOk result (HasRoomOf self.new.engine bytes) }
         ensures broken { self.old.engine.broken ≡ true → IsStillBroken WorkErr.DiskFault self.old self.new result }
     {
-        if self.engine.is_broken() {
+        if self.is_broken() {
             return Err(WorkErr::DiskFault);
         }
         if lacks_room(&self.engine, bytes) {

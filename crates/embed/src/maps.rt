@@ -45,7 +45,7 @@ impl<M: Machine + Drop> Store<M> {
             IfErr result (λ e. ending_of (cause_of e) ≡ Done → get_told (bounds_of p) map.now.lo map.now.hi (state_of p commands) key.now ≡ Err e) }
         ensures broken { self.old.engine.broken ≡ true → IsStillBroken (Exec DiskFault) self.old self.new result }
     {
-        if self.engine.is_broken() {
+        if self.is_broken() {
             return Err(CallErr::Exec(ExecErr::DiskFault));
         }
         map_client::get(alloc, map, &mut self.engine, &mut self.machine, key)
@@ -70,7 +70,7 @@ impl<M: Machine + Drop> Store<M> {
             IfErr result (λ e. ending_of (cause_of e) ≡ Done → count_told (bounds_of p) map.now.lo map.now.hi (state_of p commands) (record { from = from.now; to = option_map (λ end. end.now) to.entry }) ≡ Err e) }
         ensures broken { self.old.engine.broken ≡ true → IsStillBroken (Exec DiskFault) self.old self.new result }
     {
-        if self.engine.is_broken() {
+        if self.is_broken() {
             return Err(CallErr::Exec(ExecErr::DiskFault));
         }
         map_client::count(alloc, map, &mut self.engine, &mut self.machine, from, to)
@@ -96,7 +96,7 @@ impl<M: Machine + Drop> Store<M> {
             IfErr result (λ e. ending_of (cause_of e) ≡ Done → range_told (bounds_of p) map.now.lo map.now.hi (state_of p commands) (record { from = from.now; to = option_map (λ end. end.now) to.entry }) limit ≡ Err e) }
         ensures broken { self.old.engine.broken ≡ true → IsStillBroken (Exec DiskFault) self.old self.new result }
     {
-        if self.engine.is_broken() {
+        if self.is_broken() {
             return Err(CallErr::Exec(ExecErr::DiskFault));
         }
         map_client::range(
@@ -130,7 +130,7 @@ impl<M: Machine + Drop> Store<M> {
             IfErr result (λ e. ending_of (cause_of e) ≡ Done → back_told (bounds_of p) map.now.lo map.now.hi (state_of p commands) (record { from = from.now; to = option_map (λ end. end.now) to.entry }) limit ≡ Err e) }
         ensures broken { self.old.engine.broken ≡ true → IsStillBroken (Exec DiskFault) self.old self.new result }
     {
-        if self.engine.is_broken() {
+        if self.is_broken() {
             return Err(CallErr::Exec(ExecErr::DiskFault));
         }
         map_client::back(
@@ -162,7 +162,7 @@ impl<M: Machine + Drop> Store<M> {
             IfErr result (λ e. ending_of (cause_of e) ≡ Done → next_told (bounds_of p) map.now.lo map.now.hi (state_of p commands) key.now ≡ Err e) }
         ensures broken { self.old.engine.broken ≡ true → IsStillBroken (Exec DiskFault) self.old self.new result }
     {
-        if self.engine.is_broken() {
+        if self.is_broken() {
             return Err(CallErr::Exec(ExecErr::DiskFault));
         }
         map_client::next(alloc, map, &mut self.engine, &mut self.machine, key)
@@ -186,7 +186,7 @@ impl<M: Machine + Drop> Store<M> {
             IfErr result (λ e. ending_of (cause_of e) ≡ Done → prev_told (bounds_of p) map.now.lo map.now.hi (state_of p commands) (option_map (λ key. key.now) key.entry) ≡ Err e) }
         ensures broken { self.old.engine.broken ≡ true → IsStillBroken (Exec DiskFault) self.old self.new result }
     {
-        if self.engine.is_broken() {
+        if self.is_broken() {
             return Err(CallErr::Exec(ExecErr::DiskFault));
         }
         map_client::prev(alloc, map, &mut self.engine, &mut self.machine, key)
@@ -209,7 +209,7 @@ impl<M: Machine + Drop> Store<M> {
             result_err result ≡ (set_comes map.now.lo map.now.hi key value p commands).refusal }
         ensures broken { self.old.engine.broken ≡ true → IsStillBroken (Exec DiskFault) self.old self.new result }
     {
-        if self.engine.is_broken() {
+        if self.is_broken() {
             return Err(CallErr::Exec(ExecErr::DiskFault));
         }
         map_client::set(alloc, map, &mut self.engine, &mut self.machine, key, value)
@@ -226,7 +226,7 @@ impl<M: Machine + Drop> Store<M> {
             result_err result ≡ (delete_comes map.now.lo map.now.hi key.now p commands).refusal }
         ensures broken { self.old.engine.broken ≡ true → IsStillBroken (Exec DiskFault) self.old self.new result }
     {
-        if self.engine.is_broken() {
+        if self.is_broken() {
             return Err(CallErr::Exec(ExecErr::DiskFault));
         }
         map_client::delete(alloc, map, &mut self.engine, &mut self.machine, key)

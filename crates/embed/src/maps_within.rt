@@ -39,7 +39,7 @@ impl<M: Machine + Drop> Store<M> {
             × IfErr result (λ e. ending_of (cause_of e) ≡ Done → get_told (bounds_of p) map.now.lo map.now.hi (state_of p commands) key.now ≡ Err e))
             (Exec DiskFault) (cause_in result) result }
     {
-        if self.engine.is_broken() {
+        if self.is_broken() {
             return Err(CallErr::Exec(ExecErr::DiskFault));
         }
         let mut within = Within {
@@ -64,7 +64,7 @@ impl<M: Machine + Drop> Store<M> {
             × IfErr result (λ e. ending_of (cause_of e) ≡ Done → count_told (bounds_of p) map.now.lo map.now.hi (state_of p commands) (record { from = from.now; to = option_map (λ end. end.now) to.entry }) ≡ Err e))
             (Exec DiskFault) (cause_in result) result }
     {
-        if self.engine.is_broken() {
+        if self.is_broken() {
             return Err(CallErr::Exec(ExecErr::DiskFault));
         }
         let mut within = Within {
@@ -91,7 +91,7 @@ impl<M: Machine + Drop> Store<M> {
             × IfErr result (λ e. ending_of (cause_of e) ≡ Done → range_told (bounds_of p) map.now.lo map.now.hi (state_of p commands) (record { from = from.now; to = option_map (λ end. end.now) to.entry }) limit ≡ Err e))
             (Exec DiskFault) (cause_in result) result }
     {
-        if self.engine.is_broken() {
+        if self.is_broken() {
             return Err(CallErr::Exec(ExecErr::DiskFault));
         }
         let mut within = Within {
@@ -117,7 +117,7 @@ impl<M: Machine + Drop> Store<M> {
             × IfErr result (λ e. ending_of (cause_of e) ≡ Done → back_told (bounds_of p) map.now.lo map.now.hi (state_of p commands) (record { from = from.now; to = option_map (λ end. end.now) to.entry }) limit ≡ Err e))
             (Exec DiskFault) (cause_in result) result }
     {
-        if self.engine.is_broken() {
+        if self.is_broken() {
             return Err(CallErr::Exec(ExecErr::DiskFault));
         }
         let mut within = Within {
@@ -141,7 +141,7 @@ impl<M: Machine + Drop> Store<M> {
             × IfErr result (λ e. ending_of (cause_of e) ≡ Done → next_told (bounds_of p) map.now.lo map.now.hi (state_of p commands) key.now ≡ Err e))
             (Exec DiskFault) (cause_in result) result }
     {
-        if self.engine.is_broken() {
+        if self.is_broken() {
             return Err(CallErr::Exec(ExecErr::DiskFault));
         }
         let mut within = Within {
@@ -166,7 +166,7 @@ impl<M: Machine + Drop> Store<M> {
             × IfErr result (λ e. ending_of (cause_of e) ≡ Done → prev_told (bounds_of p) map.now.lo map.now.hi (state_of p commands) (option_map (λ key. key.now) key.entry) ≡ Err e))
             (Exec DiskFault) (cause_in result) result }
     {
-        if self.engine.is_broken() {
+        if self.is_broken() {
             return Err(CallErr::Exec(ExecErr::DiskFault));
         }
         let mut within = Within {
@@ -190,7 +190,7 @@ impl<M: Machine + Drop> Store<M> {
             (λ p commands. ending_of (cause_in result) ≡ Done → result_err result ≡ (set_comes map.now.lo map.now.hi key value p commands).refusal)
             (Exec DiskFault) (cause_in result) result }
     {
-        if self.engine.is_broken() {
+        if self.is_broken() {
             return Err(CallErr::Exec(ExecErr::DiskFault));
         }
         let mut within = Within {
@@ -213,7 +213,7 @@ impl<M: Machine + Drop> Store<M> {
             (λ p commands. ending_of (cause_in result) ≡ Done → result_err result ≡ (delete_comes map.now.lo map.now.hi key.now p commands).refusal)
             (Exec DiskFault) (cause_in result) result }
     {
-        if self.engine.is_broken() {
+        if self.is_broken() {
             return Err(CallErr::Exec(ExecErr::DiskFault));
         }
         let mut within = Within {

@@ -35,7 +35,7 @@ impl<M: Machine + Drop> Store<M> {
         ensures undone { (p : Params) (base commands : List Command) → Holds all_meaning p (M.disk self.old.machine) self.old.engine commands → IsSnapshot all_meaning p snapshot.old base commands → OnErr result (IsSnapshot all_meaning p snapshot.new base commands) }
         ensures broken { self.old.engine.broken ≡ true → IsStillBroken ExecErr.DiskFault self.old self.new result × (snapshot.new ≡ snapshot.old) }
     {
-        if self.engine.is_broken() {
+        if self.is_broken() {
             return Err(ExecErr::DiskFault);
         }
         snapshot.exec(&mut self.engine, &mut self.machine, op)
@@ -53,7 +53,7 @@ impl<M: Machine + Drop> Store<M> {
         ensures snapshot { (p : Params) (base commands : List Command) → Holds all_meaning p (M.disk self.old.machine) self.old.engine commands → IsSnapshot all_meaning p snapshot.old base commands → IsSnapshot all_meaning p snapshot.new base commands }
         ensures broken { self.old.engine.broken ≡ true → (self.new ≡ self.old) × (snapshot.new ≡ snapshot.old) }
     {
-        if self.engine.is_broken() {
+        if self.is_broken() {
             return;
         }
         snapshot.keep(&mut self.engine, &mut self.machine, objects);
@@ -70,7 +70,7 @@ impl<M: Machine + Drop> Store<M> {
         ensures snapshot { (p : Params) (base commands : List Command) → Holds all_meaning p (M.disk self.old.machine) self.old.engine commands → IsSnapshot all_meaning p snapshot.old base commands → IsSnapshot all_meaning p snapshot.new base commands }
         ensures broken { self.old.engine.broken ≡ true → (self.new ≡ self.old) × (snapshot.new ≡ snapshot.old) }
     {
-        if self.engine.is_broken() {
+        if self.is_broken() {
             return;
         }
         snapshot.keep_staged(&mut self.engine, &mut self.machine, transaction);
@@ -92,7 +92,7 @@ impl<M: Machine + Drop> Store<M> {
         ensures stands { IsErrOf result SnapshotErr.GivenUp → snapshot.now.kept ≡ None }
         ensures broken { self.old.engine.broken ≡ true → IsStillBroken (SnapshotErr.Read DiskFault) self.old self.new result }
     {
-        if self.engine.is_broken() {
+        if self.is_broken() {
             return Err(SnapshotErr::Read(ExecErr::DiskFault));
         }
         if snapshot.is_given_up() {

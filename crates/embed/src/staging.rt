@@ -36,7 +36,7 @@ impl<M: Machine + Drop> Store<M> {
             HasStaged all_meaning p commands transaction.old.ops.items transaction.new.ops.items transaction.new.bytes transaction.new.made op result }
         ensures broken { self.old.engine.broken ≡ true → IsStillBroken ExecErr.DiskFault self.old self.new result × (transaction.new ≡ transaction.old) }
     {
-        if self.engine.is_broken() {
+        if self.is_broken() {
             return Err(ExecErr::DiskFault);
         }
         transaction.exec(&mut self.engine, &mut self.machine, op)
@@ -57,7 +57,7 @@ impl<M: Machine + Drop> Store<M> {
             IfOk result (GivesValue p.objects object (state_of all_meaning p (commands ++ transaction.now.ops.items) object) into.old into.new) }
         ensures broken { self.old.engine.broken ≡ true → IsStillBroken ExecErr.DiskFault self.old self.new result }
     {
-        if self.engine.is_broken() {
+        if self.is_broken() {
             return Err(ExecErr::DiskFault);
         }
         if object >= self.engine.params().objects {
@@ -93,7 +93,7 @@ impl<M: Machine + Drop> Store<M> {
         ensures kept { IsErrOf result CommitErr.LogFull → (transaction.new.ops ≡ transaction.old.ops) × (transaction.new.bytes ≡ transaction.old.bytes) × (transaction.new.made ≡ transaction.old.made) }
         ensures broken { self.old.engine.broken ≡ true → IsStillBroken CommitErr.DiskFault self.old self.new result × (transaction.new ≡ transaction.old) }
     {
-        if self.engine.is_broken() {
+        if self.is_broken() {
             return Err(CommitErr::DiskFault);
         }
         transaction.commit(&mut self.engine, &mut self.machine)
@@ -115,7 +115,7 @@ impl<M: Machine + Drop> Store<M> {
         ensures kept { IsErrOf result CommitErr.LogFull → (transaction.new.ops ≡ transaction.old.ops) × (transaction.new.bytes ≡ transaction.old.bytes) × (transaction.new.made ≡ transaction.old.made) }
         ensures broken { self.old.engine.broken ≡ true → IsStillBroken CommitErr.DiskFault self.old self.new result × (transaction.new ≡ transaction.old) }
     {
-        if self.engine.is_broken() {
+        if self.is_broken() {
             return Err(CommitErr::DiskFault);
         }
         transaction.commit_lazily(&mut self.engine, &mut self.machine)

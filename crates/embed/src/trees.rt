@@ -38,7 +38,7 @@ impl<M: Machine + Drop> Store<M> {
             result ≡ told (get_answer (bounds_of p) tree.now.lo tree.now.hi (state_of p commands) key.now) }
         ensures broken { self.old.engine.broken ≡ true → IsStillBroken (Exec DiskFault) self.old self.new result }
     {
-        if self.engine.is_broken() {
+        if self.is_broken() {
             return Err(CallErr::Exec(ExecErr::DiskFault));
         }
         tree_client::get(tree, &mut self.engine, &mut self.machine, key)
@@ -63,7 +63,7 @@ impl<M: Machine + Drop> Store<M> {
             IfErr result (λ e. ending_of (cause_of e) ≡ Done → told (range_answer (bounds_of p) tree.now.lo tree.now.hi (state_of p commands) from.now to.now) ≡ Err e) }
         ensures broken { self.old.engine.broken ≡ true → IsStillBroken (Exec DiskFault) self.old self.new result }
     {
-        if self.engine.is_broken() {
+        if self.is_broken() {
             return Err(CallErr::Exec(ExecErr::DiskFault));
         }
         tree_client::range(alloc, tree, &mut self.engine, &mut self.machine, from, to)
@@ -84,7 +84,7 @@ impl<M: Machine + Drop> Store<M> {
             IfErr result (λ e. ending_of (cause_of e) ≡ Done → told (get_answer (bounds_of p) tree.now.lo tree.now.hi (state_of p commands) from.now) ≡ Err e) }
         ensures broken { self.old.engine.broken ≡ true → IsStillBroken (Exec DiskFault) self.old self.new result }
     {
-        if self.engine.is_broken() {
+        if self.is_broken() {
             return Err(CallErr::Exec(ExecErr::DiskFault));
         }
         tree_client::piece_from(tree, &mut self.engine, &mut self.machine, from)
@@ -101,7 +101,7 @@ impl<M: Machine + Drop> Store<M> {
             result_err result ≡ refused_in p.cap (insert_plan (bounds_of p) tree.now.lo tree.now.hi (state_of p commands) key.now value.now) }
         ensures broken { self.old.engine.broken ≡ true → IsStillBroken (Exec DiskFault) self.old self.new result }
     {
-        if self.engine.is_broken() {
+        if self.is_broken() {
             return Err(CallErr::Exec(ExecErr::DiskFault));
         }
         tree_client::insert(tree, &mut self.engine, &mut self.machine, key, value)
@@ -118,7 +118,7 @@ impl<M: Machine + Drop> Store<M> {
             result_err result ≡ refused_in p.cap (delete_plan (bounds_of p) tree.now.lo tree.now.hi (state_of p commands) key.now) }
         ensures broken { self.old.engine.broken ≡ true → IsStillBroken (Exec DiskFault) self.old self.new result }
     {
-        if self.engine.is_broken() {
+        if self.is_broken() {
             return Err(CallErr::Exec(ExecErr::DiskFault));
         }
         tree_client::delete(tree, &mut self.engine, &mut self.machine, key)

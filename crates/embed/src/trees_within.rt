@@ -37,7 +37,7 @@ impl<M: Machine + Drop> Store<M> {
             (λ p commands. ending_of (cause_in result) ≡ Done → result ≡ told (get_answer (bounds_of p) tree.now.lo tree.now.hi (state_of p commands) key.now))
             (Exec DiskFault) (cause_in result) result }
     {
-        if self.engine.is_broken() {
+        if self.is_broken() {
             return Err(CallErr::Exec(ExecErr::DiskFault));
         }
         let mut within = Within {
@@ -63,7 +63,7 @@ impl<M: Machine + Drop> Store<M> {
             × IfErr result (λ e. ending_of (cause_of e) ≡ Done → told (range_answer (bounds_of p) tree.now.lo tree.now.hi (state_of p commands) from.now to.now) ≡ Err e))
             (Exec DiskFault) (cause_in result) result }
     {
-        if self.engine.is_broken() {
+        if self.is_broken() {
             return Err(CallErr::Exec(ExecErr::DiskFault));
         }
         let mut within = Within {
@@ -87,7 +87,7 @@ impl<M: Machine + Drop> Store<M> {
             (Exec DiskFault) (cause_in result) result }
         ensures rising { IfOk result (λ piece. is_below from.now piece.next ≡ true) }
     {
-        if self.engine.is_broken() {
+        if self.is_broken() {
             return Err(CallErr::Exec(ExecErr::DiskFault));
         }
         let mut within = Within {
@@ -110,7 +110,7 @@ impl<M: Machine + Drop> Store<M> {
             (λ p commands. ending_of (cause_in result) ≡ Done → result_err result ≡ refused_in p.cap (insert_plan (bounds_of p) tree.now.lo tree.now.hi (state_of p commands) key.now value.now))
             (Exec DiskFault) (cause_in result) result }
     {
-        if self.engine.is_broken() {
+        if self.is_broken() {
             return Err(CallErr::Exec(ExecErr::DiskFault));
         }
         let mut within = Within {
@@ -132,7 +132,7 @@ impl<M: Machine + Drop> Store<M> {
             (λ p commands. ending_of (cause_in result) ≡ Done → result_err result ≡ refused_in p.cap (delete_plan (bounds_of p) tree.now.lo tree.now.hi (state_of p commands) key.now))
             (Exec DiskFault) (cause_in result) result }
     {
-        if self.engine.is_broken() {
+        if self.is_broken() {
             return Err(CallErr::Exec(ExecErr::DiskFault));
         }
         let mut within = Within {

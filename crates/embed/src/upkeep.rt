@@ -24,7 +24,7 @@ impl<M: Machine + Drop> Store<M> {
         ensures alone { self.old.engine.broken ≡ false → self.old.engine.group ≡ None → (answer : Result ℕ ForceFailure) × (result ≡ work_of_force answer) × IsForcing all_meaning (M.disk self.old.machine) (M.disk self.new.machine) self.old.engine self.new.engine answer }
         ensures broken { self.old.engine.broken ≡ true → IsStillBroken WorkErr.DiskFault self.old self.new result }
     {
-        if self.engine.is_broken() {
+        if self.is_broken() {
             return Err(WorkErr::DiskFault);
         }
         self.engine.force(&mut self.machine)
@@ -37,7 +37,7 @@ impl<M: Machine + Drop> Store<M> {
         ensures alone { self.old.engine.broken ≡ false → self.old.engine.group ≡ None → (answer : Result _ ForceFailure) × (result ≡ work_of_force answer) × IsBeginning all_meaning (M.disk self.old.machine) (M.disk self.new.machine) self.old.engine self.new.engine answer }
         ensures broken { self.old.engine.broken ≡ true → IsStillBroken WorkErr.DiskFault self.old self.new result }
     {
-        if self.engine.is_broken() {
+        if self.is_broken() {
             return Err(WorkErr::DiskFault);
         }
         self.engine.begin(&mut self.machine)
@@ -50,7 +50,7 @@ impl<M: Machine + Drop> Store<M> {
         ensures some { self.old.engine.broken ≡ false → IfSome (group_size self.old.engine) (λ size. (result ≡ Ok (Some size)) × (self.new ≡ record self.old { engine = record self.old.engine { group = None } })) }
         ensures broken { self.old.engine.broken ≡ true → IsStillBroken WorkErr.DiskFault self.old self.new result }
     {
-        if self.engine.is_broken() {
+        if self.is_broken() {
             return Err(WorkErr::DiskFault);
         }
         match self.engine.end() {
@@ -66,7 +66,7 @@ impl<M: Machine + Drop> Store<M> {
         ensures alone { self.old.engine.broken ≡ false → self.old.engine.group ≡ None → (answer : Result Installs InstallFailure) × (result ≡ work_of_install answer) × IsInstalling all_meaning (M.disk self.old.machine) (M.disk self.new.machine) self.old.engine self.new.engine answer }
         ensures broken { self.old.engine.broken ≡ true → IsStillBroken WorkErr.DiskFault self.old self.new result }
     {
-        if self.engine.is_broken() {
+        if self.is_broken() {
             return Err(WorkErr::DiskFault);
         }
         self.engine.install_one(&mut self.machine)
@@ -79,7 +79,7 @@ impl<M: Machine + Drop> Store<M> {
         ensures alone { self.old.engine.broken ≡ false → self.old.engine.group ≡ None → (answer : Result ℕ InstallFailure) × (result ≡ work_of_install answer) × IsDraining all_meaning (M.disk self.old.machine) (M.disk self.new.machine) self.old.engine self.new.engine answer }
         ensures broken { self.old.engine.broken ≡ true → IsStillBroken WorkErr.DiskFault self.old self.new result }
     {
-        if self.engine.is_broken() {
+        if self.is_broken() {
             return Err(WorkErr::DiskFault);
         }
         self.engine.drain(&mut self.machine)
@@ -94,7 +94,7 @@ impl<M: Machine + Drop> Store<M> {
         ensures alone { self.old.engine.broken ≡ false → self.old.engine.group ≡ None → (answer : Result ℕ InstallFailure) × (result ≡ work_of_install answer) × IsTending all_meaning (M.disk self.old.machine) (M.disk self.new.machine) self.old.engine self.new.engine (max 1 most) answer }
         ensures broken { self.old.engine.broken ≡ true → IsStillBroken WorkErr.DiskFault self.old self.new result }
     {
-        if self.engine.is_broken() {
+        if self.is_broken() {
             return Err(WorkErr::DiskFault);
         }
         self.engine.tend(&mut self.machine, most)
@@ -108,7 +108,7 @@ impl<M: Machine + Drop> Store<M> {
         ensures alone { self.old.engine.broken ≡ false → self.old.engine.group ≡ None → IsKeptUp all_meaning (M.disk self.old.machine) (M.disk self.new.machine) self.old.engine self.new.engine pace.old pace.new result }
         ensures broken { self.old.engine.broken ≡ true → IsStillBroken ReadErr.DiskFault self.old self.new result }
     {
-        if self.engine.is_broken() {
+        if self.is_broken() {
             return Err(ReadErr::DiskFault);
         }
         self.engine.keep_up(&mut self.machine, pace)
@@ -121,7 +121,7 @@ impl<M: Machine + Drop> Store<M> {
         ensures alone { self.old.engine.broken ≡ false → self.old.engine.group ≡ None → (answer : Result _ CheckpointFailure) × (result ≡ work_of_checkpoint answer) × IsTakingCheckpoint all_meaning (M.disk self.old.machine) (M.disk self.new.machine) self.old.engine self.new.engine answer }
         ensures broken { self.old.engine.broken ≡ true → IsStillBroken WorkErr.DiskFault self.old self.new result }
     {
-        if self.engine.is_broken() {
+        if self.is_broken() {
             return Err(WorkErr::DiskFault);
         }
         self.engine.checkpoint(&mut self.machine)
@@ -135,7 +135,7 @@ impl<M: Machine + Drop> Store<M> {
         ensures alone { self.old.engine.broken ≡ false → self.old.engine.group ≡ None → self.old.engine.copied ≡ None → (answer : Result _ RewriteFailure) × (result ≡ work_of_trim answer) × IsTrimming all_meaning (M.disk self.old.machine) (M.disk self.new.machine) self.old.engine self.new.engine answer }
         ensures broken { self.old.engine.broken ≡ true → IsStillBroken WorkErr.DiskFault self.old self.new result }
     {
-        if self.engine.is_broken() {
+        if self.is_broken() {
             return Err(WorkErr::DiskFault);
         }
         self.engine.trim(&mut self.machine)
